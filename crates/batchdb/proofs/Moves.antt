@@ -1,0 +1,207 @@
+-- The few moves of sound parts, each of which leaves them sound.
+use Rattle.std.proofs.Common.{◌≡◌, ℕ, ◌≤◌, true, List, [], ◌∷◌, ◌++◌, length, take, drop, Option, Some, Result, Ok, Err, refl, sym, ap, subst, ◌∙◌, inl, inr, arith}
+use Rattle.std.specs.List.{slice_get, slice_set, AllByRecursion}
+use Rattle.std.specs.Result.{is_ok}
+use Rattle.std.proofs.lemmas.List.{append_assoc, length-append, length-set, take-append-drop}
+use Rattle.rows.specs.declared.commit.Commit.{Commit}
+use Rattle.rows.specs.Shape.{Shape}
+use Rattle.rows.specs.Commits.{commits_of}
+use Rattle.rows.specs.Tables.{opening}
+use Rattle.wire.specs.declared.datagram.Datagram.{Datagram}
+use Rattle.wire.specs.declared.datagram.Datagram.TheVariants as datagrams
+use Rattle.wire.specs.declared.fault.WireFault.{WireFault}
+use Rattle.wire.specs.declared.frame.Frame.{Frame}
+use Rattle.wire.specs.Reading.{reading}
+use Rattle.primary.specs.Draft.{Draft}
+use Rattle.primary.specs.Primary.{flushed}
+use Rattle.dispatcher.specs.Replica.{Replica, Fetched}
+use Rattle.batchdb.specs.declared.output.Output.{Output}
+use Rattle.batchdb.specs.Parts.{Parts}
+use Rattle.batchdb.specs.Steps.{with_replica, with_sent}
+use Rattle.batchdb.specs.World.{World}
+use Rattle.batchdb.proofs.Lists.{get-set, get-append, get-one, set-same, All-map}
+use Rattle.batchdb.proofs.Sound.{Sound, IsSoundPrimary, IsSmall, IsSmallDraft, IsFed, IsFetched, IsAnswer, Means, awaits, frame_of_place}
+use Rattle.batchdb.proofs.Frames.{place-stays, tables-stay}
+use Rattle.batchdb.proofs.Worlds.{seen, world_of}
+
+-- what a replica may become: its requests grow, and while it waits for the Head of one its version stays
+pub record Moves (old new : Replica) : Type 0 where
+  pub request_grows : old.request ≤ new.request
+  pub waits : awaits new ≡ true → new.request ≡ old.request → (awaits old ≡ true) × (new.version ≡ old.version)
+
+-- a replica that stays fed
+pub record Goes (shape : Shape) (durable : List Commit) (number : ℕ) (old new : Replica) : Type 0 where
+  pub fed : IsFed shape durable number new
+  pub moves : Moves old new
+
+-- a step of the parts from sound ones, and the same step in the world
+abbrev pub Follows : Shape → Output × World → Output × Parts → Type 0
+Follows shape there here = (there ≡ seen here) × Sound shape here.1
+
+-- ---- one replica
+
+answer-moves : (old new : Replica) (request version : ℕ) → Moves old new → IsAnswer old request version → IsAnswer new request version
+answer-moves old new request version moves answer =
+    let grows = moves.request_grows in
+    let asked = answer.asked in
+    record {
+      asked = omega arith;
+      fresh = λ waits same.
+          let still = moves.waits waits (omega arith) in
+          let here = answer.fresh still.0 (omega arith) in
+          let version = still.1 in omega arith;
+    }
+
+means-moves : (durable : List Commit) (replicas : List Replica) (i : ℕ) (old new : Replica) → slice_get replicas i ≡ Some old → Moves old new
+    → (datagram : Result Datagram WireFault) → Means durable replicas datagram → Means durable (slice_set replicas i new) datagram
+means-moves durable replicas i old new at moves (Err fault) h = tt
+means-moves durable replicas i old new at moves (Ok (datagrams.Frame worker seq commit last entries)) h = h
+means-moves durable replicas i old new at moves (Ok (datagrams.Ask replica boot request)) h = (
+  h.0,
+  λ r here. elim (get-set replicas i new replica r here) [
+    | inl same ↦
+        let asked = h.1 old (ap (slice_get replicas) same.0 ∙ at) in
+        let grows = moves.request_grows in
+        let e : r.request ≡ new.request = ap (λ (r : Replica). r.request) same.1 in
+        omega arith
+    | inr other ↦ h.1 r other
+  ],
+)
+means-moves durable replicas i old new at moves (Ok (datagrams.Head replica boot request version counts)) h = (
+  h.0,
+  h.1,
+  λ r here. elim (get-set replicas i new replica r here) [
+    | inl same ↦ subst (λ (r : Replica). IsAnswer r request version) (sym same.1) (answer-moves old new request version moves (h.2 old (ap (slice_get replicas) same.0 ∙ at)))
+    | inr other ↦ h.2 r other
+  ],
+)
+means-moves durable replicas i old new at moves (Ok (datagrams.Want replica worker from)) h = tt
+
+pub Sound-replica : (shape : Shape) (p : Parts) (i : ℕ) (old new : Replica) → Sound shape p → slice_get p.replicas i ≡ Some old → Goes shape p.primary.durable i old new → Sound shape (with_replica p i new)
+Sound-replica shape p i old new sound at goes = record {
+  primary_is = sound.primary_is;
+  drafts_are = sound.drafts_are;
+  asked_there = sound.asked_there ∙ sym (length-set p.replicas i new);
+  few = let few = sound.few in omega (arith, length-set p.replicas i new);
+  fed = λ j r here. elim (get-set p.replicas i new j r here) [
+    | inl same ↦ subst (λ (j : ℕ). IsFed shape p.primary.durable j r) (sym same.0) (subst (λ (r : Replica). IsFed shape p.primary.durable i r) (sym same.1) goes.fed)
+    | inr other ↦ sound.fed j r other
+  ];
+  sent_is = λ j bytes here. means-moves p.primary.durable p.replicas i old new at goes.moves (reading bytes) (sound.sent_is j bytes here);
+}
+
+-- nothing of a replica changes
+pub Follows-same : (shape : Shape) (p : Parts) (i : ℕ) (r : Replica) (output : Output) → Sound shape p → slice_get p.replicas i ≡ Some r → Follows shape (output, world_of p) (output, with_replica p i r)
+Follows-same shape p i r output sound at =
+    let same : p ≡ with_replica p i r = ap (λ (replicas : List Replica). record p { replicas = replicas }) (sym (set-same p.replicas i r at)) in
+    (ap (λ (p : Parts). (output, world_of p)) same, subst (Sound shape) same sound)
+
+pub Moves-same : (r : Replica) → Moves r r
+Moves-same r = record { request_grows = omega arith; waits = λ waits same. (waits, refl) }
+
+-- what is noted of a replica changes
+pub Sound-noted : (shape : Shape) (p : Parts) (asked_at : List ℕ) → Sound shape p → length asked_at ≡ length p.asked_at → Sound shape (record p { asked_at = asked_at })
+Sound-noted shape p asked_at sound same = record {
+  primary_is = sound.primary_is;
+  drafts_are = sound.drafts_are;
+  asked_there = same ∙ sound.asked_there;
+  few = sound.few;
+  fed = sound.fed;
+  sent_is = sound.sent_is;
+}
+
+-- ---- datagrams
+
+pub Sound-sent : (shape : Shape) (p : Parts) (more : List (List ℕ)) → Sound shape p
+    → ((i : ℕ) (bytes : List ℕ) → slice_get more i ≡ Some bytes → Means p.primary.durable p.replicas (reading bytes)) → Sound shape (record p { sent = p.sent ++ more })
+Sound-sent shape p more sound means = record {
+  primary_is = sound.primary_is;
+  drafts_are = sound.drafts_are;
+  asked_there = sound.asked_there;
+  few = sound.few;
+  fed = sound.fed;
+  sent_is = λ i bytes here. elim (get-append p.sent more i bytes here) [ inl old ↦ sound.sent_is i bytes old | inr new ↦ means new.0 bytes new.1 ];
+}
+
+pub Sound-one : (shape : Shape) (p : Parts) (bytes : List ℕ) → Sound shape p → Means p.primary.durable p.replicas (reading bytes) → Sound shape (with_sent p bytes)
+Sound-one shape p bytes sound means =
+    Sound-sent shape p (bytes ∷ []) sound (λ i other here. subst (λ (bytes : List ℕ). Means p.primary.durable p.replicas (reading bytes)) (sym (get-one bytes i other here)) means)
+
+-- ---- transactions
+
+pub Sound-drafts : (shape : Shape) (p : Parts) (transactions : List (Option Draft)) → Sound shape p → ((i : ℕ) (draft : Draft) → slice_get transactions i ≡ Some (Some draft) → IsSmallDraft draft)
+    → Sound shape (record p { transactions = transactions })
+Sound-drafts shape p transactions sound are = record {
+  primary_is = sound.primary_is;
+  drafts_are = are;
+  asked_there = sound.asked_there;
+  few = sound.few;
+  fed = sound.fed;
+  sent_is = sound.sent_is;
+}
+
+-- ---- commits
+
+fetched-grows : (durable more : List Commit) (version : ℕ) (fetched : Fetched) → IsFetched durable version fetched → IsFetched (durable ++ more) version fetched
+fetched-grows durable more version fetched is =
+    let below = is.below in
+    record { above = is.above; below = omega (arith, length-append durable more); counts_are = is.counts_are }
+
+fed-grows : (shape : Shape) (durable more : List Commit) (i : ℕ) (r : Replica) → IsFed shape durable i r → IsFed shape (durable ++ more) i r
+fed-grows shape durable more i r fed =
+    let below = fed.below in
+    record {
+      shape_is = fed.shape_is;
+      workers_are = fed.workers_are;
+      number_is = fed.number_is;
+      boot_is = fed.boot_is;
+      frames_are = All-map (λ (entry : ℕ × Frame). frame_of_place durable entry.0 ≡ Some entry.1) (λ (entry : ℕ × Frame). frame_of_place (durable ++ more) entry.0 ≡ Some entry.1)
+          (λ entry is. place-stays durable more entry.0 entry.1 is) r.frames fed.frames_are;
+      applied_is = fed.applied_is;
+      below = omega (arith, length-append durable more);
+      tables_are = λ whole. fed.tables_are whole ∙ sym (tables-stay shape durable more r.version fed.below);
+      fetched_is = λ queries fetched batch has. fetched-grows durable more r.version fetched (fed.fetched_is queries fetched batch has);
+    }
+
+means-grows : (durable more : List Commit) (replicas : List Replica) (datagram : Result Datagram WireFault) → Means durable replicas datagram → Means (durable ++ more) replicas datagram
+means-grows durable more replicas (Err fault) h = tt
+means-grows durable more replicas (Ok (datagrams.Frame worker seq commit last entries)) h = place-stays durable more seq _ h
+means-grows durable more replicas (Ok (datagrams.Ask replica boot request)) h = h
+means-grows durable more replicas (Ok (datagrams.Head replica boot request version counts)) h =
+    let below = h.0 in (omega (arith, length-append durable more), h.1, h.2)
+means-grows durable more replicas (Ok (datagrams.Want replica worker from)) h = tt
+
+-- the first pending commits become durable
+pub Sound-flushed : (shape : Shape) (p : Parts) (count : ℕ) → Sound shape p → Sound shape (record p { primary = flushed p.primary count })
+Sound-flushed shape p count sound =
+    let durable = p.primary.durable in
+    let pending = p.primary.pending in
+    let whole : (durable ++ take count pending) ++ drop count pending ≡ durable ++ pending =
+    append_assoc durable (take count pending) (drop count pending) ∙ ap (λ (l : List Commit). durable ++ l) (take-append-drop count pending) in
+    let numbered = sound.primary_is.numbered in
+    record {
+      primary_is = record {
+        shape_is = sound.primary_is.shape_is;
+        workers_are = sound.primary_is.workers_are;
+        legal = ap (λ (l : List Commit). is_ok (commits_of shape (opening shape) l)) whole ∙ sound.primary_is.legal;
+        small = subst (AllByRecursion IsSmall) (sym whole) sound.primary_is.small;
+        numbered = omega (arith, length-append {A = Commit}, ap length whole);
+      };
+      drafts_are = sound.drafts_are;
+      asked_there = sound.asked_there;
+      few = sound.few;
+      fed = λ i r here. fed-grows shape durable (take count pending) i r (sound.fed i r here);
+      sent_is = λ i bytes here. means-grows durable (take count pending) p.replicas (reading bytes) (sound.sent_is i bytes here);
+    }
+
+-- a commit goes behind the pending ones
+pub Sound-primary : (shape : Shape) (p : Parts) (pending : List Commit) → Sound shape p → IsSoundPrimary shape (record p.primary { pending = pending })
+    → Sound shape (record p { primary = record p.primary { pending = pending } })
+Sound-primary shape p pending sound is = record {
+  primary_is = is;
+  drafts_are = sound.drafts_are;
+  asked_there = sound.asked_there;
+  few = sound.few;
+  fed = sound.fed;
+  sent_is = sound.sent_is;
+}

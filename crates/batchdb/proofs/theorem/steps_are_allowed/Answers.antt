@@ -1,0 +1,13 @@
+-- Each run of the parts is one of the world, in which what is durable stays and nothing is damaged.
+use Rattle.batchdb.proofs.Honest.{durable-grows, allowed-faultless}
+use Rattle.batchdb.proofs.Whole.{steps-allowed}
+use Rattle.batchdb.proofs.theorem.steps_are_allowed.Goals as goal
+
+pub returns-clause-allowed : goal.returns-clause-allowed
+returns-clause-allowed c = steps-allowed
+
+pub returns-clause-durable : goal.returns-clause-durable
+returns-clause-durable c = durable-grows
+
+pub returns-clause-faultless : goal.returns-clause-faultless
+returns-clause-faultless c = allowed-faultless

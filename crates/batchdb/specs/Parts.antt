@@ -1,0 +1,45 @@
+-- The parts of a world that the program steps: the cores, the open transactions, and every datagram that was ever sent.
+use Rattle.std.specs.Prelude.{ℕ, zero, suc, ◌<◌, ◌≤◌, ◌≡◌, List, [], ◌∷◌, ◌++◌, length, Option, None, Some, IfSome}
+use Rattle.std.specs.List.{AllByRecursion}
+use Rattle.rows.specs.Shape.{Shape}
+use Rattle.primary.specs.Draft.{Draft}
+use Rattle.primary.specs.State.{Primary}
+use Rattle.primary.specs.Primary.{started as primary_started}
+use Rattle.dispatcher.specs.Replica.{Replica}
+use Rattle.dispatcher.specs.Steps.{started as replica_started}
+
+pub record Parts : Type 0 where
+  pub primary : Primary
+  -- the transactions in the order of their `begin`; none where one is no longer open
+  pub transactions : List (Option Draft)
+  -- the bytes of every datagram that was ever sent, in order
+  pub sent : List (List ℕ)
+  pub replicas : List Replica
+  -- for each replica how many commits were durable when its newest batch asked
+  pub asked_at : List ℕ
+
+-- this many replicas, fresh from their start with boot 1
+abbrev pub replicas_from : Shape → ℕ → ℕ → ℕ → List Replica
+replicas_from shape workers number zero = []
+replicas_from shape workers number (suc count) = replica_started shape workers number 1 ∷ replicas_from shape workers (suc number) count
+
+abbrev pub zeros : ℕ → List ℕ
+zeros zero = []
+zeros (suc count) = 0 ∷ zeros count
+
+-- the parts at the beginning: the primary on an empty journal, each replica with boot 1
+abbrev pub parts_started : Shape → ℕ → ℕ → Parts
+parts_started shape workers replicas = record {
+  primary = primary_started shape workers;
+  transactions = [];
+  sent = [];
+  replicas = replicas_from shape workers 0 replicas;
+  asked_at = zeros replicas;
+}
+
+-- what the program needs of its parts to call the cores: each open transaction reads a durable version, and each
+-- request was sent
+pub record IsReady (p : Parts) : Type 0 where
+  pub asked_there : length p.asked_at ≡ length p.replicas
+  pub snapshots : AllByRecursion (λ slot. IfSome slot (λ draft. draft.snapshot ≤ length p.primary.durable)) p.transactions
+  pub requests : AllByRecursion (λ (replica : Replica). replica.request ≤ length p.sent) p.replicas

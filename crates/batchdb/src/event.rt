@@ -1,0 +1,59 @@
+use dispatcher::Plan;
+use rows::{Row, RowId};
+
+/// A node that a datagram is delivered to.
+#[derive(Clone, Copy, Debug, PartialEq, Eq)]
+pub enum Node {
+    Primary,
+    Replica(u8),
+}
+
+/// What happens next: one step of a client, of the primary, of the network, or of a replica.
+#[derive(Debug, Drop)]
+pub enum Event {
+    /// A transaction begins on what is durable.
+    Begin,
+    /// A transaction puts in a row.
+    Insert {
+        transaction: u64,
+        table: u8,
+        row: RowId,
+        values: Row,
+    },
+    /// A transaction is committed for a worker.
+    Commit {
+        transaction: u64,
+        worker: u8,
+    },
+    /// The first pending commits become durable, this many at the most.
+    Flush {
+        count: u32,
+    },
+    /// The primary sends the frame at a place of a worker's stream.
+    Push {
+        worker: u8,
+        seq: u64,
+    },
+    /// The network delivers a datagram that was sent, by its place, to a node.
+    Deliver {
+        place: u64,
+        node: Node,
+    },
+    /// The datagram at that place is shown.
+    Show {
+        place: u64,
+    },
+    /// A query is opened at a replica.
+    Open {
+        replica: u8,
+        plan: Plan,
+    },
+    /// A replica asks for the newest durable version.
+    Ask {
+        replica: u8,
+    },
+    /// A replica runs its batch.
+    Run {
+        replica: u8,
+    },
+}

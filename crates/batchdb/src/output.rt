@@ -1,0 +1,76 @@
+use crate::sent::{Sent, SentList};
+use dispatcher::PlanFault;
+use rows::ByteList;
+
+/// What an event answers.
+#[derive(Debug, Drop)]
+pub enum Output {
+    /// The transaction of that number has begun, and reads that version.
+    Tx { number: u64, snapshot: u64 },
+    /// The change was taken.
+    Accepted,
+    /// The row to insert is there.
+    Exists,
+    /// The values do not fit the table.
+    Unfit,
+    /// The transaction has as many entries as it may have.
+    TooManyEntries,
+    /// No transaction of that number is open.
+    NoTx,
+    /// The transaction was committed under that number.
+    Ticket(u64),
+    /// The commit of that number touches a row of the transaction.
+    Conflict(u64),
+    /// The transaction changes nothing.
+    ReadOnly,
+    /// A number would pass 64 bits.
+    NumbersUsedUp,
+    /// The transaction is not of this primary. No run answers it.
+    Foreign,
+    /// The journal has failed. No run answers it.
+    Failed,
+    /// So many commits are durable.
+    Durable(u64),
+    /// These datagrams were sent.
+    Sent(SentList),
+    /// The stream has no such place.
+    NoFrame,
+    /// No datagram was sent at that place.
+    NeverSent,
+    /// A frame that was not known was kept.
+    Stored,
+    /// The frame was known.
+    Repeat,
+    /// The frame is too far past the first that is missing.
+    Ahead,
+    /// The version of that number was fetched for the batch.
+    Head(u64),
+    /// The datagram changed nothing.
+    Ignored,
+    /// The bytes of a datagram.
+    Shown(ByteList),
+    /// So many queries wait now.
+    Opened(usize),
+    /// As many queries wait as may.
+    BatchFull,
+    /// The query's plan does not fit the schema.
+    BadPlan(PlanFault),
+    /// The batch has its version.
+    Busy,
+    /// No query waits.
+    Empty,
+    /// There is no batch.
+    NoBatch,
+    /// The batch has no version yet.
+    WaitingHead,
+    /// The worker's frame at place `seq` is missing, and was asked for.
+    Waiting { worker: u8, seq: u64, want: Sent },
+    /// The report of a batch, with its ends of lines.
+    Report(ByteList),
+    /// The frames are not those of one list of commits. No run answers it.
+    Inconsistent,
+    /// The replica is broken.
+    Broken,
+    /// Want of memory.
+    Memory,
+}

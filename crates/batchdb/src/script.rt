@@ -1,0 +1,369 @@
+//! Reading a script: its settings, and then its events.
+
+ghost use Rattle.std.specs.Prelude.{ℕ, ◌≡◌, ◌<◌, ◌≤◌, length, IfOk, IfSome, OnOk, ok_or};
+ghost use Rattle.std.specs.List.{AllByRecursion};
+ghost use Rattle.batchdb.specs.Script.{AreOne};
+ghost use Rattle.batchdb.specs.Steps.{IsPossible, IsThere};
+
+use crate::event::{Event, Node};
+use crate::script_fault::{Reason, ScriptFault};
+use crate::setup::Setup;
+use crate::words::{int, is_name, number, number_below, text, words_of};
+use dispatcher::Plan;
+use rows::{Kind, Row, RowId, Schema, SchemaFault, Value};
+use std::alloc::Global;
+
+/// Why one line does not read.
+#[derive(Clone, Copy, Debug, PartialEq, Eq)]
+enum LineFault {
+    Because(Reason),
+    Memory,
+}
+
+impl From<std::alloc::AllocError> for LineFault {
+    fn from(_fault: std::alloc::AllocError) -> LineFault {
+        LineFault::Memory
+    }
+}
+
+impl<T: Drop> From<std::alloc::AllocFailed<T>> for LineFault {
+    fn from(_fault: std::alloc::AllocFailed<T>) -> LineFault {
+        LineFault::Memory
+    }
+}
+
+/// The settings that have been read so far, in their order.
+#[derive(Debug, Drop)]
+enum Settings {
+    Nothing,
+    Workers(u8),
+    Replicas { workers: u8, replicas: u8 },
+    Ready(Setup),
+}
+
+/// The settings and events of a script. Each line is ended by 0a, and the last one may lack it;
+/// empty lines and lines that begin with `#` are skipped.
+///
+/// Fails with the first faulty line and why, or with `Memory`.
+pub fn read_script(alloc: Global, script: &[u8]) -> Result<(Setup, Vec<Event>), ScriptFault>
+    ensures { IfOk result (λ read. (read.0.workers ≡ 1) × (read.0.replicas ≤ 16)
+        × AllByRecursion (IsPossible read.0.workers read.0.replicas) read.1.items) }
+{
+    let mut settings = Settings::Nothing;
+    let mut events = Vec::new(alloc);
+    let mut line = 0;
+    let mut rest = script;
+    while !rest.is_empty() {
+        let (bytes, after) = first_line(rest);
+        rest = after;
+        line += 1;
+        settings = match read_line(alloc, settings, bytes, &mut events) {
+            Ok(settings) => settings,
+            Err(LineFault::Because(reason)) => return Err(ScriptFault::At { line, reason }),
+            Err(LineFault::Memory) => return Err(ScriptFault::Memory),
+        };
+    }
+    match settings {
+        Settings::Ready(setup) => Ok((setup, events)),
+        _ => Err(ScriptFault::At {
+            line: line + 1,
+            reason: Reason::BadSetting,
+        }),
+    }
+}
+
+/// The bytes before the first 0a, and those behind it; all of the bytes, where none stands.
+fn first_line(bytes: &[u8]) -> (&[u8], &[u8])
+    requires { 0 < length bytes.now }
+    ensures { length result.1.now < length bytes.now }
+{
+    for (at, byte) in bytes.iter().enumerate() {
+        if *byte == b'\n' {
+            return (&bytes[..at], &bytes[at + 1..]);
+        }
+    }
+    (bytes, &[])
+}
+
+/// Reads one line: a setting while they are not all there, and then an event. A line that is
+/// skipped leaves the settings as they are.
+fn read_line(
+    alloc: Global,
+    settings: Settings,
+    line: &[u8],
+    events: &mut Vec<Event>,
+) -> Result<Settings, LineFault>
+    requires settings { AreOne settings }
+    requires events { AllByRecursion (IsPossible 1 1) events.old.items }
+    ensures settings { IfOk result AreOne }
+    ensures events { OnOk result (AllByRecursion (IsPossible 1 1) events.new.items) }
+{
+    if line.iter().any(|byte| *byte < 0x20 || *byte > 0x7e) {
+        return Err(LineFault::Because(Reason::NotText));
+    }
+    if line.is_empty() || line[0] == b'#' {
+        return Ok(settings);
+    }
+    let words = words_of(alloc, line)?;
+    match settings {
+        Settings::Ready(setup) => {
+            let event = read_event(alloc, &setup, words.as_slice())?;
+            events.push(event)?;
+            Ok(Settings::Ready(setup))
+        }
+        settings => read_setting(alloc, settings, words.as_slice()),
+    }
+}
+
+/// Reads the next setting: the workers, then the replicas, then the table. For now there is one
+/// of each.
+fn read_setting(alloc: Global, settings: Settings, words: &[&[u8]]) -> Result<Settings, LineFault>
+    requires { AreOne settings }
+    ensures { IfOk result AreOne }
+{
+    match (settings, words) {
+        (Settings::Nothing, [b"workers", b"1"]) => Ok(Settings::Workers(1)),
+        (Settings::Workers(workers), [b"replicas", b"1"]) => Ok(Settings::Replicas {
+            workers,
+            replicas: 1,
+        }),
+        (Settings::Replicas { workers, replicas }, [b"table", name, kinds @ ..]) => {
+            let schema = read_table(alloc, name, kinds)?;
+            Ok(Settings::Ready(Setup {
+                schema,
+                workers,
+                replicas,
+            }))
+        }
+        _ => Err(LineFault::Because(Reason::BadSetting)),
+    }
+}
+
+/// The schema of one table with this name and these kinds of columns.
+fn read_table(alloc: Global, name: &[u8], kinds: &[&[u8]]) -> Result<Schema, LineFault> {
+    if !is_name(name) {
+        return Err(LineFault::Because(Reason::BadSetting));
+    }
+    let Some(name) = text(name) else {
+        return Err(LineFault::Because(Reason::BadSetting));
+    };
+    let mut columns = Vec::new(alloc);
+    for kind in kinds {
+        if *kind != b"int".as_slice() {
+            return Err(LineFault::Because(Reason::BadSetting));
+        }
+        columns.push(Kind::Int)?;
+    }
+    match Schema::new(alloc, &[(name, columns.as_slice())]) {
+        Ok(schema) => Ok(schema),
+        Err(SchemaFault::Memory) => Err(LineFault::Memory),
+        Err(_) => Err(LineFault::Because(Reason::BadSetting)),
+    }
+}
+
+/// Reads an event.
+fn read_event(alloc: Global, setup: &Setup, words: &[&[u8]]) -> Result<Event, LineFault>
+    ensures { IfOk result (IsPossible setup.now.workers setup.now.replicas) }
+{
+    match words {
+        [] => Err(LineFault::Because(Reason::UnknownEvent)),
+        [first, rest @ ..] => {
+            if *first == b"insert".as_slice() {
+                read_insert(alloc, setup, rest)
+            } else if *first == b"open".as_slice() {
+                read_open(setup, rest)
+            } else if is_setting(first) {
+                Err(LineFault::Because(Reason::BadSetting))
+            } else {
+                read_plain_event(setup, first, rest)
+            }
+        }
+    }
+}
+
+/// Whether the word begins a setting.
+fn is_setting(word: &[u8]) -> bool {
+    word == b"workers".as_slice() || word == b"replicas".as_slice() || word == b"table".as_slice()
+}
+
+/// Reads an event that names no table.
+fn read_plain_event(setup: &Setup, first: &[u8], rest: &[&[u8]]) -> Result<Event, LineFault>
+    ensures { IfOk result (IsPossible setup.now.workers setup.now.replicas) }
+{
+    if first == b"begin".as_slice() {
+        or_bad_words(read_begin(rest))
+    } else if first == b"commit".as_slice() {
+        or_bad_words(read_commit(setup, rest))
+    } else if first == b"flush".as_slice() {
+        or_bad_words(read_flush(rest))
+    } else if first == b"push".as_slice() {
+        or_bad_words(read_push(setup, rest))
+    } else if first == b"deliver".as_slice() {
+        or_bad_words(read_deliver(setup, rest))
+    } else if first == b"show".as_slice() {
+        or_bad_words(read_show(rest))
+    } else if first == b"ask".as_slice() {
+        or_bad_words(read_replica(setup, rest).map(|replica| Event::Ask { replica }))
+    } else if first == b"run".as_slice() {
+        or_bad_words(read_replica(setup, rest).map(|replica| Event::Run { replica }))
+    } else {
+        Err(LineFault::Because(Reason::UnknownEvent))
+    }
+}
+
+/// The event that the words of a line give, where they give one.
+fn or_bad_words(event: Option<Event>) -> Result<Event, LineFault>
+    ensures { result ≡ ok_or event (LineFault.Because Reason.BadWords) }
+{
+    event.ok_or(LineFault::Because(Reason::BadWords))
+}
+
+fn read_begin(rest: &[&[u8]]) -> Option<Event>
+    ensures { (workers replicas : ℕ) → IfSome result (IsPossible workers replicas) }
+{
+    match rest {
+        [] => Some(Event::Begin),
+        _ => None,
+    }
+}
+
+fn read_commit(setup: &Setup, rest: &[&[u8]]) -> Option<Event>
+    ensures { IfSome result (IsPossible setup.now.workers setup.now.replicas) }
+{
+    match rest {
+        [transaction, worker] => Some(Event::Commit {
+            transaction: number(transaction)?,
+            worker: number_below(worker, setup.workers)?,
+        }),
+        _ => None,
+    }
+}
+
+fn read_flush(rest: &[&[u8]]) -> Option<Event>
+    ensures { (workers replicas : ℕ) → IfSome result (IsPossible workers replicas) }
+{
+    match rest {
+        [count] => {
+            let count = u32::try_from(number(count)?).ok()?;
+            Some(Event::Flush { count })
+        }
+        _ => None,
+    }
+}
+
+fn read_push(setup: &Setup, rest: &[&[u8]]) -> Option<Event>
+    ensures { IfSome result (IsPossible setup.now.workers setup.now.replicas) }
+{
+    match rest {
+        [worker, seq] => Some(Event::Push {
+            worker: number_below(worker, setup.workers)?,
+            seq: number(seq)?,
+        }),
+        _ => None,
+    }
+}
+
+fn read_deliver(setup: &Setup, rest: &[&[u8]]) -> Option<Event>
+    ensures { IfSome result (IsPossible setup.now.workers setup.now.replicas) }
+{
+    match rest {
+        [place, node] => Some(Event::Deliver {
+            place: number(place)?,
+            node: read_node(setup, node)?,
+        }),
+        _ => None,
+    }
+}
+
+/// A node: `p`, or `r` and a replica's number.
+fn read_node(setup: &Setup, word: &[u8]) -> Option<Node>
+    ensures { IfSome result (IsThere setup.now.replicas) }
+{
+    match word {
+        [b'p'] => Some(Node::Primary),
+        [b'r', replica @ ..] => Some(Node::Replica(number_below(replica, setup.replicas)?)),
+        _ => None,
+    }
+}
+
+fn read_show(rest: &[&[u8]]) -> Option<Event>
+    ensures { (workers replicas : ℕ) → IfSome result (IsPossible workers replicas) }
+{
+    match rest {
+        [place] => Some(Event::Show {
+            place: number(place)?,
+        }),
+        _ => None,
+    }
+}
+
+fn read_replica(setup: &Setup, rest: &[&[u8]]) -> Option<u8>
+    ensures { IfSome result (λ replica. replica < setup.now.replicas) }
+{
+    match rest {
+        [replica] => number_below(replica, setup.replicas),
+        _ => None,
+    }
+}
+
+/// Reads `insert T NAME ROW V..`.
+fn read_insert(alloc: Global, setup: &Setup, rest: &[&[u8]]) -> Result<Event, LineFault>
+    ensures { IfOk result (IsPossible setup.now.workers setup.now.replicas) }
+{
+    let [transaction, name, row, values @ ..] = rest else {
+        return Err(LineFault::Because(Reason::BadWords));
+    };
+    let (Some(transaction), Some(row)) = (number(transaction), number(row)) else {
+        return Err(LineFault::Because(Reason::BadWords));
+    };
+    if !is_name(name) || values.is_empty() {
+        return Err(LineFault::Because(Reason::BadWords));
+    }
+    let mut items = Vec::new(alloc);
+    for value in values {
+        match int(value) {
+            Some(number) => items.push(Value::Int(number))?,
+            None => return Err(LineFault::Because(Reason::BadWords)),
+        }
+    }
+    Ok(Event::Insert {
+        transaction,
+        table: find_table(setup, name)?,
+        row: RowId(row),
+        values: Row::from_vec(items),
+    })
+}
+
+/// Reads `open R query NAME get count`.
+fn read_open(setup: &Setup, rest: &[&[u8]]) -> Result<Event, LineFault>
+    ensures { IfOk result (IsPossible setup.now.workers setup.now.replicas) }
+{
+    match rest {
+        [replica, b"query", name, b"get", b"count"] => {
+            let Some(replica) = number_below(replica, setup.replicas) else {
+                return Err(LineFault::Because(Reason::BadWords));
+            };
+            if !is_name(name) {
+                return Err(LineFault::Because(Reason::BadWords));
+            }
+            let table = find_table(setup, name)?;
+            Ok(Event::Open {
+                replica,
+                plan: Plan { table },
+            })
+        }
+        _ => Err(LineFault::Because(Reason::BadWords)),
+    }
+}
+
+/// The number of the table of that name.
+fn find_table(setup: &Setup, name: &[u8]) -> Result<u8, LineFault> {
+    let found = match text(name) {
+        Some(name) => setup.schema.table_named(name),
+        None => None,
+    };
+    match found {
+        Some(table) => u8::try_from(table).map_err(|_| LineFault::Because(Reason::NoTable)),
+        None => Err(LineFault::Because(Reason::NoTable)),
+    }
+}

@@ -1,0 +1,48 @@
+-- What the known places say: whether a look-up finds a frame, and which is the first that is missing.
+use Rattle.std.proofs.Common.{◌≡◌, ℕ, zero, suc, ◌+◌, ◌-◌, ◌<◌, ◌≤◌, true, false, List, [], ◌∷◌, length, is_some, refl, ap, ◌∙◌, subst, inl, inr, arith}
+use Rattle.std.specs.Ordering.{nat_cmp}
+use Rattle.std.specs.Map.{lookup, keys_of}
+use Rattle.std.specs.BTreeMap.{is_at}
+use Rattle.std.proofs.lemmas.Bool.{cond-true, cond-false, cases_Bool, cases_lt}
+use Rattle.std.proofs.lemmas.Bool.Decides.{nat_tests}
+use Rattle.dispatcher.specs.Known.{is_known, missing_from}
+
+-- a look-up finds a frame where its place is known
+pub is_known-lookup : {X : Type 0} (seq : ℕ) (entries : List (ℕ × X)) → is_some (lookup (is_at (nat_cmp seq)) entries) ≡ is_known (keys_of entries) seq
+is_known-lookup seq [] = refl
+is_known-lookup seq (e ∷ es) = grind (arith, nat_tests, is_known-lookup seq es)
+
+-- as many places as entries
+pub length-keys_of : {X : Type 0} (entries : List (ℕ × X)) → length (keys_of entries) ≡ length entries
+length-keys_of [] = refl
+length-keys_of (e ∷ es) = ap suc (length-keys_of es)
+
+-- the walk stops at a place that is not known
+pub missing_from-unknown : (count seq : ℕ) (known : List ℕ) → is_known known seq ≡ false → missing_from count seq known ≡ seq
+missing_from-unknown zero seq known h = refl
+missing_from-unknown (suc count) seq known h = cond-false (is_known known seq) _ seq h
+
+-- and goes on at one that is
+pub missing_from-known : (end seq : ℕ) (known : List ℕ) → seq < end → is_known known seq ≡ true
+    → missing_from (end - seq) seq known ≡ missing_from (end - (seq + 1)) (seq + 1) known
+missing_from-known end seq known below h =
+    let more : end - seq ≡ suc (end - (seq + 1)) = omega arith in
+    ap (λ count. missing_from count seq known) more ∙ cond-true (is_known known seq) _ seq h
+
+-- a place that is known, where the first is and each behind it up to this one
+known_or_past : (from seq : ℕ) (known : List ℕ) → from ≤ seq → is_known known from ≡ true → (from < seq → is_known known seq ≡ true) → is_known known seq ≡ true
+known_or_past from seq known low here past =
+    elim (cases_lt from seq) [
+      | inl later ↦ past later
+      | inr upto ↦ (let same : from ≡ seq = omega arith in rw same at here)
+    ]
+
+-- each place before the one where the walk stops is known
+pub is_known-below : (count from seq : ℕ) (known : List ℕ) → from ≤ seq → seq < missing_from count from known → is_known known seq ≡ true
+is_known-below zero from seq known low high = absurd (omega arith)
+is_known-below (suc count) from seq known low high =
+    elim (cases_Bool (is_known known from)) [
+      | inl here ↦ known_or_past from seq known low here
+          (λ later. is_known-below count (from + 1) seq known (omega arith) (subst (λ n. seq < n) (cond-true (is_known known from) (missing_from count (from + 1) known) from here) high))
+      | inr none ↦ absurd (omega (arith, subst (λ n. seq < n) (missing_from-unknown (suc count) from known none) high))
+    ]

@@ -1,0 +1,47 @@
+-- What a run answers where a version was fetched, no frame is missing, and the tables have caught up.
+use Rattle.std.proofs.Common.{◌≡◌, ℕ, ◌+◌, ◌-◌, ◌≤◌, ◌==◌, ◌⊎◌, inl, inr, true, false, cond, nat_lt, List, [], ◌∷◌, slice_index, Option, None, Some, Bool, sym, ap, subst, ◌∙◌, le-ltb}
+use Rattle.std.specs.Option.{option_map}
+use Rattle.std.proofs.lemmas.Bool.{cond-false}
+use Rattle.std.proofs.lemmas.Option.{same_Some}
+use Rattle.rows.specs.Tables.{Tables}
+use Rattle.dispatcher.specs.declared.plan.Plan.{Plan}
+use Rattle.dispatcher.specs.declared.outcome.Run.{Run}
+use Rattle.dispatcher.specs.declared.outcome.Run.TheVariants as runs
+use Rattle.dispatcher.specs.Known.{first_missing}
+use Rattle.dispatcher.specs.Replay.{frames_at, replayed}
+use Rattle.dispatcher.specs.Replica.{Replica, Queries, Fetched}
+use Rattle.dispatcher.specs.Steps.{known, ready, ready_by, ran, ran_by, is_waiting, caught_up, finished, answered_by, MayRun}
+
+-- catching up leaves the batch
+same_batch : (r after : Replica) (version applied : ℕ) (reached : Bool) (tables : Option Tables)
+    → cond reached (option_map (λ tables. record r { tables = tables; version = version; applied = applied }) tables) None ≡ Some after → after.batch ≡ r.batch
+same_batch r after version applied false tables h = cc
+same_batch r after version applied true None h = cc
+same_batch r after version applied true (Some tables) h = sym (ap (λ (x : Replica). x.batch) (same_Some _ after h))
+
+module _ (r : Replica) (plans : List Plan) (fetched : Fetched) (whole : r.broken ≡ false)
+    (there : r.batch ≡ Some (record { plans = plans; fetched = Some fetched })) (complete : slice_index fetched.counts 0 ≤ first_missing (known r)) where
+  ran-ready : ran r ≡ finished r plans (caught_up r fetched)
+  ran-ready =
+      cond-false r.broken (runs.Broken, r) (ran_by r r.batch) whole
+      ∙ ap (ran_by r) there
+      ∙ cond-false (is_waiting r fetched) _ (finished r plans (caught_up r fetched)) (le-ltb (first_missing (known r)) (slice_index fetched.counts 0) complete)
+
+  ready-there : ready r ≡ Some fetched
+  ready-there =
+      cond-false r.broken None (ready_by r r.batch) whole
+      ∙ ap (ready_by r) there
+      ∙ cond-false (is_waiting r fetched) None (Some fetched) (le-ltb (first_missing (known r)) (slice_index fetched.counts 0) complete)
+
+  run_by_parts : (after new : Replica) (answer : Run) → caught_up r fetched ≡ Some after
+      → ((answer ≡ runs.Memory) × (new ≡ after)) ⊎ (answered_by after after.batch ≡ (answer, new)) → MayRun r answer new
+  run_by_parts after new answer caught (inl memory) = inr (fetched, ready-there, inl (memory.0, inr (rw memory.1 caught)))
+  run_by_parts after new answer caught (inr answered) =
+      inl (ran-ready ∙ ap (finished r plans) caught ∙ ap (answered_by after) (sym (same_batch r after _ _ _ _ caught ∙ there)) ∙ answered)
+
+  -- the batch is answered on the tables that have caught up, or stays for want of memory
+  pub run_answers : (old after new : Replica) (answer : Run) (items : List ℕ) → r ≡ old → items ≡ fetched.counts
+      → caught_up old (record { version = fetched.version; counts = slice_index items 0 ∷ [] }) ≡ Some after
+      → ((answer ≡ runs.Memory) × (new ≡ after)) ⊎ (answered_by after after.batch ≡ (answer, new)) → MayRun old answer new
+  run_answers old after new answer items seen same caught answered =
+      subst (λ x. MayRun x answer new) seen (run_by_parts after new answer (rw (seen, ← same) caught) answered)

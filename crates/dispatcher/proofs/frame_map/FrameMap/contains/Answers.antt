@@ -1,0 +1,7 @@
+-- The map finds a frame where its place is known.
+use Rattle.std.proofs.Common.{◌∙◌}
+use Rattle.dispatcher.proofs.Places.{is_known-lookup}
+use Rattle.dispatcher.proofs.frame_map.FrameMap.contains.Goals as goal
+
+pub returns : goal.returns
+returns c = rw (c.contains_key.ensures, c.self.view_is) (is_known-lookup c.args.seq c.args.self.now)

@@ -1,0 +1,7 @@
+pub mod Plans
+pub mod Report
+pub mod Known
+pub mod Replay
+pub mod Replica
+pub mod Steps
+pub mod Core

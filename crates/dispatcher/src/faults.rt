@@ -1,0 +1,32 @@
+use crate::plan::PlanFault;
+use thiserror::Error;
+
+/// Why a query is not taken: the first that stands, in the order `Broken`, `BatchFull`,
+/// `BadPlan`, `Memory`.
+#[derive(Clone, Copy, Debug, PartialEq, Eq, Error)]
+pub enum OpenFault {
+    /// As many queries wait as may.
+    #[error("too many queries wait")]
+    BatchFull,
+    #[error("a bad plan: {0}")]
+    BadPlan(PlanFault),
+    /// The replica is broken; it has to be started again.
+    #[error("the replica is broken")]
+    Broken,
+    #[error("out of memory")]
+    Memory,
+}
+
+/// Why no version is asked for: the first that stands, in the order `Broken`, `Busy`, `Empty`.
+#[derive(Clone, Copy, Debug, PartialEq, Eq, Error)]
+pub enum AskFault {
+    /// The batch has its version already.
+    #[error("the batch has its version")]
+    Busy,
+    /// There is no batch, and no query waits.
+    #[error("no query waits")]
+    Empty,
+    /// The replica is broken; it has to be started again.
+    #[error("the replica is broken")]
+    Broken,
+}

@@ -1,0 +1,84 @@
+//! The frames that are known of one worker, by their places.
+
+ghost use Rattle.std.specs.Prelude.{◌≡◌, [], length, OnOk, OnErr};
+ghost use Rattle.std.specs.Option.{option_copied};
+ghost use Rattle.std.specs.Ordering.{nat_cmp};
+ghost use Rattle.std.specs.Map.{keys_of, lookup};
+ghost use Rattle.std.specs.BTreeMap.{insert_entry, is_at};
+ghost use Rattle.dispatcher.specs.Known.{is_known, first_missing, is_ahead};
+
+use rows::limits::FRAME_WINDOW;
+use std::alloc::{AllocError, Global};
+use std::collections::BTreeMap;
+use std::marker::Model;
+use wire::Frame;
+
+/// The known frames of one worker. Contracts see them in rising place.
+#[derive(Debug, Drop)]
+pub struct FrameMap {
+    frames: BTreeMap<u64, Frame>,
+}
+
+impl Model for FrameMap {
+    ghost use Rattle.std.specs.Prelude.{List, ℕ};
+    ghost use Rattle.wire.specs.declared.frame.Frame.{Frame};
+
+    ghost Value = { List (ℕ × Frame) };
+
+    ghost view = { λ f. f.frames.entries };
+}
+
+impl FrameMap {
+    /// No frames.
+    pub fn new(alloc: Global) -> FrameMap
+        ensures { result ≡ [] }
+    {
+        FrameMap {
+            frames: BTreeMap::new(alloc),
+        }
+    }
+
+    /// Whether the frame at that place is known.
+    pub fn contains(&self, seq: u64) -> bool
+        ensures { result ≡ is_known (keys_of self.now) seq }
+    {
+        self.frames.contains_key(&seq)
+    }
+
+    /// The frame at that place, where it is known.
+    pub fn get(&self, seq: u64) -> Option<&Frame>
+        ensures { option_copied result ≡ lookup (is_at (nat_cmp seq)) self.now }
+    {
+        self.frames.get(&seq)
+    }
+
+    /// The least place whose frame is not known.
+    pub fn first_missing(&self) -> u64
+        ensures { result ≡ first_missing (keys_of self.now) }
+    {
+        let len = self.frames.len() as u64;
+        for seq in 0..len {
+            if !self.contains(seq) {
+                return seq;
+            }
+        }
+        len
+    }
+
+    /// Whether the place is too far ahead to be kept: it is the greatest number, or 4096 or more
+    /// past the first that is missing.
+    pub fn is_ahead(&self, seq: u64) -> bool
+        ensures { result ≡ is_ahead (keys_of self.now) seq }
+    {
+        seq == u64::MAX || seq.saturating_sub(self.first_missing()) >= FRAME_WINDOW
+    }
+
+    /// Adds a frame at its place. Fails for want of memory alone, and then nothing has changed.
+    pub fn insert(&mut self, seq: u64, frame: Frame) -> Result<(), AllocError>
+        ensures ok { OnOk result (self.new ≡ insert_entry nat_cmp self.old seq frame) }
+        ensures err { OnErr result (self.new ≡ self.old) }
+    {
+        self.frames.insert(seq, frame)?;
+        Ok(())
+    }
+}

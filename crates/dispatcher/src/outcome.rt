@@ -1,0 +1,40 @@
+use rows::ByteList;
+use wire::Out;
+
+/// What became of bytes that came.
+#[derive(Clone, Copy, Debug, PartialEq, Eq)]
+pub enum Got {
+    /// A frame that was not known; it is now.
+    Stored,
+    /// A frame that was known.
+    Repeat,
+    /// A frame too far past the first that is missing; it was not kept.
+    Ahead,
+    /// The Head that the batch waits for, with its version.
+    Head(u64),
+    /// Anything else; nothing changed.
+    Ignored,
+    /// Want of memory; nothing changed.
+    Memory,
+    /// The replica is broken; nothing changed.
+    Broken,
+}
+
+/// What became of a run of the batch.
+#[derive(Debug, Drop)]
+pub enum Run {
+    /// There is no batch.
+    NoBatch,
+    /// The batch has no version yet.
+    WaitingHead,
+    /// The worker's frame at place `seq` is missing; `want` asks for it.
+    Waiting { worker: u8, seq: u64, want: Out },
+    /// The report; the batch has ended.
+    Answered(ByteList),
+    /// The frames are not those of one list of commits; the replica is broken from now on.
+    Inconsistent,
+    /// The replica is broken.
+    Broken,
+    /// Want of memory; the batch stands and may be run again.
+    Memory,
+}

@@ -1,0 +1,398 @@
+//! The replica's core: bytes and values in, bytes and values out.
+
+ghost use Rattle.std.specs.Prelude.{◌≡◌, ◌<◌, ◌≤◌, ◌^◌, ◌+◌, ◌-◌, ◌==◌, ◌∷◌, [], Some, false, Ok, Err, IfOk, IfErr, IsOk, is_ok, ◌⊎◌, replicate};
+ghost use Rattle.rows.specs.Shape.{shape_of};
+ghost use Rattle.dispatcher.specs.Replica.{Replica};
+ghost use Rattle.std.specs.List.{list_all};
+ghost use Rattle.rows.specs.Tables.{fitting};
+ghost use Rattle.dispatcher.specs.Steps.{started, opened, asked, received, frame_comes, own_head_comes, ask_for, want_for, ready, CatchesUp, answered_by, MayRun};
+
+use crate::answering::report;
+use crate::applying::{ApplyFault, apply_frames};
+use crate::batch::{Batch, TakenHead};
+use crate::faults::{AskFault, OpenFault};
+use crate::frame_map::FrameMap;
+use crate::outcome::{Got, Run};
+use crate::plan::Plan;
+use crate::table_map::TableMap;
+use rows::limits::WAITING_QUERIES_MAX;
+use rows::{Entry, Schema, fits};
+use std::alloc::{AllocError, Global};
+use std::marker::Model;
+use wire::{Counts, Datagram, Frame, LentEntries, Out, Packet, To, read};
+
+/// A replica of one primary.
+///
+/// Contracts see its known frames, its tables and their version, the queries that wait, and its
+/// batch; of the tables of a broken replica they see nothing.
+#[derive(Debug, Drop)]
+pub struct ReplicaCore {
+    alloc: Global,
+    schema: Schema,
+    workers: u8,
+    number: u8,
+    boot: u64,
+    request: u64,
+    frames: FrameMap,
+    applied: u64,
+    tables: Vec<TableMap>,
+    version: u64,
+    waiting: Vec<Plan>,
+    batch: Option<Batch>,
+    broken: bool,
+}
+
+impl Model for ReplicaCore {
+    ghost use Rattle.dispatcher.specs.Replica.{Replica};
+
+    ghost Value = { Replica };
+
+    ghost use Rattle.dispatcher.specs.Core.{replica_of, IsCore};
+
+    ghost view = { replica_of };
+
+    ghost invariant = { IsCore };
+}
+
+impl ReplicaCore {
+    /// A replica without tables' rows, frames or queries, at version 0, for a schema and one
+    /// worker. Fails for want of memory alone.
+    pub fn start(
+        alloc: Global,
+        schema: &Schema,
+        workers: u8,
+        number: u8,
+        boot: u64,
+    ) -> Result<ReplicaCore, AllocError>
+        requires workers { workers ≡ 1 }
+        requires number { number < 16 }
+        ensures { IfOk result (λ replica. replica ≡ started (shape_of schema.now) workers number boot) }
+    {
+        Ok(ReplicaCore {
+            alloc,
+            schema: schema.clone()?,
+            workers,
+            number,
+            boot,
+            request: 0,
+            frames: FrameMap::new(alloc),
+            applied: 0,
+            tables: empty_tables(alloc, schema.len())?,
+            version: 0,
+            waiting: Vec::new(alloc),
+            batch: None,
+            broken: false,
+        })
+    }
+
+    /// The number of its newest request; 0 before the first.
+    pub fn request(&self) -> u64
+        ensures { result ≡ self.now.request }
+    {
+        self.request
+    }
+
+    /// The version of its tables; of a broken replica the last at which they were whole.
+    pub fn version(&self) -> u64
+        ensures { result ≡ self.now.version }
+    {
+        self.version
+    }
+
+    /// Takes a query for the next batch, and answers how many wait now.
+    ///
+    /// Fails with the first of these, and changes nothing: `Broken`; `BatchFull`, 64 wait;
+    /// `BadPlan`; `Memory`.
+    pub fn open(&mut self, plan: Plan) -> Result<usize, OpenFault>
+        ensures ok { IfOk result (λ count. opened self.old plan ≡ Ok (count, self.new)) }
+        ensures refused { IfErr result (λ fault. (self.new ≡ self.old)
+            × (((fault ≡ OpenFault.Memory) × IsOk (opened self.old plan)) ⊎ (opened self.old plan ≡ Err fault))) }
+    {
+        if self.broken {
+            return Err(OpenFault::Broken);
+        }
+        if self.waiting.len() >= WAITING_QUERIES_MAX {
+            return Err(OpenFault::BatchFull);
+        }
+        if let Err(fault) = plan.check(&self.schema) {
+            return Err(OpenFault::BadPlan(fault));
+        }
+        match self.waiting.push(plan) {
+            Ok(()) => Ok(self.waiting.len()),
+            Err(_) => Err(OpenFault::Memory),
+        }
+    }
+
+    /// Asks for the newest durable version. With no batch it makes one of all queries that wait
+    /// and counts the request up; while the batch waits for its Head it asks the same again.
+    /// Takes no memory.
+    ///
+    /// Fails with the first of these, and changes nothing: `Broken`; `Busy`, the batch has its
+    /// Head; `Empty`, there is no batch and no query waits.
+    pub fn ask(&mut self) -> Result<Out, AskFault>
+        requires { self.old.request < 2 ^ 64 - 1 }
+        ensures ok { IfOk result (λ out. asked self.old ≡ Ok (out, self.new)) }
+        ensures refused { IfErr result (λ fault. (self.new ≡ self.old) × (asked self.old ≡ Err fault)) }
+    {
+        if self.broken {
+            return Err(AskFault::Broken);
+        }
+        match &self.batch {
+            Some(batch) => {
+                if batch.head.is_some() {
+                    return Err(AskFault::Busy);
+                }
+            }
+            None => {
+                if self.waiting.is_empty() {
+                    return Err(AskFault::Empty);
+                }
+                let plans = std::mem::replace(&mut self.waiting, Vec::new(self.alloc));
+                self.request += 1;
+                self.batch = Some(Batch { plans, head: None });
+            }
+        }
+        Ok(ask_out(self.number, self.boot, self.request))
+    }
+
+    /// Takes bytes that came. A frame of a worker that is there, whose entries fit, is kept where
+    /// it is not known and not 4096 or more past the first that is missing. A Head is taken where
+    /// the batch waits for one, replica, boot, request and the number of workers are its own, and
+    /// neither its version nor a count goes back. All else is ignored.
+    pub fn on_bytes(&mut self, bytes: &[u8]) -> Got
+        ensures { ((result ≡ Got.Memory) × (self.new ≡ self.old)) ⊎ (received self.old bytes.now ≡ (result, self.new)) }
+    {
+        if self.broken {
+            return Got::Broken;
+        }
+        match read(bytes) {
+            Ok(
+                Datagram::Frame {
+                    worker,
+                    seq,
+                    commit,
+                    last,
+                    entries,
+                },
+            ) => self.take_frame(worker, seq, commit, last, &entries),
+            Ok(
+                Datagram::Head {
+                    replica,
+                    boot,
+                    request,
+                    version,
+                    counts,
+                },
+            ) => {
+                if replica != self.number || boot != self.boot || request != self.request {
+                    return Got::Ignored;
+                }
+                self.take_head(version, counts)
+            }
+            _ => Got::Ignored,
+        }
+    }
+
+    /// Runs the batch: applies every commit up to the version that was fetched for it, and
+    /// answers all its queries on those rows.
+    ///
+    /// Where memory is wanted, the answer is `Memory`, and the batch and the known frames stand,
+    /// the tables at the old version or at the fetched one; or `Broken`, where changes were being
+    /// applied. After `Inconsistent` or `Broken` the replica is broken for good.
+    pub fn run(&mut self) -> Run
+        ensures { MayRun self.old result self.new }
+    {
+        if self.broken {
+            return Run::Broken;
+        }
+        let Some(batch) = &self.batch else {
+            return Run::NoBatch;
+        };
+        let Some(head) = &batch.head else {
+            return Run::WaitingHead;
+        };
+        let version = head.version;
+        let count = head.counts.as_slice()[0];
+        let missing = self.frames.first_missing();
+        if missing < count {
+            return Run::Waiting {
+                worker: 0,
+                seq: missing,
+                want: want_out(self.number, 0, missing),
+            };
+        }
+        match self.catch_up(version, count) {
+            Ok(()) => self.answer(),
+            Err(ApplyFault::Inconsistent) => Run::Inconsistent,
+            Err(ApplyFault::Memory) => Run::Broken,
+        }
+    }
+
+    /// Takes a frame.
+    fn take_frame(
+        &mut self,
+        worker: u8,
+        seq: u64,
+        commit: u64,
+        last: bool,
+        entries: &LentEntries<'_>,
+    ) -> Got
+        requires { self.old.broken ≡ false }
+        ensures { ((result ≡ Got.Memory) × (self.new ≡ self.old))
+            ⊎ (frame_comes self.old (record { worker = worker; seq = seq; commit = commit; last = last; entries = entries.now }) ≡ (result, self.new)) }
+    {
+        if worker >= self.workers {
+            return Got::Ignored;
+        }
+        let Ok(entries) = entries.to_list(self.alloc) else {
+            return Got::Memory;
+        };
+        if !all_fit(&self.schema, entries.as_slice()) {
+            return Got::Ignored;
+        }
+        if self.frames.contains(seq) {
+            return Got::Repeat;
+        }
+        if self.frames.is_ahead(seq) {
+            return Got::Ahead;
+        }
+        let frame = Frame {
+            worker,
+            seq,
+            commit,
+            last,
+            entries,
+        };
+        match self.frames.insert(seq, frame) {
+            Ok(()) => Got::Stored,
+            Err(_) => Got::Memory,
+        }
+    }
+
+    /// Takes a Head of its own replica, boot and request.
+    fn take_head(&mut self, version: u64, counts: Counts) -> Got
+        requires { self.old.broken ≡ false }
+        ensures { own_head_comes self.old version counts ≡ (result, self.new) }
+    {
+        if counts.as_slice().len() != self.workers as usize
+            || version < self.version
+            || counts.as_slice()[0] < self.applied
+        {
+            return Got::Ignored;
+        }
+        match &mut self.batch {
+            Some(batch) => {
+                if batch.head.is_some() {
+                    return Got::Ignored;
+                }
+                batch.head = Some(TakenHead { version, counts });
+                Got::Head(version)
+            }
+            None => Got::Ignored,
+        }
+    }
+
+    /// Applies the frames that are not applied yet, of which none below `count` is missing, and is
+    /// at `version` then. Where it fails, it is broken.
+    fn catch_up(&mut self, version: u64, count: u64) -> Result<(), ApplyFault>
+        requires { ready self.old ≡ Some (record { version = version; counts = count ∷ [] }) }
+        ensures { CatchesUp self.old (record { version = version; counts = count ∷ [] }) result self.new }
+    {
+        if !is_reached(self.version, version, self.applied, count) {
+            self.broken = true;
+            return Err(ApplyFault::Inconsistent);
+        }
+        let applied = apply_frames(
+            self.alloc,
+            &self.schema,
+            &mut self.tables,
+            &self.frames,
+            self.version,
+            self.applied,
+            count,
+        );
+        match applied {
+            Ok(()) => {
+                self.version = version;
+                self.applied = count;
+            }
+            Err(_) => self.broken = true,
+        }
+        applied
+    }
+
+    /// Answers the batch on the tables as they are, and ends it.
+    fn answer(&mut self) -> Run
+        requires { self.old.broken ≡ false }
+        ensures { ((result ≡ Run.Memory) × (self.new ≡ self.old)) ⊎ (answered_by self.old self.old.batch ≡ (result, self.new)) }
+    {
+        let Some(batch) = &self.batch else {
+            return Run::NoBatch;
+        };
+        match report(self.alloc, self.version, &self.tables, &batch.plans) {
+            Ok(text) => {
+                self.batch = None;
+                Run::Answered(text)
+            }
+            Err(_) => Run::Memory,
+        }
+    }
+}
+
+/// Whether as many frames are left to apply as versions, each frame holding one commit.
+fn is_reached(version: u64, wanted: u64, applied: u64, count: u64) -> bool
+    requires versions { version ≤ wanted }
+    requires counts { applied ≤ count }
+    ensures { result ≡ (version + (count - applied) == wanted) }
+{
+    wanted - version == count - applied
+}
+
+/// Tables without rows, this many.
+fn empty_tables(alloc: Global, count: usize) -> Result<Vec<TableMap>, AllocError>
+    ensures { IfOk result (λ tables. tables.items ≡ replicate count []) }
+{
+    let mut tables = Vec::new(alloc);
+    for _ in 0..count {
+        tables.push(TableMap::new(alloc))?;
+    }
+    Ok(tables)
+}
+
+/// The Ask of a request, on its way to the primary.
+fn ask_out(replica: u8, boot: u64, request: u64) -> Out
+    requires { replica < 16 }
+    ensures { result ≡ ask_for replica boot request }
+{
+    Out {
+        to: To::Primary,
+        packet: Packet::of(&Datagram::Ask {
+            replica,
+            boot,
+            request,
+        }),
+    }
+}
+
+/// The Want of a worker's frames from a place on, on its way to the primary.
+fn want_out(replica: u8, worker: u8, from: u64) -> Out
+    requires replica { replica < 16 }
+    requires worker { worker < 16 }
+    ensures { result ≡ want_for replica worker from }
+{
+    Out {
+        to: To::Primary,
+        packet: Packet::of(&Datagram::Want {
+            replica,
+            worker,
+            from,
+        }),
+    }
+}
+
+/// Whether every entry fits the schema.
+fn all_fit(schema: &Schema, entries: &[Entry]) -> bool
+    ensures { result ≡ list_all (λ entry. is_ok (fitting (shape_of schema.now) entry)) entries.now }
+{
+    entries.iter().all(|entry| fits(schema, entry).is_ok())
+}

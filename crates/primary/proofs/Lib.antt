@@ -1,0 +1,4 @@
+pub mod Definedness
+pub mod Text
+pub mod Flushing
+pub mod Streams

@@ -1,0 +1,59 @@
+-- One step of a primary: what a commit and a flush answer, and what they leave.
+use Rattle.std.specs.Prelude.{ℕ, ◌+◌, ◌^◌, ◌-◌, List, [], ◌∷◌, ◌++◌, length, take, drop, Bool, true, false, Result, Ok, Err, ◌||◌, not, nat_lt, nat_le, ◌==◌, if◌then◌else◌, is_ok}
+use Rattle.rows.specs.declared.commit.Commit.{Commit}
+use Rattle.rows.specs.declared.entry.Entry.{Entry}
+use Rattle.rows.specs.Shape.{Shape}
+use Rattle.rows.specs.Tables.{changes_of}
+use Rattle.rows.specs.Commits.{tables_after, last_touching}
+use Rattle.primary.specs.declared.faults.CommitFault.{CommitFault}
+use Rattle.primary.specs.declared.faults.CommitFault.TheVariants.{Conflict, ReadOnly, Failed, NumbersUsedUp, Foreign}
+use Rattle.primary.specs.Draft.{Draft}
+use Rattle.primary.specs.History.{History}
+use Rattle.primary.specs.State.{Primary}
+
+-- a primary without commits
+abbrev pub started : Shape → ℕ → Primary
+started shape workers = record { shape = shape; workers = workers; durable = []; pending = []; failed = false }
+
+-- whether a transaction is not of this primary: its snapshot is above what is durable, or an entry is not defined in
+-- its place on the rows at the snapshot
+abbrev pub is_foreign : Primary → Draft → Bool
+is_foreign p draft =
+    nat_lt (length p.durable) draft.snapshot
+    || not (is_ok (changes_of p.shape (tables_after p.shape p.durable draft.snapshot) draft.entries))
+
+-- the number of the last commit, durable or pending, that touches a row of these entries; 0 where none does
+abbrev pub last_writer : Primary → List Entry → ℕ
+last_writer p entries = last_touching entries 0 (p.durable ++ p.pending)
+
+-- the number of the next commit
+abbrev pub next_number : Primary → ℕ
+next_number p = length p.durable + length p.pending + 1
+
+-- what a commit answers: its number, or the first refusal. The first committer wins: a commit is refused where a row
+-- that it writes was written after its snapshot. Want of memory aside.
+abbrev pub commit_answer : Primary → Draft → Result ℕ CommitFault
+commit_answer p draft =
+    if p.failed then Err Failed else
+    if length draft.entries == 0 then Err ReadOnly else
+    if is_foreign p draft then Err Foreign else
+    if nat_lt draft.snapshot (last_writer p draft.entries) then Err (Conflict (last_writer p draft.entries)) else
+    if nat_lt (next_number p) (2 ^ 64) then Ok (next_number p) else Err NumbersUsedUp
+
+-- the primary with this commit behind the pending ones
+abbrev pub committed : Primary → ℕ → List Entry → Primary
+committed p worker entries = record p { pending = p.pending ++ record { worker = worker; entries = entries } ∷ [] }
+
+-- the primary with the first `count` pending commits durable (all of them, if there are fewer)
+abbrev pub flushed : Primary → ℕ → Primary
+flushed p count = record p { durable = p.durable ++ take count p.pending; pending = drop count p.pending }
+
+-- the primary of these versions, the first `durable` of them durable and the others pending
+abbrev pub primary_of : History → ℕ → ℕ → Bool → Primary
+primary_of versions durable workers failed = record {
+  shape = versions.shape;
+  workers = workers;
+  durable = take durable versions.commits;
+  pending = drop durable versions.commits;
+  failed = failed;
+}

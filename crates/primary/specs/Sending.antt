@@ -1,0 +1,40 @@
+-- What a primary sends: the frames of its durable list, and one Head to an Ask.
+use Rattle.std.specs.Prelude.{ℕ, zero, suc, List, [], ◌∷◌, ◌++◌, length, Option, Result, Ok, Err, slice_get}
+use Rattle.std.specs.Option.{option_map}
+use Rattle.rows.specs.declared.commit.Commit.{Commit}
+use Rattle.wire.specs.declared.datagram.Datagram.{Datagram}
+use Rattle.wire.specs.declared.datagram.Datagram.TheVariants.{Frame, Ask, Head, Want}
+use Rattle.wire.specs.declared.fault.WireFault.{WireFault}
+use Rattle.wire.specs.declared.out.Out.{Out}
+use Rattle.wire.specs.declared.out.To.{To}
+use Rattle.wire.specs.declared.out.To.TheVariants.{Replica}
+use Rattle.wire.specs.Spelling.{spelling, frame_spelling}
+use Rattle.wire.specs.Reading.{reading}
+use Rattle.wire.specs.Streams.{stream_of, frame_count}
+use Rattle.primary.specs.State.{Primary}
+
+-- the datagram of a place of a worker's stream of the durable list, where there is that place
+abbrev pub pushed : Primary → ℕ → ℕ → Option (List ℕ)
+pushed p worker seq = option_map frame_spelling (slice_get (stream_of p.durable worker) seq)
+
+-- the frame counts of this many workers up to that version
+abbrev pub counts_of : List Commit → ℕ → ℕ → List ℕ
+counts_of commits version zero = []
+counts_of commits version (suc workers) = counts_of commits version workers ++ frame_count commits workers version ∷ []
+
+-- the Head that answers an Ask: what is durable, and each worker's frame count at it
+abbrev pub head_for : Primary → ℕ → ℕ → ℕ → Datagram
+head_for p replica boot request =
+    Head replica boot request (length p.durable) (counts_of p.durable (length p.durable) p.workers)
+
+-- what a datagram is answered: an Ask by one Head to its replica, anything else by nothing
+abbrev pub answers_to : Primary → Result Datagram WireFault → List Out
+answers_to p (Ok (Ask replica boot request)) = record { to = Replica replica; packet = spelling (head_for p replica boot request) } ∷ []
+answers_to p (Ok (Frame worker seq commit last entries)) = []
+answers_to p (Ok (Head replica boot request version counts)) = []
+answers_to p (Ok (Want replica worker from)) = []
+answers_to p (Err fault) = []
+
+-- what bytes are answered
+abbrev pub answers : Primary → List ℕ → List Out
+answers p bytes = answers_to p (reading bytes)

@@ -1,0 +1,12 @@
+-- The state of a primary: the durable list of commits, the pending list behind it, and whether its journal has
+-- failed. Its shape and its number of workers never change.
+use Rattle.std.specs.Prelude.{ℕ, List, Bool}
+use Rattle.rows.specs.declared.commit.Commit.{Commit}
+use Rattle.rows.specs.Shape.{Shape}
+
+pub record Primary : Type 0 where
+  pub shape : Shape
+  pub workers : ℕ
+  pub durable : List Commit
+  pub pending : List Commit
+  pub failed : Bool

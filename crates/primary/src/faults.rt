@@ -1,0 +1,53 @@
+use thiserror::Error;
+
+/// Why a change is not taken into a transaction: the first that stands, in the order `Unfit`,
+/// `Exists`, `TooManyEntries`, `Memory`.
+#[derive(Clone, Copy, Debug, PartialEq, Eq, Error)]
+pub enum TxFault {
+    /// The row to insert is there, as the transaction sees it.
+    #[error("the row exists")]
+    Exists,
+    /// The table is not there, or the values are not of its columns' kinds.
+    #[error("the values do not fit the table")]
+    Unfit,
+    /// The transaction has as many entries as one may have.
+    #[error("too many entries")]
+    TooManyEntries,
+    #[error("out of memory")]
+    Memory,
+}
+
+/// Why a transaction is not committed: the first that stands, in the order `Failed`, `ReadOnly`,
+/// `Foreign`, `Conflict`, `NumbersUsedUp`, `Memory`.
+#[derive(Clone, Copy, Debug, PartialEq, Eq, Error)]
+pub enum CommitFault {
+    /// A commit after the transaction's snapshot, durable or pending, touches one of its rows;
+    /// the number is that of the last such commit.
+    #[error("in conflict with commit {0}")]
+    Conflict(u64),
+    /// It has no entries.
+    #[error("no entries")]
+    ReadOnly,
+    /// The journal has failed; the primary has to be started again.
+    #[error("the journal failed")]
+    Failed,
+    /// A number of the commit or its frames would pass 64 bits.
+    #[error("numbers used up")]
+    NumbersUsedUp,
+    #[error("out of memory")]
+    Memory,
+    /// It is not of this primary: its snapshot is above what is durable, or an entry is not
+    /// defined in its place on the rows at the snapshot.
+    #[error("not a transaction of this primary")]
+    Foreign,
+}
+
+/// Why a flush moved nothing.
+#[derive(Clone, Copy, Debug, PartialEq, Eq, Error)]
+pub enum FlushFault {
+    #[error("out of memory")]
+    Memory,
+    /// The journal has failed; the primary has to be started again.
+    #[error("the journal failed")]
+    Failed,
+}

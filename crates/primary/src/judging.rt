@@ -1,0 +1,87 @@
+//! Whether a transaction may be committed.
+
+ghost use Rattle.std.specs.Prelude.{◌≡◌, ◌<◌, ◌≤◌, ◌∷◌, [], ◌++◌, length, true, OnOk};
+ghost use Rattle.std.specs.Bool.{OnTrue};
+ghost use Rattle.std.specs.List.{AllByRecursion};
+ghost use Rattle.rows.specs.Spelling.{HasSpelling};
+ghost use Rattle.primary.specs.History.{defined_at, row_at};
+ghost use Rattle.primary.specs.Primary.{commit_answer, primary_of};
+
+use crate::faults::CommitFault;
+use crate::transaction::Transaction;
+use crate::versions::{Versions, names_row_of};
+use rows::{Entry, fits};
+
+/// The number that the transaction's commit would get, or the first refusal, where the first
+/// `durable` of the versions are durable and the others pending.
+pub fn judge(
+    versions: &Versions,
+    durable: usize,
+    workers: u8,
+    failed: bool,
+    transaction: &Transaction,
+) -> Result<u64, CommitFault>
+    requires { durable ≤ length versions.now.commits }
+    ensures answer { result ≡ commit_answer (primary_of versions.now durable workers failed) transaction.now }
+    ensures some { OnOk result (0 < length transaction.now.entries) }
+    ensures spelled { OnOk result (AllByRecursion HasSpelling transaction.now.entries) }
+    ensures defined { OnOk result (defined_at versions.now (length versions.now.commits) transaction.now.entries ≡ true) }
+{
+    if failed {
+        return Err(CommitFault::Failed);
+    }
+    if transaction.entries().is_empty() {
+        return Err(CommitFault::ReadOnly);
+    }
+    if transaction.snapshot() > durable as u64
+        || !are_defined(versions, transaction.snapshot(), transaction.entries())
+    {
+        return Err(CommitFault::Foreign);
+    }
+    let last = versions.last_touching(transaction.entries());
+    if last > transaction.snapshot() {
+        return Err(CommitFault::Conflict(last));
+    }
+    versions
+        .len()
+        .checked_add(1)
+        .ok_or(CommitFault::NumbersUsedUp)
+}
+
+/// Whether each of the entries is defined in its place on the rows at that version.
+fn are_defined(versions: &Versions, version: u64, entries: &[Entry]) -> bool
+    requires { version ≤ length versions.now.commits }
+    ensures answer { result ≡ defined_at versions.now version entries.now }
+    ensures spelled { OnTrue result (AllByRecursion HasSpelling entries.now) }
+{
+    for index in 0..entries.len() {
+        let (before, _) = entries.split_at(index);
+        if !is_defined(versions, version, before, &entries[index]) {
+            return false;
+        }
+    }
+    true
+}
+
+/// Whether an entry is defined behind these, which are, on the rows at that version.
+#[tactic(auto, using(crate::proofs::Definedness::defined_at_push))]
+fn is_defined(versions: &Versions, version: u64, before: &[Entry], entry: &Entry) -> bool
+    requires within { version ≤ length versions.now.commits }
+    requires before { defined_at versions.now version before.now ≡ true }
+    ensures answer { result ≡ defined_at versions.now version (before.now ++ entry.now ∷ []) }
+    ensures spelled { OnTrue result (HasSpelling entry.now) }
+{
+    fits(versions.schema(), entry).is_ok()
+        && !is_row_at(versions, version, entry)
+        && !names_row_of(entry, before)
+}
+
+/// Whether the row of the entry is there at that version.
+fn is_row_at(versions: &Versions, version: u64, entry: &Entry) -> bool
+    requires { version ≤ length versions.now.commits }
+    ensures { result ≡ row_at versions.now version entry.now }
+{
+    match entry {
+        Entry::Insert { table, row, .. } => versions.is_present(version, *table, *row),
+    }
+}

@@ -1,0 +1,9 @@
+use rows::EntryList;
+
+/// What a commit is known by: its number, its worker and its entries.
+#[derive(Debug, Drop)]
+pub struct Ticket {
+    pub number: u64,
+    pub worker: u8,
+    pub entries: EntryList,
+}

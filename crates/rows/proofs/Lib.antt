@@ -1,0 +1,3 @@
+pub mod Schemas
+pub mod Spelling
+pub mod TableLaws

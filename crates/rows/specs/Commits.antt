@@ -1,0 +1,56 @@
+-- Lists of commits: which are legal, the tables after the first of them, and what they touch.
+use Rattle.std.specs.Prelude.{ℕ, ◌+◌, ◌<◌, ◌≤◌, List, [], ◌∷◌, length, take, Bool, Result, Ok, Err, ◌==◌, ◌&&◌, if◌then◌else◌, IsOk}
+use Rattle.std.specs.List.{list_any, AllByRecursion}
+use Rattle.rows.specs.declared.commit.Commit.{Commit}
+use Rattle.rows.specs.declared.entry.Entry.{Entry}
+use Rattle.rows.specs.declared.entry.Entry.TheVariants.{Insert}
+use Rattle.rows.specs.declared.limits.TheConstants.{COMMIT_ENTRIES_MAX}
+use Rattle.rows.specs.Shape.{Shape}
+use Rattle.rows.specs.Tables.{Tables, Refusal, opening, changes_of, and_then}
+
+-- the tables after all entries of these commits, in order, or the first refusal
+abbrev pub commits_of : Shape → Tables → List Commit → Result Tables Refusal
+commits_of shape tables [] = Ok tables
+commits_of shape tables (commit ∷ commits) = and_then (λ after. commits_of shape after commits) (changes_of shape tables commit.entries)
+
+-- a commit's worker is there, and it has 1 to 4096 entries
+pub record IsCommit (workers : ℕ) (commit : Commit) : Type 0 where
+  pub worker : commit.worker < workers
+  pub some : 0 < length commit.entries
+  pub few : length commit.entries ≤ COMMIT_ENTRIES_MAX
+
+-- a list of commits that a primary may have: each is a commit, and each entry is defined in its place
+pub record IsLegal (shape : Shape) (workers : ℕ) (commits : List Commit) : Type 0 where
+  pub each : AllByRecursion (IsCommit workers) commits
+  pub defined : IsOk (commits_of shape (opening shape) commits)
+
+-- the tables after the first `version` commits of a legal list
+abbrev pub tables_after : Shape → List Commit → ℕ → Tables
+tables_after shape commits version = or_opening (commits_of shape (opening shape) (take version commits))
+  where
+    -- a list that is not legal has no tables; this says nothing of it
+    or_opening : Result Tables Refusal → Tables
+    or_opening (Ok tables) = tables
+    or_opening (Err refusal) = opening shape
+
+-- whether an entry is of that row of that table
+abbrev pub is_of : ℕ → ℕ → Entry → Bool
+is_of table row (Insert table' row' bytes) = (table' == table) && (row'.0 == row)
+
+-- whether an entry of the list is of the same row as this one
+abbrev pub names_row_of : Entry → List Entry → Bool
+names_row_of (Insert table row bytes) entries = list_any (is_of table row.0) entries
+
+-- whether some entry of the commit is of a row that one of these entries is of
+abbrev pub touches : List Entry → Commit → Bool
+touches entries commit = list_any (λ entry. names_row_of entry commit.entries) entries
+
+-- the greatest number of a commit that touches a row of these entries, the first commit of the
+-- list being the next after `before`; 0 where none does
+abbrev pub last_touching : List Entry → ℕ → List Commit → ℕ
+last_touching entries before [] = 0
+last_touching entries before (commit ∷ commits) =
+    later (last_touching entries (before + 1) commits)
+  where
+    later : ℕ → ℕ
+    later last = if last == 0 then (if touches entries commit then before + 1 else 0) else last

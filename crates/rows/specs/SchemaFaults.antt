@@ -1,0 +1,29 @@
+-- The first fault of a list of tables that is to be a schema, want of memory aside.
+use Rattle.std.specs.Prelude.{ℕ, List, [], ◌∷◌, ◌++◌, length, Option, None, Some, nat_lt, ◌==◌, if◌then◌else◌}
+use Rattle.std.specs.List.{list_any}
+use Rattle.std.specs.Option.{option_or}
+use Rattle.std.specs.Str.{bytes_eq}
+use Rattle.rows.specs.declared.kind.Kind.{Kind}
+use Rattle.rows.specs.declared.schema_fault.SchemaFault.{SchemaFault}
+use Rattle.rows.specs.declared.schema_fault.SchemaFault.TheVariants.{TooManyTables, TooManyColumns, RowTooWide, NameTwice, Empty}
+use Rattle.rows.specs.declared.limits.TheConstants.{TABLES_MAX, COLUMNS_MAX, ROW_WIDTH_MAX}
+use Rattle.rows.specs.Shape.{row_width}
+
+-- the fault of one table, which stands behind these
+abbrev pub table_fault : List (List ℕ × List Kind) → List ℕ × List Kind → Option SchemaFault
+table_fault before table =
+    if length table.0 == 0 then Some Empty else
+    if list_any (λ other. bytes_eq other.0 table.0) before then Some NameTwice else
+    if length table.1 == 0 then Some Empty else
+    if nat_lt COLUMNS_MAX (length table.1) then Some TooManyColumns else
+    if nat_lt ROW_WIDTH_MAX (row_width table.1) then Some RowTooWide else None
+
+-- the first fault of these tables, which stand behind others
+abbrev pub tables_fault : List (List ℕ × List Kind) → List (List ℕ × List Kind) → Option SchemaFault
+tables_fault before [] = None
+tables_fault before (table ∷ tables) = option_or (table_fault before table) (tables_fault (before ++ table ∷ []) tables)
+
+abbrev pub schema_fault : List (List ℕ × List Kind) → Option SchemaFault
+schema_fault tables =
+    if length tables == 0 then Some Empty else
+    if nat_lt TABLES_MAX (length tables) then Some TooManyTables else tables_fault [] tables

@@ -1,0 +1,27 @@
+-- A row's two forms: the values of its columns, and their bytes in order.
+use Rattle.std.specs.Prelude.{ℕ, List, [], ◌∷◌, drop}
+use Rattle.std.specs.List.{flat_map}
+use Rattle.std.specs.Int.{w64, cast_signed, cast_unsigned}
+use Rattle.byteorder.specs.Endian.{big_bytes, big_number}
+use Rattle.rows.specs.declared.kind.Kind.{Kind}
+use Rattle.rows.specs.declared.kind.Kind.TheVariants as kinds
+use Rattle.rows.specs.declared.value.Value.{Value}
+use Rattle.rows.specs.declared.value.Value.TheVariants.{Int}
+use Rattle.rows.specs.Shape.{width_of}
+
+-- a value's bytes: an `Int` is eight, big-endian, two's complement
+abbrev pub value_bytes : Value → List ℕ
+value_bytes (Int number) = big_bytes 8 (cast_unsigned w64 number)
+
+-- a row's bytes: those of its columns in order
+abbrev pub bytes_of : List Value → List ℕ
+bytes_of values = flat_map value_bytes values
+
+-- the value of a column of this kind at the front of the bytes
+abbrev pub value_of : Kind → List ℕ → Value
+value_of kinds.Int bytes = Int (cast_signed w64 (big_number 8 bytes))
+
+-- the values of a row with these columns
+abbrev pub values_of : List Kind → List ℕ → List Value
+values_of [] bytes = []
+values_of (kind ∷ kinds) bytes = value_of kind bytes ∷ values_of kinds (drop (width_of kind) bytes)

@@ -1,0 +1,73 @@
+//! The entries of a commit, which contracts see as a list.
+
+ghost use Rattle.std.specs.Prelude.{◌≡◌, ◌==◌, ◌∷◌, [], ◌++◌, length, OnOk, OnErr};
+
+use crate::entry::Entry;
+use std::alloc::{AllocError, Global};
+use std::marker::Model;
+
+/// An owned list of entries, in the order in which they act.
+///
+/// Contracts see the list itself, so that two commits with the same entries are equal wherever
+/// their memory lies. It is made from a `Vec` and gives it back without taking memory.
+#[derive(Clone, Debug, Drop)]
+pub struct EntryList {
+    items: Vec<Entry>,
+}
+
+impl Model for EntryList {
+    ghost use Rattle.std.specs.Prelude.{List};
+    ghost use Rattle.rows.specs.declared.entry.Entry.{Entry};
+
+    ghost Value = { List Entry };
+
+    ghost view = { λ e. e.items.items };
+}
+
+impl EntryList {
+    /// The list without entries. Takes no memory.
+    pub fn new(alloc: Global) -> EntryList
+        ensures { result ≡ [] }
+    {
+        EntryList {
+            items: Vec::new(alloc),
+        }
+    }
+
+    /// The list of these entries. Takes no memory.
+    pub fn from_vec(items: Vec<Entry>) -> EntryList
+        ensures { result ≡ items.items }
+    {
+        EntryList { items }
+    }
+
+    /// Adds an entry at the end. Fails for want of memory alone, and then nothing has changed.
+    pub fn push(&mut self, entry: Entry) -> Result<(), AllocError>
+        ensures ok { OnOk result (self.new ≡ self.old ++ entry ∷ []) }
+        ensures err { OnErr result (self.new ≡ self.old) }
+    {
+        self.items.push(entry)?;
+        Ok(())
+    }
+
+    /// The entries, lent.
+    pub fn as_slice(&self) -> &[Entry]
+        ensures { result.now ≡ self.now }
+    {
+        self.items.as_slice()
+    }
+
+    /// How many entries there are.
+    pub fn len(&self) -> usize
+        ensures { result ≡ length self.now }
+    {
+        self.items.len()
+    }
+
+    /// Whether there is no entry.
+    pub fn is_empty(&self) -> bool
+        ensures { result ≡ (length self.now == 0) }
+    {
+        self.items.is_empty()
+    }
+}

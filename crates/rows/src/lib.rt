@@ -1,0 +1,47 @@
+//! Schemas, values, rows, entries and commits: the words that every other crate speaks.
+//!
+//! A schema is the list of its tables, each with its name and the kinds of its columns. An entry
+//! is one physical change of one row, a commit the entries of one transaction. Definitions on
+//! them stand in `specs/`: what an entry makes of the tables (`Tables.antt`), which lists of
+//! commits are legal (`Commits.antt`), and the one spelling of an entry (`Spelling.antt`).
+//!
+//! Promised: `fits` says exactly which entries fit a schema; `write_entry` and `read_entry` are
+//! the spelling and its reading; `row_values` and `row_bytes` are a row's two forms.
+//! It stands on `byteorder` for numbers and on `indexmap` for tables by name.
+#![tactic(auto)]
+
+mod byte_list;
+mod commit;
+mod entry;
+mod entry_list;
+mod entry_ref;
+mod fitting;
+mod kind;
+mod kind_list;
+pub mod limits;
+mod reading;
+mod row;
+mod row_id;
+mod schema;
+mod schema_fault;
+mod value;
+mod writing;
+
+pub use byte_list::ByteList;
+pub use commit::Commit;
+pub use entry::Entry;
+pub use entry_list::EntryList;
+pub use entry_ref::EntryRef;
+pub use fitting::{EntryFault, fits};
+pub use kind::Kind;
+pub use kind_list::KindList;
+pub use reading::read_entry;
+pub use row::{Row, row_bytes, row_values};
+pub use row_id::RowId;
+pub use schema::Schema;
+pub use schema_fault::SchemaFault;
+pub use value::Value;
+pub use writing::{entry_len, write_entry};
+
+#[cfg(test)]
+mod tests;

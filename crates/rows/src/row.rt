@@ -1,0 +1,83 @@
+//! A row's two forms: the values of its columns, and their bytes.
+
+ghost use Rattle.std.specs.Prelude.{◌≡◌, ◌≤◌, length, IfOk};
+ghost use Rattle.rows.specs.Shape.{row_width, width_of};
+ghost use Rattle.rows.specs.Values.{value_of, values_of, bytes_of};
+
+use crate::byte_list::ByteList;
+use crate::kind::Kind;
+use crate::value::Value;
+use byteorder::{BigEndian, ByteOrder};
+use std::alloc::{AllocError, Global};
+use std::marker::Model;
+
+/// The values of a row's columns, in order.
+#[derive(Clone, Debug, Drop)]
+pub struct Row {
+    items: Vec<Value>,
+}
+
+impl Model for Row {
+    ghost use Rattle.std.specs.Prelude.{List};
+    ghost use Rattle.rows.specs.declared.value.Value.{Value as ColumnValue};
+
+    ghost Value = { List ColumnValue };
+
+    ghost view = { λ r. r.items.items };
+}
+
+impl Row {
+    /// The row of these values. Takes no memory.
+    pub fn from_vec(items: Vec<Value>) -> Row
+        ensures { result ≡ items.items }
+    {
+        Row { items }
+    }
+
+    /// The values, lent.
+    pub fn as_slice(&self) -> &[Value]
+        ensures { result.now ≡ self.now }
+    {
+        self.items.as_slice()
+    }
+}
+
+/// The bytes of a row with these values: each column's bytes in order, an `Int` as eight bytes,
+/// big-endian, two's complement. Fails for want of memory alone.
+pub fn row_bytes(alloc: Global, values: &[Value]) -> Result<ByteList, AllocError>
+    ensures { IfOk result (λ bytes. bytes ≡ bytes_of values.now) }
+{
+    let mut bytes = Vec::new(alloc);
+    for value in values {
+        match *value {
+            Value::Int(number) => bytes.extend_from_slice(&number.to_be_bytes())?,
+        }
+    }
+    Ok(ByteList::from_vec(bytes))
+}
+
+/// The values of a row with columns of these kinds, from the row's bytes. Fails for want of
+/// memory alone.
+pub fn row_values(alloc: Global, kinds: &[Kind], bytes: &[u8]) -> Result<Row, AllocError>
+    requires { row_width kinds.now ≤ length bytes.now }
+    ensures { IfOk result (λ row. row ≡ values_of kinds.now bytes.now) }
+{
+    let mut items = Vec::new(alloc);
+    let mut rest = bytes;
+    for kind in kinds {
+        items.push(first_value(*kind, rest))?;
+        let (_, after) = rest.split_at(kind.width());
+        rest = after;
+    }
+    Ok(Row { items })
+}
+
+/// The value of a column of this kind that stands at the front of the bytes.
+fn first_value(kind: Kind, bytes: &[u8]) -> Value
+    requires { width_of kind ≤ length bytes.now }
+    ensures { result ≡ value_of kind bytes.now }
+{
+    match kind {
+        Kind::Int => Value::Int(BigEndian::read_i64(bytes)),
+    }
+}

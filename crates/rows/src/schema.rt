@@ -1,0 +1,206 @@
+//! A schema: the tables by name, in order, each with the kinds of its columns.
+
+ghost use Rattle.std.specs.Prelude.{◌≡◌, ◌<◌, ◌≤◌, ◌++◌, ◌∷◌, [], length, map, MatchResult, IfOk, OnOk, IfSome, slice_get, position, ◌⊎◌};
+ghost use Rattle.std.specs.Option.{option_map};
+ghost use Rattle.std.specs.List.{list_any};
+ghost use Rattle.std.specs.Str.{bytes_eq};
+ghost use Rattle.rows.specs.SchemaFaults.{schema_fault, table_fault, tables_fault};
+ghost use Rattle.rows.specs.Shown.{given, shown};
+ghost use Rattle.rows.specs.Shape.{shape_of, row_width, AreColumns};
+
+use crate::kind::Kind;
+use crate::kind_list::KindList;
+use crate::limits::{COLUMNS_MAX, ROW_WIDTH_MAX, TABLES_MAX};
+use crate::schema_fault::SchemaFault;
+use indexmap::IndexMap;
+use std::alloc::{AllocError, Global};
+use std::marker::Model;
+
+/// The tables of a database, in order, each with its name and the kinds of its columns.
+///
+/// It has 1 to 16 tables with names that differ, each of 1 to 16 columns and at most 512 bytes a
+/// row. Tables are named by their place, from 0.
+#[derive(Debug, Drop)]
+pub struct Schema {
+    tables: IndexMap<String, KindList>,
+}
+
+impl Model for Schema {
+    ghost use Rattle.std.specs.Prelude.{◌≡◌, List, ℕ, map, None};
+    ghost use Rattle.rows.specs.declared.kind.Kind.{Kind};
+    ghost use Rattle.rows.specs.SchemaFaults.{schema_fault};
+    ghost use Rattle.rows.specs.Shown.{shown};
+
+    ghost Value = { List (List ℕ × List Kind) };
+
+    ghost view = { λ s. map shown s.tables.entries };
+
+    ghost invariant = { λ s. schema_fault (map shown s.tables.entries) ≡ None };
+}
+
+impl Schema {
+    /// The schema of these tables, each given by its name and the kinds of its columns.
+    ///
+    /// Fails with the first of these that stands: no table (`Empty`), more than 16 tables
+    /// (`TooManyTables`); then table by table an empty name (`Empty`), a name that an earlier
+    /// table has (`NameTwice`), no column (`Empty`), more than 16 columns (`TooManyColumns`), a
+    /// row of more than 512 bytes (`RowTooWide`); and `Memory` last.
+    pub fn new(alloc: Global, tables: &[(&str, &[Kind])]) -> Result<Schema, SchemaFault>
+        ensures exact { MatchResult result (λ schema. (schema ≡ map given tables.now) × (schema_fault (map given tables.now) ≡ None))
+            (λ fault. ((fault ≡ SchemaFault.Memory) × (schema_fault (map given tables.now) ≡ None))
+            ⊎ (schema_fault (map given tables.now) ≡ Some fault)) }
+    {
+        if let Some(fault) = first_fault(tables) {
+            return Err(fault);
+        }
+        match build(alloc, tables) {
+            Ok(tables) => Ok(Schema { tables }),
+            Err(_) => Err(SchemaFault::Memory),
+        }
+    }
+
+    /// The kinds of a table's columns; `None` where there is no table of that number.
+    pub fn kinds(&self, table: usize) -> Option<&[Kind]>
+        ensures value { option_map (λ k. k.now) result ≡ slice_get (shape_of self.now) table }
+        ensures bounds { IfSome result (λ k. (table < TABLES_MAX) × AreColumns k.now) }
+    {
+        let (_, kinds) = self.tables.get_index(table)?;
+        Some(kinds.as_slice())
+    }
+
+    /// How many tables there are.
+    pub fn len(&self) -> usize
+        ensures { result ≡ length self.now }
+    {
+        self.tables.len()
+    }
+
+    /// The number of the table with this name; `None` where there is none.
+    pub fn table_named(&self, name: &str) -> Option<usize>
+        ensures { result ≡ position (λ table. bytes_eq name.now table.0) self.now }
+    {
+        self.tables.get_index_of(name)
+    }
+
+    /// The name of a table; `None` where there is no table of that number.
+    pub fn name(&self, table: usize) -> Option<&str>
+        ensures { option_map (λ name. name.now) result ≡ option_map (λ t. t.0) (slice_get self.now table) }
+    {
+        let (name, _) = self.tables.get_index(table)?;
+        Some(name.as_str())
+    }
+}
+
+impl Clone for Schema {
+    ghost use Rattle.std.specs.Prelude.{◌≡◌};
+
+    ghost is_clone = { λ schema copy. copy ≡ schema };
+
+    /// A second schema with the same tables. Fails for want of memory alone.
+    fn clone(&self) -> Result<Schema, AllocError> {
+        let tables = copy_of(&self.tables)?;
+        Ok(Schema { tables })
+    }
+}
+
+/// How many bytes a row of these columns takes.
+pub fn width_of_row(kinds: &[Kind]) -> usize
+    requires { length kinds.now ≤ COLUMNS_MAX }
+    ensures { result ≡ row_width kinds.now }
+{
+    kinds.iter().map(|kind| kind.width()).sum()
+}
+
+/// The first fault of tables that are to be a schema, want of memory aside.
+fn first_fault(tables: &[(&str, &[Kind])]) -> Option<SchemaFault>
+    ensures { result ≡ schema_fault (map given tables.now) }
+{
+    if tables.is_empty() {
+        return Some(SchemaFault::Empty);
+    }
+    if tables.len() > TABLES_MAX {
+        return Some(SchemaFault::TooManyTables);
+    }
+    for i in 0..tables.len() {
+        let (name, kinds) = tables[i];
+        let (before, _) = tables.split_at(i);
+        if let Some(fault) = fault_of_table(before, name, kinds) {
+            return Some(fault);
+        }
+    }
+    None
+}
+
+/// The first fault of one table, which stands behind others.
+fn fault_of_table(before: &[(&str, &[Kind])], name: &str, kinds: &[Kind]) -> Option<SchemaFault>
+    ensures { result ≡ table_fault (map given before.now) (name.now, kinds.now) }
+{
+    if name.is_empty() {
+        return Some(SchemaFault::Empty);
+    }
+    if is_named(before, name) {
+        return Some(SchemaFault::NameTwice);
+    }
+    if kinds.is_empty() {
+        return Some(SchemaFault::Empty);
+    }
+    if kinds.len() > COLUMNS_MAX {
+        return Some(SchemaFault::TooManyColumns);
+    }
+    if width_of_row(kinds) > ROW_WIDTH_MAX {
+        return Some(SchemaFault::RowTooWide);
+    }
+    None
+}
+
+/// Whether one of the tables has this name.
+fn is_named(tables: &[(&str, &[Kind])], name: &str) -> bool
+    ensures { result ≡ list_any (λ other. bytes_eq other.0 name.now) (map given tables.now) }
+{
+    tables.iter().any(|table| table.0 == name)
+}
+
+/// The map of these tables, whose names differ. Fails for want of memory alone.
+fn build(
+    alloc: Global,
+    tables: &[(&str, &[Kind])],
+) -> Result<IndexMap<String, KindList>, AllocError>
+    requires { schema_fault (map given tables.now) ≡ None }
+    ensures { IfOk result (λ made. map shown made.entries ≡ map given tables.now) }
+{
+    let mut made = IndexMap::new(alloc);
+    for (name, kinds) in tables {
+        add_table(alloc, &mut made, name, kinds)?;
+    }
+    Ok(made)
+}
+
+/// A second map of the same tables. Fails for want of memory alone.
+fn copy_of(tables: &IndexMap<String, KindList>) -> Result<IndexMap<String, KindList>, AllocError>
+    requires { tables_fault [] (map shown tables.now.entries) ≡ None }
+    ensures { IfOk result (λ made. map shown made.entries ≡ map shown tables.now.entries) }
+{
+    let alloc = *tables.allocator();
+    let mut made = IndexMap::new(alloc);
+    for (name, kinds) in tables {
+        add_table(alloc, &mut made, name, kinds.as_slice())?;
+    }
+    Ok(made)
+}
+
+/// Puts a table without a fault behind those of the map. Fails for want of memory alone.
+fn add_table(
+    alloc: Global,
+    tables: &mut IndexMap<String, KindList>,
+    name: &str,
+    kinds: &[Kind],
+) -> Result<(), AllocError>
+    requires { table_fault (map shown tables.old.entries) (name.now, kinds.now) ≡ None }
+    ensures { OnOk result
+        (map shown tables.new.entries ≡ map shown tables.old.entries ++ (name.now, kinds.now) ∷ []) }
+{
+    let name = String::from_str(alloc, name)?;
+    let kinds = KindList::from_slice(alloc, kinds)?;
+    tables.insert(name, kinds)?;
+    Ok(())
+}

@@ -1,0 +1,6 @@
+/// The value of one column of a row.
+#[derive(Clone, Copy, Debug, PartialEq, Eq)]
+pub enum Value {
+    /// A signed number of 64 bits.
+    Int(i64),
+}

@@ -1,0 +1,11 @@
+pub mod Passing
+pub mod Bytes
+pub mod Joining
+pub mod Lengths
+pub mod Entries
+pub mod Filling
+pub mod Counting
+pub mod Bodies
+pub mod ReadIsSpelled
+pub mod SpelledIsRead
+pub mod OneSpelling

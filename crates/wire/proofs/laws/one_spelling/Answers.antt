@@ -1,0 +1,9 @@
+-- The two laws, for all datagrams.
+use Rattle.wire.proofs.OneSpelling.{is_one_to_one, is_prefix_free}
+use Rattle.wire.proofs.laws.one_spelling.Goals as goal
+
+pub returns-clause-one_to_one : goal.returns-clause-one_to_one
+returns-clause-one_to_one c = is_one_to_one
+
+pub returns-clause-prefix_free : goal.returns-clause-prefix_free
+returns-clause-prefix_free c = is_prefix_free

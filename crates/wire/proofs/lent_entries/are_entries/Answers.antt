@@ -1,0 +1,10 @@
+-- Each entry that is read leaves the answer to what is left.
+use Rattle.std.proofs.Common.{is_some, sym}
+use Rattle.rows.specs.Reading.{seen}
+use Rattle.wire.specs.Entries.{entries_filling}
+use Rattle.wire.proofs.Filling.{filled_more}
+use Rattle.wire.proofs.lent_entries.are_entries.Goals as goal
+
+pub loop-preserved : goal.loop-preserved
+loop-preserved c =
+    rw c.split_at.ensures.back (filled_more c.args.count c.loop.counter c.loop.rest.now (seen (c.in-Some.field-0-0, c.in-Some.len)) (is_some (entries_filling c.args.count c.args.bytes.now)) c.loop-test.true (sym c.in-Some.ensures) c.loop.invariant)

@@ -1,0 +1,12 @@
+-- The two laws of reading, of what was read.
+use Rattle.std.proofs.Common.{◌∙◌, ap, arith}
+use Rattle.wire.specs.Reading.{reading}
+use Rattle.wire.proofs.ReadIsSpelled.{is_found}
+use Rattle.wire.proofs.SpelledIsRead.{reading-again}
+use Rattle.wire.proofs.reading.read.Goals as goal
+
+pub returns-clause-found : goal.returns-clause-found
+returns-clause-found c = is_found c.args.bytes.now c.read_datagram.result (λ i. omega (arith, c.type_inv.bytes i)) c.read_datagram.ensures
+
+pub returns-clause-only : goal.returns-clause-only
+returns-clause-only c = λ datagram spelled is_read e. c.read_datagram.ensures ∙ ap reading e ∙ reading-again datagram spelled is_read

@@ -1,0 +1,92 @@
+-- The one spelling of a datagram as bytes. All numbers are big-endian.
+--
+-- Each begins with six bytes: 42 44, the version 01, the kind, and the total length in two. The
+-- body is by kind.
+use Rattle.std.specs.Prelude.{ℕ, ◌+◌, ◌^◌, ◌<◌, ◌≤◌, List, [], ◌∷◌, ◌++◌, length, Bool, true, false}
+use Rattle.std.specs.List.{flat_map, AllByRecursion}
+use Rattle.byteorder.specs.Endian.{big_bytes}
+use Rattle.rows.specs.declared.entry.Entry.{Entry}
+use Rattle.rows.specs.declared.limits.TheConstants.{DATAGRAM_MAX, WORKERS_MAX, REPLICAS_MAX}
+use Rattle.rows.specs.Spelling.{entry_spelling, HasSpelling as EntryHasSpelling}
+use Rattle.wire.specs.declared.datagram.Datagram.{Datagram}
+use Rattle.wire.specs.declared.datagram.Datagram.TheVariants.{Frame, Ask, Head, Want}
+use Rattle.wire.specs.declared.frame.Frame as frames
+
+-- the six bytes that begin a datagram of this kind and total length
+abbrev pub datagram_front : ℕ → ℕ → List ℕ
+datagram_front kind total = (0x42 ∷ 0x44 ∷ 1 ∷ kind ∷ []) ++ big_bytes 2 total
+
+-- a datagram of this kind with this body
+abbrev pub datagram_of : ℕ → List ℕ → List ℕ
+datagram_of kind body = datagram_front kind (6 + length body) ++ body
+
+abbrev pub flag : Bool → ℕ
+flag false = 0
+flag true = 1
+
+-- a Frame's body before its entries: worker, place in its stream, commit number, whether it is the last
+-- of its commit, how many entries
+abbrev pub frame_head : ℕ → ℕ → ℕ → Bool → ℕ → List ℕ
+frame_head worker seq commit last count =
+    (worker ∷ []) ++ big_bytes 8 seq ++ big_bytes 8 commit ++ (flag last ∷ []) ++ big_bytes 2 count
+
+-- an Ask's body: replica, boot, request
+abbrev pub ask_body : ℕ → ℕ → ℕ → List ℕ
+ask_body replica boot request = (replica ∷ []) ++ big_bytes 8 boot ++ big_bytes 8 request
+
+-- a Head's body before its counts: replica, boot, request, version, how many workers
+abbrev pub head_head : ℕ → ℕ → ℕ → ℕ → ℕ → List ℕ
+head_head replica boot request version workers =
+    (replica ∷ []) ++ big_bytes 8 boot ++ big_bytes 8 request ++ big_bytes 8 version ++ (workers ∷ [])
+
+-- a Want's body: replica, worker, first place wanted
+abbrev pub want_body : ℕ → ℕ → ℕ → List ℕ
+want_body replica worker from = (replica ∷ worker ∷ []) ++ big_bytes 8 from
+
+abbrev pub spelling : Datagram → List ℕ
+spelling (Frame worker seq commit last entries) =
+    datagram_of 1 (frame_head worker seq commit last (length entries) ++ flat_map entry_spelling entries)
+spelling (Ask replica boot request) = datagram_of 2 (ask_body replica boot request)
+spelling (Head replica boot request version counts) =
+    datagram_of 3 (head_head replica boot request version (length counts) ++ flat_map (big_bytes 8) counts)
+spelling (Want replica worker from) = datagram_of 4 (want_body replica worker from)
+
+-- which frames have a spelling: the worker is below 16, the commit's number is not 0, there is an entry, each
+-- has a spelling, and all fit into 1200 bytes
+pub record IsFrame (worker seq commit : ℕ) (entries : List Entry) : Type 0 where
+  pub worker_below : worker < WORKERS_MAX
+  pub seq_below : seq < 2 ^ 64
+  pub commit_numbered : 0 < commit
+  pub commit_below : commit < 2 ^ 64
+  pub some : 0 < length entries
+  pub spelled : AllByRecursion EntryHasSpelling entries
+  pub few : 26 + length (flat_map entry_spelling entries) ≤ DATAGRAM_MAX
+
+-- which Asks and Heads have a spelling, their counts aside: the replica is below 16, and the numbers are of 64 bits
+pub record IsAsk (replica boot request : ℕ) : Type 0 where
+  pub replica_below : replica < REPLICAS_MAX
+  pub boot_below : boot < 2 ^ 64
+  pub request_below : request < 2 ^ 64
+
+-- which counts a Head may have: 1 to 16 numbers of 64 bits
+pub record AreCounts (counts : List ℕ) : Type 0 where
+  pub some : 0 < length counts
+  pub few : length counts ≤ WORKERS_MAX
+  pub below : AllByRecursion (λ count. count < 2 ^ 64) counts
+
+-- which datagrams have a spelling
+abbrev pub HasSpelling : Datagram → Type 0
+HasSpelling (Frame worker seq commit last entries) = IsFrame worker seq commit entries
+HasSpelling (Ask replica boot request) = IsAsk replica boot request
+HasSpelling (Head replica boot request version counts) = IsAsk replica boot request × (version < 2 ^ 64) × AreCounts counts
+HasSpelling (Want replica worker from) = (replica < REPLICAS_MAX) × (worker < WORKERS_MAX) × (from < 2 ^ 64)
+
+-- an owned frame as a datagram
+abbrev pub datagram_of_frame : frames.Frame → Datagram
+datagram_of_frame frame = Frame frame.worker frame.seq frame.commit frame.last frame.entries
+
+abbrev pub frame_spelling : frames.Frame → List ℕ
+frame_spelling frame = spelling (datagram_of_frame frame)
+
+abbrev pub FrameHasSpelling : frames.Frame → Type 0
+FrameHasSpelling frame = HasSpelling (datagram_of_frame frame)

@@ -1,0 +1,48 @@
+//! The frame counts of a Head.
+
+ghost use Rattle.std.specs.Prelude.{◌≡◌, ◌<◌, ◌≤◌, ◌∷◌, [], ◌++◌, length};
+
+use arrayvec::ArrayVec;
+use std::marker::Model;
+
+/// How many frames each worker has, in the order of the workers: at most 16 numbers, kept
+/// inline.
+#[derive(Debug, Drop)]
+pub struct Counts {
+    items: ArrayVec<u64, 16>,
+}
+
+impl Model for Counts {
+    ghost use Rattle.std.specs.Prelude.{List, ℕ};
+
+    ghost Value = { List ℕ };
+
+    ghost view = { λ c. c.items.items };
+}
+
+impl Counts {
+    /// No counts yet.
+    pub fn new() -> Counts
+        ensures { result ≡ [] }
+    {
+        Counts {
+            items: ArrayVec::new(),
+        }
+    }
+
+    /// Adds the next worker's count.
+    pub fn push(&mut self, count: u64)
+        requires { length self.old < 16 }
+        ensures { self.new ≡ self.old ++ count ∷ [] }
+    {
+        self.items.push(count);
+    }
+
+    /// The counts, lent.
+    pub fn as_slice(&self) -> &[u64]
+        ensures counts { result.now ≡ self.now }
+        ensures few { length result.now ≤ 16 }
+    {
+        self.items.as_slice()
+    }
+}

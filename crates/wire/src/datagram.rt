@@ -1,0 +1,37 @@
+use crate::counts::Counts;
+use crate::lent_entries::LentEntries;
+
+/// A datagram, its entries lent by the bytes that it was read from.
+#[derive(Debug, Drop)]
+pub enum Datagram<'a> {
+    /// From the primary: entries of the commit numbered `commit`, place `seq` of `worker`'s
+    /// stream; `last` on the last frame of its commit.
+    Frame {
+        worker: u8,
+        seq: u64,
+        commit: u64,
+        last: bool,
+        entries: LentEntries<'a>,
+    },
+    /// From a replica: it asks for the newest durable version.
+    Ask {
+        replica: u8,
+        boot: u64,
+        request: u64,
+    },
+    /// From the primary, to an Ask: the durable version, and how many frames each worker has up
+    /// to it.
+    Head {
+        replica: u8,
+        boot: u64,
+        request: u64,
+        version: u64,
+        counts: Counts,
+    },
+    /// From a replica: it lacks the worker's frames from that place on.
+    Want {
+        replica: u8,
+        worker: u8,
+        from: u64,
+    },
+}

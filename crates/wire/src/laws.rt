@@ -1,0 +1,10 @@
+//! Laws of the format.
+
+ghost use Rattle.wire.specs.Laws.{IsOneToOne, IsPrefixFree};
+
+/// Datagrams that have spellings and share one are equal, and no spelling is a proper beginning
+/// of another. It does nothing: its contract is the law.
+pub fn one_spelling()
+    ensures one_to_one { IsOneToOne }
+    ensures prefix_free { IsPrefixFree }
+{}

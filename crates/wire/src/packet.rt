@@ -1,0 +1,80 @@
+//! A spelled datagram that is on its way.
+
+ghost use Rattle.std.specs.Prelude.{◌≡◌, ◌≤◌, length, true, Ok};
+ghost use Rattle.wire.specs.Reading.{reading, IsRead};
+ghost use Rattle.wire.specs.Spelling.{spelling, HasSpelling, datagram_of_frame, frame_spelling, FrameHasSpelling, IsFrame};
+
+use crate::datagram::Datagram;
+use crate::fault::TooSmall;
+use crate::frame::Frame;
+use crate::writing::{write, write_frame, write_frame_of};
+use rows::Commit;
+use rows::limits::DATAGRAM_MAX;
+use std::marker::Model;
+
+/// The bytes of a datagram, at most 1200, kept inline.
+#[derive(Debug, Drop)]
+pub struct Packet {
+    buffer: [u8; 1200],
+    len: usize,
+}
+
+impl Model for Packet {
+    ghost use Rattle.std.specs.Prelude.{List, ℕ, ◌≤◌, take};
+
+    ghost Value = { List ℕ };
+
+    ghost view = { λ p. take p.len p.buffer };
+
+    ghost invariant = { λ p. p.len ≤ 1200 };
+}
+
+impl Packet {
+    /// The spelling of a datagram. Takes no memory.
+    pub fn of(datagram: &Datagram<'_>) -> Packet
+        requires { HasSpelling datagram.now }
+        ensures spelled { result ≡ spelling datagram.now }
+        ensures reads_back { IsRead datagram.now → reading result ≡ Ok datagram.now }
+    {
+        let mut buffer = [0u8; DATAGRAM_MAX];
+        match write(datagram, &mut buffer) {
+            Ok(len) => Packet { buffer, len },
+            Err(TooSmall) => unreachable!(),
+        }
+    }
+
+    /// The spelling of a frame. Takes no memory.
+    pub fn of_frame(frame: &Frame) -> Packet
+        requires { FrameHasSpelling frame.now }
+        ensures spelled { result ≡ frame_spelling frame.now }
+        ensures reads_back { reading result ≡ Ok (datagram_of_frame frame.now) }
+    {
+        let mut buffer = [0u8; DATAGRAM_MAX];
+        match write_frame(frame, &mut buffer) {
+            Ok(len) => Packet { buffer, len },
+            Err(TooSmall) => unreachable!(),
+        }
+    }
+
+    /// The spelling of the one frame that holds a whole commit, by the commit's number and the
+    /// frame's place in its worker's stream. Takes no memory.
+    pub fn of_commit(commit: &Commit, number: u64, seq: u64) -> Packet
+        requires { IsFrame commit.now.worker seq number commit.now.entries }
+        ensures { result ≡ spelling (Datagram.Frame commit.now.worker seq number true commit.now.entries) }
+    {
+        let mut buffer = [0u8; DATAGRAM_MAX];
+        let entries = commit.entries.as_slice();
+        match write_frame_of(commit.worker, seq, number, true, entries, &mut buffer) {
+            Ok(len) => Packet { buffer, len },
+            Err(TooSmall) => unreachable!(),
+        }
+    }
+
+    /// The bytes, lent. Takes no memory.
+    pub fn bytes(&self) -> &[u8]
+        ensures bytes { result.now ≡ self.now }
+        ensures few { length result.now ≤ DATAGRAM_MAX }
+    {
+        &self.buffer[..self.len]
+    }
+}

@@ -1,0 +1,142 @@
+//! Reading a datagram from bytes, with the first fault.
+
+ghost use Rattle.std.specs.Prelude.{◌≡◌, ◌≤◌, ◌*◌, length, Ok, IfOk};
+ghost use Rattle.wire.specs.declared.datagram.Datagram.{Datagram};
+ghost use Rattle.wire.specs.Reading.{reading, IsRead, frame_at, ask_at, head_at, counts_at};
+ghost use Rattle.wire.specs.Spelling.{HasSpelling, spelling};
+
+use crate::counts::Counts;
+use crate::datagram::Datagram;
+use crate::fault::WireFault;
+use crate::lent_entries::LentEntries;
+use byteorder::{BigEndian, ByteOrder};
+use rows::limits::{DATAGRAM_MAX, REPLICAS_MAX, WORKERS_MAX};
+
+/// The first bytes of every datagram.
+pub const MAGIC: u16 = 0x4244;
+
+/// The version of the format.
+pub const VERSION: u8 = 1;
+
+/// The datagram that the bytes spell, its parts lent by them. Otherwise the first of these
+/// faults: `Short`, fewer than 6 bytes; `Magic`, other first bytes than 42 44; `Version`, another
+/// third byte than 01; `Kind`, a fourth byte other than 01 (Frame), 02 (Ask) and 03 (Head);
+/// `Length`, where the total length in bytes 5 and 6 is not that of the bytes or is above 1200;
+/// and `Body`, where the rest is not as its kind wants it. Takes no memory.
+pub fn read(bytes: &[u8]) -> Result<Datagram<'_>, WireFault>
+    ensures exact { result ≡ reading bytes.now }
+
+    // What is read is spelled so, and what is spelled so is read.
+    ensures found { IfOk result (λ datagram. HasSpelling datagram × (bytes.now ≡ spelling datagram)) }
+    ensures only { (datagram : Datagram) → HasSpelling datagram → IsRead datagram → bytes.now ≡ spelling datagram → result ≡ Ok datagram }
+{
+    read_datagram(bytes)
+}
+
+/// What the bytes read as, test by test.
+fn read_datagram(bytes: &[u8]) -> Result<Datagram<'_>, WireFault>
+    ensures { result ≡ reading bytes.now }
+{
+    if bytes.len() < 6 {
+        return Err(WireFault::Short);
+    }
+    let (head, body) = bytes.split_at(6);
+    if BigEndian::read_u16(head) != MAGIC {
+        return Err(WireFault::Magic);
+    }
+    if head[2] != VERSION {
+        return Err(WireFault::Version);
+    }
+    let kind = head[3];
+    if kind != 1 && kind != 2 && kind != 3 {
+        return Err(WireFault::Kind);
+    }
+    let total = BigEndian::read_u16(&head[4..]) as usize;
+    if total != bytes.len() || total > DATAGRAM_MAX {
+        return Err(WireFault::Length);
+    }
+    let found = match kind {
+        1 => read_frame(body),
+        2 => read_ask(body),
+        _ => read_head(body),
+    };
+    found.ok_or(WireFault::Body)
+}
+
+fn read_frame(body: &[u8]) -> Option<Datagram<'_>>
+    ensures { result ≡ frame_at body.now }
+{
+    if body.len() < 20 {
+        return None;
+    }
+    let (head, rest) = body.split_at(20);
+    let worker = head[0];
+    let seq = BigEndian::read_u64(&head[1..]);
+    let commit = BigEndian::read_u64(&head[9..]);
+    let flag = head[17];
+    let count = BigEndian::read_u16(&head[18..]);
+    if worker >= WORKERS_MAX || commit == 0 || flag > 1 || count == 0 {
+        return None;
+    }
+    let entries = LentEntries::filling(count, rest)?;
+    let last = flag == 1;
+    Some(Datagram::Frame {
+        worker,
+        seq,
+        commit,
+        last,
+        entries,
+    })
+}
+
+fn read_ask(body: &[u8]) -> Option<Datagram<'_>>
+    ensures { result ≡ ask_at body.now }
+{
+    if body.len() != 17 || body[0] >= REPLICAS_MAX {
+        return None;
+    }
+    Some(Datagram::Ask {
+        replica: body[0],
+        boot: BigEndian::read_u64(&body[1..]),
+        request: BigEndian::read_u64(&body[9..]),
+    })
+}
+
+fn read_head(body: &[u8]) -> Option<Datagram<'_>>
+    ensures { result ≡ head_at body.now }
+{
+    if body.len() < 26 {
+        return None;
+    }
+    let workers = body[25];
+    let rest = body.split_at(26).1;
+    if body[0] >= REPLICAS_MAX
+        || workers == 0
+        || workers > WORKERS_MAX
+        || rest.len() != 8 * workers as usize
+    {
+        return None;
+    }
+    Some(Datagram::Head {
+        replica: body[0],
+        boot: BigEndian::read_u64(&body[1..]),
+        request: BigEndian::read_u64(&body[9..]),
+        version: BigEndian::read_u64(&body[17..]),
+        counts: read_counts(workers, rest),
+    })
+}
+
+/// The frame counts of this many workers.
+fn read_counts(workers: u8, bytes: &[u8]) -> Counts
+    requires few { workers ≤ WORKERS_MAX }
+    requires whole { length bytes.now ≡ 8 * workers }
+    ensures { result ≡ counts_at workers bytes.now }
+{
+    let mut counts = Counts::new();
+    let mut rest = bytes;
+    for _ in 0..workers {
+        counts.push(BigEndian::read_u64(rest));
+        rest = rest.split_at(8).1;
+    }
+    counts
+}
