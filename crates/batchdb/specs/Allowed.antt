@@ -53,6 +53,13 @@ Runs old (event ∷ events) (output ∷ outputs) new = (mid : World) × MayHappe
 Runs old [] (output ∷ outputs) new = ⊥
 Runs old (event ∷ events) [] new = ⊥
 
+-- a run of the world, at each step of which something holds besides
+abbrev pub RunsWith : (World → Event → Output → World → Type 0) → World → List Event → List Output → World → Type 0
+RunsWith P old [] [] new = new ≡ old
+RunsWith P old (event ∷ events) (output ∷ outputs) new = (mid : World) × MayHappen old event output mid × P old event output mid × RunsWith P mid events outputs new
+RunsWith P old [] (output ∷ outputs) new = ⊥
+RunsWith P old (event ∷ events) [] new = ⊥
+
 -- the outputs that are allowed for the events, from the opening world on
 abbrev pub Allowed : Shape → ℕ → ℕ → List Event → List Output → Type 0
 Allowed shape workers replicas events outputs = (end : World) × Runs (opening_world shape workers replicas) events outputs end

@@ -1,16 +1,20 @@
 -- The theorem: whatever the program's parts answer is allowed in the world. And what follows of what is allowed.
-use Rattle.std.specs.Prelude.{◌≡◌, ℕ, ◌≤◌, List, ◌++◌, length}
+use Rattle.std.specs.Prelude.{◌≡◌, ℕ, ◌≤◌, List, ◌++◌, length, map, Some, slice_get}
 use Rattle.std.specs.List.{AllByRecursion}
 use Rattle.rows.specs.declared.commit.Commit.{Commit}
 use Rattle.rows.specs.declared.limits.TheConstants.{TABLES_MAX, REPLICAS_MAX}
 use Rattle.rows.specs.Shape.{Shape, AreColumns}
+use Rattle.rows.specs.Commits.{tables_after}
+use Rattle.dispatcher.specs.Plans.{plain_answer}
+use Rattle.dispatcher.specs.Report.{report_text}
 use Rattle.batchdb.specs.declared.event.Event.{Event}
+use Rattle.batchdb.specs.declared.event.Event.TheVariants as events
 use Rattle.batchdb.specs.declared.output.Output.{Output}
 use Rattle.batchdb.specs.declared.output.Output.TheVariants as outputs
 use Rattle.batchdb.specs.Parts.{Parts, parts_started}
 use Rattle.batchdb.specs.Steps.{Steps, IsPossible}
-use Rattle.batchdb.specs.World.{World}
-use Rattle.batchdb.specs.Allowed.{Runs, Allowed}
+use Rattle.batchdb.specs.World.{World, Member, Batch, opening_world}
+use Rattle.batchdb.specs.Allowed.{Runs, RunsWith, Allowed}
 
 -- a shape that a schema may have: at most 16 tables, each of columns that a table may have
 pub record AreTables (shape : Shape) : Type 0 where
@@ -42,3 +46,38 @@ abbrev pub AllowedAreFaultless : Type 0
 AllowedAreFaultless =
     (shape : Shape) (workers replicas : ℕ) (events : List Event) (outputs : List Output) → Allowed shape workers replicas events outputs
     → AllByRecursion IsFaultless outputs
+
+-- the report of a batch: for each of its queries, in order, the plain answer on the rows after exactly the first
+-- `version` commits of the list; that version is at least what was durable when the batch asked, and at most what is
+-- durable now
+abbrev pub IsReportOf : List Commit → World → Batch → List ℕ → Type 0
+IsReportOf commits w batch text =
+    (version : ℕ) × (batch.asked_at ≤ version) × (version ≤ length w.primary.durable)
+    × (text ≡ report_text version (map (plain_answer (tables_after w.primary.shape commits version)) batch.plans))
+
+-- a report that is answered is that of the batch of the replica that ran
+abbrev pub ReportsItsBatch : List Commit → World → Event → Output → World → Type 0
+ReportsItsBatch commits old event (outputs.Report text) new =
+    (replica : ℕ) × (member : Member) × (batch : Batch)
+    × (event ≡ events.Run replica) × (slice_get old.members replica ≡ Some member) × (member.batch ≡ Some batch) × IsReportOf commits old batch text
+ReportsItsBatch commits old event other new = Unit {0}
+
+-- what was durable before a step is the beginning of what is durable after it
+abbrev pub KeepsDurable : World → Event → Output → World → Type 0
+KeepsDurable old event output new = (more : List Commit) × (new.primary.durable ≡ old.primary.durable ++ more)
+
+-- the outputs of a run from the opening world on, each report of which is exact by the one list that is durable at its end
+abbrev pub HasExactReports : Shape → ℕ → ℕ → List Event → List Output → Type 0
+HasExactReports shape workers replicas events outputs =
+    (end : World) × RunsWith (ReportsItsBatch end.primary.durable) (opening_world shape workers replicas) events outputs end
+
+-- the outputs of a run from the opening world on, each step of which keeps what is durable
+abbrev pub HasGrowingList : Shape → ℕ → ℕ → List Event → List Output → Type 0
+HasGrowingList shape workers replicas events outputs =
+    (end : World) × RunsWith KeepsDurable (opening_world shape workers replicas) events outputs end
+
+-- each report of a run is exact, by the one list that is durable at its end, and no older than its batch
+abbrev pub ReportsAreExact : Type 0
+ReportsAreExact =
+    (shape : Shape) (workers replicas : ℕ) (events : List Event) (outputs : List Output) (end : World) → replicas ≤ REPLICAS_MAX
+    → Runs (opening_world shape workers replicas) events outputs end → RunsWith (ReportsItsBatch end.primary.durable) (opening_world shape workers replicas) events outputs end
