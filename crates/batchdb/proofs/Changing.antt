@@ -14,7 +14,7 @@ use Rattle.rows.specs.declared.kind.Kind.{Kind}
 use Rattle.rows.specs.declared.kind.Kind.TheVariants.{Int as IntKind}
 use Rattle.rows.specs.declared.value.Value.{Value}
 use Rattle.rows.specs.declared.value.Value.TheVariants.{Int as IntValue}
-use Rattle.rows.specs.Shape.{Shape, AreColumns, row_width, width_of}
+use Rattle.rows.specs.Shape.{Shape, AreColumns, row_width, width_of, AreTables}
 use Rattle.rows.specs.Spelling.{AreBytes, HasSpelling}
 use Rattle.rows.specs.Tables.{is_present, rows_of}
 use Rattle.rows.specs.Values.{bytes_of}
@@ -22,7 +22,6 @@ use Rattle.primary.specs.declared.faults.TxFault.TheVariants as changes
 use Rattle.primary.specs.declared.transaction.TheConstants.{TRANSACTION_ENTRIES_MAX}
 use Rattle.primary.specs.Draft.{Draft}
 use Rattle.primary.specs.Transactions.{are_of_kinds, match_table, seen_by, insert_answer}
-use Rattle.batchdb.specs.Theorem.{AreTables}
 use Rattle.batchdb.proofs.Lists.{All-append, All-get}
 use Rattle.batchdb.proofs.Sound.{IsSmallDraft}
 use Rattle.batchdb.proofs.Datagrams.{bytes-below}

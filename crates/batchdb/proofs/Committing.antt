@@ -8,7 +8,7 @@ use Rattle.std.proofs.lemmas.List.{append_assoc, length-append, take_all}
 use Rattle.std.proofs.lemmas.Option.{none-some, same_Some, slice_get_within}
 use Rattle.rows.specs.declared.commit.Commit.{Commit}
 use Rattle.rows.specs.declared.value.Value.{Value}
-use Rattle.rows.specs.Shape.{Shape}
+use Rattle.rows.specs.Shape.{Shape, AreTables}
 use Rattle.rows.specs.Tables.{opening, changes_of}
 use Rattle.rows.specs.Commits.{commits_of, tables_after}
 use Rattle.rows.proofs.TableLaws.{still_defined, commits_of-push}
@@ -31,13 +31,12 @@ use Rattle.dispatcher.specs.Replica.{Replica}
 use Rattle.batchdb.specs.Outputs.{packets_of}
 use Rattle.batchdb.specs.Parts.{Parts}
 use Rattle.batchdb.specs.Steps.{open_draft, inserting, insert_by, committing, commit_by, push_by, to_primary}
-use Rattle.batchdb.specs.Theorem.{AreTables}
 use Rattle.batchdb.specs.World.{insert_happens, commit_happens, on_draft, push_happens}
 use Rattle.batchdb.proofs.Lists.{get-set, get-append, get-one, All-get, All-left, All-append}
 use Rattle.batchdb.proofs.Sound.{Sound, IsSoundPrimary, IsSmall, IsSmallDraft, Means, whole_frame, frame_of_place}
 use Rattle.batchdb.proofs.Frames.{stream-place, stream-length, mapped, tables-stay}
 use Rattle.batchdb.proofs.Datagrams.{frame-read, head-read}
-use Rattle.batchdb.proofs.Worlds.{world_of}
+use Rattle.batchdb.specs.Standing.{world_of}
 use Rattle.batchdb.proofs.Moves.{Follows, Sound-drafts, Sound-sent, Sound-one, Sound-primary}
 use Rattle.batchdb.proofs.Changing.{insert-small}
 

@@ -22,7 +22,8 @@ use Rattle.batchdb.specs.World.{World}
 use Rattle.batchdb.proofs.Lists.{get-set, get-append, get-one, set-same, All-map}
 use Rattle.batchdb.proofs.Sound.{Sound, IsSoundPrimary, IsSmall, IsSmallDraft, IsFed, IsFetched, IsAnswer, Means, awaits, frame_of_place}
 use Rattle.batchdb.proofs.Frames.{place-stays, tables-stay}
-use Rattle.batchdb.proofs.Worlds.{seen, world_of}
+use Rattle.batchdb.specs.Standing.{world_of}
+use Rattle.batchdb.proofs.Worlds.{seen}
 
 -- what a replica may become: its requests grow, and while it waits for the Head of one its version stays
 pub record Moves (old new : Replica) : Type 0 where

@@ -27,7 +27,8 @@ use Rattle.batchdb.specs.World.{World, Member, open_happens, ask_happens, new_ba
 use Rattle.batchdb.proofs.Lists.{set-same, get-set_same}
 use Rattle.batchdb.proofs.Sound.{Sound, IsFed, Means}
 use Rattle.batchdb.proofs.Datagrams.{ask-read, ask-kept}
-use Rattle.batchdb.proofs.Worlds.{world_of, member_of, batch_of, members_of, members-asked}
+use Rattle.batchdb.specs.Standing.{world_of, member_of, batch_of, members_of}
+use Rattle.batchdb.proofs.Worlds.{members-asked}
 use Rattle.batchdb.proofs.Moves.{Goes, Follows, Sound-replica, Sound-noted, Sound-one}
 use Rattle.batchdb.proofs.Replicas.{Follows-goes}
 

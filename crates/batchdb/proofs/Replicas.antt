@@ -32,7 +32,8 @@ use Rattle.batchdb.specs.Steps.{with_replica, got_by, to_replica}
 use Rattle.batchdb.specs.World.{World, Member, frame_happens, head_happens, datagram_happens, member_output, on_member}
 use Rattle.batchdb.proofs.Sound.{Sound, IsFed, IsFetched, Means, awaits, frame_of_place}
 use Rattle.batchdb.proofs.Frames.{keys-insert, frames-insert}
-use Rattle.batchdb.proofs.Worlds.{world_of, member_of, batch_of, member-changes}
+use Rattle.batchdb.specs.Standing.{world_of, member_of, batch_of}
+use Rattle.batchdb.proofs.Worlds.{member-changes}
 use Rattle.batchdb.proofs.Moves.{Goes, Follows, Sound-replica, Follows-same, Moves-same}
 
 -- what a replica answers, as its member does

@@ -30,7 +30,8 @@ use Rattle.batchdb.specs.Allowed.{ready_batch, ready_member, RunIsCut as MemberI
 use Rattle.batchdb.proofs.Lists.{set-same}
 use Rattle.batchdb.proofs.Sound.{Sound, IsFed, IsFetched, Means, awaits_by}
 use Rattle.batchdb.proofs.Frames.{replayed-known, legal-left}
-use Rattle.batchdb.proofs.Worlds.{world_of, member_of, batch_of, member-changes}
+use Rattle.batchdb.specs.Standing.{world_of, member_of, batch_of}
+use Rattle.batchdb.proofs.Worlds.{member-changes}
 use Rattle.batchdb.proofs.Moves.{Goes, Follows, Sound-replica, Sound-one, Follows-same}
 use Rattle.batchdb.proofs.Replicas.{Follows-goes}
 

@@ -4,12 +4,13 @@ use Rattle.std.specs.List.{slice_get, slice_index, AllByRecursion}
 use Rattle.std.specs.Option.{option_map}
 use Rattle.std.proofs.lemmas.Option.{none-some}
 use Rattle.rows.specs.declared.limits.TheConstants.{REPLICAS_MAX}
-use Rattle.rows.specs.Shape.{Shape}
+use Rattle.rows.specs.Shape.{Shape, AreTables}
 use Rattle.wire.specs.Reading.{reading}
 use Rattle.wire.specs.Streams.{stream_of}
 use Rattle.primary.specs.Primary.{flushed}
 use Rattle.dispatcher.specs.Replica.{Replica}
 use Rattle.dispatcher.specs.Steps.{started}
+use Rattle.dispatcher.specs.Feeding.{IsFedFrom}
 use Rattle.batchdb.specs.declared.event.Event.{Event}
 use Rattle.batchdb.specs.declared.event.Event.TheVariants as events
 use Rattle.batchdb.specs.declared.event.Node.{Node}
@@ -18,11 +19,12 @@ use Rattle.batchdb.specs.declared.output.Output.{Output}
 use Rattle.batchdb.specs.declared.output.Output.TheVariants as outputs
 use Rattle.batchdb.specs.Parts.{Parts, parts_started, replicas_from, zeros}
 use Rattle.batchdb.specs.Steps.{stepped, to_node, deliver_by, show_by, open_draft, MayStep, IsCutAt, Steps, IsPossible}
-use Rattle.batchdb.specs.Theorem.{AreTables, StepsAreAllowed}
+use Rattle.batchdb.specs.Theorem.{StepsAreAllowed, StepsStand}
 use Rattle.batchdb.specs.World.{World, Member, happens, on_member, delivered, deliver_happens, shown}
 use Rattle.batchdb.specs.Allowed.{MayHappen, Runs, Allowed}
 use Rattle.batchdb.proofs.Sound.{Sound, IsFed, Means}
-use Rattle.batchdb.proofs.Worlds.{world_of, member_of, members_of, members-get, world-started}
+use Rattle.batchdb.specs.Standing.{world_of, member_of, members_of, AreFed, Stands, CoresStand}
+use Rattle.batchdb.proofs.Worlds.{members-get, world-started}
 use Rattle.batchdb.proofs.Moves.{Follows, Sound-flushed}
 use Rattle.batchdb.proofs.Replicas.{bytes-come}
 use Rattle.batchdb.proofs.Querying.{query-opens, version-asked}
@@ -173,5 +175,36 @@ pub steps-allowed : StepsAreAllowed
 steps-allowed shape workers replicas todo done end tables one few possible steps =
     subst (λ (n : ℕ). Allowed shape n replicas todo done) (sym one)
     (allowed-one shape replicas todo done end tables few
+    (subst (λ (n : ℕ). AllByRecursion (IsPossible n replicas) todo) one possible)
+    (subst (λ (n : ℕ). Steps (parts_started shape n replicas) todo done end) one steps))
+
+-- ---- where the cores stand
+
+all-from-get : {A : Type 0} (P : A → Type 0) (xs : List A) → ((i : ℕ) (x : A) → slice_get xs i ≡ Some x → P x) → AllByRecursion P xs
+all-from-get P [] each = tt
+all-from-get P (x ∷ xs) each = (each 0 x refl, all-from-get P xs (λ i y here. each (suc i) y here))
+
+-- each replica of sound parts is fed from what is durable
+fed-sound : (shape : Shape) (p : Parts) → Sound shape p → AreFed shape p
+fed-sound shape p sound = all-from-get (IsFedFrom shape p.primary.durable) p.replicas (λ i r here. ?)
+
+stands-follow : (shape : Shape) (p : Parts) (replicas : ℕ) (todo : List Event) (done : List Output) (new : Parts) → AreTables shape → Sound shape p → AllByRecursion (IsPossible 1 replicas) todo → Steps p todo done new
+    → Stands shape p todo done new
+stands-follow shape p replicas [] [] new tables sound possible steps = steps
+stands-follow shape p replicas [] (output ∷ done) new tables sound possible steps = absurd steps
+stands-follow shape p replicas (event ∷ todo) [] new tables sound possible steps = absurd steps
+stands-follow shape p replicas (event ∷ todo) (output ∷ done) new tables sound possible steps =
+    let first = may-follow shape p replicas event output steps.0 tables sound possible.0 steps.1 in
+    (steps.0, steps.1, first.0, fed-sound shape steps.0 first.1, stands-follow shape steps.0 replicas todo done new tables first.1 possible.1 steps.2)
+
+stands-one : (shape : Shape) (replicas : ℕ) (todo : List Event) (done : List Output) (end : Parts) → AreTables shape → replicas ≤ REPLICAS_MAX → AllByRecursion (IsPossible 1 replicas) todo
+    → Steps (parts_started shape 1 replicas) todo done end → CoresStand shape 1 replicas todo done
+stands-one shape replicas todo done end tables few possible steps =
+    (world-started shape replicas, end, stands-follow shape (parts_started shape 1 replicas) replicas todo done end tables (parts-sound shape replicas few) possible steps)
+
+pub steps-stand : StepsStand
+steps-stand shape workers replicas todo done end tables one few possible steps =
+    subst (λ (n : ℕ). CoresStand shape n replicas todo done) (sym one)
+    (stands-one shape replicas todo done end tables few
     (subst (λ (n : ℕ). AllByRecursion (IsPossible n replicas) todo) one possible)
     (subst (λ (n : ℕ). Steps (parts_started shape n replicas) todo done end) one steps))

@@ -1,4 +1,4 @@
--- The world that sound parts make, and that replicas there do as their members.
+-- What a change of the replicas is in the world that the parts make.
 use Rattle.std.proofs.Common.{◌≡◌, ℕ, zero, suc, List, [], ◌∷◌, length, refl, sym, ap, ◌∙◌, arith}
 use Rattle.std.specs.List.{slice_get, slice_set, slice_index}
 use Rattle.std.specs.Option.{option_map}
@@ -9,31 +9,8 @@ use Rattle.rows.specs.Shape.{Shape}
 use Rattle.batchdb.specs.declared.output.Output.{Output}
 use Rattle.batchdb.specs.Parts.{Parts, replicas_from, zeros, parts_started}
 use Rattle.batchdb.specs.Steps.{with_replica}
+use Rattle.batchdb.specs.Standing.{member_of, members_of, world_of}
 use Rattle.batchdb.specs.World.{World, Member, Batch, fresh_from, opening_world, with_member}
-
-abbrev pub batch_of : ℕ → Queries → Batch
-batch_of asked_at queries = record { plans = queries.plans; asked_at = asked_at; fetched = queries.fetched }
-
--- a replica as its users see it
-abbrev pub member_of : ℕ → Replica → Member
-member_of asked_at r = record {
-  number = r.number;
-  boot = r.boot;
-  request = r.request;
-  known = keys_of r.frames;
-  version = r.version;
-  waiting = r.waiting;
-  batch = option_map (batch_of asked_at) r.batch;
-  broken = r.broken;
-}
-
-abbrev pub members_of : List Replica → List ℕ → List Member
-members_of [] asked_at = []
-members_of (r ∷ replicas) [] = member_of 0 r ∷ members_of replicas []
-members_of (r ∷ replicas) (at ∷ asked_at) = member_of at r ∷ members_of replicas asked_at
-
-abbrev pub world_of : Parts → World
-world_of p = record { primary = p.primary; transactions = p.transactions; sent = p.sent; members = members_of p.replicas p.asked_at }
 
 -- what a step of the parts is in the world
 abbrev pub seen : Output × Parts → Output × World

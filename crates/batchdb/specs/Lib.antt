@@ -3,6 +3,7 @@ pub mod Parts
 pub mod Steps
 pub mod World
 pub mod Allowed
+pub mod Standing
 pub mod Worked
 pub mod Theorem
 pub mod Script

@@ -2,8 +2,8 @@
 use Rattle.std.specs.Prelude.{◌≡◌, ℕ, ◌≤◌, List, ◌++◌, length, map, Some, slice_get}
 use Rattle.std.specs.List.{AllByRecursion}
 use Rattle.rows.specs.declared.commit.Commit.{Commit}
-use Rattle.rows.specs.declared.limits.TheConstants.{TABLES_MAX, REPLICAS_MAX}
-use Rattle.rows.specs.Shape.{Shape, AreColumns}
+use Rattle.rows.specs.declared.limits.TheConstants.{REPLICAS_MAX}
+use Rattle.rows.specs.Shape.{Shape, AreTables}
 use Rattle.rows.specs.Commits.{tables_after}
 use Rattle.dispatcher.specs.Plans.{plain_answer}
 use Rattle.dispatcher.specs.Report.{report_text}
@@ -15,17 +15,19 @@ use Rattle.batchdb.specs.Parts.{Parts, parts_started}
 use Rattle.batchdb.specs.Steps.{Steps, IsPossible}
 use Rattle.batchdb.specs.World.{World, Member, Batch, opening_world}
 use Rattle.batchdb.specs.Allowed.{Runs, RunsWith, Allowed}
-
--- a shape that a schema may have: at most 16 tables, each of columns that a table may have
-pub record AreTables (shape : Shape) : Type 0 where
-  pub few : length shape ≤ TABLES_MAX
-  pub each : AllByRecursion AreColumns shape
+use Rattle.batchdb.specs.Standing.{CoresStand}
 
 -- whatever one primary of one worker and at most 16 replicas answer to events that are possible is allowed
 abbrev pub StepsAreAllowed : Type 0
 StepsAreAllowed =
     (shape : Shape) (workers replicas : ℕ) (events : List Event) (outputs : List Output) (end : Parts) → AreTables shape → workers ≡ 1 → replicas ≤ REPLICAS_MAX
     → AllByRecursion (IsPossible workers replicas) events → Steps (parts_started shape workers replicas) events outputs end → Allowed shape workers replicas events outputs
+
+-- and the cores stand where the world does at every step
+abbrev pub StepsStand : Type 0
+StepsStand =
+    (shape : Shape) (workers replicas : ℕ) (events : List Event) (outputs : List Output) (end : Parts) → AreTables shape → workers ≡ 1 → replicas ≤ REPLICAS_MAX
+    → AllByRecursion (IsPossible workers replicas) events → Steps (parts_started shape workers replicas) events outputs end → CoresStand shape workers replicas events outputs
 
 -- what was durable is the beginning of what is durable later
 abbrev pub DurableOnlyGrows : Type 0

@@ -1,6 +1,6 @@
 -- What follows where no fault stands: each table's columns are within the limits, and a name is new.
 use Rattle.std.proofs.Common.{◌≡◌, ℕ, suc, zero, ◌<◌, ◌≤◌, Bool, true, false, cond, ◌||◌, List, [], ◌∷◌, ◌++◌, length, map, slice_get, position, not, ◌+◌, subst, nat_lt, ◌==◌, Option, None, Some, refl, sym, ap, ◌∙◌, arith}
-use Rattle.std.specs.List.{list_any, position_or_len}
+use Rattle.std.specs.List.{list_any, position_or_len, AllByRecursion}
 use Rattle.std.specs.Option.{option_or, option_map}
 use Rattle.std.specs.Map.{lookup, keys_of}
 use Rattle.std.specs.String.{string_bytes, string_eq}
@@ -19,7 +19,7 @@ use Rattle.rows.specs.declared.kind.Kind.{Kind}
 use Rattle.rows.specs.declared.kind.Kind.TheVariants.{Int}
 use Rattle.rows.specs.declared.schema_fault.SchemaFault.TheVariants.{Empty, TooManyTables}
 use Rattle.rows.specs.declared.limits.TheConstants.{TABLES_MAX}
-use Rattle.rows.specs.Shape.{shape_of, width_of, row_width, AreColumns}
+use Rattle.rows.specs.Shape.{shape_of, width_of, row_width, AreColumns, AreTables}
 use Rattle.rows.specs.Shown.{shown}
 use Rattle.rows.specs.SchemaFaults.{schema_fault, table_fault, tables_fault}
 
@@ -59,6 +59,23 @@ AreColumns-schema tables i kinds h e =
     let few = no_fault (nat_lt TABLES_MAX (length tables)) TooManyTables _ some.1 in
     let within : i < length (shape_of tables) = slice_get_within (shape_of tables) i kinds e in
     (omega (arith, ltb-false _ _ few.0, length-map tables (λ table. table.1)), AreColumns-tables [] tables i kinds few.1 e)
+
+AreColumns-all : (before tables : List (List ℕ × List Kind)) → tables_fault before tables ≡ None → AllByRecursion AreColumns (shape_of tables)
+AreColumns-all before [] h = tt
+AreColumns-all before (table ∷ tables) h =
+    let none = both_none before table tables h in
+    (AreColumns-table before table none.0, AreColumns-all (before ++ table ∷ []) tables none.1)
+
+-- tables without a fault are some, are few, and each has columns within the limits
+pub AreTables-schema : (tables : List (List ℕ × List Kind)) → schema_fault tables ≡ None → AreTables (shape_of tables)
+AreTables-schema tables h =
+    let some = no_fault (length tables == 0) Empty _ h in
+    let few = no_fault (nat_lt TABLES_MAX (length tables)) TooManyTables _ some.1 in
+    record {
+      some = grind (arith, nat_tests, length-map tables (λ table. table.1));
+      few = omega (arith, ltb-false _ _ few.0, length-map tables (λ table. table.1));
+      each = AreColumns-all [] tables few.1;
+    }
 
 -- a column takes a byte at least
 pub length-le-row_width : (kinds : List Kind) → length kinds ≤ row_width kinds

@@ -1,9 +1,9 @@
 -- The shape of a database: for each table, by its number, the kinds of its columns.
 use Rattle.std.specs.Prelude.{ℕ, ◌<◌, ◌≤◌, List, length, map}
-use Rattle.std.specs.List.{sum_by}
+use Rattle.std.specs.List.{sum_by, AllByRecursion}
 use Rattle.rows.specs.declared.kind.Kind.{Kind}
 use Rattle.rows.specs.declared.kind.Kind.TheVariants.{Int}
-use Rattle.rows.specs.declared.limits.TheConstants.{COLUMNS_MAX, ROW_WIDTH_MAX}
+use Rattle.rows.specs.declared.limits.TheConstants.{TABLES_MAX, COLUMNS_MAX, ROW_WIDTH_MAX}
 
 abbrev pub Shape : Type 0
 Shape = List (List Kind)
@@ -25,3 +25,9 @@ pub record AreColumns (kinds : List Kind) : Type 0 where
   pub some : 0 < length kinds
   pub few : length kinds ≤ COLUMNS_MAX
   pub narrow : row_width kinds ≤ ROW_WIDTH_MAX
+
+-- the tables that a schema may have: 1 to 16, each of columns that a table may have
+pub record AreTables (shape : Shape) : Type 0 where
+  pub some : 0 < length shape
+  pub few : length shape ≤ TABLES_MAX
+  pub each : AllByRecursion AreColumns shape

@@ -6,7 +6,7 @@ ghost use Rattle.std.specs.List.{list_any};
 ghost use Rattle.std.specs.Str.{bytes_eq};
 ghost use Rattle.rows.specs.SchemaFaults.{schema_fault, table_fault, tables_fault};
 ghost use Rattle.rows.specs.Shown.{given, shown};
-ghost use Rattle.rows.specs.Shape.{shape_of, row_width, AreColumns};
+ghost use Rattle.rows.specs.Shape.{shape_of, row_width, AreColumns, AreTables};
 
 use crate::kind::Kind;
 use crate::kind_list::KindList;
@@ -57,6 +57,15 @@ impl Schema {
             Ok(tables) => Ok(Schema { tables }),
             Err(_) => Err(SchemaFault::Memory),
         }
+    }
+
+    /// Every schema keeps its limits: it has 1 to 16 tables, each of 1 to 16 columns and at most
+    /// 512 bytes a row. It does nothing: its contract is the law.
+    pub fn keeps_limits(&self)
+        ensures { AreTables (shape_of self.now) }
+    {
+        // A look at a field brings the invariant to the proof.
+        let _ = &self.tables;
     }
 
     /// The kinds of a table's columns; `None` where there is no table of that number.

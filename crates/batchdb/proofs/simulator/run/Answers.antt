@@ -1,9 +1,12 @@
--- Each event is one step, and what follows it is a run behind it.
+-- Each event is one step, and what follows it is a run behind it. A run of the parts is one of the world.
 use Rattle.std.proofs.Common.{[], ◌∷◌, refl, append_assoc}
 use Rattle.std.proofs.lemmas.List.{append-nil}
 use Rattle.std.proofs.lemmas.Option.{slice_get_read}
 use Rattle.rows.specs.Shape.{shape_of}
-use Rattle.batchdb.specs.Steps.{IsPossible}
+use Rattle.batchdb.specs.Parts.{parts_started}
+use Rattle.batchdb.specs.Steps.{Steps, IsPossible}
+use Rattle.batchdb.proofs.Honest.{allowed-faultless}
+use Rattle.batchdb.proofs.Whole.{steps-allowed, steps-stand}
 use Rattle.batchdb.proofs.Continuing.{step_first, none_left}
 use Rattle.batchdb.proofs.Slots.{all_at}
 use Rattle.batchdb.proofs.Starting.{as_many, ready_at_start}
@@ -41,5 +44,18 @@ step-output-requires c =
 
 pub returns : goal.returns
 returns c =
-    let run = c.loop-event.invariant.behind [] c.loop-event.cores (none_left c.loop-event.cores c.args.events.now c.loop-event.event-index c.loop-event-test.false) in
-    record { steps = (c.loop-event.cores, rw append-nil at run) }
+    let setup = c.args.setup.now in
+    let shape = shape_of setup.schema in
+    let start = parts_started shape setup.workers setup.replicas in
+    let outputs = c.loop-event.outputs.items in
+    let end = c.loop-event.cores in
+    let run = c.loop-event.invariant.behind [] end (none_left end c.args.events.now c.loop-event.event-index c.loop-event-test.false) in
+    let steps : Steps start c.args.events.now outputs end = rw append-nil at run in
+    let allowed = steps-allowed shape setup.workers setup.replicas c.args.events.now outputs end c.keeps_limits.ensures c.requires.workers c.requires.replicas c.requires.possible steps in
+    record {
+      allowed = allowed;
+      reports = ?;
+      durable = ?;
+      faultless = allowed-faultless shape setup.workers setup.replicas c.args.events.now outputs allowed;
+      cores = steps-stand shape setup.workers setup.replicas c.args.events.now outputs end c.keeps_limits.ensures c.requires.workers c.requires.replicas c.requires.possible steps;
+    }

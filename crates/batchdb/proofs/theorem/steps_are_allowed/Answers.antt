@@ -1,6 +1,6 @@
 -- Each run of the parts is one of the world, in which what is durable stays and nothing is damaged.
 use Rattle.batchdb.proofs.Honest.{durable-grows, allowed-faultless}
-use Rattle.batchdb.proofs.Whole.{steps-allowed}
+use Rattle.batchdb.proofs.Whole.{steps-allowed, steps-stand}
 use Rattle.batchdb.proofs.theorem.steps_are_allowed.Goals as goal
 
 pub returns-clause-allowed : goal.returns-clause-allowed
@@ -11,3 +11,6 @@ returns-clause-durable c = durable-grows
 
 pub returns-clause-faultless : goal.returns-clause-faultless
 returns-clause-faultless c = allowed-faultless
+
+pub returns-clause-cores : goal.returns-clause-cores
+returns-clause-cores c = steps-stand
