@@ -13,6 +13,8 @@ pub mod Whole
 pub mod Defined
 pub mod Honest
 pub mod Fresh
+pub mod Serving
+pub mod FreshDatagrams
 pub mod Freshness
 pub mod Reports
 pub mod Delivering
