@@ -95,14 +95,14 @@ insert-follows shape p number table row values (Some draft) tables sound below h
 -- ---- commits
 
 -- what a commit that is answered by its number needs
-record IsTaken (p : Primary) (draft : Draft) : Type 0 where
-  some : 0 < length draft.entries
-  known : draft.snapshot ≤ length p.durable
-  defined : is_ok (changes_of p.shape (tables_after p.shape p.durable draft.snapshot) draft.entries) ≡ true
-  last : last_writer p draft.entries ≤ draft.snapshot
-  numbered : next_number p < 2 ^ 64
+pub record IsTaken (p : Primary) (draft : Draft) : Type 0 where
+  pub some : 0 < length draft.entries
+  pub known : draft.snapshot ≤ length p.durable
+  pub defined : is_ok (changes_of p.shape (tables_after p.shape p.durable draft.snapshot) draft.entries) ≡ true
+  pub last : last_writer p draft.entries ≤ draft.snapshot
+  pub numbered : next_number p < 2 ^ 64
 
-commit-taken : (p : Primary) (draft : Draft) (number : ℕ) → commit_answer p draft ≡ Ok number → IsTaken p draft
+pub commit-taken : (p : Primary) (draft : Draft) (number : ℕ) → commit_answer p draft ≡ Ok number → IsTaken p draft
 commit-taken p draft number h =
     by p.failed (length draft.entries == 0) (is_foreign p draft) (nat_lt draft.snapshot (last_writer p draft.entries)) (nat_lt (next_number p) (2 ^ 64)) refl refl refl refl h
   where

@@ -12,6 +12,11 @@ pub mod Committing
 pub mod Whole
 pub mod Defined
 pub mod Honest
+pub mod Fresh
+pub mod Serving
+pub mod FreshDatagrams
+pub mod Freshness
+pub mod Reports
 pub mod Delivering
 pub mod Moving
 pub mod Readiness

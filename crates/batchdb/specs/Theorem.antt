@@ -6,6 +6,7 @@ use Rattle.rows.specs.declared.limits.TheConstants.{REPLICAS_MAX}
 use Rattle.rows.specs.Shape.{Shape, AreTables}
 use Rattle.rows.specs.Commits.{tables_after}
 use Rattle.dispatcher.specs.Plans.{plain_answer}
+use Rattle.dispatcher.specs.Replica.{Fetched}
 use Rattle.dispatcher.specs.Report.{report_text}
 use Rattle.batchdb.specs.declared.event.Event.{Event}
 use Rattle.batchdb.specs.declared.event.Event.TheVariants as events
@@ -49,13 +50,14 @@ AllowedAreFaultless =
     (shape : Shape) (workers replicas : ℕ) (events : List Event) (outputs : List Output) → Allowed shape workers replicas events outputs
     → AllByRecursion IsFaultless outputs
 
--- the report of a batch: for each of its queries, in order, the plain answer on the rows after exactly the first
--- `version` commits of the list; that version is at least what was durable when the batch asked, and at most what is
--- durable now
+-- the report of a batch: for each of its queries, in order, the plain answer on the rows after exactly the commits of the
+-- list up to the version that was fetched for it; that version is at least what was durable when the batch asked, and at
+-- most what is durable now
 abbrev pub IsReportOf : List Commit → World → Batch → List ℕ → Type 0
 IsReportOf commits w batch text =
-    (version : ℕ) × (batch.asked_at ≤ version) × (version ≤ length w.primary.durable)
-    × (text ≡ report_text version (map (plain_answer (tables_after w.primary.shape commits version)) batch.plans))
+    (fetched : Fetched) × (batch.fetched ≡ Some fetched)
+    × (batch.asked_at ≤ fetched.version) × (fetched.version ≤ length w.primary.durable)
+    × (text ≡ report_text fetched.version (map (plain_answer (tables_after w.primary.shape commits fetched.version)) batch.plans))
 
 -- a report that is answered is that of the batch of the replica that ran
 abbrev pub ReportsItsBatch : List Commit → World → Event → Output → World → Type 0

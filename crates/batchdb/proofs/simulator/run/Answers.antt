@@ -6,6 +6,7 @@ use Rattle.rows.specs.Shape.{shape_of}
 use Rattle.batchdb.specs.Parts.{parts_started}
 use Rattle.batchdb.specs.Steps.{Steps, IsPossible}
 use Rattle.batchdb.proofs.Honest.{allowed-faultless}
+use Rattle.batchdb.proofs.Reports.{runs-report, runs-grow}
 use Rattle.batchdb.proofs.Whole.{steps-allowed, steps-stand}
 use Rattle.batchdb.proofs.Continuing.{step_first, none_left}
 use Rattle.batchdb.proofs.Slots.{all_at}
@@ -54,8 +55,8 @@ returns c =
     let allowed = steps-allowed shape setup.workers setup.replicas c.args.events.now outputs end c.keeps_limits.ensures c.requires.workers c.requires.replicas c.requires.possible steps in
     record {
       allowed = allowed;
-      reports = ?;
-      durable = ?;
+      reports = runs-report shape setup.workers setup.replicas c.args.events.now outputs allowed.0 c.requires.replicas allowed.1;
+      durable = runs-grow shape setup.workers setup.replicas c.args.events.now outputs allowed.0 allowed.1;
       faultless = allowed-faultless shape setup.workers setup.replicas c.args.events.now outputs allowed;
       cores = steps-stand shape setup.workers setup.replicas c.args.events.now outputs end c.keeps_limits.ensures c.requires.workers c.requires.replicas c.requires.possible steps;
     }

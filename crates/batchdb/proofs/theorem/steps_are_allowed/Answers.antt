@@ -1,5 +1,6 @@
--- Each run of the parts is one of the world, in which what is durable stays and nothing is damaged.
+-- Each run of the parts is one of the world, in which what is durable stays, nothing is damaged and each report is exact.
 use Rattle.batchdb.proofs.Honest.{durable-grows, allowed-faultless}
+use Rattle.batchdb.proofs.Reports.{reports-exact}
 use Rattle.batchdb.proofs.Whole.{steps-allowed, steps-stand}
 use Rattle.batchdb.proofs.theorem.steps_are_allowed.Goals as goal
 
@@ -14,3 +15,6 @@ returns-clause-faultless c = allowed-faultless
 
 pub returns-clause-cores : goal.returns-clause-cores
 returns-clause-cores c = steps-stand
+
+pub returns-clause-reports : goal.returns-clause-reports
+returns-clause-reports c = reports-exact
