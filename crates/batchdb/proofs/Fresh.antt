@@ -1,6 +1,6 @@
 -- What keeps reports fresh: no version that was fetched, and none of a Head that was ever sent, is older than the batch
 -- that it may serve.
-use Rattle.std.proofs.Common.{◌≡◌, ℕ, zero, suc, ◌+◌, ◌^◌, ◌<◌, ◌≤◌, List, [], ◌∷◌, ◌++◌, length, take, drop, Option, Some, None, Result, Ok, Err, refl, sym, ap, subst, ◌∙◌, inl, inr, arith}
+use Rattle.std.proofs.Common.{◌≡◌, ℕ, zero, suc, ◌+◌, ◌^◌, ◌<◌, ◌≤◌, List, [], ◌∷◌, ◌++◌, length, take, drop, Option, Some, Result, Ok, Err, refl, sym, ap, subst, ◌∙◌, inl, inr, arith}
 use Rattle.std.specs.List.{slice_get, slice_set, AllByRecursion}
 use Rattle.std.proofs.lemmas.List.{length-append, length-set, take-append-drop}
 use Rattle.std.proofs.lemmas.Option.{none-some, same_Some}
@@ -14,7 +14,6 @@ use Rattle.wire.specs.Reading.{reading}
 use Rattle.wire.specs.Spelling.{IsAsk}
 use Rattle.primary.specs.Draft.{Draft}
 use Rattle.primary.specs.Primary.{committed, flushed}
-use Rattle.primary.specs.State.{Primary}
 use Rattle.dispatcher.specs.Replica.{Fetched}
 use Rattle.batchdb.specs.World.{World, Member, Batch, fresh, fresh_from, opening_world, with_member}
 use Rattle.batchdb.proofs.Lists.{get-set, get-append, All-get}
@@ -139,17 +138,23 @@ reading-follows : (durable : List Commit) (members : List Member) (i : ℕ) (old
     → (read : Result Datagram WireFault) → IsFreshReading durable members read → IsFreshReading durable (slice_set members i new) read
 reading-follows durable members i old new here follows (Err fault) h = tt
 reading-follows durable members i old new here follows (Ok (datagrams.Frame worker seq commit last entries)) h = tt
-reading-follows durable members i old new here follows (Ok (datagrams.Ask replica boot request)) h = (h.0, λ m there. elim (get-set members i new replica m there) [
-  | inl same ↦
-      let before = h.1 old (ap (slice_get members) same.0 ∙ here) in
-      let asked = follows.asked in
-      subst (λ (other : Member). request ≤ other.request) (sym same.1) (omega arith)
-  | inr stays ↦ h.1 m stays
-])
-reading-follows durable members i old new here follows (Ok (datagrams.Head replica boot request version counts)) h = (h.0, λ m there. elim (get-set members i new replica m there) [
-  | inl same ↦ subst (λ (other : Member). IsFreshHead other request version) (sym same.1) (follows.heads request version (h.1 old (ap (slice_get members) same.0 ∙ here)))
-  | inr stays ↦ h.1 m stays
-])
+reading-follows durable members i old new here follows (Ok (datagrams.Ask replica boot request)) h = (
+  h.0,
+  λ m there. elim (get-set members i new replica m there) [
+    | inl same ↦
+        let before = h.1 old (ap (slice_get members) same.0 ∙ here) in
+        let asked = follows.asked in
+        subst (λ (other : Member). request ≤ other.request) (sym same.1) (omega arith)
+    | inr stays ↦ h.1 m stays
+  ],
+)
+reading-follows durable members i old new here follows (Ok (datagrams.Head replica boot request version counts)) h = (
+  h.0,
+  λ m there. elim (get-set members i new replica m there) [
+    | inl same ↦ subst (λ (other : Member). IsFreshHead other request version) (sym same.1) (follows.heads request version (h.1 old (ap (slice_get members) same.0 ∙ here)))
+    | inr stays ↦ h.1 m stays
+  ],
+)
 reading-follows durable members i old new here follows (Ok (datagrams.Want replica worker from)) h = tt
 
 changed : (w : World) (i : ℕ) (old new : Member) → Fresh w → slice_get w.members i ≡ Some old → Follows w.primary.durable old new → Fresh (record w { members = slice_set w.members i new })

@@ -18,7 +18,6 @@ use Rattle.wire.specs.declared.out.Out.{Out}
 use Rattle.wire.specs.Reading.{reading}
 use Rattle.wire.specs.Spelling.{frame_spelling}
 use Rattle.primary.specs.Sending.{counts_of, answers, answers_to}
-use Rattle.primary.specs.State.{Primary}
 use Rattle.dispatcher.specs.declared.plan.Plan.{Plan}
 use Rattle.dispatcher.specs.Known.{is_known, is_ahead}
 use Rattle.dispatcher.specs.Replica.{Fetched}
@@ -53,10 +52,9 @@ answers-fresh w (Err fault) h told = tt
 answers-fresh w (Ok (datagrams.Frame worker seq commit last entries)) h told = tt
 answers-fresh w (Ok (datagrams.Ask replica boot request)) h told =
     let version = length w.primary.durable in
-    let numbered = h.numbered in
-    (
+    let numbered = h.numbered in (
       head-reads (IsFreshReading w.primary.durable w.members) (λ fault. tt) replica boot request version (counts_of w.primary.durable version w.primary.workers) told.0.request_below (omega arith)
-      (λ boot' counts'. (omega arith, λ m there. record { asked = told.1 m there; above = λ batch has same. ((h.members_are replica m there).batch_is batch has).asked })),
+          (λ boot' counts'. (omega arith, λ m there. record { asked = told.1 m there; above = λ batch has same. ((h.members_are replica m there).batch_is batch has).asked })),
       tt,
     )
 answers-fresh w (Ok (datagrams.Head replica boot request version counts)) h told = tt

@@ -1,5 +1,5 @@
 -- Each report of a run is exact by the one list that is durable at its end, and what is durable grows at each step.
-use Rattle.std.proofs.Common.{◌≡◌, ℕ, ◌≤◌, List, [], ◌∷◌, ◌++◌, map, refl, sym, ap, subst, ◌∙◌}
+use Rattle.std.proofs.Common.{ℕ, ◌≤◌, List, [], ◌∷◌, ◌++◌, map, refl, sym, ap, subst, ◌∙◌}
 use Rattle.rows.specs.declared.commit.Commit.{Commit}
 use Rattle.rows.specs.declared.limits.TheConstants.{REPLICAS_MAX}
 use Rattle.rows.specs.Shape.{Shape}
@@ -32,8 +32,7 @@ runs-reported old end [] (output ∷ done) h run = absurd run
 runs-reported old end (event ∷ todo) [] h run = absurd run
 runs-reported old end (event ∷ todo) (output ∷ done) h run =
     let first = step-serves old event output run.0 h run.1 in
-    let grows = durable-grows old end (event ∷ todo) (output ∷ done) run in
-    (
+    let grows = durable-grows old end (event ∷ todo) (output ∷ done) run in (
       run.0,
       run.1,
       subst (λ (commits : List Commit). ReportsItsBatch commits old event output run.0) (sym grows.1) (report-stays grows.0 old run.0 event output first.reports),
