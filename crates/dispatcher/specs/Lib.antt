@@ -5,3 +5,4 @@ pub mod Replay
 pub mod Replica
 pub mod Steps
 pub mod Core
+pub mod Feeding
