@@ -1,5 +1,5 @@
 -- What comes of a frame, test by test.
-use Rattle.std.proofs.Common.{◌≡◌, ℕ, true, false, nat_lt, is_ok}
+use Rattle.std.proofs.Common.{◌≡◌, true, false, nat_lt, is_ok}
 use Rattle.std.specs.List.{list_all}
 use Rattle.std.specs.Ordering.{nat_cmp}
 use Rattle.std.specs.BTreeMap.{insert_entry}

@@ -3,3 +3,10 @@ pub mod Replaying
 pub mod Openings
 pub mod Coming
 pub mod Running
+pub mod Lists
+pub mod Streams
+pub mod Stored
+pub mod Versions
+pub mod CatchingUp
+pub mod Feeding
+pub mod Reports

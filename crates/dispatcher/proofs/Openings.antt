@@ -3,7 +3,7 @@ use Rattle.std.proofs.Common.{◌≡◌, ℕ, List, [], ◌∷◌, length, refl,
 use Rattle.std.proofs.Math.ListN.{replicate}
 use Rattle.rows.specs.declared.kind.Kind.{Kind}
 use Rattle.rows.specs.Shape.{shape_of}
-use Rattle.rows.specs.Tables.{Table, opening}
+use Rattle.rows.specs.Tables.{opening}
 
 -- as many empty tables as the schema has
 pub opening-shape_of : (schema : List (List ℕ × List Kind)) → opening (shape_of schema) ≡ replicate (length schema) []

@@ -1,15 +1,15 @@
 -- One frame of a replay: it stands in front of those behind its place, and where it holds the next commit they go on
 -- from what its entries make.
-use Rattle.std.proofs.Common.{◌≡◌, ℕ, suc, ◌+◌, ◌-◌, ◌<◌, ◌≤◌, true, List, ◌∷◌, None, Some, Ok, is_some, length, ap, sym, ◌∙◌, eq-eqb, arith}
+use Rattle.std.proofs.Common.{◌≡◌, ℕ, suc, ◌+◌, ◌-◌, ◌<◌, ◌≤◌, true, List, None, Some, Ok, is_some, length, ap, ◌∙◌, eq-eqb, arith}
 use Rattle.std.specs.Ordering.{nat_cmp}
 use Rattle.std.specs.Map.{lookup, keys_of}
 use Rattle.std.specs.BTreeMap.{is_at}
-use Rattle.std.proofs.lemmas.Bool.{cond-true, and_from, both_ways}
+use Rattle.std.proofs.lemmas.Bool.{both_ways}
 use Rattle.rows.specs.Shape.{Shape}
 use Rattle.rows.specs.Tables.{Tables, changes_of}
 use Rattle.wire.specs.declared.frame.Frame.{Frame}
 use Rattle.dispatcher.specs.Known.{first_missing}
-use Rattle.dispatcher.specs.Replay.{frames_at, go_on, replayed}
+use Rattle.dispatcher.specs.Replay.{frames_at, replayed}
 use Rattle.dispatcher.proofs.Places.{is_known-lookup, is_known-below}
 
 -- a look-up below the first place that is missing finds a frame

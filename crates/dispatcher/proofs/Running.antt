@@ -1,5 +1,5 @@
 -- What a run answers where a version was fetched, no frame is missing, and the tables have caught up.
-use Rattle.std.proofs.Common.{◌≡◌, ℕ, ◌+◌, ◌-◌, ◌≤◌, ◌==◌, ◌⊎◌, inl, inr, true, false, cond, nat_lt, List, [], ◌∷◌, slice_index, Option, None, Some, Bool, sym, ap, subst, ◌∙◌, le-ltb}
+use Rattle.std.proofs.Common.{◌≡◌, ℕ, ◌≤◌, ◌⊎◌, inl, inr, true, false, cond, List, [], ◌∷◌, slice_index, Option, None, Some, Bool, sym, ap, subst, ◌∙◌, le-ltb}
 use Rattle.std.specs.Option.{option_map}
 use Rattle.std.proofs.lemmas.Bool.{cond-false}
 use Rattle.std.proofs.lemmas.Option.{same_Some}
@@ -8,8 +8,7 @@ use Rattle.dispatcher.specs.declared.plan.Plan.{Plan}
 use Rattle.dispatcher.specs.declared.outcome.Run.{Run}
 use Rattle.dispatcher.specs.declared.outcome.Run.TheVariants as runs
 use Rattle.dispatcher.specs.Known.{first_missing}
-use Rattle.dispatcher.specs.Replay.{frames_at, replayed}
-use Rattle.dispatcher.specs.Replica.{Replica, Queries, Fetched}
+use Rattle.dispatcher.specs.Replica.{Replica, Fetched}
 use Rattle.dispatcher.specs.Steps.{known, ready, ready_by, ran, ran_by, is_waiting, caught_up, finished, answered_by, MayRun}
 
 -- catching up leaves the batch
@@ -21,7 +20,7 @@ same_batch r after version applied true (Some tables) h = sym (ap (λ (x : Repli
 
 module _ (r : Replica) (plans : List Plan) (fetched : Fetched) (whole : r.broken ≡ false)
     (there : r.batch ≡ Some (record { plans = plans; fetched = Some fetched })) (complete : slice_index fetched.counts 0 ≤ first_missing (known r)) where
-  ran-ready : ran r ≡ finished r plans (caught_up r fetched)
+  pub ran-ready : ran r ≡ finished r plans (caught_up r fetched)
   ran-ready =
       cond-false r.broken (runs.Broken, r) (ran_by r r.batch) whole
       ∙ ap (ran_by r) there

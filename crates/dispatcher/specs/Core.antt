@@ -1,7 +1,6 @@
 -- How the parts of a replica's core are seen, and what holds of them.
-use Rattle.std.specs.Prelude.{◌≡◌, ℕ, ◌<◌, ◌≤◌, List, [], length, Option, if◌then◌else◌, slice_index}
+use Rattle.std.specs.Prelude.{◌≡◌, ℕ, ◌<◌, ◌≤◌, [], length, Option, if◌then◌else◌, slice_index}
 use Rattle.std.specs.Option.{option_map}
-use Rattle.std.specs.List.{All}
 use Rattle.std.specs.Prelude.{IfSome, None, Some}
 use Rattle.dispatcher.specs.declared.batch.Batch.{Batch}
 use Rattle.dispatcher.specs.declared.batch.TakenHead.{TakenHead}

@@ -1,6 +1,6 @@
 -- A replica that is fed from a list of commits: all that it knows is of that list. And the laws of what keeps it so, and
 -- of what its runs answer then.
-use Rattle.std.specs.Prelude.{◌≡◌, ℕ, ◌<◌, ◌≤◌, List, [], ◌∷◌, ◌++◌, length, map, true, false, Option, Some, Result, Ok, Err, slice_get}
+use Rattle.std.specs.Prelude.{◌≡◌, ℕ, ◌<◌, ◌≤◌, List, [], ◌∷◌, ◌++◌, length, map, true, false, Some, Result, Ok, Err, slice_get}
 use Rattle.std.specs.List.{AllByRecursion}
 use Rattle.rows.specs.declared.commit.Commit.{Commit}
 use Rattle.rows.specs.Shape.{Shape}
@@ -107,3 +107,11 @@ abbrev pub ReadyIsAnswered : Type 0
 ReadyIsAnswered =
     (shape : Shape) (commits : List Commit) (r : Replica) (batch : Queries) (fetched : Fetched) → IsLegal shape 1 commits → IsFedFrom shape commits r
     → r.batch ≡ Some batch → ready r ≡ Some fetched → (ran r).0 ≡ runs.Answered (report_at shape commits fetched.version batch.plans)
+
+-- ---- what two of them hold
+
+-- two replicas at one version hold the same tables, at whatever two moments of the list; a broken one stands at none
+abbrev pub VersionTellsTables : Type 0
+VersionTellsTables =
+    (shape : Shape) (commits more : List Commit) (r other : Replica) → IsFedFrom shape commits r → IsFedFrom shape (commits ++ more) other
+    → r.broken ≡ false → other.broken ≡ false → r.version ≡ other.version → r.tables ≡ other.tables

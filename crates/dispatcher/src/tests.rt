@@ -1,6 +1,7 @@
 //! A replica from its first query to its report, each fault, and each public call once.
 
 use crate::faults::{AskFault, OpenFault};
+use crate::laws::fed_replicas_stay_fed;
 use crate::outcome::{Got, Run};
 use crate::plan::{Plan, PlanFault};
 use crate::replica_core::ReplicaCore;
@@ -85,6 +86,7 @@ fn waiting_replica(alloc: Global) -> Result<ReplicaCore, Fail> {
 
 #[test]
 fn a_batch_is_answered_at_its_version(rt: HostRuntime) -> Result<(), Fail> {
+    fed_replicas_stay_fed();
     let mut replica = replica(rt.alloc())?;
     assert_eq!(rt; replica.open(Plan { table: 0 }), Ok(1));
     assert_eq!(rt;

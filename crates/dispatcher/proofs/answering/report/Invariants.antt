@@ -1,5 +1,5 @@
 -- The text so far is the report's first line and the parts of the queries before the index.
-use Rattle.std.proofs.Common.{◌≡◌, ◌++◌, map, take, drop}
+use Rattle.std.proofs.Common.{◌≡◌, ◌++◌, map, drop}
 use Rattle.std.specs.String.{string_bytes}
 use Rattle.dispatcher.specs.Plans.{plain_answer}
 use Rattle.dispatcher.specs.Report.{report_text, queries_text}

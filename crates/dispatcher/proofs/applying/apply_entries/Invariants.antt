@@ -1,5 +1,5 @@
 -- What the entries from the index on make of the tables so far is what all make of the first tables.
-use Rattle.std.proofs.Common.{◌≡◌, length, drop}
+use Rattle.std.proofs.Common.{◌≡◌, drop}
 use Rattle.rows.specs.Shape.{shape_of}
 use Rattle.rows.specs.Tables.{changes_of}
 use Rattle.dispatcher.proofs.applying.apply_entries.Given as goal

@@ -1,5 +1,4 @@
 -- The map finds a frame where its place is known.
-use Rattle.std.proofs.Common.{◌∙◌}
 use Rattle.dispatcher.proofs.Places.{is_known-lookup}
 use Rattle.dispatcher.proofs.frame_map.FrameMap.contains.Goals as goal
 

@@ -1,5 +1,5 @@
 -- The walk from the counter on ends where the whole walk does.
-use Rattle.std.proofs.Common.{◌≡◌, ◌-◌, length}
+use Rattle.std.proofs.Common.{◌≡◌, ◌-◌}
 use Rattle.std.specs.Map.{keys_of}
 use Rattle.dispatcher.specs.Known.{missing_from, first_missing}
 use Rattle.dispatcher.proofs.frame_map.FrameMap.first_missing.Given as goal

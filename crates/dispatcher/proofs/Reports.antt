@@ -1,0 +1,180 @@
+-- What a run of a replica that is fed from a legal list answers, and that it stays fed by it.
+use Rattle.std.proofs.Common.{◌≡◌, ℕ, ◌≤◌, Bool, true, false, cond, List, Option, Some, None, slice_index, refl, sym, ap, subst, ◌∙◌, ◌⊎◌, inl, inr}
+use Rattle.std.proofs.lemmas.Bool.{ltb-false}
+use Rattle.std.proofs.lemmas.Option.{none-some, same_Some}
+use Rattle.rows.specs.declared.commit.Commit.{Commit}
+use Rattle.rows.specs.Shape.{Shape}
+use Rattle.rows.specs.Commits.{IsLegal}
+use Rattle.dispatcher.specs.declared.outcome.Run.{Run}
+use Rattle.dispatcher.specs.declared.outcome.Run.TheVariants as runs
+use Rattle.dispatcher.specs.declared.plan.Plan.{Plan}
+use Rattle.dispatcher.specs.Feeding.{IsFedFrom, report_at, RunKeepsFed, RunIsConsistent, AnswerIsReport, ReadyIsAnswered}
+use Rattle.dispatcher.specs.Known.{first_missing}
+use Rattle.dispatcher.specs.Replica.{Replica, Queries, Fetched}
+use Rattle.dispatcher.specs.Steps.{known, caught_up, finished, is_waiting, ran, ran_by, ready, ready_by, want_for, WantsMemory}
+use Rattle.dispatcher.proofs.CatchingUp.{caught, catches-up}
+use Rattle.dispatcher.proofs.Feeding.{broken-fed, caught-fed, finished-fed}
+use Rattle.dispatcher.proofs.Running.{ran-ready}
+
+-- ---- which replicas can answer
+
+-- a replica that can answer its batch: a version was fetched for it, and no frame below the count at it is missing
+pub record CanAnswer (r : Replica) (batch : Queries) (fetched : Fetched) : Type 0 where
+  pub whole : r.broken ≡ false
+  pub there : r.batch ≡ Some batch
+  pub has : batch.fetched ≡ Some fetched
+  pub complete : slice_index fetched.counts 0 ≤ first_missing (known r)
+
+unless : {A : Type 0} (b : Bool) (o : Option A) (x : A) → cond b None o ≡ Some x → (b ≡ false) × (o ≡ Some x)
+unless true o x e = absurd (none-some x e)
+unless false o x e = (refl, e)
+
+ready-fetched : (r : Replica) (plans : List Plan) (found : Option Fetched) (fetched : Fetched) → ready_by r (Some (record { plans = plans; fetched = found })) ≡ Some fetched
+    → (found ≡ Some fetched) × (slice_index fetched.counts 0 ≤ first_missing (known r))
+ready-fetched r plans None fetched e = absurd (none-some fetched e)
+ready-fetched r plans (Some found) fetched e =
+    let parts = unless (is_waiting r found) (Some found) fetched e in
+    (parts.1, ltb-false (first_missing (known r)) (slice_index fetched.counts 0) (ap (is_waiting r) (sym (same_Some found fetched parts.1)) ∙ parts.0))
+
+ready-batch : (r : Replica) (batch : Option Queries) (fetched : Fetched) → r.broken ≡ false → r.batch ≡ batch → ready_by r batch ≡ Some fetched → (queries : Queries) × CanAnswer r queries fetched
+ready-batch r None fetched whole there e = absurd (none-some fetched e)
+ready-batch r (Some batch) fetched whole there e =
+    let parts = ready-fetched r batch.plans batch.fetched fetched e in
+    (batch, record { whole = whole; there = there; has = parts.0; complete = parts.1 })
+
+pub ready-parts : (r : Replica) (fetched : Fetched) → ready r ≡ Some fetched → (batch : Queries) × CanAnswer r batch fetched
+ready-parts r fetched e =
+    let parts = unless r.broken (ready_by r r.batch) fetched e in
+    ready-batch r r.batch fetched parts.0 refl parts.1
+
+-- they catch up
+pub ready-catches : (shape : Shape) (commits : List Commit) (r : Replica) (batch : Queries) (fetched : Fetched) → IsLegal shape 1 commits → IsFedFrom shape commits r → CanAnswer r batch fetched
+    → caught_up r fetched ≡ Some (caught shape commits fetched r)
+ready-catches shape commits r batch fetched legal fed is = catches-up shape commits r fetched legal fed is.whole (fed.fetched_is batch fetched is.there is.has) is.complete
+
+-- ---- any run
+
+-- a run that answers no batch leaves the replica
+record IsIdle (r : Replica) (answer : Run × Replica) : Type 0 where
+  same : answer.1 ≡ r
+  consistent : answer.0 ≡ runs.Inconsistent → ⊥
+  no_report : (text : List ℕ) → answer.0 ≡ runs.Answered text → ⊥
+
+-- the end of a batch
+abbrev reported : Shape → List Commit → Replica → Queries → Fetched → Run × Replica
+reported shape commits r batch fetched = (runs.Answered (report_at shape commits fetched.version batch.plans), record (caught shape commits fetched r) { batch = None })
+
+-- a run that answers one
+record IsReport (shape : Shape) (commits : List Commit) (r : Replica) (answer : Run × Replica) : Type 0 where
+  batch : Queries
+  fetched : Fetched
+  can : CanAnswer r batch fetched
+  is : answer ≡ reported shape commits r batch fetched
+
+abbrev Ran : Shape → List Commit → Replica → Run × Replica → Type 0
+Ran shape commits r answer = IsIdle r answer ⊎ IsReport shape commits r answer
+
+module _ (shape : Shape) (commits : List Commit) (r : Replica) (legal : IsLegal shape 1 commits) (fed : IsFedFrom shape commits r) where
+  finished-reports : (batch : Queries) (fetched : Fetched) → CanAnswer r batch fetched → finished r batch.plans (caught_up r fetched) ≡ reported shape commits r batch fetched
+  finished-reports batch fetched is = ap (finished r batch.plans) (ready-catches shape commits r batch fetched legal fed is)
+
+  ran-fetched : (plans : List Plan) (found : Option Fetched) → r.broken ≡ false → r.batch ≡ Some (record { plans = plans; fetched = found })
+      → Ran shape commits r (ran_by r (Some (record { plans = plans; fetched = found })))
+  ran-fetched plans None whole there = inl (record { same = refl; consistent = λ e. cc; no_report = λ text e. cc })
+  ran-fetched plans (Some fetched) whole there = by (is_waiting r fetched) refl
+    where
+      batch : Queries
+      batch = record { plans = plans; fetched = Some fetched }
+
+      by : (waits : Bool) → is_waiting r fetched ≡ waits
+          → Ran shape commits r (cond waits (runs.Waiting 0 (first_missing (known r)) (want_for r.number 0 (first_missing (known r))), r) (finished r plans (caught_up r fetched)))
+      by true e = inl (record { same = refl; consistent = λ e. cc; no_report = λ text e. cc })
+      by false e =
+          let is : CanAnswer r batch fetched = record { whole = whole; there = there; has = refl; complete = ltb-false (first_missing (known r)) (slice_index fetched.counts 0) e } in
+          inr (record { batch = batch; fetched = fetched; can = is; is = finished-reports batch fetched is })
+
+  ran-batch : (batch : Option Queries) → r.broken ≡ false → r.batch ≡ batch → Ran shape commits r (ran_by r batch)
+  ran-batch None whole there = inl (record { same = refl; consistent = λ e. cc; no_report = λ text e. cc })
+  ran-batch (Some batch) whole there = ran-fetched batch.plans batch.fetched whole there
+
+  ran-parts : Ran shape commits r (ran r)
+  ran-parts = by r.broken refl
+    where
+      by : (broken : Bool) → r.broken ≡ broken → Ran shape commits r (cond broken (runs.Broken, r) (ran_by r r.batch))
+      by true e = inl (record { same = refl; consistent = λ e. cc; no_report = λ text e. cc })
+      by false e = ran-batch r.batch e refl
+
+  -- ---- it stays fed
+
+  reported-fed : (batch : Queries) (fetched : Fetched) → CanAnswer r batch fetched → IsFedFrom shape commits (reported shape commits r batch fetched).1
+  reported-fed batch fetched is = finished-fed shape commits r batch fetched legal fed is.there is.has is.complete
+
+  ran-fed : (answer : Run × Replica) → Ran shape commits r answer → IsFedFrom shape commits answer.1
+  ran-fed answer (inl idle) = subst (IsFedFrom shape commits) (sym idle.same) fed
+  ran-fed answer (inr report) = subst (λ (answer : Run × Replica). IsFedFrom shape commits answer.1) (sym report.is) (reported-fed report.batch report.fetched report.can)
+
+  cut-fed : (answer : Run) (new : Replica) → WantsMemory r answer new → IsFedFrom shape commits new
+  cut-fed answer new wants =
+      let fetched = wants.0 in
+      let parts = ready-parts r fetched wants.1 in
+      let is = parts.1 in
+      elim wants.2 [
+        | inl memory ↦ elim memory.1 [
+          | inl same ↦ subst (IsFedFrom shape commits) (sym same) fed
+          | inr reached ↦ subst (IsFedFrom shape commits) (same_Some (caught shape commits fetched r) new (sym (ready-catches shape commits r parts.0 fetched legal fed is) ∙ reached))
+              (caught-fed shape commits r parts.0 fetched legal fed is.there is.has is.complete)
+        ]
+        | inr broken ↦ subst (IsFedFrom shape commits) (sym broken.1) (broken-fed shape commits r fed)
+      ]
+
+pub run-feeds : RunKeepsFed
+run-feeds shape commits r answer new legal fed (inl is) = subst (λ (answer : Run × Replica). IsFedFrom shape commits answer.1) is (ran-fed shape commits r legal fed (ran r) (ran-parts shape commits r legal fed))
+run-feeds shape commits r answer new legal fed (inr wants) = cut-fed shape commits r legal fed answer new wants
+
+-- ---- what it answers
+
+ran-consistent : (shape : Shape) (commits : List Commit) (r : Replica) (answer : Run × Replica) → Ran shape commits r answer → answer.0 ≡ runs.Inconsistent → ⊥
+ran-consistent shape commits r answer (inl idle) e = idle.consistent e
+ran-consistent shape commits r answer (inr report) e =
+    let is : answer.0 ≡ runs.Answered (report_at shape commits report.fetched.version report.batch.plans) = ap (λ (answer : Run × Replica). answer.0) report.is in
+    cc
+
+cut-consistent : (r : Replica) (answer : Run) (new : Replica) → WantsMemory r answer new → answer ≡ runs.Inconsistent → ⊥
+cut-consistent r answer new wants e = elim wants.2 [
+  | inl memory ↦ (let is = memory.0 in cc)
+  | inr broken ↦ (let is = broken.0 in cc)
+]
+
+pub run-consistent : RunIsConsistent
+run-consistent shape commits r answer new legal fed (inl is) e =
+    ran-consistent shape commits r (ran r) (ran-parts shape commits r legal fed) (ap (λ (answer : Run × Replica). answer.0) is ∙ e)
+run-consistent shape commits r answer new legal fed (inr wants) e = cut-consistent r answer new wants e
+
+abbrev Answers : Shape → List Commit → Replica → List ℕ → Replica → Type 0
+Answers shape commits r text new =
+    (batch : Queries) × (fetched : Fetched) × (r.batch ≡ Some batch) × (batch.fetched ≡ Some fetched)
+    × (text ≡ report_at shape commits fetched.version batch.plans) × (new.version ≡ fetched.version)
+
+ran-answers : (shape : Shape) (commits : List Commit) (r : Replica) (answer : Run × Replica) (text : List ℕ) (new : Replica) → Ran shape commits r answer → answer ≡ (runs.Answered text, new)
+    → Answers shape commits r text new
+ran-answers shape commits r answer text new (inl idle) e = absurd (idle.no_report text (ap (λ (answer : Run × Replica). answer.0) e))
+ran-answers shape commits r answer text new (inr report) e =
+    let is = report.can in
+    let same : ◌≡◌ {A = Run × Replica} (runs.Answered text, new) (reported shape commits r report.batch report.fetched) = sym e ∙ report.is in
+    let answered : runs.Answered text ≡ runs.Answered (report_at shape commits report.fetched.version report.batch.plans) = ap (λ (answer : Run × Replica). answer.0) same in
+    (report.batch, report.fetched, is.there, is.has, cc answered, ap (λ (answer : Run × Replica). answer.1.version) same)
+
+pub answer-reports : AnswerIsReport
+answer-reports shape commits r text new legal fed (inl is) = ran-answers shape commits r (ran r) text new (ran-parts shape commits r legal fed) is
+answer-reports shape commits r text new legal fed (inr wants) = elim wants.2 [
+  | inl memory ↦ (let is = memory.0 in absurd (cc))
+  | inr broken ↦ (let is = broken.0 in absurd (cc))
+]
+
+pub ready-answers : ReadyIsAnswered
+ready-answers shape commits r batch fetched legal fed there e =
+    let parts = ready-parts r fetched e in
+    let same : parts.0 ≡ batch = same_Some parts.0 batch (sym parts.1.there ∙ there) in
+    let is : CanAnswer r batch fetched = subst (λ (batch : Queries). CanAnswer r batch fetched) same parts.1 in
+    let run = ran-ready r batch.plans fetched is.whole (there ∙ ap (λ (found : Option Fetched). Some (record { plans = batch.plans; fetched = found })) is.has) is.complete in
+    ap (λ (answer : Run × Replica). answer.0) (run ∙ finished-reports shape commits r legal fed batch fetched is)
