@@ -11,7 +11,7 @@ use Rattle.rows.specs.declared.commit.Commit.{Commit}
 use Rattle.rows.specs.declared.limits.TheConstants.{WAITING_QUERIES_MAX}
 use Rattle.rows.specs.Shape.{Shape}
 use Rattle.rows.specs.Tables.{fitting}
-use Rattle.rows.specs.Commits.{IsLegal}
+use Rattle.rows.specs.Commits.{IsLegal, tables_after}
 use Rattle.wire.specs.declared.datagram.Datagram.{Datagram}
 use Rattle.wire.specs.declared.datagram.Datagram.TheVariants as datagrams
 use Rattle.wire.specs.declared.fault.WireFault.{WireFault}
@@ -27,7 +27,7 @@ use Rattle.dispatcher.specs.declared.faults.OpenFault.{OpenFault}
 use Rattle.dispatcher.specs.declared.faults.OpenFault.TheVariants as opens
 use Rattle.dispatcher.specs.declared.plan.Plan.{Plan}
 use Rattle.dispatcher.specs.declared.plan.PlanFault.{PlanFault}
-use Rattle.dispatcher.specs.Feeding.{IsFetchedFrom, IsFedFrom, Tells, FreshIsFed, CommitsKeepFed, BytesKeepFed, OpenKeepsFed, AskKeepsFed}
+use Rattle.dispatcher.specs.Feeding.{IsFetchedFrom, IsFedFrom, Tells, FreshIsFed, CommitsKeepFed, BytesKeepFed, OpenKeepsFed, AskKeepsFed, VersionTellsTables}
 use Rattle.dispatcher.specs.Known.{is_known, is_ahead, first_missing}
 use Rattle.dispatcher.specs.Plans.{checked}
 use Rattle.dispatcher.specs.Replica.{Replica, Queries, Fetched}
