@@ -150,6 +150,16 @@ fn frames_are_kept_within_the_window(rt: HostRuntime) -> Result<(), Fail> {
 }
 
 #[test]
+fn a_plan_fits_where_its_table_is_there(rt: HostRuntime) -> Result<(), Fail> {
+    let kinds = [Kind::Int];
+    let tables = [("acct", kinds.as_slice()), ("site", kinds.as_slice())];
+    let schema = Schema::new(rt.alloc(), &tables)?;
+    assert_eq!(rt; Plan { table: 1 }.check(&schema), Ok(()));
+    assert_eq!(rt; Plan { table: 2 }.check(&schema), Err(PlanFault::NoTable));
+    Ok(())
+}
+
+#[test]
 fn at_most_64_queries_wait(rt: HostRuntime) -> Result<(), Fail> {
     let mut replica = replica(rt.alloc())?;
     for count in 1..65 {

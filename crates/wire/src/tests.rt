@@ -9,7 +9,7 @@ use crate::lent_entries::LentEntries;
 use crate::packet::Packet;
 use crate::reading::read;
 use crate::writing::{write, write_frame};
-use rows::{Entry, EntryList, Kind, RowId, Schema, Value, entry_len, fits, row_bytes};
+use rows::{Commit, Entry, EntryList, Kind, RowId, Schema, Value, entry_len, fits, row_bytes};
 use std::test::Fail;
 
 /// The last frame of commit 1, the first of worker 0: it inserts row 7 with the values 5 and -1
@@ -77,6 +77,9 @@ fn a_frame_is_written(rt: HostRuntime) -> Result<(), Fail> {
     assert_eq!(rt; write_frame(&frame, &mut short), Err(TooSmall));
     assert_eq!(rt; short, [0xee; 53]);
     assert_eq!(rt; Packet::of_frame(&frame).bytes(), FRAME.as_slice());
+    let Frame { entries, .. } = frame;
+    let commit = Commit { worker: 0, entries };
+    assert_eq!(rt; Packet::of_commit(&commit, 1, 0).bytes(), FRAME.as_slice());
     Ok(())
 }
 
