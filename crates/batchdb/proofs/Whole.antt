@@ -10,6 +10,7 @@ use Rattle.wire.specs.Streams.{stream_of}
 use Rattle.primary.specs.Primary.{flushed}
 use Rattle.dispatcher.specs.Replica.{Replica}
 use Rattle.dispatcher.specs.Steps.{started}
+use Rattle.dispatcher.proofs.Feeding.{fresh-fed}
 use Rattle.batchdb.specs.declared.event.Event.{Event}
 use Rattle.batchdb.specs.declared.event.Event.TheVariants as events
 use Rattle.batchdb.specs.declared.event.Node.{Node}
@@ -121,17 +122,7 @@ runs-follow shape p replicas (event ∷ todo) (output ∷ done) new tables sound
 -- ---- the beginning
 
 started-fed : (shape : Shape) (number : ℕ) → IsFed shape [] number (started shape 1 number 1)
-started-fed shape number = record {
-  shape_is = refl;
-  workers_are = refl;
-  number_is = refl;
-  boot_is = refl;
-  frames_are = tt;
-  applied_is = refl;
-  below = omega arith;
-  tables_are = λ whole. refl;
-  fetched_is = λ queries fetched batch has. absurd (none-some queries batch);
-}
+started-fed shape number = record { feeding = fresh-fed shape [] number 1; number_is = refl; boot_is = refl }
 
 replicas-fed : (shape : Shape) (number count i : ℕ) (r : Replica) → slice_get (replicas_from shape 1 number count) i ≡ Some r → IsFed shape [] (number + i) r
 replicas-fed shape number zero i r h = absurd (none-some r h)

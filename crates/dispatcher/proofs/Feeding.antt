@@ -32,7 +32,7 @@ use Rattle.dispatcher.specs.Known.{is_known, is_ahead, first_missing}
 use Rattle.dispatcher.specs.Plans.{checked}
 use Rattle.dispatcher.specs.Replica.{Replica, Queries, Fetched}
 use Rattle.dispatcher.specs.Steps.{asked_by, ask_for, with_batch, known, frame_comes, own_head_comes, datagram_comes, broken_of}
-use Rattle.dispatcher.proofs.CatchingUp.{caught, count-fetched}
+use Rattle.dispatcher.proofs.CatchingUp.{CanAnswer, caught, count-fetched}
 use Rattle.dispatcher.proofs.Lists.{All-map}
 use Rattle.dispatcher.proofs.Places.{is_known-below}
 use Rattle.dispatcher.proofs.Stored.{known-insert, frames-insert}
@@ -181,7 +181,7 @@ head-feeds shape commits r version counts fed below are =
 
 -- ---- bytes
 
-datagram-feeds : (shape : Shape) (commits : List Commit) (r : Replica) (datagram : Result Datagram WireFault) → IsFedFrom shape commits r → Tells commits datagram
+pub datagram-feeds : (shape : Shape) (commits : List Commit) (r : Replica) (datagram : Result Datagram WireFault) → IsFedFrom shape commits r → Tells commits datagram
     → IsFedFrom shape commits (datagram_comes r datagram).1
 datagram-feeds shape commits r (Err fault) fed tells = fed
 datagram-feeds shape commits r (Ok (datagrams.Frame worker seq commit last entries)) fed tells =
@@ -206,7 +206,7 @@ left {A = A} a b r new h =
     ap (λ (x : A × Replica). x.1) same
 
 -- the replica with one more query that waits
-plan-fed : (shape : Shape) (commits : List Commit) (r : Replica) (plan : Plan) → IsFedFrom shape commits r → IsFedFrom shape commits (record r { waiting = r.waiting ++ plan ∷ [] })
+pub plan-fed : (shape : Shape) (commits : List Commit) (r : Replica) (plan : Plan) → IsFedFrom shape commits r → IsFedFrom shape commits (record r { waiting = r.waiting ++ plan ∷ [] })
 plan-fed shape commits r plan fed = record {
   shape_is = fed.shape_is;
   workers_are = fed.workers_are;
@@ -235,7 +235,7 @@ open-feeds shape commits r plan count new fed h = by r.broken (nat_le WAITING_QU
     by false false (Ok fits) h = subst (IsFedFrom shape commits) (left (length r.waiting + 1) count with new h) (plan-fed shape commits r plan fed)
 
 -- a batch is made, for which nothing was fetched
-batch-fed : (shape : Shape) (commits : List Commit) (r : Replica) → IsFedFrom shape commits r → IsFedFrom shape commits (with_batch r)
+pub batch-fed : (shape : Shape) (commits : List Commit) (r : Replica) → IsFedFrom shape commits r → IsFedFrom shape commits (with_batch r)
 batch-fed shape commits r fed = record {
   shape_is = fed.shape_is;
   workers_are = fed.workers_are;
@@ -288,13 +288,14 @@ same-fetched batch queries other fetched found e f g h =
     same_Some fetched found (sym f ∙ ap (λ (queries : Queries). queries.fetched) same ∙ h)
 
 module _ (shape : Shape) (commits : List Commit) (r : Replica) (batch : Queries) (fetched : Fetched) (legal : IsLegal shape 1 commits) (fed : IsFedFrom shape commits r)
-    (there : r.batch ≡ Some batch) (has : batch.fetched ≡ Some fetched) (complete : slice_index fetched.counts 0 ≤ first_missing (known r)) where
+    (can : CanAnswer r batch fetched) where
   is-fetched : IsFetchedFrom commits r.version fetched
-  is-fetched = fed.fetched_is batch fetched there has
+  is-fetched = fed.fetched_is batch fetched can.there can.has
 
   caught-known : (seq : ℕ) → seq < fetched.version → is_known (known r) seq ≡ true
   caught-known seq below =
       let count = count-fetched shape commits r.version fetched legal is-fetched in
+      let complete = can.complete in
       is_known-below (length (known r)) 0 seq (known r) (omega arith) (omega arith)
 
   -- it stands at the version that was fetched, its batch still there
@@ -309,7 +310,7 @@ module _ (shape : Shape) (commits : List Commit) (r : Replica) (batch : Queries)
         applied_known = caught-known;
         below = is.below;
         tables_are = λ whole. refl;
-        fetched_is = λ other found e f. subst (IsFetchedFrom commits fetched.version) (same-fetched r.batch batch other fetched found there has e f)
+        fetched_is = λ other found e f. subst (IsFetchedFrom commits fetched.version) (same-fetched r.batch batch other fetched found can.there can.has e f)
             (record { above = omega arith; below = is.below; counts_are = is.counts_are });
       }
 
