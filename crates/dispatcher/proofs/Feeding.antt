@@ -131,18 +131,15 @@ frame-feeds shape commits r frame fed is =
 
 -- ---- a Head
 
--- the replica with this batch
-abbrev batched : Replica → Option Queries → Replica
-batched r batch = record r { batch = batch }
-
--- what was fetched, once this is fetched
-only-fetched : (plans : List Plan) (found other : Fetched) (batch : Queries) → ◌≡◌ {A = Option Queries} (Some (record { plans = plans; fetched = Some found })) (Some batch) → batch.fetched ≡ Some other → found ≡ other
-only-fetched plans found other batch e f =
-    same_Some found other (ap (λ (batch : Queries). batch.fetched) (same_Some (record { plans = plans; fetched = Some found }) batch e) ∙ f)
+-- one thing is fetched for a batch
+same-fetched : (batch : Option Queries) (queries other : Queries) (fetched found : Fetched) → batch ≡ Some queries → queries.fetched ≡ Some fetched → batch ≡ Some other → other.fetched ≡ Some found → fetched ≡ found
+same-fetched batch queries other fetched found e f g h =
+    let same : queries ≡ other = same_Some queries other (sym e ∙ g) in
+    same_Some fetched found (sym f ∙ ap (λ (queries : Queries). queries.fetched) same ∙ h)
 
 -- the same replica, for whose batch this was fetched
 fetched-fed : (shape : Shape) (commits : List Commit) (r : Replica) (plans : List Plan) (found : Fetched) → IsFedFrom shape commits r → IsFetchedFrom commits r.version found
-    → IsFedFrom shape commits (batched r (Some (record { plans = plans; fetched = Some found })))
+    → IsFedFrom shape commits (record r { batch = Some (record { plans = plans; fetched = Some found }) })
 fetched-fed shape commits r plans found fed is = record {
   shape_is = fed.shape_is;
   workers_are = fed.workers_are;
@@ -151,7 +148,9 @@ fetched-fed shape commits r plans found fed is = record {
   applied_known = fed.applied_known;
   below = fed.below;
   tables_are = fed.tables_are;
-  fetched_is = λ batch fetched there has. subst (IsFetchedFrom commits r.version) (only-fetched plans found fetched batch there has) is;
+  fetched_is = λ batch fetched there has.
+      let made : Queries = record { plans = plans; fetched = Some found } in
+      subst (IsFetchedFrom commits r.version) (same-fetched (Some made) made batch found fetched refl refl there has) is;
 }
 
 head-feeds : (shape : Shape) (commits : List Commit) (r : Replica) (version : ℕ) (counts : List ℕ) → IsFedFrom shape commits r
@@ -281,11 +280,6 @@ broken-fed shape commits r fed = record {
   tables_are = λ whole. absurd (true≢false whole);
   fetched_is = fed.fetched_is;
 }
-
-same-fetched : (batch : Option Queries) (queries other : Queries) (fetched found : Fetched) → batch ≡ Some queries → queries.fetched ≡ Some fetched → batch ≡ Some other → other.fetched ≡ Some found → fetched ≡ found
-same-fetched batch queries other fetched found e f g h =
-    let same : queries ≡ other = same_Some queries other (sym e ∙ g) in
-    same_Some fetched found (sym f ∙ ap (λ (queries : Queries). queries.fetched) same ∙ h)
 
 module _ (shape : Shape) (commits : List Commit) (r : Replica) (batch : Queries) (fetched : Fetched) (legal : IsLegal shape 1 commits) (fed : IsFedFrom shape commits r)
     (can : CanAnswer r batch fetched) where
