@@ -28,7 +28,7 @@ use Rattle.dispatcher.specs.declared.faults.OpenFault.TheVariants as opens
 use Rattle.dispatcher.specs.declared.plan.Plan.{Plan}
 use Rattle.dispatcher.specs.declared.plan.PlanFault.{PlanFault}
 use Rattle.dispatcher.specs.Feeding.{IsFetchedFrom, IsFedFrom, Tells, FreshIsFed, CommitsKeepFed, BytesKeepFed, OpenKeepsFed, AskKeepsFed}
-use Rattle.dispatcher.specs.Known.{is_known, is_ahead, first_missing}
+use Rattle.dispatcher.specs.Known.{is_known, is_ahead}
 use Rattle.dispatcher.specs.Plans.{checked}
 use Rattle.dispatcher.specs.Replica.{Replica, Queries, Fetched}
 use Rattle.dispatcher.specs.Steps.{asked_by, ask_for, with_batch, known, frame_comes, own_head_comes, datagram_comes, broken_of}

@@ -1,7 +1,7 @@
 -- What a run of a replica that is fed from a legal list answers, and that it stays fed by it.
-use Rattle.std.proofs.Common.{◌≡◌, ℕ, ◌≤◌, Bool, true, false, cond, List, Option, Some, None, slice_index, refl, sym, ap, subst, ◌∙◌, ◌⊎◌, inl, inr}
+use Rattle.std.proofs.Common.{◌≡◌, ℕ, Bool, true, false, cond, List, Option, Some, None, slice_index, refl, sym, ap, subst, ◌∙◌, ◌⊎◌, inl, inr}
 use Rattle.std.proofs.lemmas.Bool.{ltb-false}
-use Rattle.std.proofs.lemmas.Option.{none-some, same_Some}
+use Rattle.std.proofs.lemmas.Option.{same_Some}
 use Rattle.rows.specs.declared.commit.Commit.{Commit}
 use Rattle.rows.specs.Shape.{Shape}
 use Rattle.rows.specs.Commits.{IsLegal}
@@ -11,7 +11,7 @@ use Rattle.dispatcher.specs.declared.plan.Plan.{Plan}
 use Rattle.dispatcher.specs.Feeding.{IsFedFrom, report_at, RunKeepsFed, RunIsConsistent, AnswerIsReport, ReadyIsAnswered}
 use Rattle.dispatcher.specs.Known.{first_missing}
 use Rattle.dispatcher.specs.Replica.{Replica, Queries, Fetched}
-use Rattle.dispatcher.specs.Steps.{known, caught_up, finished, is_waiting, ran, ran_by, ready, ready_by, want_for, WantsMemory}
+use Rattle.dispatcher.specs.Steps.{known, caught_up, finished, is_waiting, ran, ran_by, want_for, WantsMemory}
 use Rattle.dispatcher.proofs.CatchingUp.{CanAnswer, ready-parts, caught, catches-up}
 use Rattle.dispatcher.proofs.Feeding.{broken-fed, caught-fed, finished-fed}
 use Rattle.dispatcher.proofs.Running.{ran-ready}
