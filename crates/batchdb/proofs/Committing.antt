@@ -28,16 +28,17 @@ use Rattle.primary.specs.Sending.{answers, answers_to, head_for, counts_of}
 use Rattle.primary.specs.State.{Primary}
 use Rattle.primary.specs.Transactions.{insert_answer}
 use Rattle.dispatcher.specs.Replica.{Replica}
+use Rattle.dispatcher.proofs.Streams.{count-is, frame-commit}
+use Rattle.dispatcher.proofs.Versions.{tables-stay}
 use Rattle.batchdb.specs.Outputs.{packets_of}
 use Rattle.batchdb.specs.Parts.{Parts}
 use Rattle.batchdb.specs.Steps.{open_draft, inserting, insert_by, committing, commit_by, push_by, to_primary}
 use Rattle.batchdb.specs.World.{insert_happens, commit_happens, on_draft, push_happens}
 use Rattle.batchdb.proofs.Lists.{get-set, get-append, get-one, All-get, All-left, All-append}
-use Rattle.batchdb.proofs.Sound.{Sound, IsSoundPrimary, IsSmall, IsSmallDraft, Means, whole_frame, frame_of_place}
-use Rattle.batchdb.proofs.Frames.{stream-place, stream-length, mapped, tables-stay}
+use Rattle.batchdb.proofs.Sound.{Sound, IsSoundPrimary, IsSmall, IsSmallDraft, Means}
 use Rattle.batchdb.proofs.Datagrams.{frame-read, head-read}
 use Rattle.batchdb.specs.Standing.{world_of}
-use Rattle.batchdb.proofs.Moves.{Follows, Sound-drafts, Sound-sent, Sound-one, Sound-primary}
+use Rattle.batchdb.proofs.Moves.{Follows, legal-durable, Sound-drafts, Sound-sent, Sound-one, Sound-primary}
 use Rattle.batchdb.proofs.Changing.{insert-small}
 
 -- ---- transactions
@@ -163,37 +164,35 @@ commit-follows shape p number worker (Some draft) sound below here =
 small-durable : (shape : Shape) (p : Parts) → Sound shape p → AllByRecursion IsSmall p.primary.durable
 small-durable shape p sound = All-left IsSmall p.primary.durable p.primary.pending sound.primary_is.small
 
-frame-means : (shape : Shape) (p : Parts) (place : ℕ) (frame : Frame) → Sound shape p → frame_of_place p.primary.durable place ≡ Some frame → Means p.primary.durable p.replicas (reading (frame_spelling frame))
+frame-means : (shape : Shape) (p : Parts) (place : ℕ) (frame : Frame) → Sound shape p → slice_get (stream_of p.primary.durable 0) place ≡ Some frame → Means p.primary.durable p.replicas (reading (frame_spelling frame))
 frame-means shape p place frame sound h =
     let durable = p.primary.durable in
-    let found = mapped (whole_frame place) (slice_get durable place) frame h in
+    let found = frame-commit durable place frame (legal-durable shape p sound).each h in
     let within = slice_get_within durable place found.0 found.1 in
     let numbered = sound.primary_is.numbered in
     let small = All-get IsSmall durable (small-durable shape p sound) place found.0 found.1 in
     subst (λ (f : Frame). Means durable p.replicas (reading (frame_spelling f))) found.2
-    (subst (Means durable p.replicas) (sym (frame-read place found.0 small (omega arith))) (ap (option_map (whole_frame place)) found.1))
+    (subst (Means durable p.replicas) (sym (frame-read place found.0 small (omega arith)))
+    (record { tells = ap (λ (w : ℕ). slice_get (stream_of durable w) place) small.worker ∙ h ∙ ap Some (sym found.2); requests = tt }))
 
 pub push-follows : (shape : Shape) (p : Parts) (worker place : ℕ) (found : Option Frame) → Sound shape p → worker < 1 → slice_get (stream_of p.primary.durable worker) place ≡ found
     → Follows shape (push_happens (world_of p) (option_map frame_spelling found)) (push_by p (option_map frame_spelling found))
 push-follows shape p worker place None sound below here = (refl, sound)
 push-follows shape p worker place (Some frame) sound below here =
     let only : 0 ≡ worker = omega arith in
-    let at : frame_of_place p.primary.durable place ≡ Some frame =
-    sym (stream-place p.primary.durable place (small-durable shape p sound)) ∙ ap (λ (w : ℕ). slice_get (stream_of p.primary.durable w) place) only ∙ here in
+    let at : slice_get (stream_of p.primary.durable 0) place ≡ Some frame = ap (λ (w : ℕ). slice_get (stream_of p.primary.durable w) place) only ∙ here in
     (refl, Sound-one shape p (frame_spelling frame) sound (frame-means shape p place frame sound at))
 
--- the counts of the only worker
-counts-all : (durable : List Commit) → AllByRecursion IsSmall durable → counts_of durable (length durable) 1 ≡ length durable ∷ []
-counts-all durable small =
-    let all : frame_count durable 0 (length durable) ≡ length durable = ap (λ (l : List Commit). length (stream_of l 0)) (take_all (length durable) durable (omega arith)) ∙ stream-length durable small in
-    ap (λ (n : ℕ). n ∷ []) all
+-- the count of the only worker
+counts-all : (shape : Shape) (p : Parts) → Sound shape p → frame_count p.primary.durable 0 (length p.primary.durable) ∷ [] ≡ length p.primary.durable ∷ []
+counts-all shape p sound = ap (λ (n : ℕ). n ∷ []) (count-is p.primary.durable (length p.primary.durable) (legal-durable shape p sound).each (omega arith))
 
 head-is : (shape : Shape) (p : Parts) (replica boot request : ℕ) → Sound shape p
     → head_for p.primary replica boot request ≡ datagrams.Head replica boot request (length p.primary.durable) (length p.primary.durable ∷ [])
 head-is shape p replica boot request sound =
     let durable = p.primary.durable in
     ap (λ (w : ℕ). datagrams.Head replica boot request (length durable) (counts_of durable (length durable) w)) sound.primary_is.workers_are
-    ∙ ap (λ (l : List ℕ). datagrams.Head replica boot request (length durable) l) (counts-all durable (small-durable shape p sound))
+    ∙ ap (λ (l : List ℕ). datagrams.Head replica boot request (length durable) l) (counts-all shape p sound)
 
 head-means : (shape : Shape) (p : Parts) (replica boot request : ℕ) → Sound shape p → IsAsk replica boot request → ((r : Replica) → slice_get p.replicas replica ≡ Some r → request ≤ r.request)
     → Means p.primary.durable p.replicas (reading (spelling (head_for p.primary replica boot request)))
@@ -201,14 +200,17 @@ head-means shape p replica boot request sound ask asked =
     let durable = p.primary.durable in
     let numbered = sound.primary_is.numbered in
     let read = ap (λ (d : Datagram). reading (spelling d)) (head-is shape p replica boot request sound) ∙ head-read replica boot request (length durable) ask (omega arith) in
-    subst (Means durable p.replicas) (sym read) (omega arith, refl, λ r here. record { asked = asked r here; fresh = λ waits same. (sound.fed replica r here).below })
+    subst (Means durable p.replicas) (sym read) (record {
+      tells = (omega arith, sym (counts-all shape p sound));
+      requests = λ r here. record { asked = asked r here; fresh = λ waits same. (sound.fed replica r here).feeding.below };
+    })
 
 answers-mean : (shape : Shape) (p : Parts) (datagram : Result Datagram WireFault) → Sound shape p → Means p.primary.durable p.replicas datagram
     → (i : ℕ) (bytes : List ℕ) → slice_get (packets_of (answers_to p.primary datagram)) i ≡ Some bytes → Means p.primary.durable p.replicas (reading bytes)
 answers-mean shape p (Err fault) sound means i bytes h = absurd (none-some bytes h)
 answers-mean shape p (Ok (datagrams.Frame worker seq commit last entries)) sound means i bytes h = absurd (none-some bytes h)
 answers-mean shape p (Ok (datagrams.Ask replica boot request)) sound means i bytes h =
-    subst (λ (b : List ℕ). Means p.primary.durable p.replicas (reading b)) (sym (get-one (spelling (head_for p.primary replica boot request)) i bytes h)) (head-means shape p replica boot request sound means.0 means.1)
+    subst (λ (b : List ℕ). Means p.primary.durable p.replicas (reading b)) (sym (get-one (spelling (head_for p.primary replica boot request)) i bytes h)) (head-means shape p replica boot request sound means.requests.0 means.requests.1)
 answers-mean shape p (Ok (datagrams.Head replica boot request version counts)) sound means i bytes h = absurd (none-some bytes h)
 answers-mean shape p (Ok (datagrams.Want replica worker from)) sound means i bytes h = absurd (none-some bytes h)
 

@@ -21,7 +21,8 @@ use Rattle.wire.specs.Entries.{entries_filling}
 use Rattle.wire.specs.Reading.{reading, body_at, counts_at}
 use Rattle.wire.specs.Spelling.{datagram_of, spelling, frame_spelling, IsAsk}
 use Rattle.wire.proofs.SpelledIsRead.{reading-again}
-use Rattle.batchdb.proofs.Sound.{IsSmall, whole_frame}
+use Rattle.dispatcher.proofs.Streams.{whole_frame}
+use Rattle.batchdb.proofs.Sound.{IsSmall}
 
 -- entries of a small commit take few bytes
 entries_few : (entries : List Entry) → AllByRecursion EntryHasSpelling entries → length (flat_map entry_spelling entries) ≤ 524 * length entries

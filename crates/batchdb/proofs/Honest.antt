@@ -33,6 +33,7 @@ use Rattle.dispatcher.specs.declared.plan.PlanFault.{PlanFault}
 use Rattle.dispatcher.specs.Known.{is_known, is_ahead, first_missing}
 use Rattle.dispatcher.specs.Plans.{checked}
 use Rattle.dispatcher.specs.Replica.{Fetched}
+use Rattle.dispatcher.proofs.Versions.{tables-stay}
 use Rattle.batchdb.specs.declared.event.Event.{Event}
 use Rattle.batchdb.specs.declared.event.Event.TheVariants as events
 use Rattle.batchdb.specs.declared.event.Node.{Node}
@@ -45,7 +46,6 @@ use Rattle.batchdb.specs.Theorem.{DurableOnlyGrows, IsFaultless, AllowedAreFault
 use Rattle.batchdb.specs.World.{World, Member, Batch, happens, opening_world, with_member, send, on_draft, insert_happens, commit_happens, push_happens, head_happens, datagram_happens, on_member, member_output, deliver_happens, shown, open_happens, ask_happens, new_batch, ask_bytes, run_happens, lacks_frame, wait_happens, want_bytes, batch_report}
 use Rattle.batchdb.specs.Allowed.{RunIsCut, RunIsCutAt, MayHappen, Runs}
 use Rattle.batchdb.proofs.Lists.{get-set, get-append, get-one}
-use Rattle.batchdb.proofs.Frames.{tables-stay}
 use Rattle.batchdb.proofs.Defined.{insert-defined}
 use Rattle.batchdb.proofs.Committing.{opened}
 

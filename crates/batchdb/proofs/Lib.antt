@@ -1,6 +1,5 @@
 pub mod Lists
 pub mod Sound
-pub mod Frames
 pub mod Worlds
 pub mod Datagrams
 pub mod Moves

@@ -22,12 +22,6 @@ get-append [] ys i x h = inr (i, h)
 get-append (y ∷ xs) ys zero x h = inl h
 get-append (y ∷ xs) ys (suc i) x h = get-append xs ys i x h
 
--- what stood at a place stays there
-pub get-append_left : {A : Type 0} (xs ys : List A) (i : ℕ) (x : A) → slice_get xs i ≡ Some x → slice_get (xs ++ ys) i ≡ Some x
-get-append_left [] ys i x h = absurd cc
-get-append_left (y ∷ xs) ys zero x h = h
-get-append_left (y ∷ xs) ys (suc i) x h = get-append_left xs ys i x h
-
 -- the only place of a list of one
 pub get-one : {A : Type 0} (y : A) (i : ℕ) (x : A) → slice_get (y ∷ []) i ≡ Some x → x ≡ y
 get-one y zero x h = cc
@@ -46,10 +40,6 @@ All-append P (x ∷ xs) ys h k = (h.0, All-append P xs ys h.1 k)
 pub All-left : {A : Type 0} (P : A → Type 0) (xs ys : List A) → AllByRecursion P (xs ++ ys) → AllByRecursion P xs
 All-left P [] ys h = tt
 All-left P (x ∷ xs) ys h = (h.0, All-left P xs ys h.1)
-
-pub All-map : {A : Type 0} (P Q : A → Type 0) → ((x : A) → P x → Q x) → (xs : List A) → AllByRecursion P xs → AllByRecursion Q xs
-All-map P Q f [] h = tt
-All-map P Q f (x ∷ xs) h = (f x h.0, All-map P Q f xs h.1)
 
 -- what was put at a place is there
 pub get-set_same : {A : Type 0} (xs : List A) (i : ℕ) (x y : A) → slice_get (slice_set xs i x) i ≡ Some y → y ≡ x

@@ -5,34 +5,39 @@ use Rattle.std.specs.Result.{is_ok}
 use Rattle.std.proofs.lemmas.List.{append_assoc, length-append, length-set, take-append-drop}
 use Rattle.rows.specs.declared.commit.Commit.{Commit}
 use Rattle.rows.specs.Shape.{Shape}
-use Rattle.rows.specs.Commits.{commits_of}
+use Rattle.rows.specs.Commits.{IsCommit, commits_of, IsLegal}
 use Rattle.rows.specs.Tables.{opening}
 use Rattle.wire.specs.declared.datagram.Datagram.{Datagram}
 use Rattle.wire.specs.declared.datagram.Datagram.TheVariants as datagrams
 use Rattle.wire.specs.declared.fault.WireFault.{WireFault}
-use Rattle.wire.specs.declared.frame.Frame.{Frame}
 use Rattle.wire.specs.Reading.{reading}
 use Rattle.primary.specs.Draft.{Draft}
 use Rattle.primary.specs.Primary.{flushed}
-use Rattle.dispatcher.specs.Replica.{Replica, Fetched}
+use Rattle.dispatcher.specs.Feeding.{IsFedFrom}
+use Rattle.dispatcher.specs.Replica.{Replica}
+use Rattle.dispatcher.proofs.Feeding.{commits-feed, tells-stay}
+use Rattle.dispatcher.proofs.Lists.{All-map}
+use Rattle.dispatcher.proofs.Versions.{legal-left}
 use Rattle.batchdb.specs.declared.output.Output.{Output}
 use Rattle.batchdb.specs.Parts.{Parts}
 use Rattle.batchdb.specs.Steps.{with_replica, with_sent}
 use Rattle.batchdb.specs.World.{World}
-use Rattle.batchdb.proofs.Lists.{get-set, get-append, get-one, set-same, All-map}
-use Rattle.batchdb.proofs.Sound.{Sound, IsSoundPrimary, IsSmall, IsSmallDraft, IsFed, IsFetched, IsAnswer, Means, awaits, frame_of_place}
-use Rattle.batchdb.proofs.Frames.{place-stays, tables-stay}
+use Rattle.batchdb.proofs.Lists.{get-set, get-append, get-one, set-same, All-left}
+use Rattle.batchdb.proofs.Sound.{Sound, IsSoundPrimary, IsSmall, IsSmallDraft, IsFed, IsAnswer, IsOfRequests, Means, awaits}
 use Rattle.batchdb.specs.Standing.{world_of}
 use Rattle.batchdb.proofs.Worlds.{seen}
 
--- what a replica may become: its requests grow, and while it waits for the Head of one its version stays
+-- what a replica may become: its number and boot stay, its requests grow, and while it waits for the Head of one its
+-- version stays
 pub record Moves (old new : Replica) : Type 0 where
+  pub number_stays : new.number ≡ old.number
+  pub boot_stays : new.boot ≡ old.boot
   pub request_grows : old.request ≤ new.request
   pub waits : awaits new ≡ true → new.request ≡ old.request → (awaits old ≡ true) × (new.version ≡ old.version)
 
 -- a replica that stays fed
-pub record Goes (shape : Shape) (durable : List Commit) (number : ℕ) (old new : Replica) : Type 0 where
-  pub fed : IsFed shape durable number new
+pub record Goes (shape : Shape) (durable : List Commit) (old new : Replica) : Type 0 where
+  pub feeding : IsFedFrom shape durable new
   pub moves : Moves old new
 
 -- a step of the parts from sound ones, and the same step in the world
@@ -53,11 +58,11 @@ answer-moves old new request version moves answer =
           let version = still.1 in omega arith;
     }
 
-means-moves : (durable : List Commit) (replicas : List Replica) (i : ℕ) (old new : Replica) → slice_get replicas i ≡ Some old → Moves old new
-    → (datagram : Result Datagram WireFault) → Means durable replicas datagram → Means durable (slice_set replicas i new) datagram
-means-moves durable replicas i old new at moves (Err fault) h = tt
-means-moves durable replicas i old new at moves (Ok (datagrams.Frame worker seq commit last entries)) h = h
-means-moves durable replicas i old new at moves (Ok (datagrams.Ask replica boot request)) h = (
+requests-move : (replicas : List Replica) (i : ℕ) (old new : Replica) → slice_get replicas i ≡ Some old → Moves old new
+    → (datagram : Result Datagram WireFault) → IsOfRequests replicas datagram → IsOfRequests (slice_set replicas i new) datagram
+requests-move replicas i old new at moves (Err fault) h = tt
+requests-move replicas i old new at moves (Ok (datagrams.Frame worker seq commit last entries)) h = tt
+requests-move replicas i old new at moves (Ok (datagrams.Ask replica boot request)) h = (
   h.0,
   λ r here. elim (get-set replicas i new replica r here) [
     | inl same ↦
@@ -68,24 +73,31 @@ means-moves durable replicas i old new at moves (Ok (datagrams.Ask replica boot 
     | inr other ↦ h.1 r other
   ],
 )
-means-moves durable replicas i old new at moves (Ok (datagrams.Head replica boot request version counts)) h = (
-  h.0,
-  h.1,
-  λ r here. elim (get-set replicas i new replica r here) [
-    | inl same ↦ subst (λ (r : Replica). IsAnswer r request version) (sym same.1) (answer-moves old new request version moves (h.2 old (ap (slice_get replicas) same.0 ∙ at)))
-    | inr other ↦ h.2 r other
-  ],
-)
-means-moves durable replicas i old new at moves (Ok (datagrams.Want replica worker from)) h = tt
+requests-move replicas i old new at moves (Ok (datagrams.Head replica boot request version counts)) h = λ r here. elim (get-set replicas i new replica r here) [
+  | inl same ↦ subst (λ (r : Replica). IsAnswer r request version) (sym same.1) (answer-moves old new request version moves (h old (ap (slice_get replicas) same.0 ∙ at)))
+  | inr other ↦ h r other
+]
+requests-move replicas i old new at moves (Ok (datagrams.Want replica worker from)) h = tt
 
-pub Sound-replica : (shape : Shape) (p : Parts) (i : ℕ) (old new : Replica) → Sound shape p → slice_get p.replicas i ≡ Some old → Goes shape p.primary.durable i old new → Sound shape (with_replica p i new)
+means-moves : (durable : List Commit) (replicas : List Replica) (i : ℕ) (old new : Replica) → slice_get replicas i ≡ Some old → Moves old new
+    → (datagram : Result Datagram WireFault) → Means durable replicas datagram → Means durable (slice_set replicas i new) datagram
+means-moves durable replicas i old new at moves datagram h = record { tells = h.tells; requests = requests-move replicas i old new at moves datagram h.requests }
+
+goes-fed : (shape : Shape) (durable : List Commit) (i : ℕ) (old new : Replica) → IsFed shape durable i old → Goes shape durable old new → IsFed shape durable i new
+goes-fed shape durable i old new fed goes = record {
+  feeding = goes.feeding;
+  number_is = goes.moves.number_stays ∙ fed.number_is;
+  boot_is = goes.moves.boot_stays ∙ fed.boot_is;
+}
+
+pub Sound-replica : (shape : Shape) (p : Parts) (i : ℕ) (old new : Replica) → Sound shape p → slice_get p.replicas i ≡ Some old → Goes shape p.primary.durable old new → Sound shape (with_replica p i new)
 Sound-replica shape p i old new sound at goes = record {
   primary_is = sound.primary_is;
   drafts_are = sound.drafts_are;
   asked_there = sound.asked_there ∙ sym (length-set p.replicas i new);
   few = let few = sound.few in omega (arith, length-set p.replicas i new);
   fed = λ j r here. elim (get-set p.replicas i new j r here) [
-    | inl same ↦ subst (λ (j : ℕ). IsFed shape p.primary.durable j r) (sym same.0) (subst (λ (r : Replica). IsFed shape p.primary.durable i r) (sym same.1) goes.fed)
+    | inl same ↦ subst (λ (j : ℕ). IsFed shape p.primary.durable j r) (sym same.0) (subst (λ (r : Replica). IsFed shape p.primary.durable i r) (sym same.1) (goes-fed shape p.primary.durable i old new (sound.fed i old at) goes))
     | inr other ↦ sound.fed j r other
   ];
   sent_is = λ j bytes here. means-moves p.primary.durable p.replicas i old new at goes.moves (reading bytes) (sound.sent_is j bytes here);
@@ -98,7 +110,7 @@ Follows-same shape p i r output sound at =
     (ap (λ (p : Parts). (output, world_of p)) same, subst (Sound shape) same sound)
 
 pub Moves-same : (r : Replica) → Moves r r
-Moves-same r = record { request_grows = omega arith; waits = λ waits same. (waits, refl) }
+Moves-same r = record { number_stays = refl; boot_stays = refl; request_grows = omega arith; waits = λ waits same. (waits, refl) }
 
 -- what is noted of a replica changes
 pub Sound-noted : (shape : Shape) (p : Parts) (asked_at : List ℕ) → Sound shape p → length asked_at ≡ length p.asked_at → Sound shape (record p { asked_at = asked_at })
@@ -143,34 +155,21 @@ Sound-drafts shape p transactions sound are = record {
 
 -- ---- commits
 
-fetched-grows : (durable more : List Commit) (version : ℕ) (fetched : Fetched) → IsFetched durable version fetched → IsFetched (durable ++ more) version fetched
-fetched-grows durable more version fetched is =
-    let below = is.below in
-    record { above = is.above; below = omega (arith, length-append durable more); counts_are = is.counts_are }
+-- the durable list is legal
+pub legal-durable : (shape : Shape) (p : Parts) → Sound shape p → IsLegal shape 1 p.primary.durable
+legal-durable shape p sound = record {
+  each = All-map IsSmall (IsCommit 1) (λ commit small.
+      let worker = small.worker in
+      let few = small.few in
+      record { worker = omega arith; some = small.some; few = omega arith }) p.primary.durable (All-left IsSmall p.primary.durable p.primary.pending sound.primary_is.small);
+  defined = legal-left shape p.primary.durable p.primary.pending sound.primary_is.legal;
+}
 
 fed-grows : (shape : Shape) (durable more : List Commit) (i : ℕ) (r : Replica) → IsFed shape durable i r → IsFed shape (durable ++ more) i r
-fed-grows shape durable more i r fed =
-    let below = fed.below in
-    record {
-      shape_is = fed.shape_is;
-      workers_are = fed.workers_are;
-      number_is = fed.number_is;
-      boot_is = fed.boot_is;
-      frames_are = All-map (λ (entry : ℕ × Frame). frame_of_place durable entry.0 ≡ Some entry.1) (λ (entry : ℕ × Frame). frame_of_place (durable ++ more) entry.0 ≡ Some entry.1)
-          (λ entry is. place-stays durable more entry.0 entry.1 is) r.frames fed.frames_are;
-      applied_is = fed.applied_is;
-      below = omega (arith, length-append durable more);
-      tables_are = λ whole. fed.tables_are whole ∙ sym (tables-stay shape durable more r.version fed.below);
-      fetched_is = λ queries fetched batch has. fetched-grows durable more r.version fetched (fed.fetched_is queries fetched batch has);
-    }
+fed-grows shape durable more i r fed = record { feeding = commits-feed shape durable more r fed.feeding; number_is = fed.number_is; boot_is = fed.boot_is }
 
 means-grows : (durable more : List Commit) (replicas : List Replica) (datagram : Result Datagram WireFault) → Means durable replicas datagram → Means (durable ++ more) replicas datagram
-means-grows durable more replicas (Err fault) h = tt
-means-grows durable more replicas (Ok (datagrams.Frame worker seq commit last entries)) h = place-stays durable more seq _ h
-means-grows durable more replicas (Ok (datagrams.Ask replica boot request)) h = h
-means-grows durable more replicas (Ok (datagrams.Head replica boot request version counts)) h =
-    let below = h.0 in (omega (arith, length-append durable more), h.1, h.2)
-means-grows durable more replicas (Ok (datagrams.Want replica worker from)) h = tt
+means-grows durable more replicas datagram h = record { tells = tells-stay durable more datagram h.tells; requests = h.requests }
 
 -- the first pending commits become durable
 pub Sound-flushed : (shape : Shape) (p : Parts) (count : ℕ) → Sound shape p → Sound shape (record p { primary = flushed p.primary count })

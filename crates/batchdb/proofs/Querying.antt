@@ -4,7 +4,7 @@ use Rattle.std.specs.List.{slice_get, slice_set, slice_index}
 use Rattle.std.specs.Option.{option_map}
 use Rattle.std.proofs.lemmas.Bool.{false≢true, true≢false, cases_Bool}
 use Rattle.std.proofs.lemmas.List.{length-set}
-use Rattle.std.proofs.lemmas.Option.{none-some, same_Some, slice_get_within}
+use Rattle.std.proofs.lemmas.Option.{same_Some, slice_get_within}
 use Rattle.rows.specs.declared.commit.Commit.{Commit}
 use Rattle.rows.specs.declared.limits.TheConstants.{REPLICAS_MAX, WAITING_QUERIES_MAX}
 use Rattle.rows.specs.Shape.{Shape}
@@ -17,8 +17,10 @@ use Rattle.dispatcher.specs.declared.faults.OpenFault.{OpenFault}
 use Rattle.dispatcher.specs.declared.faults.OpenFault.TheVariants as opens
 use Rattle.dispatcher.specs.declared.faults.AskFault.TheVariants as asks
 use Rattle.dispatcher.specs.Plans.{checked}
+use Rattle.dispatcher.specs.Feeding.{IsFedFrom}
 use Rattle.dispatcher.specs.Replica.{Replica, Queries, Fetched}
 use Rattle.dispatcher.specs.Steps.{opened, asked, asked_by, ask_for, with_batch}
+use Rattle.dispatcher.proofs.Feeding.{plan-fed, batch-fed}
 use Rattle.batchdb.specs.declared.output.Output.{Output}
 use Rattle.batchdb.specs.declared.output.Output.TheVariants as outputs
 use Rattle.batchdb.specs.Parts.{Parts}
@@ -43,20 +45,10 @@ opened-is : (r : Replica) (plan : Plan) → opened r plan ≡
     (cond (nat_lt plan.table (length r.shape)) (Ok (length r.waiting + 1, with_plan r plan)) (Err (opens.BadPlan NoTable))))
 opened-is r plan = elim (cases_Bool (nat_lt plan.table (length r.shape))) [ inl e ↦ rw e refl | inr e ↦ rw e refl ]
 
-plan-goes : (shape : Shape) (durable : List Commit) (i : ℕ) (r : Replica) (plan : Plan) → IsFed shape durable i r → Goes shape durable i r (with_plan r plan)
-plan-goes shape durable i r plan fed = record {
-  fed = record {
-    shape_is = fed.shape_is;
-    workers_are = fed.workers_are;
-    number_is = fed.number_is;
-    boot_is = fed.boot_is;
-    frames_are = fed.frames_are;
-    applied_is = fed.applied_is;
-    below = fed.below;
-    tables_are = fed.tables_are;
-    fetched_is = fed.fetched_is;
-  };
-  moves = record { request_grows = omega arith; waits = λ waits same. (waits, refl) };
+plan-goes : (shape : Shape) (durable : List Commit) (r : Replica) (plan : Plan) → IsFedFrom shape durable r → Goes shape durable r (with_plan r plan)
+plan-goes shape durable r plan fed = record {
+  feeding = plan-fed shape durable r plan fed;
+  moves = record { number_stays = refl; boot_stays = refl; request_grows = omega arith; waits = λ waits same. (waits, refl) };
 }
 
 pub query-opens : (shape : Shape) (p : Parts) (i : ℕ) (plan : Plan) (found : Option Replica) → Sound shape p → slice_get p.replicas i ≡ found
@@ -69,7 +61,7 @@ query-opens shape p i plan None sound here = (refl, sound)
 query-opens shape p i plan (Some r) sound here =
     subst (λ (o : Result (ℕ × Replica) OpenFault). Follows shape there (opening_query p i o)) (sym (opened-is r plan))
     (by r.broken (nat_le WAITING_QUERIES_MAX (length r.waiting)) (nat_lt plan.table (length p.primary.shape)) (nat_lt plan.table (length r.shape))
-    (ap (λ (shape : Shape). nat_lt plan.table (length shape)) (sound.primary_is.shape_is ∙ sym fed.shape_is)))
+    (ap (λ (shape : Shape). nat_lt plan.table (length shape)) (sound.primary_is.shape_is ∙ sym fed.feeding.shape_is)))
   where
     w : World
     w = world_of p
@@ -93,7 +85,7 @@ query-opens shape p i plan (Some r) sound here =
     by false false false false e = (refl, sound)
     by false false true true e =
         Follows-goes shape p i r (outputs.Opened (length r.waiting + 1), member_of (slice_index p.asked_at i) (with_plan r plan)) (outputs.Opened (length r.waiting + 1)) (with_plan r plan)
-        sound here refl (plan-goes shape p.primary.durable i r plan fed)
+        sound here refl (plan-goes shape p.primary.durable r plan fed.feeding)
 
 -- ---- asking
 
@@ -101,7 +93,7 @@ ask-means : (durable : List Commit) (replicas : List Replica) (number boot reque
     → ((r : Replica) → slice_get replicas number ≡ Some r → request ≤ r.request) → Means durable replicas (reading (spelling (datagrams.Ask number boot request)))
 ask-means durable replicas number boot request number_below boot_below asked =
     subst (Means durable replicas) (sym (ask-read number boot request number_below boot_below))
-    (ask-kept number boot request number_below boot_below, λ r here. let few = asked r here in omega arith)
+    (record { tells = tt; requests = (ask-kept number boot request number_below boot_below, λ r here. let few = asked r here in omega arith) })
 
 -- the number of a replica that is there
 number-below : (shape : Shape) (p : Parts) (i : ℕ) (r : Replica) → Sound shape p → slice_get p.replicas i ≡ Some r → r.number < REPLICAS_MAX
@@ -115,25 +107,11 @@ boot-below : (shape : Shape) (p : Parts) (i : ℕ) (r : Replica) → Sound shape
 boot-below shape p i r sound here = let boot = (sound.fed i r here).boot_is in omega arith
 
 -- a batch is made
-batch-goes : (shape : Shape) (durable : List Commit) (i : ℕ) (r : Replica) → IsFed shape durable i r → Goes shape durable i r (with_batch r)
-batch-goes shape durable i r fed = record {
-  fed = record {
-    shape_is = fed.shape_is;
-    workers_are = fed.workers_are;
-    number_is = fed.number_is;
-    boot_is = fed.boot_is;
-    frames_are = fed.frames_are;
-    applied_is = fed.applied_is;
-    below = fed.below;
-    tables_are = fed.tables_are;
-    fetched_is = λ queries fetched batch has. absurd (none-fetched r.waiting queries fetched batch has);
-  };
-  moves = record { request_grows = omega arith; waits = λ waits same. absurd (omega arith) };
+batch-goes : (shape : Shape) (durable : List Commit) (r : Replica) → IsFedFrom shape durable r → Goes shape durable r (with_batch r)
+batch-goes shape durable r fed = record {
+  feeding = batch-fed shape durable r fed;
+  moves = record { number_stays = refl; boot_stays = refl; request_grows = omega arith; waits = λ waits same. absurd (omega arith) };
 }
-  where
-    none-fetched : (plans : List Plan) (queries : Queries) (fetched : Fetched) → ◌≡◌ {A = Option Queries} (Some (record { plans = plans; fetched = None })) (Some queries) → queries.fetched ≡ Some fetched → ⊥
-    none-fetched plans queries fetched e f =
-        none-some fetched (ap (λ (queries : Queries). queries.fetched) (same_Some (record { plans = plans; fetched = None }) queries e) ∙ f)
 
 asks-anew : (shape : Shape) (p : Parts) (i : ℕ) (r : Replica) → Sound shape p → slice_get p.replicas i ≡ Some r
     → Follows shape
@@ -150,7 +128,7 @@ asks-anew shape p i r sound here =
     let begun = with_replica p i (with_batch r) in (
       ap (λ (n : ℕ). made (slice_set old n new)) fed.number_is ∙ ap made (sym (members-asked p.replicas p.asked_at i (with_batch r) (length p.primary.durable) sound.asked_there)),
       Sound-one shape (record begun { asked_at = noted }) bytes
-          (Sound-noted shape begun noted (Sound-replica shape p i r (with_batch r) sound here (batch-goes shape p.primary.durable i r fed)) (length-set p.asked_at i (length p.primary.durable)))
+          (Sound-noted shape begun noted (Sound-replica shape p i r (with_batch r) sound here (batch-goes shape p.primary.durable r fed.feeding)) (length-set p.asked_at i (length p.primary.durable)))
           (ask-means p.primary.durable (slice_set p.replicas i (with_batch r)) r.number r.boot (r.request + 1) (number-below shape p i r sound here) (boot-below shape p i r sound here)
           (λ s there.
           let same : s ≡ with_batch r = get-set_same p.replicas i (with_batch r) s (ap (slice_get (slice_set p.replicas i (with_batch r))) (sym fed.number_is) ∙ there) in

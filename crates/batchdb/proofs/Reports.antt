@@ -12,7 +12,7 @@ use Rattle.batchdb.specs.declared.output.Output.TheVariants as outputs
 use Rattle.batchdb.specs.Theorem.{ReportsItsBatch, KeepsDurable, HasExactReports, HasGrowingList, ReportsAreExact}
 use Rattle.batchdb.specs.World.{World, opening_world}
 use Rattle.batchdb.specs.Allowed.{Runs, RunsWith}
-use Rattle.batchdb.proofs.Frames.{tables-stay}
+use Rattle.dispatcher.proofs.Versions.{tables-stay}
 use Rattle.batchdb.proofs.Fresh.{Fresh, opening-fresh}
 use Rattle.batchdb.proofs.Freshness.{step-serves}
 use Rattle.batchdb.proofs.Honest.{durable-grows}

@@ -2,25 +2,25 @@
 use Rattle.std.proofs.Common.{◌≡◌, ℕ, ◌+◌, ◌-◌, ◌≤◌, Bool, true, false, cond, ◌==◌, List, length, map, Option, Some, None, refl, sym, ap, subst, ◌∙◌, ◌⊎◌, inl, inr, arith}
 use Rattle.std.specs.List.{slice_get, slice_index}
 use Rattle.std.specs.Option.{option_map, is_none}
-use Rattle.std.specs.Result.{is_ok}
 use Rattle.std.proofs.lemmas.Bool.{false≢true, true≢false, eq-eqb, ltb-false}
 use Rattle.std.proofs.lemmas.Option.{none-some, same_Some}
 use Rattle.rows.specs.declared.commit.Commit.{Commit}
 use Rattle.rows.specs.Shape.{Shape}
-use Rattle.rows.specs.Tables.{Tables, opening}
-use Rattle.rows.specs.Commits.{commits_of, tables_after}
+use Rattle.rows.specs.Commits.{IsLegal, tables_after}
 use Rattle.wire.specs.declared.datagram.Datagram.TheVariants as datagrams
 use Rattle.wire.specs.Reading.{reading}
 use Rattle.wire.specs.Spelling.{spelling}
 use Rattle.dispatcher.specs.declared.outcome.Run.{Run}
 use Rattle.dispatcher.specs.declared.outcome.Run.TheVariants as runs
 use Rattle.dispatcher.specs.declared.plan.Plan.{Plan}
+use Rattle.dispatcher.specs.Feeding.{IsFedFrom}
 use Rattle.dispatcher.specs.Known.{first_missing}
 use Rattle.dispatcher.specs.Plans.{plain_answer}
-use Rattle.dispatcher.specs.Replay.{frames_at, replayed}
 use Rattle.dispatcher.specs.Replica.{Replica, Queries, Fetched}
 use Rattle.dispatcher.specs.Report.{report_text}
 use Rattle.dispatcher.specs.Steps.{known, broken_of, caught_up, finished, is_waiting, ran_by, ready, ready_by, want_for, WantsMemory}
+use Rattle.dispatcher.proofs.CatchingUp.{CanAnswer, ready-parts, caught, catches-up}
+use Rattle.dispatcher.proofs.Feeding.{broken-fed, caught-fed, finished-fed}
 use Rattle.batchdb.specs.declared.output.Output.{Output}
 use Rattle.batchdb.specs.declared.output.Output.TheVariants as outputs
 use Rattle.batchdb.specs.Parts.{Parts}
@@ -28,46 +28,11 @@ use Rattle.batchdb.specs.Steps.{with_replica, with_sent, run_output, run_by, Run
 use Rattle.batchdb.specs.World.{World, Member, run_happens, wait_happens, want_bytes, batch_report, with_member, on_member}
 use Rattle.batchdb.specs.Allowed.{ready_batch, ready_member, RunIsCut as MemberIsCut}
 use Rattle.batchdb.proofs.Lists.{set-same}
-use Rattle.batchdb.proofs.Sound.{Sound, IsFed, IsFetched, Means, awaits_by}
-use Rattle.batchdb.proofs.Frames.{replayed-known, legal-left}
+use Rattle.batchdb.proofs.Sound.{Sound, Means, awaits_by}
 use Rattle.batchdb.specs.Standing.{world_of, member_of, batch_of}
 use Rattle.batchdb.proofs.Worlds.{member-changes}
-use Rattle.batchdb.proofs.Moves.{Goes, Follows, Sound-replica, Sound-one, Follows-same}
+use Rattle.batchdb.proofs.Moves.{Goes, Follows, legal-durable, Sound-replica, Sound-one, Follows-same}
 use Rattle.batchdb.proofs.Replicas.{Follows-goes}
-
--- ---- catching up
-
--- the replica at the version that was fetched
-abbrev pub caught : Shape → List Commit → Fetched → Replica → Replica
-caught shape durable fetched r = record r { tables = tables_after shape durable fetched.version; version = fetched.version; applied = fetched.version }
-
--- catching up, by what it looks at
-abbrev caught_by : Replica → ℕ → ℕ → ℕ → Shape → Tables → Option Replica
-caught_by r version count applied shape tables =
-    cond (r.version + (count - applied) == version)
-    (option_map (λ tables. record r { tables = tables; version = version; applied = count }) (replayed shape tables r.version (frames_at r.frames applied (count - applied))))
-    None
-
-caught-known : (shape : Shape) (durable : List Commit) (r : Replica) (version : ℕ) → IsFed shape durable r.number r → is_ok (commits_of shape (opening shape) durable) ≡ true
-    → r.version ≤ version → version ≤ first_missing (known r)
-    → caught_by r version version r.version shape (tables_after shape durable r.version) ≡ Some (record r { tables = tables_after shape durable version; version = version; applied = version })
-caught-known shape durable r version fed legal above all =
-    let end : r.version + (version - r.version) ≡ version = omega arith in
-    let made = λ (tables : Tables). record r { tables = tables; version = version; applied = version } in
-    let replay = replayed-known shape durable r.frames r.version (version - r.version) legal fed.frames_are (omega arith) in
-    ap (λ (b : Bool). cond b (option_map made (replayed shape (tables_after shape durable r.version) r.version (frames_at r.frames r.version (version - r.version)))) None) (eq-eqb (r.version + (version - r.version)) version end)
-    ∙ ap (option_map made) (replay ∙ ap (λ (v : ℕ). Some (tables_after shape durable v)) end)
-
-pub catches-up : (shape : Shape) (durable : List Commit) (i : ℕ) (r : Replica) (fetched : Fetched) → IsFed shape durable i r → is_ok (commits_of shape (opening shape) durable) ≡ true
-    → r.broken ≡ false → IsFetched durable r.version fetched → is_waiting r fetched ≡ false → caught_up r fetched ≡ Some (caught shape durable fetched r)
-catches-up shape durable i r fetched fed legal whole is all =
-    let count : slice_index fetched.counts 0 ≡ fetched.version = ap (λ (l : List ℕ). slice_index l 0) is.counts_are in
-    let known : fetched.version ≤ first_missing (known r) = (let le = ltb-false (first_missing (known r)) (slice_index fetched.counts 0) all in omega arith) in
-    ap (λ (c : ℕ). caught_by r fetched.version c r.applied r.shape r.tables) count
-    ∙ ap (λ (a : ℕ). caught_by r fetched.version fetched.version a r.shape r.tables) fed.applied_is
-    ∙ ap (λ (s : Shape). caught_by r fetched.version fetched.version r.version s r.tables) fed.shape_is
-    ∙ ap (λ (t : Tables). caught_by r fetched.version fetched.version r.version shape t) (fed.tables_are whole)
-    ∙ caught-known shape durable r fetched.version (subst (λ (n : ℕ). IsFed shape durable n r) (sym fed.number_is) fed) legal is.above known
 
 -- ---- what a run makes of a replica
 
@@ -75,72 +40,38 @@ catches-up shape durable i r fetched fed legal whole is all =
 waits-not : (batch : Option Queries) (queries : Queries) (fetched : Fetched) → batch ≡ Some queries → queries.fetched ≡ Some fetched → awaits_by batch ≡ false
 waits-not batch queries fetched e f = ap awaits_by e ∙ ap is_none f
 
-same-fetched : (batch : Option Queries) (queries other : Queries) (fetched found : Fetched) → batch ≡ Some queries → queries.fetched ≡ Some fetched → batch ≡ Some other → other.fetched ≡ Some found → fetched ≡ found
-same-fetched batch queries other fetched found e f g h =
-    let same : queries ≡ other = same_Some queries other (sym e ∙ g) in
-    same_Some fetched found (sym f ∙ ap (λ (queries : Queries). queries.fetched) same ∙ h)
+module _ (shape : Shape) (durable : List Commit) (r : Replica) (queries : Queries) (fetched : Fetched) (legal : IsLegal shape 1 durable) (fed : IsFedFrom shape durable r)
+    (can : CanAnswer r queries fetched) where
+  -- it stands at the version that was fetched, its batch still there
+  caught-goes : Goes shape durable r (caught shape durable fetched r)
+  caught-goes = record {
+    feeding = caught-fed shape durable r queries fetched legal fed can;
+    moves = record {
+      number_stays = refl;
+      boot_stays = refl;
+      request_grows = omega arith;
+      waits = λ waits same. absurd (true≢false (sym waits ∙ waits-not r.batch queries fetched can.there can.has));
+    };
+  }
 
--- it stands at the version that was fetched, its batch still there
-caught-goes : (shape : Shape) (durable : List Commit) (i : ℕ) (r : Replica) (queries : Queries) (fetched : Fetched) → IsFed shape durable i r → r.batch ≡ Some queries → queries.fetched ≡ Some fetched
-    → Goes shape durable i r (caught shape durable fetched r)
-caught-goes shape durable i r queries fetched fed batch has =
-    let is = fed.fetched_is queries fetched batch has in
-    record {
-      fed = record {
-        shape_is = fed.shape_is;
-        workers_are = fed.workers_are;
-        number_is = fed.number_is;
-        boot_is = fed.boot_is;
-        frames_are = fed.frames_are;
-        applied_is = refl;
-        below = is.below;
-        tables_are = λ whole. refl;
-        fetched_is = λ other found e f. subst (IsFetched durable fetched.version) (same-fetched r.batch queries other fetched found batch has e f)
-            (record { above = omega arith; below = is.below; counts_are = is.counts_are });
-      };
-      moves = record { request_grows = omega arith; waits = λ waits same. absurd (true≢false (sym waits ∙ waits-not r.batch queries fetched batch has)) };
-    }
+  -- it stands there, its batch answered
+  finished-goes : Goes shape durable r (record (caught shape durable fetched r) { batch = None })
+  finished-goes = record {
+    feeding = finished-fed shape durable r queries fetched legal fed can;
+    moves = record { number_stays = refl; boot_stays = refl; request_grows = omega arith; waits = λ waits same. absurd (false≢true waits) };
+  }
 
--- it stands there, its batch answered
-finished-goes : (shape : Shape) (durable : List Commit) (i : ℕ) (r : Replica) (queries : Queries) (fetched : Fetched) → IsFed shape durable i r → r.batch ≡ Some queries → queries.fetched ≡ Some fetched
-    → Goes shape durable i r (record (caught shape durable fetched r) { batch = None })
-finished-goes shape durable i r queries fetched fed batch has =
-    let is = fed.fetched_is queries fetched batch has in
-    record {
-      fed = record {
-        shape_is = fed.shape_is;
-        workers_are = fed.workers_are;
-        number_is = fed.number_is;
-        boot_is = fed.boot_is;
-        frames_are = fed.frames_are;
-        applied_is = refl;
-        below = is.below;
-        tables_are = λ whole. refl;
-        fetched_is = λ other found e f. absurd (none-some other e);
-      };
-      moves = record { request_grows = omega arith; waits = λ waits same. absurd (false≢true waits) };
-    }
-
--- it is broken
-broken-goes : (shape : Shape) (durable : List Commit) (i : ℕ) (r : Replica) (queries : Queries) (fetched : Fetched) → IsFed shape durable i r → r.batch ≡ Some queries → queries.fetched ≡ Some fetched
-    → Goes shape durable i r (broken_of r)
-broken-goes shape durable i r queries fetched fed batch has = record {
-  fed = record {
-    shape_is = fed.shape_is;
-    workers_are = fed.workers_are;
-    number_is = fed.number_is;
-    boot_is = fed.boot_is;
-    frames_are = fed.frames_are;
-    applied_is = fed.applied_is;
-    below = fed.below;
-    tables_are = λ whole. absurd (true≢false whole);
-    fetched_is = fed.fetched_is;
-  };
-  moves = record { request_grows = omega arith; waits = λ waits same. absurd (true≢false (sym waits ∙ waits-not r.batch queries fetched batch has)) };
-}
-
-legal-durable : (shape : Shape) (p : Parts) → Sound shape p → is_ok (commits_of shape (opening shape) p.primary.durable) ≡ true
-legal-durable shape p sound = legal-left shape p.primary.durable p.primary.pending sound.primary_is.legal
+  -- it is broken
+  broken-goes : Goes shape durable r (broken_of r)
+  broken-goes = record {
+    feeding = broken-fed shape durable r fed;
+    moves = record {
+      number_stays = refl;
+      boot_stays = refl;
+      request_grows = omega arith;
+      waits = λ waits same. absurd (true≢false (sym waits ∙ waits-not r.batch queries fetched can.there can.has));
+    };
+  }
 
 -- ---- the run
 
@@ -150,24 +81,24 @@ module _ (shape : Shape) (p : Parts) (i : ℕ) (r : Replica) (sound : Sound shap
       let bytes = spelling (datagrams.Want r.number 0 place) in
       let output = outputs.Waiting 0 place (record { place = length p.sent; len = length bytes }) in
       let same : with_sent p bytes ≡ with_sent (with_replica p i r) bytes = ap (λ (replicas : List Replica). with_sent (record p { replicas = replicas }) bytes) (sym (set-same p.replicas i r here)) in
-      let means : Means p.primary.durable p.replicas (reading bytes) = tt in
+      let means : Means p.primary.durable p.replicas (reading bytes) = record { tells = tt; requests = tt } in
       (ap (λ (p : Parts). (output, world_of p)) same, subst (Sound shape) same (Sound-one shape p bytes sound means))
 
-  run-finishes : (queries : Queries) (fetched : Fetched) → r.broken ≡ false → r.batch ≡ Some queries → queries.fetched ≡ Some fetched → is_waiting r fetched ≡ false
+  run-finishes : (queries : Queries) (fetched : Fetched) → CanAnswer r queries fetched
       → Follows shape
       (outputs.Report (batch_report (world_of p) queries.plans fetched.version), with_member (world_of p) (record (member_of (slice_index p.asked_at i) r) { version = fetched.version; batch = None }))
       (run_output p i (finished r queries.plans (caught_up r fetched)))
-  run-finishes queries fetched whole batch has all =
-      let fed = sound.fed i r here in
+  run-finishes queries fetched can =
+      let fed = (sound.fed i r here).feeding in
+      let legal = legal-durable shape p sound in
       let durable = p.primary.durable in
       let at = slice_index p.asked_at i in
       let after = record (caught shape durable fetched r) { batch = None } in
       let text = λ (shape : Shape). report_text fetched.version (map (plain_answer (tables_after shape durable fetched.version)) queries.plans) in
       let there : Output × World = (outputs.Report (batch_report (world_of p) queries.plans fetched.version), with_member (world_of p) (record (member_of at r) { version = fetched.version; batch = None })) in
-      subst (λ (o : Option Replica). Follows shape there (run_output p i (finished r queries.plans o)))
-      (sym (catches-up shape durable i r fetched fed (legal-durable shape p sound) whole (fed.fetched_is queries fetched batch has) all))
+      subst (λ (o : Option Replica). Follows shape there (run_output p i (finished r queries.plans o))) (sym (catches-up shape durable r queries fetched legal fed can))
       (Follows-goes shape p i r (outputs.Report (text p.primary.shape), member_of at after) (outputs.Report (text shape)) after sound here
-      (ap (λ (s : Shape). (outputs.Report (text s), member_of at after)) sound.primary_is.shape_is) (finished-goes shape durable i r queries fetched fed batch has))
+      (ap (λ (s : Shape). (outputs.Report (text s), member_of at after)) sound.primary_is.shape_is) (finished-goes shape durable r queries fetched legal fed can))
 
   run-fetched : (plans : List Plan) (fetched : Option Fetched) → r.broken ≡ false → r.batch ≡ Some (record { plans = plans; fetched = fetched })
       → Follows shape (run_happens (world_of p) (member_of (slice_index p.asked_at i) r) (Some (record { plans = plans; asked_at = slice_index p.asked_at i; fetched = fetched })))
@@ -180,7 +111,8 @@ module _ (shape : Shape) (p : Parts) (i : ℕ) (r : Replica) (sound : Sound shap
           (outputs.Report (batch_report (world_of p) plans fetched.version), with_member (world_of p) (record (member_of (slice_index p.asked_at i) r) { version = fetched.version; batch = None })))
           (run_output p i (cond b (runs.Waiting 0 (first_missing (known r)) (want_for r.number 0 (first_missing (known r))), r) (finished r plans (caught_up r fetched))))
       by true e = run-waits (first_missing (known r))
-      by false e = run-finishes (record { plans = plans; fetched = Some fetched }) fetched whole batch refl e
+      by false e = run-finishes (record { plans = plans; fetched = Some fetched }) fetched
+          (record { whole = whole; there = batch; has = refl; complete = ltb-false (first_missing (known r)) (slice_index fetched.counts 0) e })
 
   run-batch : (batch : Option Queries) → r.broken ≡ false → r.batch ≡ batch
       → Follows shape (run_happens (world_of p) (member_of (slice_index p.asked_at i) r) (option_map (batch_of (slice_index p.asked_at i)) batch)) (run_output p i (ran_by r batch))
@@ -214,23 +146,6 @@ ready-batched at r (Some queries) = ready-fetched at r queries.plans queries.fet
 ready-same : (at : ℕ) (r : Replica) → ready_member (member_of at r) ≡ ready r
 ready-same at r = ap (λ (o : Option Fetched). cond r.broken None o) (ready-batched at r r.batch)
 
-unless : {A : Type 0} (b : Bool) (o : Option A) (x : A) → cond b None o ≡ Some x → (b ≡ false) × (o ≡ Some x)
-unless true o x e = absurd (none-some x e)
-unless false o x e = (refl, e)
-
-ready-fetched_parts : (r : Replica) (plans : List Plan) (found : Option Fetched) (fetched : Fetched) → ready_by r (Some (record { plans = plans; fetched = found })) ≡ Some fetched
-    → (found ≡ Some fetched) × (is_waiting r fetched ≡ false)
-ready-fetched_parts r plans None fetched e = absurd (none-some fetched e)
-ready-fetched_parts r plans (Some found) fetched e =
-    let parts = unless (is_waiting r found) (Some found) fetched e in
-    (parts.1, ap (is_waiting r) (sym (same_Some found fetched parts.1)) ∙ parts.0)
-
-ready-parts : (r : Replica) (batch : Option Queries) (fetched : Fetched) → ready_by r batch ≡ Some fetched → (queries : Queries) × (batch ≡ Some queries) × (queries.fetched ≡ Some fetched) × (is_waiting r fetched ≡ false)
-ready-parts r None fetched e = absurd (none-some fetched e)
-ready-parts r (Some queries) fetched e =
-    let parts = ready-fetched_parts r queries.plans queries.fetched fetched e in
-    (queries, refl, parts.0, parts.1)
-
 -- what a cut run is in the world
 abbrev pub Cuts : World → Option Member → Output → World → Type 0
 Cuts w found output new = ((output ≡ outputs.Memory) × (new ≡ w)) ⊎ MemberIsCut w found output new
@@ -245,40 +160,38 @@ module _ (shape : Shape) (p : Parts) (i : ℕ) (r : Replica) (sound : Sound shap
       let follows = Follows-same shape p i r outputs.Memory sound here in
       (inl (refl, ap (λ (x : Output × World). x.1) (sym follows.0)), follows.1)
 
-  memory-caught : (queries : Queries) (fetched : Fetched) → ready_member (member_of (slice_index p.asked_at i) r) ≡ Some fetched → r.batch ≡ Some queries → queries.fetched ≡ Some fetched
+  memory-caught : (queries : Queries) (fetched : Fetched) → ready_member (member_of (slice_index p.asked_at i) r) ≡ Some fetched → CanAnswer r queries fetched
       → Ends shape p (member_of (slice_index p.asked_at i) r) (outputs.Memory, with_replica p i (caught shape p.primary.durable fetched r))
-  memory-caught queries fetched is_ready batch has =
+  memory-caught queries fetched is_ready can =
       let fed = sound.fed i r here in
       let after = caught shape p.primary.durable fetched r in (
         inr (fetched, is_ready, inl (refl, sym (member-changes p i after fed.number_is))),
-        Sound-replica shape p i r after sound here (caught-goes shape p.primary.durable i r queries fetched fed batch has),
+        Sound-replica shape p i r after sound here (caught-goes shape p.primary.durable r queries fetched (legal-durable shape p sound) fed.feeding can),
       )
 
-  cut-broken : (queries : Queries) (fetched : Fetched) → ready_member (member_of (slice_index p.asked_at i) r) ≡ Some fetched → r.batch ≡ Some queries → queries.fetched ≡ Some fetched
+  cut-broken : (queries : Queries) (fetched : Fetched) → ready_member (member_of (slice_index p.asked_at i) r) ≡ Some fetched → CanAnswer r queries fetched
       → Ends shape p (member_of (slice_index p.asked_at i) r) (outputs.Broken, with_replica p i (broken_of r))
-  cut-broken queries fetched is_ready batch has =
+  cut-broken queries fetched is_ready can =
       let fed = sound.fed i r here in (
         inr (fetched, is_ready, inr (refl, sym (member-changes p i (broken_of r) fed.number_is))),
-        Sound-replica shape p i r (broken_of r) sound here (broken-goes shape p.primary.durable i r queries fetched fed batch has),
+        Sound-replica shape p i r (broken_of r) sound here (broken-goes shape p.primary.durable r queries fetched (legal-durable shape p sound) fed.feeding can),
       )
 
   cut-ends : (answer : Run) (after : Replica) → WantsMemory r answer after → Ends shape p (member_of (slice_index p.asked_at i) r) (run_output p i (answer, after))
   cut-ends answer after wants =
       let m = member_of (slice_index p.asked_at i) r in
-      let fed = sound.fed i r here in
       let fetched = wants.0 in
       let is_ready = ready-same (slice_index p.asked_at i) r ∙ wants.1 in
-      let outer = unless r.broken (ready_by r r.batch) fetched wants.1 in
-      let parts = ready-parts r r.batch fetched outer.1 in
-      let made = catches-up shape p.primary.durable i r fetched fed (legal-durable shape p sound) outer.0 (fed.fetched_is parts.0 fetched parts.1 parts.2) parts.3 in
+      let parts = ready-parts r fetched wants.1 in
+      let made = catches-up shape p.primary.durable r parts.0 fetched (legal-durable shape p sound) (sound.fed i r here).feeding parts.1 in
       elim wants.2 [
         | inl memory ↦ subst (λ (a : Run). Ends shape p m (run_output p i (a, after))) (sym memory.0) (elim memory.1 [
           | inl same ↦ subst (λ (s : Replica). Ends shape p m (run_output p i (runs.Memory, s))) (sym same) memory-same
           | inr reached ↦ subst (λ (s : Replica). Ends shape p m (run_output p i (runs.Memory, s))) (same_Some (caught shape p.primary.durable fetched r) after (sym made ∙ reached))
-              (memory-caught parts.0 fetched is_ready parts.1 parts.2)
+              (memory-caught parts.0 fetched is_ready parts.1)
         ])
         | inr broken ↦ subst (λ (a : Run). Ends shape p m (run_output p i (a, after))) (sym broken.0)
-            (subst (λ (s : Replica). Ends shape p m (run_output p i (runs.Broken, s))) (sym broken.1) (cut-broken parts.0 fetched is_ready parts.1 parts.2))
+            (subst (λ (s : Replica). Ends shape p m (run_output p i (runs.Broken, s))) (sym broken.1) (cut-broken parts.0 fetched is_ready parts.1))
       ]
 
 pub run-cut : (shape : Shape) (p : Parts) (i : ℕ) (found : Option Replica) (output : Output) (new : Parts) → Sound shape p → slice_get p.replicas i ≡ found → RunIsCut p i found output new

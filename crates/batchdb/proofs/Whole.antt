@@ -11,6 +11,7 @@ use Rattle.primary.specs.Primary.{flushed}
 use Rattle.dispatcher.specs.Replica.{Replica}
 use Rattle.dispatcher.specs.Steps.{started}
 use Rattle.dispatcher.specs.Feeding.{IsFedFrom}
+use Rattle.dispatcher.proofs.Feeding.{fresh-fed}
 use Rattle.batchdb.specs.declared.event.Event.{Event}
 use Rattle.batchdb.specs.declared.event.Event.TheVariants as events
 use Rattle.batchdb.specs.declared.event.Node.{Node}
@@ -123,17 +124,7 @@ runs-follow shape p replicas (event ∷ todo) (output ∷ done) new tables sound
 -- ---- the beginning
 
 started-fed : (shape : Shape) (number : ℕ) → IsFed shape [] number (started shape 1 number 1)
-started-fed shape number = record {
-  shape_is = refl;
-  workers_are = refl;
-  number_is = refl;
-  boot_is = refl;
-  frames_are = tt;
-  applied_is = refl;
-  below = omega arith;
-  tables_are = λ whole. refl;
-  fetched_is = λ queries fetched batch has. absurd (none-some queries batch);
-}
+started-fed shape number = record { feeding = fresh-fed shape [] number 1; number_is = refl; boot_is = refl }
 
 replicas-fed : (shape : Shape) (number count i : ℕ) (r : Replica) → slice_get (replicas_from shape 1 number count) i ≡ Some r → IsFed shape [] (number + i) r
 replicas-fed shape number zero i r h = absurd (none-some r h)
@@ -186,7 +177,7 @@ all-from-get P (x ∷ xs) each = (each 0 x refl, all-from-get P xs (λ i y here.
 
 -- each replica of sound parts is fed from what is durable
 fed-sound : (shape : Shape) (p : Parts) → Sound shape p → AreFed shape p
-fed-sound shape p sound = all-from-get (IsFedFrom shape p.primary.durable) p.replicas (λ i r here. ?)
+fed-sound shape p sound = all-from-get (IsFedFrom shape p.primary.durable) p.replicas (λ i r here. (sound.fed i r here).feeding)
 
 stands-follow : (shape : Shape) (p : Parts) (replicas : ℕ) (todo : List Event) (done : List Output) (new : Parts) → AreTables shape → Sound shape p → AllByRecursion (IsPossible 1 replicas) todo → Steps p todo done new
     → Stands shape p todo done new

@@ -1,18 +1,53 @@
--- A replica that is fed from a legal list and lacks no frame catches up with the version that was fetched.
-use Rattle.std.proofs.Common.{◌≡◌, ℕ, ◌+◌, ◌-◌, ◌≤◌, Bool, false, cond, ◌==◌, List, Option, Some, None, slice_index, ap, ◌∙◌, arith}
+-- A replica that is fed from a legal list and lacks no frame catches up with the version that was fetched for its batch.
+use Rattle.std.proofs.Common.{◌≡◌, ℕ, ◌+◌, ◌-◌, ◌≤◌, Bool, true, false, cond, ◌==◌, List, Option, Some, None, slice_index, refl, sym, ap, ◌∙◌, arith}
 use Rattle.std.specs.Option.{option_map}
-use Rattle.std.proofs.lemmas.Bool.{eq-eqb}
+use Rattle.std.proofs.lemmas.Bool.{eq-eqb, ltb-false}
+use Rattle.std.proofs.lemmas.Option.{none-some, same_Some}
 use Rattle.rows.specs.declared.commit.Commit.{Commit}
 use Rattle.rows.specs.Shape.{Shape}
 use Rattle.rows.specs.Tables.{Tables}
 use Rattle.rows.specs.Commits.{tables_after, IsLegal}
+use Rattle.dispatcher.specs.declared.plan.Plan.{Plan}
 use Rattle.dispatcher.specs.Feeding.{IsFetchedFrom, IsFedFrom}
 use Rattle.dispatcher.specs.Known.{first_missing}
 use Rattle.dispatcher.specs.Replay.{frames_at, replayed}
-use Rattle.dispatcher.specs.Replica.{Replica, Fetched}
-use Rattle.dispatcher.specs.Steps.{known, caught_up}
+use Rattle.dispatcher.specs.Replica.{Replica, Queries, Fetched}
+use Rattle.dispatcher.specs.Steps.{known, caught_up, is_waiting, ready, ready_by}
 use Rattle.dispatcher.proofs.Streams.{count-is}
 use Rattle.dispatcher.proofs.Versions.{replayed-known}
+
+-- ---- which replicas can answer
+
+-- a replica that can answer its batch: a version was fetched for it, and no frame below the count at it is missing
+pub record CanAnswer (r : Replica) (batch : Queries) (fetched : Fetched) : Type 0 where
+  pub whole : r.broken ≡ false
+  pub there : r.batch ≡ Some batch
+  pub has : batch.fetched ≡ Some fetched
+  pub complete : slice_index fetched.counts 0 ≤ first_missing (known r)
+
+unless : {A : Type 0} (b : Bool) (o : Option A) (x : A) → cond b None o ≡ Some x → (b ≡ false) × (o ≡ Some x)
+unless true o x e = absurd (none-some x e)
+unless false o x e = (refl, e)
+
+ready-fetched : (r : Replica) (plans : List Plan) (found : Option Fetched) (fetched : Fetched) → ready_by r (Some (record { plans = plans; fetched = found })) ≡ Some fetched
+    → (found ≡ Some fetched) × (slice_index fetched.counts 0 ≤ first_missing (known r))
+ready-fetched r plans None fetched e = absurd (none-some fetched e)
+ready-fetched r plans (Some found) fetched e =
+    let parts = unless (is_waiting r found) (Some found) fetched e in
+    (parts.1, ltb-false (first_missing (known r)) (slice_index fetched.counts 0) (ap (is_waiting r) (sym (same_Some found fetched parts.1)) ∙ parts.0))
+
+ready-batch : (r : Replica) (batch : Option Queries) (fetched : Fetched) → r.broken ≡ false → r.batch ≡ batch → ready_by r batch ≡ Some fetched → (queries : Queries) × CanAnswer r queries fetched
+ready-batch r None fetched whole there e = absurd (none-some fetched e)
+ready-batch r (Some batch) fetched whole there e =
+    let parts = ready-fetched r batch.plans batch.fetched fetched e in
+    (batch, record { whole = whole; there = there; has = parts.0; complete = parts.1 })
+
+pub ready-parts : (r : Replica) (fetched : Fetched) → ready r ≡ Some fetched → (batch : Queries) × CanAnswer r batch fetched
+ready-parts r fetched e =
+    let parts = unless r.broken (ready_by r r.batch) fetched e in
+    ready-batch r r.batch fetched parts.0 refl parts.1
+
+-- ---- catching up
 
 -- the replica at the version that was fetched
 abbrev pub caught : Shape → List Commit → Fetched → Replica → Replica
@@ -43,12 +78,14 @@ applied-version shape commits r legal fed = fed.applied_is ∙ count-is commits 
 pub count-fetched : (shape : Shape) (commits : List Commit) (version : ℕ) (fetched : Fetched) → IsLegal shape 1 commits → IsFetchedFrom commits version fetched → slice_index fetched.counts 0 ≡ fetched.version
 count-fetched shape commits version fetched legal is = ap (λ (l : List ℕ). slice_index l 0) is.counts_are ∙ count-is commits fetched.version legal.each is.below
 
-pub catches-up : (shape : Shape) (commits : List Commit) (r : Replica) (fetched : Fetched) → IsLegal shape 1 commits → IsFedFrom shape commits r → r.broken ≡ false
-    → IsFetchedFrom commits r.version fetched → slice_index fetched.counts 0 ≤ first_missing (known r) → caught_up r fetched ≡ Some (caught shape commits fetched r)
-catches-up shape commits r fetched legal fed whole is complete =
+pub catches-up : (shape : Shape) (commits : List Commit) (r : Replica) (batch : Queries) (fetched : Fetched) → IsLegal shape 1 commits → IsFedFrom shape commits r → CanAnswer r batch fetched
+    → caught_up r fetched ≡ Some (caught shape commits fetched r)
+catches-up shape commits r batch fetched legal fed can =
+    let is = fed.fetched_is batch fetched can.there can.has in
+    let complete = can.complete in
     let count = count-fetched shape commits r.version fetched legal is in
     ap (λ (c : ℕ). caught_by r fetched.version c r.applied r.shape r.tables) count
     ∙ ap (λ (a : ℕ). caught_by r fetched.version fetched.version a r.shape r.tables) (applied-version shape commits r legal fed)
     ∙ ap (λ (s : Shape). caught_by r fetched.version fetched.version r.version s r.tables) fed.shape_is
-    ∙ ap (λ (t : Tables). caught_by r fetched.version fetched.version r.version shape t) (fed.tables_are whole)
+    ∙ ap (λ (t : Tables). caught_by r fetched.version fetched.version r.version shape t) (fed.tables_are can.whole)
     ∙ caught-known shape commits r fetched.version legal fed is.above (omega arith)

@@ -28,11 +28,11 @@ use Rattle.dispatcher.specs.declared.faults.OpenFault.TheVariants as opens
 use Rattle.dispatcher.specs.declared.plan.Plan.{Plan}
 use Rattle.dispatcher.specs.declared.plan.PlanFault.{PlanFault}
 use Rattle.dispatcher.specs.Feeding.{IsFetchedFrom, IsFedFrom, Tells, FreshIsFed, CommitsKeepFed, BytesKeepFed, OpenKeepsFed, AskKeepsFed, VersionTellsTables}
-use Rattle.dispatcher.specs.Known.{is_known, is_ahead, first_missing}
+use Rattle.dispatcher.specs.Known.{is_known, is_ahead}
 use Rattle.dispatcher.specs.Plans.{checked}
 use Rattle.dispatcher.specs.Replica.{Replica, Queries, Fetched}
 use Rattle.dispatcher.specs.Steps.{asked_by, ask_for, with_batch, known, frame_comes, own_head_comes, datagram_comes, broken_of}
-use Rattle.dispatcher.proofs.CatchingUp.{caught, count-fetched}
+use Rattle.dispatcher.proofs.CatchingUp.{CanAnswer, caught, count-fetched}
 use Rattle.dispatcher.proofs.Lists.{All-map}
 use Rattle.dispatcher.proofs.Places.{is_known-below}
 use Rattle.dispatcher.proofs.Stored.{known-insert, frames-insert}
@@ -131,18 +131,15 @@ frame-feeds shape commits r frame fed is =
 
 -- ---- a Head
 
--- the replica with this batch
-abbrev batched : Replica → Option Queries → Replica
-batched r batch = record r { batch = batch }
-
--- what was fetched, once this is fetched
-only-fetched : (plans : List Plan) (found other : Fetched) (batch : Queries) → ◌≡◌ {A = Option Queries} (Some (record { plans = plans; fetched = Some found })) (Some batch) → batch.fetched ≡ Some other → found ≡ other
-only-fetched plans found other batch e f =
-    same_Some found other (ap (λ (batch : Queries). batch.fetched) (same_Some (record { plans = plans; fetched = Some found }) batch e) ∙ f)
+-- one thing is fetched for a batch
+same-fetched : (batch : Option Queries) (queries other : Queries) (fetched found : Fetched) → batch ≡ Some queries → queries.fetched ≡ Some fetched → batch ≡ Some other → other.fetched ≡ Some found → fetched ≡ found
+same-fetched batch queries other fetched found e f g h =
+    let same : queries ≡ other = same_Some queries other (sym e ∙ g) in
+    same_Some fetched found (sym f ∙ ap (λ (queries : Queries). queries.fetched) same ∙ h)
 
 -- the same replica, for whose batch this was fetched
 fetched-fed : (shape : Shape) (commits : List Commit) (r : Replica) (plans : List Plan) (found : Fetched) → IsFedFrom shape commits r → IsFetchedFrom commits r.version found
-    → IsFedFrom shape commits (batched r (Some (record { plans = plans; fetched = Some found })))
+    → IsFedFrom shape commits (record r { batch = Some (record { plans = plans; fetched = Some found }) })
 fetched-fed shape commits r plans found fed is = record {
   shape_is = fed.shape_is;
   workers_are = fed.workers_are;
@@ -151,7 +148,9 @@ fetched-fed shape commits r plans found fed is = record {
   applied_known = fed.applied_known;
   below = fed.below;
   tables_are = fed.tables_are;
-  fetched_is = λ batch fetched there has. subst (IsFetchedFrom commits r.version) (only-fetched plans found fetched batch there has) is;
+  fetched_is = λ batch fetched there has.
+      let made : Queries = record { plans = plans; fetched = Some found } in
+      subst (IsFetchedFrom commits r.version) (same-fetched (Some made) made batch found fetched refl refl there has) is;
 }
 
 head-feeds : (shape : Shape) (commits : List Commit) (r : Replica) (version : ℕ) (counts : List ℕ) → IsFedFrom shape commits r
@@ -181,7 +180,7 @@ head-feeds shape commits r version counts fed below are =
 
 -- ---- bytes
 
-datagram-feeds : (shape : Shape) (commits : List Commit) (r : Replica) (datagram : Result Datagram WireFault) → IsFedFrom shape commits r → Tells commits datagram
+pub datagram-feeds : (shape : Shape) (commits : List Commit) (r : Replica) (datagram : Result Datagram WireFault) → IsFedFrom shape commits r → Tells commits datagram
     → IsFedFrom shape commits (datagram_comes r datagram).1
 datagram-feeds shape commits r (Err fault) fed tells = fed
 datagram-feeds shape commits r (Ok (datagrams.Frame worker seq commit last entries)) fed tells =
@@ -206,7 +205,7 @@ left {A = A} a b r new h =
     ap (λ (x : A × Replica). x.1) same
 
 -- the replica with one more query that waits
-plan-fed : (shape : Shape) (commits : List Commit) (r : Replica) (plan : Plan) → IsFedFrom shape commits r → IsFedFrom shape commits (record r { waiting = r.waiting ++ plan ∷ [] })
+pub plan-fed : (shape : Shape) (commits : List Commit) (r : Replica) (plan : Plan) → IsFedFrom shape commits r → IsFedFrom shape commits (record r { waiting = r.waiting ++ plan ∷ [] })
 plan-fed shape commits r plan fed = record {
   shape_is = fed.shape_is;
   workers_are = fed.workers_are;
@@ -235,7 +234,7 @@ open-feeds shape commits r plan count new fed h = by r.broken (nat_le WAITING_QU
     by false false (Ok fits) h = subst (IsFedFrom shape commits) (left (length r.waiting + 1) count with new h) (plan-fed shape commits r plan fed)
 
 -- a batch is made, for which nothing was fetched
-batch-fed : (shape : Shape) (commits : List Commit) (r : Replica) → IsFedFrom shape commits r → IsFedFrom shape commits (with_batch r)
+pub batch-fed : (shape : Shape) (commits : List Commit) (r : Replica) → IsFedFrom shape commits r → IsFedFrom shape commits (with_batch r)
 batch-fed shape commits r fed = record {
   shape_is = fed.shape_is;
   workers_are = fed.workers_are;
@@ -282,19 +281,15 @@ broken-fed shape commits r fed = record {
   fetched_is = fed.fetched_is;
 }
 
-same-fetched : (batch : Option Queries) (queries other : Queries) (fetched found : Fetched) → batch ≡ Some queries → queries.fetched ≡ Some fetched → batch ≡ Some other → other.fetched ≡ Some found → fetched ≡ found
-same-fetched batch queries other fetched found e f g h =
-    let same : queries ≡ other = same_Some queries other (sym e ∙ g) in
-    same_Some fetched found (sym f ∙ ap (λ (queries : Queries). queries.fetched) same ∙ h)
-
 module _ (shape : Shape) (commits : List Commit) (r : Replica) (batch : Queries) (fetched : Fetched) (legal : IsLegal shape 1 commits) (fed : IsFedFrom shape commits r)
-    (there : r.batch ≡ Some batch) (has : batch.fetched ≡ Some fetched) (complete : slice_index fetched.counts 0 ≤ first_missing (known r)) where
+    (can : CanAnswer r batch fetched) where
   is-fetched : IsFetchedFrom commits r.version fetched
-  is-fetched = fed.fetched_is batch fetched there has
+  is-fetched = fed.fetched_is batch fetched can.there can.has
 
   caught-known : (seq : ℕ) → seq < fetched.version → is_known (known r) seq ≡ true
   caught-known seq below =
       let count = count-fetched shape commits r.version fetched legal is-fetched in
+      let complete = can.complete in
       is_known-below (length (known r)) 0 seq (known r) (omega arith) (omega arith)
 
   -- it stands at the version that was fetched, its batch still there
@@ -309,7 +304,7 @@ module _ (shape : Shape) (commits : List Commit) (r : Replica) (batch : Queries)
         applied_known = caught-known;
         below = is.below;
         tables_are = λ whole. refl;
-        fetched_is = λ other found e f. subst (IsFetchedFrom commits fetched.version) (same-fetched r.batch batch other fetched found there has e f)
+        fetched_is = λ other found e f. subst (IsFetchedFrom commits fetched.version) (same-fetched r.batch batch other fetched found can.there can.has e f)
             (record { above = omega arith; below = is.below; counts_are = is.counts_are });
       }
 

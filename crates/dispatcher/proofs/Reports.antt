@@ -1,7 +1,7 @@
 -- What a run of a replica that is fed from a legal list answers, and that it stays fed by it.
-use Rattle.std.proofs.Common.{◌≡◌, ℕ, ◌≤◌, Bool, true, false, cond, List, Option, Some, None, slice_index, refl, sym, ap, subst, ◌∙◌, ◌⊎◌, inl, inr}
+use Rattle.std.proofs.Common.{◌≡◌, ℕ, Bool, true, false, cond, List, Option, Some, None, slice_index, refl, sym, ap, subst, ◌∙◌, ◌⊎◌, inl, inr}
 use Rattle.std.proofs.lemmas.Bool.{ltb-false}
-use Rattle.std.proofs.lemmas.Option.{none-some, same_Some}
+use Rattle.std.proofs.lemmas.Option.{same_Some}
 use Rattle.rows.specs.declared.commit.Commit.{Commit}
 use Rattle.rows.specs.Shape.{Shape}
 use Rattle.rows.specs.Commits.{IsLegal}
@@ -11,46 +11,10 @@ use Rattle.dispatcher.specs.declared.plan.Plan.{Plan}
 use Rattle.dispatcher.specs.Feeding.{IsFedFrom, report_at, RunKeepsFed, RunIsConsistent, AnswerIsReport, ReadyIsAnswered}
 use Rattle.dispatcher.specs.Known.{first_missing}
 use Rattle.dispatcher.specs.Replica.{Replica, Queries, Fetched}
-use Rattle.dispatcher.specs.Steps.{known, caught_up, finished, is_waiting, ran, ran_by, ready, ready_by, want_for, WantsMemory}
-use Rattle.dispatcher.proofs.CatchingUp.{caught, catches-up}
+use Rattle.dispatcher.specs.Steps.{known, caught_up, finished, is_waiting, ran, ran_by, want_for, WantsMemory}
+use Rattle.dispatcher.proofs.CatchingUp.{CanAnswer, ready-parts, caught, catches-up}
 use Rattle.dispatcher.proofs.Feeding.{broken-fed, caught-fed, finished-fed}
 use Rattle.dispatcher.proofs.Running.{ran-ready}
-
--- ---- which replicas can answer
-
--- a replica that can answer its batch: a version was fetched for it, and no frame below the count at it is missing
-pub record CanAnswer (r : Replica) (batch : Queries) (fetched : Fetched) : Type 0 where
-  pub whole : r.broken ≡ false
-  pub there : r.batch ≡ Some batch
-  pub has : batch.fetched ≡ Some fetched
-  pub complete : slice_index fetched.counts 0 ≤ first_missing (known r)
-
-unless : {A : Type 0} (b : Bool) (o : Option A) (x : A) → cond b None o ≡ Some x → (b ≡ false) × (o ≡ Some x)
-unless true o x e = absurd (none-some x e)
-unless false o x e = (refl, e)
-
-ready-fetched : (r : Replica) (plans : List Plan) (found : Option Fetched) (fetched : Fetched) → ready_by r (Some (record { plans = plans; fetched = found })) ≡ Some fetched
-    → (found ≡ Some fetched) × (slice_index fetched.counts 0 ≤ first_missing (known r))
-ready-fetched r plans None fetched e = absurd (none-some fetched e)
-ready-fetched r plans (Some found) fetched e =
-    let parts = unless (is_waiting r found) (Some found) fetched e in
-    (parts.1, ltb-false (first_missing (known r)) (slice_index fetched.counts 0) (ap (is_waiting r) (sym (same_Some found fetched parts.1)) ∙ parts.0))
-
-ready-batch : (r : Replica) (batch : Option Queries) (fetched : Fetched) → r.broken ≡ false → r.batch ≡ batch → ready_by r batch ≡ Some fetched → (queries : Queries) × CanAnswer r queries fetched
-ready-batch r None fetched whole there e = absurd (none-some fetched e)
-ready-batch r (Some batch) fetched whole there e =
-    let parts = ready-fetched r batch.plans batch.fetched fetched e in
-    (batch, record { whole = whole; there = there; has = parts.0; complete = parts.1 })
-
-pub ready-parts : (r : Replica) (fetched : Fetched) → ready r ≡ Some fetched → (batch : Queries) × CanAnswer r batch fetched
-ready-parts r fetched e =
-    let parts = unless r.broken (ready_by r r.batch) fetched e in
-    ready-batch r r.batch fetched parts.0 refl parts.1
-
--- they catch up
-pub ready-catches : (shape : Shape) (commits : List Commit) (r : Replica) (batch : Queries) (fetched : Fetched) → IsLegal shape 1 commits → IsFedFrom shape commits r → CanAnswer r batch fetched
-    → caught_up r fetched ≡ Some (caught shape commits fetched r)
-ready-catches shape commits r batch fetched legal fed is = catches-up shape commits r fetched legal fed is.whole (fed.fetched_is batch fetched is.there is.has) is.complete
 
 -- ---- any run
 
@@ -76,7 +40,7 @@ Ran shape commits r answer = IsIdle r answer ⊎ IsReport shape commits r answer
 
 module _ (shape : Shape) (commits : List Commit) (r : Replica) (legal : IsLegal shape 1 commits) (fed : IsFedFrom shape commits r) where
   finished-reports : (batch : Queries) (fetched : Fetched) → CanAnswer r batch fetched → finished r batch.plans (caught_up r fetched) ≡ reported shape commits r batch fetched
-  finished-reports batch fetched is = ap (finished r batch.plans) (ready-catches shape commits r batch fetched legal fed is)
+  finished-reports batch fetched is = ap (finished r batch.plans) (catches-up shape commits r batch fetched legal fed is)
 
   ran-fetched : (plans : List Plan) (found : Option Fetched) → r.broken ≡ false → r.batch ≡ Some (record { plans = plans; fetched = found })
       → Ran shape commits r (ran_by r (Some (record { plans = plans; fetched = found })))
@@ -107,7 +71,7 @@ module _ (shape : Shape) (commits : List Commit) (r : Replica) (legal : IsLegal 
   -- ---- it stays fed
 
   reported-fed : (batch : Queries) (fetched : Fetched) → CanAnswer r batch fetched → IsFedFrom shape commits (reported shape commits r batch fetched).1
-  reported-fed batch fetched is = finished-fed shape commits r batch fetched legal fed is.there is.has is.complete
+  reported-fed batch fetched is = finished-fed shape commits r batch fetched legal fed is
 
   ran-fed : (answer : Run × Replica) → Ran shape commits r answer → IsFedFrom shape commits answer.1
   ran-fed answer (inl idle) = subst (IsFedFrom shape commits) (sym idle.same) fed
@@ -121,8 +85,8 @@ module _ (shape : Shape) (commits : List Commit) (r : Replica) (legal : IsLegal 
       elim wants.2 [
         | inl memory ↦ elim memory.1 [
           | inl same ↦ subst (IsFedFrom shape commits) (sym same) fed
-          | inr reached ↦ subst (IsFedFrom shape commits) (same_Some (caught shape commits fetched r) new (sym (ready-catches shape commits r parts.0 fetched legal fed is) ∙ reached))
-              (caught-fed shape commits r parts.0 fetched legal fed is.there is.has is.complete)
+          | inr reached ↦ subst (IsFedFrom shape commits) (same_Some (caught shape commits fetched r) new (sym (catches-up shape commits r parts.0 fetched legal fed is) ∙ reached))
+              (caught-fed shape commits r parts.0 fetched legal fed is)
         ]
         | inr broken ↦ subst (IsFedFrom shape commits) (sym broken.1) (broken-fed shape commits r fed)
       ]
