@@ -4,7 +4,7 @@ use Rattle.std.specs.List.{slice_get, slice_set, AllByRecursion}
 use Rattle.std.specs.Option.{option_map, option_and_then}
 use Rattle.std.specs.Result.{is_ok}
 use Rattle.std.proofs.lemmas.Bool.{ltb-true, ltb-false, eqb-false, not-false, or_parts}
-use Rattle.std.proofs.lemmas.List.{append_assoc, length-append, take_all}
+use Rattle.std.proofs.lemmas.List.{append_assoc, length-append}
 use Rattle.std.proofs.lemmas.Option.{none-some, same_Some, slice_get_within}
 use Rattle.rows.specs.declared.commit.Commit.{Commit}
 use Rattle.rows.specs.declared.value.Value.{Value}

@@ -1,16 +1,12 @@
 -- What the calls of the cores answer and leave is what an event may.
-use Rattle.std.proofs.Common.{◌≡◌, ℕ, ◌++◌, ◌⊎◌, inl, inr, List, Option, None, Some, Result, Ok, Err, IsOk, slice_get, slice_set, refl, ap, sym, subst, ◌∙◌}
+use Rattle.std.proofs.Common.{◌≡◌, ℕ, ◌++◌, ◌⊎◌, inl, inr, List, Option, None, Some, Result, Ok, Err, IsOk, slice_get, slice_set, ap, sym, subst, ◌∙◌}
 use Rattle.std.proofs.lemmas.List.{set-set}
 use Rattle.rows.specs.declared.value.Value.{Value}
 use Rattle.rows.specs.declared.row_id.RowId.{RowId}
 use Rattle.primary.specs.declared.faults.TxFault.{TxFault}
 use Rattle.primary.specs.declared.faults.TxFault.TheVariants as changes
-use Rattle.primary.specs.declared.faults.CommitFault.{CommitFault}
-use Rattle.primary.specs.declared.faults.CommitFault.TheVariants as commits
 use Rattle.primary.specs.Draft.{Draft}
-use Rattle.primary.specs.State.{Primary}
 use Rattle.primary.specs.Transactions.{insert_answer}
-use Rattle.primary.specs.Primary.{commit_answer, committed}
 use Rattle.dispatcher.specs.declared.faults.AskFault.{AskFault}
 use Rattle.dispatcher.specs.declared.faults.OpenFault.{OpenFault}
 use Rattle.dispatcher.specs.declared.faults.OpenFault.TheVariants as opens

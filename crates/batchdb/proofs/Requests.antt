@@ -1,27 +1,18 @@
 -- How many requests a replica has made after a step of it: the same number, or one more where it asks.
-use Rattle.std.proofs.Common.{◌≡◌, ℕ, ◌+◌, ◌-◌, ◌≤◌, ◌==◌, ◌⊎◌, ◌||◌, ◌&&◌, not, inl, inr, Bool, true, false, cond, nat_lt, nat_le, List, [], ◌∷◌, length, Option, None, Some, Result, Ok, Err, slice_index, refl, ap, sym, ◌∙◌, arith, rules}
+use Rattle.std.proofs.Common.{◌≡◌, ℕ, ◌+◌, ◌≤◌, inl, inr, Bool, true, false, cond, List, Option, None, Some, Result, Ok, Err, refl, ap, sym, arith, rules}
 use Rattle.std.specs.Option.{option_map}
-use Rattle.std.specs.List.{list_all}
-use Rattle.std.specs.Result.{is_ok}
 use Rattle.std.proofs.lemmas.Option.{same_Some}
-use Rattle.rows.specs.declared.limits.TheConstants.{WAITING_QUERIES_MAX}
-use Rattle.rows.specs.Tables.{Tables, fitting}
+use Rattle.rows.specs.Tables.{Tables}
 use Rattle.wire.specs.declared.datagram.Datagram.{Datagram}
 use Rattle.wire.specs.declared.datagram.Datagram.TheVariants as datagrams
 use Rattle.wire.specs.declared.fault.WireFault.{WireFault}
 use Rattle.wire.specs.declared.out.Out.{Out}
 use Rattle.wire.specs.Reading.{reading}
-use Rattle.dispatcher.specs.declared.faults.AskFault.{AskFault}
-use Rattle.dispatcher.specs.declared.faults.OpenFault.{OpenFault}
 use Rattle.dispatcher.specs.declared.plan.Plan.{Plan}
-use Rattle.dispatcher.specs.declared.plan.PlanFault.{PlanFault}
-use Rattle.dispatcher.specs.declared.outcome.Got.{Got}
 use Rattle.dispatcher.specs.declared.outcome.Got.TheVariants as got
 use Rattle.dispatcher.specs.declared.outcome.Run.{Run}
-use Rattle.dispatcher.specs.Known.{is_known, is_ahead, first_missing}
-use Rattle.dispatcher.specs.Plans.{checked}
-use Rattle.dispatcher.specs.Replica.{Replica, Queries, Fetched}
-use Rattle.dispatcher.specs.Steps.{known, opened, asked, asked_by, received, datagram_comes, own_head_comes, ran, ran_by, is_waiting, caught_up, finished, WantsMemory}
+use Rattle.dispatcher.specs.Replica.{Replica, Queries}
+use Rattle.dispatcher.specs.Steps.{opened, asked, asked_by, received, datagram_comes, ran, WantsMemory}
 
 -- whichever way a test goes
 either_way : {A : Type 0} (b : Bool) (x y : A × Replica) (n : ℕ) → x.1.request ≡ n → y.1.request ≡ n → (cond b x y).1.request ≡ n

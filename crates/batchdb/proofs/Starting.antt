@@ -1,10 +1,10 @@
 -- The parts at the beginning: what is still to be made, and that they are ready.
-use Rattle.std.proofs.Common.{◌≡◌, ℕ, zero, suc, ◌+◌, ◌-◌, ◌<◌, ◌≤◌, List, [], ◌∷◌, length, refl, ap, arith, add-one}
+use Rattle.std.proofs.Common.{◌≡◌, ℕ, zero, suc, ◌+◌, ◌-◌, ◌<◌, ◌≤◌, ◌∷◌, length, refl, ap, arith, add-one}
 use Rattle.std.specs.List.{AllByRecursion}
 use Rattle.rows.specs.Shape.{Shape}
 use Rattle.dispatcher.specs.Replica.{Replica}
 use Rattle.dispatcher.specs.Steps.{started}
-use Rattle.batchdb.specs.Parts.{Parts, replicas_from, zeros, parts_started, IsReady}
+use Rattle.batchdb.specs.Parts.{replicas_from, zeros, parts_started, IsReady}
 
 pub replicas_left : (shape : Shape) (workers number count : ℕ) → number < count
     → replicas_from shape workers number (count - number) ≡ started shape workers number 1 ∷ replicas_from shape workers (number + 1) (count - (number + 1))

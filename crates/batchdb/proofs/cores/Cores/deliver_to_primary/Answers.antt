@@ -1,5 +1,5 @@
 -- The answers of the primary are sent, where there are any.
-use Rattle.std.proofs.Common.{◌≡◌, ◌<◌, length, inl, inr, refl, sym, ◌∙◌, arith}
+use Rattle.std.proofs.Common.{◌≡◌, ◌<◌, length, inl, inr, refl, arith}
 use Rattle.std.proofs.lemmas.Bool.Decides.{nat_tests}
 use Rattle.std.proofs.lemmas.Option.{slice_get_read}
 use Rattle.batchdb.proofs.Delivering.{nothing_sent, all_sent}

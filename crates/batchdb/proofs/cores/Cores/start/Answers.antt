@@ -1,5 +1,5 @@
 -- Each turn makes the next replica, until none is left.
-use Rattle.std.proofs.Common.{◌≡◌, ◌-◌, sym, ◌∙◌, append_assoc, arith}
+use Rattle.std.proofs.Common.{◌≡◌, ◌-◌, append_assoc, arith}
 use Rattle.std.proofs.lemmas.List.{append-nil}
 use Rattle.rows.specs.Shape.{shape_of}
 use Rattle.batchdb.proofs.Starting.{replicas_left, zeros_left}
