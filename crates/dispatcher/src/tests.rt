@@ -86,7 +86,6 @@ fn waiting_replica(alloc: Global) -> Result<ReplicaCore, Fail> {
 
 #[test]
 fn a_batch_is_answered_at_its_version(rt: HostRuntime) -> Result<(), Fail> {
-    fed_replicas_stay_fed();
     let mut replica = replica(rt.alloc())?;
     assert_eq!(rt; replica.open(Plan { table: 0 }), Ok(1));
     assert_eq!(rt;
@@ -147,6 +146,11 @@ fn frames_are_kept_within_the_window(rt: HostRuntime) -> Result<(), Fail> {
     assert_eq!(rt; replica.on_bytes(&frame_at(4097)), Got::Ahead);
     assert_eq!(rt; replica.on_bytes(&frame_at(4096)), Got::Stored);
     Ok(())
+}
+
+#[test]
+fn the_laws_can_be_called() {
+    fed_replicas_stay_fed();
 }
 
 #[test]
