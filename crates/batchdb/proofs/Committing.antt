@@ -32,7 +32,7 @@ use Rattle.dispatcher.proofs.Streams.{count-is, frame-commit}
 use Rattle.dispatcher.proofs.Versions.{tables-stay}
 use Rattle.batchdb.specs.Outputs.{packets_of}
 use Rattle.batchdb.specs.Parts.{Parts}
-use Rattle.batchdb.specs.Steps.{open_draft, inserting, insert_by, committing, commit_by, push_by, to_primary}
+use Rattle.batchdb.specs.Steps.{IsValue, open_draft, inserting, insert_by, committing, commit_by, push_by, to_primary}
 use Rattle.batchdb.specs.World.{insert_happens, commit_happens, on_draft, push_happens}
 use Rattle.batchdb.proofs.Lists.{get-set, get-append, get-one, All-get, All-left, All-append}
 use Rattle.batchdb.proofs.Sound.{Sound, IsSoundPrimary, IsSmall, IsSmallDraft, Means}
@@ -82,16 +82,16 @@ inserts : (shape : Shape) (p : Parts) (number : ℕ) (answer : Result Draft TxFa
 inserts shape p number (Ok new) sound small = (refl, drafts-changed shape p number new sound (small new refl))
 inserts shape p number (Err fault) sound small = (refl, sound)
 
-pub insert-follows : (shape : Shape) (p : Parts) (number table row : ℕ) (values : List Value) (found : Option Draft) → AreTables shape → Sound shape p → row < 2 ^ 64 → open_draft p.transactions number ≡ found
+pub insert-follows : (shape : Shape) (p : Parts) (number table row : ℕ) (values : List Value) (found : Option Draft) → AreTables shape → Sound shape p → row < 2 ^ 64 → AllByRecursion IsValue values → open_draft p.transactions number ≡ found
     → Follows shape
     (on_draft (world_of p) found (λ draft. insert_happens (world_of p) number (insert_answer p.primary.shape (p.primary.durable ++ p.primary.pending) draft table row values)))
     (insert_by p number table row values found)
-insert-follows shape p number table row values None tables sound below here = (refl, sound)
-insert-follows shape p number table row values (Some draft) tables sound below here =
+insert-follows shape p number table row values None tables sound below held here = (refl, sound)
+insert-follows shape p number table row values (Some draft) tables sound below held here =
     let commits = p.primary.durable ++ p.primary.pending in
     let small = sound.drafts_are number draft (opened (slice_get p.transactions number) draft here) in
     inserts shape p number (insert_answer p.primary.shape commits draft table row values) sound
-    (λ new h. insert-small shape commits draft table row values new tables below small (ap (λ (s : Shape). insert_answer s commits draft table row values) (sym sound.primary_is.shape_is) ∙ h))
+    (λ new h. insert-small shape commits draft table row values new tables below held small (ap (λ (s : Shape). insert_answer s commits draft table row values) (sym sound.primary_is.shape_is) ∙ h))
 
 -- ---- commits
 

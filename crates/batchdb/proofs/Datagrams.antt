@@ -9,7 +9,7 @@ use Rattle.byteorder.specs.Endian.{big_bytes, big_number}
 use Rattle.byteorder.specs.Numbers.{big_from-bytes, big_number-reads_back}
 use Rattle.rows.specs.declared.commit.Commit.{Commit}
 use Rattle.rows.specs.declared.entry.Entry.{Entry}
-use Rattle.rows.specs.declared.entry.Entry.TheVariants.{Insert}
+use Rattle.rows.specs.declared.entry.Entry.TheVariants.{Insert, Patch, Delete}
 use Rattle.rows.specs.declared.limits.TheConstants.{DATAGRAM_MAX, REPLICAS_MAX, WORKERS_MAX}
 use Rattle.rows.specs.Spelling.{entry_spelling, HasSpelling as EntryHasSpelling}
 use Rattle.wire.specs.declared.datagram.Datagram.{Datagram}
@@ -31,6 +31,13 @@ entries_few (Insert table row content ∷ entries) h =
     let rest = entries_few entries h.1 in
     let size = h.0.few in
     omega (arith, length-append content (flat_map entry_spelling entries))
+entries_few (Patch table row offset content ∷ entries) h =
+    let rest = entries_few entries h.1 in
+    let size = h.0.few in
+    omega (arith, length-append content (flat_map entry_spelling entries))
+entries_few (Delete table row ∷ entries) h =
+    let rest = entries_few entries h.1 in
+    omega arith
 
 -- the frame of a small commit reads as itself
 pub frame-read : (place : ℕ) (commit : Commit) → IsSmall commit → place + 1 < 2 ^ 64

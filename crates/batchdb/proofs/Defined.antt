@@ -1,8 +1,8 @@
 -- An insert that is accepted leaves a transaction whose entries are defined on the rows at its snapshot.
-use Rattle.std.proofs.Common.{◌≡◌, ℕ, Bool, true, false, cond, not, ◌||◌, ◌&&◌, List, [], ◌∷◌, ◌++◌, length, Option, Some, Result, Ok, Err, nat_lt, refl, sym, ap, subst, ◌∙◌}
+use Rattle.std.proofs.Common.{◌≡◌, ℕ, Bool, true, false, cond, not, List, [], ◌∷◌, ◌++◌, length, Option, Some, Ok, Err, nat_lt, refl, sym, ap, subst, ◌∙◌}
 use Rattle.std.specs.List.{slice_get}
 use Rattle.std.specs.Result.{is_ok}
-use Rattle.std.proofs.lemmas.Bool.{false≢true, eq-eqb, and_from, or_from, or_parts, not_from_false}
+use Rattle.std.proofs.lemmas.Bool.{eq-eqb, and_from, not_from_false}
 use Rattle.rows.specs.declared.commit.Commit.{Commit}
 use Rattle.rows.specs.declared.entry.Entry.{Entry}
 use Rattle.rows.specs.declared.entry.Entry.TheVariants.{Insert}
@@ -11,36 +11,17 @@ use Rattle.rows.specs.declared.kind.Kind.{Kind}
 use Rattle.rows.specs.declared.row_id.RowId.{RowId}
 use Rattle.rows.specs.declared.value.Value.{Value}
 use Rattle.rows.specs.Shape.{Shape, row_width}
-use Rattle.rows.specs.Tables.{Tables, Refusal, Unfit, Exists, fitting, sized, is_present, rows_of, inserted, change_of, changes_of, and_then}
-use Rattle.rows.specs.Commits.{tables_after, is_of}
+use Rattle.rows.specs.Entries.{sized, fitting}
+use Rattle.rows.specs.Tables.{is_present, rows_of, changes_of}
+use Rattle.rows.specs.Commits.{tables_after}
+use Rattle.rows.specs.Presence.{is_there_after}
 use Rattle.rows.specs.Values.{bytes_of}
-use Rattle.rows.proofs.TableLaws.{named, fit_named, there-seen, defined_behind}
+use Rattle.rows.proofs.TableLaws.{there-seen, is_there_after_fit-defined, defined_behind}
 use Rattle.primary.specs.declared.faults.TxFault.TheVariants as changes
 use Rattle.primary.specs.declared.transaction.TheConstants.{TRANSACTION_ENTRIES_MAX}
 use Rattle.primary.specs.Draft.{Draft}
 use Rattle.primary.specs.Transactions.{match_table, seen_by, insert_answer}
 use Rattle.batchdb.proofs.Changing.{length-values, matched}
-
--- what goes on after a change that was not refused
-ok-parts : (next : Tables → Result Tables Refusal) (first : Result Tables Refusal) → is_ok (and_then next first) ≡ true → (after : Tables) × (first ≡ Ok after) × (is_ok (next after) ≡ true)
-ok-parts next (Ok after) h = (after, refl, h)
-ok-parts next (Err refusal) h = absurd (false≢true h)
-
-change-fits : (shape : Shape) (tables after : Tables) (table : ℕ) (row : RowId) (bytes : List ℕ) → change_of shape tables (Insert table row bytes) ≡ Ok after → is_ok (fitting shape (Insert table row bytes)) ≡ true
-change-fits shape tables after table row bytes h = by (is_ok (fitting shape (Insert table row bytes))) h
-  where
-    by : (fits : Bool) → cond fits (cond (is_present (rows_of tables table) row.0) (Err Exists) (Ok (inserted shape tables table row.0 bytes))) (Err Unfit) ≡ Ok after → fits ≡ true
-    by true h = refl
-    by false h = absurd (cc)
-
--- entries that are defined fit, so those that fit and name a row are all that name it
-named-fit : (shape : Shape) (tables : Tables) (entries : List Entry) (table row : ℕ) → is_ok (changes_of shape tables entries) ≡ true → fit_named shape entries table row ≡ named entries table row
-named-fit shape tables [] table row h = refl
-named-fit shape tables (Insert table' row' bytes ∷ entries) table row h =
-    let parts = ok-parts (λ after. changes_of shape after entries) (change_of shape tables (Insert table' row' bytes)) h in
-    let fits = change-fits shape tables parts.0 table' row' bytes parts.1 in
-    ap (λ (b : Bool). (b && is_of table row (Insert table' row' bytes)) || fit_named shape entries table row) fits
-    ∙ ap (λ (b : Bool). is_of table row (Insert table' row' bytes) || b) (named-fit shape parts.0 entries table row parts.2)
 
 sized-matched : (found : Option (List Kind)) (kinds : List Kind) (size : ℕ) → found ≡ Some kinds → size ≡ row_width kinds → is_ok (sized found size) ≡ true
 sized-matched found kinds size e f =
@@ -71,10 +52,10 @@ insert-defined shape commits draft table row values new defined h =
     by true false true e f h =
         let same : with ≡ new = cc in
         let tables = tables_after shape commits draft.snapshot in
-        let none = or_parts (is_present (rows_of tables table) row) (fit_named shape draft.entries table row) (sym (there-seen shape commits draft.snapshot draft.entries table row) ∙ f) in
-        let unnamed : named draft.entries table row ≡ false = sym (named-fit shape tables draft.entries table row defined) ∙ none.1 in
+        let row_was = is_present (rows_of tables table) row in
+        let absent : is_there_after table row draft.entries row_was ≡ false =
+        sym (is_there_after_fit-defined shape tables draft.entries table row row_was defined) ∙ sym (there-seen shape commits draft.snapshot draft.entries table row) ∙ f in
         let is : is_ok (changes_of shape tables (draft.entries ++ entry ∷ [])) ≡ true =
-        defined_behind shape commits draft.snapshot draft.entries table (record { 0 = row }) (bytes_of values) defined
-        ∙ and_from (is_ok (fitting shape entry)) (not (is_present (rows_of tables table) row || named draft.entries table row)) (values-fit shape table (record { 0 = row }) values e)
-        (not_from_false _ (or_from (is_present (rows_of tables table) row) (named draft.entries table row) none.0 unnamed)) in
+        defined_behind shape commits draft.snapshot draft.entries entry defined
+        ∙ and_from (is_ok (fitting shape entry)) (not (is_there_after table row draft.entries row_was)) (values-fit shape table (record { 0 = row }) values e) (not_from_false _ absent) in
         subst (λ (d : Draft). (d.snapshot ≡ draft.snapshot) × (is_ok (changes_of shape tables d.entries) ≡ true)) same (refl, is)

@@ -12,7 +12,8 @@ use Rattle.rows.specs.declared.entry.Entry.{Entry}
 use Rattle.rows.specs.declared.limits.TheConstants.{WAITING_QUERIES_MAX}
 use Rattle.rows.specs.declared.value.Value.{Value}
 use Rattle.rows.specs.Shape.{Shape}
-use Rattle.rows.specs.Tables.{changes_of, fitting}
+use Rattle.rows.specs.Entries.{fitting}
+use Rattle.rows.specs.Tables.{changes_of}
 use Rattle.rows.specs.Commits.{tables_after}
 use Rattle.wire.specs.declared.datagram.Datagram.{Datagram}
 use Rattle.wire.specs.declared.datagram.Datagram.TheVariants as datagrams

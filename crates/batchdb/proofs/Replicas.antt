@@ -11,7 +11,7 @@ use Rattle.std.specs.Option.{is_none}
 use Rattle.std.proofs.lemmas.Bool.{false≢true, and_parts, eqb-true, le-ltb, eq-eqb}
 use Rattle.rows.specs.declared.commit.Commit.{Commit}
 use Rattle.rows.specs.Shape.{Shape}
-use Rattle.rows.specs.Tables.{fitting}
+use Rattle.rows.specs.Entries.{fitting}
 use Rattle.rows.specs.Commits.{IsLegal}
 use Rattle.wire.specs.declared.datagram.Datagram.{Datagram}
 use Rattle.wire.specs.declared.datagram.Datagram.TheVariants as datagrams

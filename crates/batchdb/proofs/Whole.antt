@@ -63,7 +63,7 @@ show-same (Some bytes) = refl
 step-follows : (shape : Shape) (p : Parts) (replicas : ℕ) (event : Event) → AreTables shape → Sound shape p → IsPossible 1 replicas event → Follows shape (happens (world_of p) event) (stepped p event)
 step-follows shape p replicas events.Begin tables sound possible = (refl, drafts-begun shape p sound)
 step-follows shape p replicas (events.Insert transaction table row values) tables sound possible =
-    insert-follows shape p transaction table row.0 values (open_draft p.transactions transaction) tables sound possible refl
+    insert-follows shape p transaction table row.0 values (open_draft p.transactions transaction) tables sound possible.0 possible.1 refl
 step-follows shape p replicas (events.Commit transaction worker) tables sound possible = commit-follows shape p transaction worker (open_draft p.transactions transaction) sound possible refl
 step-follows shape p replicas (events.Flush count) tables sound possible = flush-follows shape p count p.primary.failed sound
 step-follows shape p replicas (events.Push worker seq) tables sound possible = push-follows shape p worker seq (slice_get (stream_of p.primary.durable worker) seq) sound possible refl

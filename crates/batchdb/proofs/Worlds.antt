@@ -2,15 +2,14 @@
 use Rattle.std.proofs.Common.{◌≡◌, ℕ, zero, suc, List, [], ◌∷◌, length, refl, sym, ap, ◌∙◌, arith}
 use Rattle.std.specs.List.{slice_get, slice_set, slice_index}
 use Rattle.std.specs.Option.{option_map}
-use Rattle.std.specs.Map.{keys_of}
-use Rattle.dispatcher.specs.Replica.{Replica, Queries}
+use Rattle.dispatcher.specs.Replica.{Replica}
 use Rattle.dispatcher.specs.Steps.{started}
 use Rattle.rows.specs.Shape.{Shape}
 use Rattle.batchdb.specs.declared.output.Output.{Output}
 use Rattle.batchdb.specs.Parts.{Parts, replicas_from, zeros, parts_started}
 use Rattle.batchdb.specs.Steps.{with_replica}
 use Rattle.batchdb.specs.Standing.{member_of, members_of, world_of}
-use Rattle.batchdb.specs.World.{World, Member, Batch, fresh_from, opening_world, with_member}
+use Rattle.batchdb.specs.World.{World, Member, fresh_from, opening_world, with_member}
 
 -- what a step of the parts is in the world
 abbrev pub seen : Output × Parts → Output × World

@@ -1,5 +1,5 @@
 -- What an event answers, from what the primary and the replicas answer.
-use Rattle.std.specs.Prelude.{ℕ, ◌+◌, List, [], ◌∷◌, length, Bool, true, false}
+use Rattle.std.specs.Prelude.{ℕ, ◌+◌, List, [], ◌∷◌, length}
 use Rattle.primary.specs.declared.faults.TxFault.{TxFault}
 use Rattle.primary.specs.declared.faults.TxFault.TheVariants as changes
 use Rattle.primary.specs.declared.faults.CommitFault.{CommitFault}

@@ -1,5 +1,5 @@
 -- The parts of a world that the program steps: the cores, the open transactions, and every datagram that was ever sent.
-use Rattle.std.specs.Prelude.{ℕ, zero, suc, ◌<◌, ◌≤◌, ◌≡◌, List, [], ◌∷◌, ◌++◌, length, Option, None, Some, IfSome}
+use Rattle.std.specs.Prelude.{ℕ, zero, suc, ◌≤◌, ◌≡◌, List, [], ◌∷◌, length, Option, IfSome}
 use Rattle.std.specs.List.{AllByRecursion}
 use Rattle.rows.specs.Shape.{Shape}
 use Rattle.primary.specs.Draft.{Draft}

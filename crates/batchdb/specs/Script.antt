@@ -1,7 +1,7 @@
 -- What is known of the settings of a script that have been read so far: for now there is one worker and one replica.
 use Rattle.std.specs.Prelude.{◌≡◌}
-use Rattle.batchdb.specs.declared.script.Settings.{Settings}
-use Rattle.batchdb.specs.declared.script.Settings.TheVariants.{Nothing, Workers, Replicas, Ready}
+use Rattle.batchdb.specs.declared.settings.Settings.{Settings}
+use Rattle.batchdb.specs.declared.settings.Settings.TheVariants.{Nothing, Workers, Replicas, Ready}
 
 abbrev pub AreOne : Settings → Type 0
 AreOne Nothing = Unit {0}

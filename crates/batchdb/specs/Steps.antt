@@ -1,12 +1,14 @@
 -- One step of the parts: each event is one call on a core, and this is what it answers and leaves.
-use Rattle.std.specs.Prelude.{◌≡◌, ℕ, ◌+◌, ◌^◌, ◌<◌, List, [], ◌∷◌, ◌++◌, length, Bool, Option, None, Some, Result, Ok, Err, slice_get, slice_set, ◌⊎◌, ◌==◌, if◌then◌else◌}
-use Rattle.std.specs.Option.{option_and_then, option_map}
+use Rattle.std.specs.Prelude.{◌≡◌, ℕ, ◌^◌, ◌<◌, List, [], ◌∷◌, ◌++◌, length, Option, None, Some, Result, Ok, Err, slice_get, slice_set, ◌⊎◌, if◌then◌else◌}
+use Rattle.std.specs.List.{AllByRecursion}
+use Rattle.std.specs.Option.{option_and_then}
 use Rattle.rows.specs.declared.value.Value.{Value}
+use Rattle.rows.specs.declared.value.Value.TheVariants as values
+use Rattle.rows.specs.Spelling.{AreBytes}
 use Rattle.wire.specs.declared.out.Out.{Out}
 use Rattle.primary.specs.declared.faults.TxFault.{TxFault}
 use Rattle.primary.specs.declared.faults.CommitFault.{CommitFault}
 use Rattle.primary.specs.Draft.{Draft}
-use Rattle.primary.specs.State.{Primary}
 use Rattle.primary.specs.Transactions.{insert_answer}
 use Rattle.primary.specs.Primary.{commit_answer, committed, flushed}
 use Rattle.primary.specs.Sending.{pushed, answers}
@@ -185,10 +187,16 @@ abbrev pub IsThere : ℕ → Node → Type 0
 IsThere replicas nodes.Primary = Unit {0}
 IsThere replicas (nodes.Replica number) = number < replicas
 
--- an event that may be asked for: the workers and replicas that it names are there, and a row's identifier has 64 bits
+-- a value that a program can hold: octets are bytes
+abbrev pub IsValue : Value → Type 0
+IsValue (values.Int number) = Unit {0}
+IsValue (values.Octets bytes) = AreBytes bytes
+
+-- an event that may be asked for: the workers and replicas that it names are there, a row's identifier has 64 bits, and
+-- its values can be held
 abbrev pub IsPossible : ℕ → ℕ → Event → Type 0
 IsPossible workers replicas events.Begin = Unit {0}
-IsPossible workers replicas (events.Insert transaction table row values) = row.0 < 2 ^ 64
+IsPossible workers replicas (events.Insert transaction table row values) = (row.0 < 2 ^ 64) × AllByRecursion IsValue values
 IsPossible workers replicas (events.Commit transaction worker) = worker < workers
 IsPossible workers replicas (events.Flush count) = Unit {0}
 IsPossible workers replicas (events.Push worker seq) = worker < workers

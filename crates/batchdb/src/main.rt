@@ -11,6 +11,7 @@
 
 mod cores;
 mod event;
+mod line_fault;
 mod naming;
 mod output;
 mod output_text;
@@ -19,6 +20,7 @@ mod run_script;
 mod script;
 mod script_fault;
 mod sent;
+mod settings;
 mod setup;
 mod simulator;
 mod stepping;

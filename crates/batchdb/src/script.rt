@@ -3,43 +3,17 @@
 ghost use Rattle.std.specs.Prelude.{ℕ, ◌≡◌, ◌<◌, ◌≤◌, length, IfOk, IfSome, OnOk, ok_or};
 ghost use Rattle.std.specs.List.{AllByRecursion};
 ghost use Rattle.batchdb.specs.Script.{AreOne};
-ghost use Rattle.batchdb.specs.Steps.{IsPossible, IsThere};
+ghost use Rattle.batchdb.specs.Steps.{IsPossible, IsThere, IsValue};
 
 use crate::event::{Event, Node};
+use crate::line_fault::LineFault;
 use crate::script_fault::{Reason, ScriptFault};
+use crate::settings::{Settings, is_table, read_setting};
 use crate::setup::Setup;
-use crate::words::{int, is_name, number, number_below, text, words_of};
+use crate::words::{is_name, number, number_below, text, value_of, words_of};
 use dispatcher::Plan;
-use rows::{Kind, Row, RowId, Schema, SchemaFault, Value};
+use rows::{Row, RowId, Value};
 use std::alloc::Global;
-
-/// Why one line does not read.
-#[derive(Clone, Copy, Debug, PartialEq, Eq)]
-enum LineFault {
-    Because(Reason),
-    Memory,
-}
-
-impl From<std::alloc::AllocError> for LineFault {
-    fn from(_fault: std::alloc::AllocError) -> LineFault {
-        LineFault::Memory
-    }
-}
-
-impl<T: Drop> From<std::alloc::AllocFailed<T>> for LineFault {
-    fn from(_fault: std::alloc::AllocFailed<T>) -> LineFault {
-        LineFault::Memory
-    }
-}
-
-/// The settings that have been read so far, in their order.
-#[derive(Debug, Drop)]
-enum Settings {
-    Nothing,
-    Workers(u8),
-    Replicas { workers: u8, replicas: u8 },
-    Ready(Setup),
-}
 
 /// The settings and events of a script. Each line is ended by 0a, and the last one may lack it;
 /// empty lines and lines that begin with `#` are skipped.
@@ -85,8 +59,8 @@ fn first_line(bytes: &[u8]) -> (&[u8], &[u8])
     (bytes, &[])
 }
 
-/// Reads one line: a setting while they are not all there, and then an event. A line that is
-/// skipped leaves the settings as they are.
+/// Reads one line: a setting, or an event once the settings have a table. A line that is skipped
+/// leaves the settings as they are.
 fn read_line(
     alloc: Global,
     settings: Settings,
@@ -105,59 +79,14 @@ fn read_line(
         return Ok(settings);
     }
     let words = words_of(alloc, line)?;
+    let words = words.as_slice();
     match settings {
-        Settings::Ready(setup) => {
-            let event = read_event(alloc, &setup, words.as_slice())?;
+        Settings::Ready(setup) if !events.is_empty() || !is_table(words) => {
+            let event = read_event(alloc, &setup, words)?;
             events.push(event)?;
             Ok(Settings::Ready(setup))
         }
-        settings => read_setting(alloc, settings, words.as_slice()),
-    }
-}
-
-/// Reads the next setting: the workers, then the replicas, then the table. For now there is one
-/// of each.
-fn read_setting(alloc: Global, settings: Settings, words: &[&[u8]]) -> Result<Settings, LineFault>
-    requires { AreOne settings }
-    ensures { IfOk result AreOne }
-{
-    match (settings, words) {
-        (Settings::Nothing, [b"workers", b"1"]) => Ok(Settings::Workers(1)),
-        (Settings::Workers(workers), [b"replicas", b"1"]) => Ok(Settings::Replicas {
-            workers,
-            replicas: 1,
-        }),
-        (Settings::Replicas { workers, replicas }, [b"table", name, kinds @ ..]) => {
-            let schema = read_table(alloc, name, kinds)?;
-            Ok(Settings::Ready(Setup {
-                schema,
-                workers,
-                replicas,
-            }))
-        }
-        _ => Err(LineFault::Because(Reason::BadSetting)),
-    }
-}
-
-/// The schema of one table with this name and these kinds of columns.
-fn read_table(alloc: Global, name: &[u8], kinds: &[&[u8]]) -> Result<Schema, LineFault> {
-    if !is_name(name) {
-        return Err(LineFault::Because(Reason::BadSetting));
-    }
-    let Some(name) = text(name) else {
-        return Err(LineFault::Because(Reason::BadSetting));
-    };
-    let mut columns = Vec::new(alloc);
-    for kind in kinds {
-        if *kind != b"int".as_slice() {
-            return Err(LineFault::Because(Reason::BadSetting));
-        }
-        columns.push(Kind::Int)?;
-    }
-    match Schema::new(alloc, &[(name, columns.as_slice())]) {
-        Ok(schema) => Ok(schema),
-        Err(SchemaFault::Memory) => Err(LineFault::Memory),
-        Err(_) => Err(LineFault::Because(Reason::BadSetting)),
+        settings => read_setting(alloc, settings, words),
     }
 }
 
@@ -319,19 +248,27 @@ fn read_insert(alloc: Global, setup: &Setup, rest: &[&[u8]]) -> Result<Event, Li
     if !is_name(name) || values.is_empty() {
         return Err(LineFault::Because(Reason::BadWords));
     }
-    let mut items = Vec::new(alloc);
-    for value in values {
-        match int(value) {
-            Some(number) => items.push(Value::Int(number))?,
-            None => return Err(LineFault::Because(Reason::BadWords)),
-        }
-    }
+    let values = read_values(alloc, values)?;
     Ok(Event::Insert {
         transaction,
         table: find_table(setup, name)?,
         row: RowId(row),
-        values: Row::from_vec(items),
+        values: Row::from_vec(values),
     })
+}
+
+/// Reads the values of a row.
+fn read_values(alloc: Global, words: &[&[u8]]) -> Result<Vec<Value>, LineFault>
+    ensures { IfOk result (λ values. AllByRecursion IsValue values.items) }
+{
+    let mut values = Vec::new(alloc);
+    for word in words {
+        match value_of(word) {
+            Some(value) => values.push(value)?,
+            None => return Err(LineFault::Because(Reason::BadWords)),
+        }
+    }
+    Ok(values)
 }
 
 /// Reads `open R query NAME get count`.

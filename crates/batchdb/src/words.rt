@@ -1,7 +1,11 @@
 //! The words of a script's lines, and what they stand for.
 
 ghost use Rattle.std.specs.Prelude.{◌<◌, IfSome};
+ghost use Rattle.rows.specs.Spelling.{AreBytes};
+ghost use Rattle.batchdb.specs.Steps.{IsValue};
 
+use rows::limits::OCTETS_MAX;
+use rows::{Kind, Octets, Value};
 use std::alloc::{AllocError, Global};
 
 /// The words of a line, which one space parts. A space at an end of the line, or two in a row,
@@ -74,6 +78,55 @@ pub fn int(word: &[u8]) -> Option<i64> {
 
 /// The size of the least number of 64 bits.
 const MIN_SIZE: u64 = 1 << 63;
+
+/// The value that a word stands for: `x` and hexadecimal digits, or else a number.
+pub fn value_of(word: &[u8]) -> Option<Value>
+    ensures { IfSome result IsValue }
+{
+    match word {
+        [b'x', digits @ ..] => Some(Value::Octets(octets_of(digits)?)),
+        digits => Some(Value::Int(int(digits)?)),
+    }
+}
+
+/// The bytes of 1 to 64 pairs of lower-case hexadecimal digits.
+fn octets_of(digits: &[u8]) -> Option<Octets>
+    ensures { IfSome result AreBytes }
+{
+    let len = digits.len() / 2;
+    if len == 0 || len > OCTETS_MAX || digits.len() % 2 != 0 {
+        return None;
+    }
+    let mut bytes = [0; OCTETS_MAX];
+    for place in 0..len {
+        bytes[place] = hex_digit(digits[2 * place])? * 16 + hex_digit(digits[2 * place + 1])?;
+    }
+    Octets::from_slice(&bytes[..len])
+}
+
+/// What a lower-case hexadecimal digit stands for.
+fn hex_digit(digit: u8) -> Option<u8>
+    ensures { IfSome result (λ value. value < 16) }
+{
+    match digit {
+        b'0'..=b'9' => Some(digit - b'0'),
+        b'a'..=b'f' => Some(digit - b'a' + 10),
+        _ => None,
+    }
+}
+
+/// The kind that a word stands for: `int`, or `bytes` and how many there are. Which numbers may
+/// stand there is the schema's to say.
+pub fn kind_of(word: &[u8]) -> Option<Kind> {
+    match word {
+        b"int" => Some(Kind::Int),
+        [b'b', b'y', b't', b'e', b's', width @ ..] => {
+            let width = u8::try_from(number(width)?).ok()?;
+            Some(Kind::Octets(width))
+        }
+        _ => None,
+    }
+}
 
 /// Whether the word has the form of a table's name: 1 to 16 of `a` to `z`, `0` to `9` and `_`,
 /// beginning with a letter.

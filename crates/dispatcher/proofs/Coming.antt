@@ -3,7 +3,7 @@ use Rattle.std.proofs.Common.{◌≡◌, true, false, nat_lt, is_ok}
 use Rattle.std.specs.List.{list_all}
 use Rattle.std.specs.Ordering.{nat_cmp}
 use Rattle.std.specs.BTreeMap.{insert_entry}
-use Rattle.rows.specs.Tables.{fitting}
+use Rattle.rows.specs.Entries.{fitting}
 use Rattle.wire.specs.declared.frame.Frame.{Frame}
 use Rattle.dispatcher.specs.declared.outcome.Got.TheVariants.{Ignored, Repeat, Ahead, Stored}
 use Rattle.dispatcher.specs.Known.{is_known, is_ahead}

@@ -1,3 +1,5 @@
+pub mod Columns
+pub mod Rows
 pub mod Places
 pub mod Replaying
 pub mod Openings

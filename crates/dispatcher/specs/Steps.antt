@@ -7,7 +7,8 @@ use Rattle.std.specs.Map.{keys_of}
 use Rattle.std.specs.BTreeMap.{insert_entry}
 use Rattle.rows.specs.declared.limits.TheConstants.{WAITING_QUERIES_MAX}
 use Rattle.rows.specs.Shape.{Shape}
-use Rattle.rows.specs.Tables.{opening, fitting}
+use Rattle.rows.specs.Entries.{fitting}
+use Rattle.rows.specs.Tables.{opening}
 use Rattle.wire.specs.declared.datagram.Datagram.{Datagram}
 use Rattle.wire.specs.declared.datagram.Datagram.TheVariants as datagrams
 use Rattle.wire.specs.declared.fault.WireFault.{WireFault}

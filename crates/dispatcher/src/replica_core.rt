@@ -4,7 +4,7 @@ ghost use Rattle.std.specs.Prelude.{◌≡◌, ◌<◌, ◌≤◌, ◌^◌, ◌+
 ghost use Rattle.rows.specs.Shape.{shape_of};
 ghost use Rattle.dispatcher.specs.Replica.{Replica};
 ghost use Rattle.std.specs.List.{list_all};
-ghost use Rattle.rows.specs.Tables.{fitting};
+ghost use Rattle.rows.specs.Entries.{fitting};
 ghost use Rattle.dispatcher.specs.Steps.{started, opened, asked, received, frame_comes, own_head_comes, ask_for, want_for, ready, CatchesUp, answered_by, MayRun};
 
 use crate::answering::report;

@@ -1,11 +1,13 @@
 //! The rows of one table, by identifier.
 
-ghost use Rattle.std.specs.Prelude.{◌≡◌, [], length, OnOk, OnErr};
-ghost use Rattle.std.specs.Ordering.{nat_cmp};
-ghost use Rattle.std.specs.BTreeMap.{insert_entry};
-ghost use Rattle.rows.specs.Tables.{is_present};
+ghost use Rattle.std.specs.Prelude.{◌≡◌, [], length, true, false, OnOk, OnErr};
+ghost use Rattle.std.specs.List.{list_all};
+ghost use Rattle.rows.specs.Shape.{is_good};
+ghost use Rattle.rows.specs.Tables.{is_present, with_row, with_patch, without_row, patched_row};
 
-use rows::Row;
+#[cfg(test)]
+use rows::Value;
+use rows::{Kind, Row, column_at, first_value};
 use std::alloc::{AllocError, Global};
 use std::collections::BTreeMap;
 use std::marker::Model;
@@ -49,12 +51,56 @@ impl TableMap {
         self.rows.contains_key(&row)
     }
 
+    /// The values of a row, lent; `None` where it is not there.
+    #[cfg(test)]
+    pub fn row(&self, row: u64) -> Option<&[Value]> {
+        match self.rows.get(&row) {
+            Some(values) => Some(values.as_slice()),
+            None => None,
+        }
+    }
+
     /// Puts a row in. Fails for want of memory alone, and then nothing has changed.
     pub fn insert(&mut self, row: u64, values: Row) -> Result<(), AllocError>
-        ensures ok { OnOk result (self.new ≡ insert_entry nat_cmp self.old row values) }
+        ensures ok { OnOk result (self.new ≡ with_row self.old row values) }
         ensures err { OnErr result (self.new ≡ self.old) }
     {
         self.rows.insert(row, values)?;
         Ok(())
+    }
+
+    /// Puts bytes at one column's place of a row, and answers whether the row is there; where it
+    /// is not, nothing changes. Takes no memory.
+    pub fn patch(&mut self, kinds: &[Kind], row: u64, offset: u16, bytes: &[u8]) -> bool
+        requires { list_all is_good kinds.now ≡ true }
+        ensures rows { self.new ≡ with_patch kinds.now self.old row offset bytes.now }
+        ensures found { result ≡ is_present self.old row }
+    {
+        match self.rows.get_mut(&row) {
+            Some(values) => {
+                patch_row(kinds, values, offset, bytes);
+                true
+            }
+            None => false,
+        }
+    }
+
+    /// Takes a row out, and answers whether it was there; where it was not, nothing changes.
+    pub fn remove(&mut self, row: u64) -> bool
+        ensures rows { self.new ≡ without_row self.old row }
+        ensures found { result ≡ is_present self.old row }
+        ensures kept { result ≡ false → self.new ≡ self.old }
+    {
+        self.rows.remove(&row).is_some()
+    }
+}
+
+/// Puts bytes at one column's place of a row. Where they have no column's place nothing changes.
+fn patch_row(kinds: &[Kind], row: &mut Row, offset: u16, bytes: &[u8])
+    requires { list_all is_good kinds.now ≡ true }
+    ensures { row.new ≡ patched_row kinds.now offset bytes.now row.old }
+{
+    if let Some((column, kind)) = column_at(kinds, offset as usize, bytes.len()) {
+        row.set(column, first_value(kind, bytes));
     }
 }

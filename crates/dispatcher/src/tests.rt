@@ -1,11 +1,16 @@
-//! A replica from its first query to its report, each fault, and each public call once.
+//! A replica from its first query to its report, each fault, each public call once, and what one
+//! entry makes of a table.
 
+ghost use Rattle.std.specs.Prelude.{◌≡◌, length, IfOk};
+
+use crate::applying::{ApplyFault, apply_entry};
 use crate::faults::{AskFault, OpenFault};
 use crate::laws::fed_replicas_stay_fed;
 use crate::outcome::{Got, Run};
 use crate::plan::{Plan, PlanFault};
 use crate::replica_core::ReplicaCore;
-use rows::{Kind, Schema};
+use crate::table_map::TableMap;
+use rows::{ByteList, Entry, Kind, RowId, Schema, Value};
 use std::alloc::Global;
 use std::test::Fail;
 use wire::To;
@@ -17,6 +22,23 @@ const FRAME: [u8; 54] = [
     0x00, 0x00, 0x00, 0x00, 0x00, 0x00, 0x01, 0x01, 0x00, 0x01, 0x01, 0x00, 0x00, 0x00, 0x00, 0x00,
     0x00, 0x00, 0x00, 0x07, 0x00, 0x10, 0x00, 0x00, 0x00, 0x00, 0x00, 0x00, 0x00, 0x05, 0xff, 0xff,
     0xff, 0xff, 0xff, 0xff, 0xff, 0xff,
+];
+
+/// The one frame of commit 1: it inserts the rows 7 and 8 into table 0, each with 5 and `abc`.
+const TWO_ROWS: [u8; 72] = [
+    0x42, 0x44, 0x01, 0x01, 0x00, 0x48, 0x00, 0x00, 0x00, 0x00, 0x00, 0x00, 0x00, 0x00, 0x00, 0x00,
+    0x00, 0x00, 0x00, 0x00, 0x00, 0x00, 0x01, 0x01, 0x00, 0x02, 0x01, 0x00, 0x00, 0x00, 0x00, 0x00,
+    0x00, 0x00, 0x00, 0x07, 0x00, 0x0b, 0x00, 0x00, 0x00, 0x00, 0x00, 0x00, 0x00, 0x05, 0x61, 0x62,
+    0x63, 0x01, 0x00, 0x00, 0x00, 0x00, 0x00, 0x00, 0x00, 0x00, 0x08, 0x00, 0x0b, 0x00, 0x00, 0x00,
+    0x00, 0x00, 0x00, 0x00, 0x05, 0x61, 0x62, 0x63,
+];
+
+/// The one frame of commit 2: it writes `xyz` over row 7's `abc`, and deletes row 8.
+const PATCH_AND_DELETE: [u8; 53] = [
+    0x42, 0x44, 0x01, 0x01, 0x00, 0x35, 0x00, 0x00, 0x00, 0x00, 0x00, 0x00, 0x00, 0x00, 0x01, 0x00,
+    0x00, 0x00, 0x00, 0x00, 0x00, 0x00, 0x02, 0x01, 0x00, 0x02, 0x02, 0x00, 0x00, 0x00, 0x00, 0x00,
+    0x00, 0x00, 0x00, 0x07, 0x00, 0x08, 0x00, 0x03, 0x78, 0x79, 0x7a, 0x03, 0x00, 0x00, 0x00, 0x00,
+    0x00, 0x00, 0x00, 0x00, 0x08,
 ];
 
 /// Replica 0 asks, in its boot 1, by request 1.
@@ -32,7 +54,14 @@ const HEAD: [u8; 40] = [
     0x00, 0x00, 0x00, 0x00, 0x00, 0x00, 0x00, 0x01,
 ];
 
-/// The same of two workers, the second of which has no frame.
+/// The answer to it at version 2, with the two frames of one worker.
+const HEAD_AT_2: [u8; 40] = [
+    0x42, 0x44, 0x01, 0x03, 0x00, 0x28, 0x00, 0x00, 0x00, 0x00, 0x00, 0x00, 0x00, 0x00, 0x01, 0x00,
+    0x00, 0x00, 0x00, 0x00, 0x00, 0x00, 0x01, 0x00, 0x00, 0x00, 0x00, 0x00, 0x00, 0x00, 0x02, 0x01,
+    0x00, 0x00, 0x00, 0x00, 0x00, 0x00, 0x00, 0x02,
+];
+
+/// The answer at version 1 of two workers, the second of which has no frame.
 const HEAD_OF_TWO: [u8; 48] = [
     0x42, 0x44, 0x01, 0x03, 0x00, 0x30, 0x00, 0x00, 0x00, 0x00, 0x00, 0x00, 0x00, 0x00, 0x01, 0x00,
     0x00, 0x00, 0x00, 0x00, 0x00, 0x00, 0x01, 0x00, 0x00, 0x00, 0x00, 0x00, 0x00, 0x00, 0x01, 0x02,
@@ -51,11 +80,38 @@ const WANT: [u8; 16] = [
     0x42, 0x44, 0x01, 0x04, 0x00, 0x10, 0x00, 0x00, 0x00, 0x00, 0x00, 0x00, 0x00, 0x00, 0x00, 0x00,
 ];
 
-/// Replica 0 of one worker in its boot 1, with accounts of two columns.
-fn replica(alloc: Global) -> Result<ReplicaCore, Fail> {
-    let kinds = [Kind::Int, Kind::Int];
-    let schema = Schema::new(alloc, &[("acct", kinds.as_slice())])?;
+/// Replica 0 of one worker in its boot 1, with accounts of these columns.
+fn replica_of(alloc: Global, kinds: &[Kind]) -> Result<ReplicaCore, Fail> {
+    let schema = Schema::new(alloc, &[("acct", kinds)])?;
     Ok(ReplicaCore::start(alloc, &schema, 1, 0, 1)?)
+}
+
+/// The same, whose columns are two numbers.
+fn replica(alloc: Global) -> Result<ReplicaCore, Fail> {
+    replica_of(alloc, &[Kind::Int, Kind::Int])
+}
+
+/// It has a query, and waits for the Head of request 1.
+fn asking(mut replica: ReplicaCore) -> Result<ReplicaCore, Fail> {
+    replica.open(Plan { table: 0 })?;
+    if replica.request() != 0 {
+        return Err(Fail::from("a request before the first"));
+    }
+    replica.ask()?;
+    Ok(replica)
+}
+
+/// What becomes of bytes. Nothing is said of it, which keeps the bytes out of a test's proof.
+fn get(replica: &mut ReplicaCore, bytes: &[u8]) -> Got {
+    replica.on_bytes(bytes)
+}
+
+/// Whether a run answers the batch with this report.
+fn answers(replica: &mut ReplicaCore, expected: &[u8]) -> bool {
+    match replica.run() {
+        Run::Answered(report) => report.as_slice() == expected,
+        _ => false,
+    }
 }
 
 /// The bytes with one of them changed.
@@ -73,25 +129,10 @@ fn frame_at(seq: u64) -> [u8; 54] {
     bytes
 }
 
-/// The same, which has a query and waits for the Head of request 1.
-fn waiting_replica(alloc: Global) -> Result<ReplicaCore, Fail> {
-    let mut replica = replica(alloc)?;
-    replica.open(Plan { table: 0 })?;
-    if replica.request() != 0 {
-        return Err(Fail::from("a request before the first"));
-    }
-    replica.ask()?;
-    Ok(replica)
-}
-
 #[test]
-fn a_batch_is_answered_at_its_version(rt: HostRuntime) -> Result<(), Fail> {
+fn an_ask_is_repeated_until_its_head(rt: HostRuntime) -> Result<(), Fail> {
     let mut replica = replica(rt.alloc())?;
     assert_eq!(rt; replica.open(Plan { table: 0 }), Ok(1));
-    assert_eq!(rt;
-        replica.open(Plan { table: 1 }),
-        Err(OpenFault::BadPlan(PlanFault::NoTable))
-    );
     assert!(rt; matches!(&replica.run(), Run::NoBatch));
     for _ in 0..2 {
         assert!(rt; replica.request() < 2);
@@ -101,32 +142,44 @@ fn a_batch_is_answered_at_its_version(rt: HostRuntime) -> Result<(), Fail> {
         assert_eq!(rt; replica.request(), 1);
     }
     assert!(rt; matches!(&replica.run(), Run::WaitingHead));
+    Ok(())
+}
 
-    assert_eq!(rt; replica.on_bytes(&changed(HEAD, 6, 1)), Got::Ignored);
-    assert_eq!(rt; replica.on_bytes(&changed(HEAD, 14, 2)), Got::Ignored);
-    assert_eq!(rt; replica.on_bytes(&changed(HEAD, 22, 2)), Got::Ignored);
-    assert_eq!(rt; replica.on_bytes(&HEAD_OF_TWO), Got::Ignored);
-    assert_eq!(rt; replica.on_bytes(&HEAD), Got::Head(1));
-    assert_eq!(rt; replica.on_bytes(&HEAD), Got::Ignored);
+#[test]
+fn a_batch_takes_its_own_head_alone(rt: HostRuntime) -> Result<(), Fail> {
+    let mut replica = asking(replica(rt.alloc())?)?;
+    assert_eq!(rt; get(&mut replica, &changed(HEAD, 6, 1)), Got::Ignored);
+    assert_eq!(rt; get(&mut replica, &changed(HEAD, 14, 2)), Got::Ignored);
+    assert_eq!(rt; get(&mut replica, &changed(HEAD, 22, 2)), Got::Ignored);
+    assert_eq!(rt; get(&mut replica, &HEAD_OF_TWO), Got::Ignored);
+    assert_eq!(rt; get(&mut replica, &HEAD), Got::Head(1));
+    assert_eq!(rt; get(&mut replica, &HEAD), Got::Ignored);
     assert_eq!(rt; replica.request(), 1);
     assert!(rt; matches!(&replica.ask(), Err(AskFault::Busy)));
+    Ok(())
+}
 
+#[test]
+fn a_missing_frame_is_wanted(rt: HostRuntime) -> Result<(), Fail> {
+    let mut replica = asking(replica(rt.alloc())?)?;
+    assert_eq!(rt; get(&mut replica, &HEAD), Got::Head(1));
     let Run::Waiting { worker, seq, want } = replica.run() else {
         return Err(Fail::from("not waiting"));
     };
     assert_eq!(rt; (worker, seq), (0, 0));
     assert_eq!(rt; want.to, To::Primary);
     assert_eq!(rt; want.packet.bytes(), WANT.as_slice());
-    assert_eq!(rt; replica.on_bytes(&FRAME), Got::Stored);
-    assert_eq!(rt; replica.on_bytes(&FRAME), Got::Repeat);
+    Ok(())
+}
+
+#[test]
+fn a_batch_is_answered_at_its_version(rt: HostRuntime) -> Result<(), Fail> {
+    let mut replica = asking(replica(rt.alloc())?)?;
+    assert_eq!(rt; get(&mut replica, &HEAD), Got::Head(1));
+    assert_eq!(rt; get(&mut replica, &FRAME), Got::Stored);
+    assert_eq!(rt; get(&mut replica, &FRAME), Got::Repeat);
     assert_eq!(rt; replica.version(), 0);
-    let Run::Answered(report) = replica.run() else {
-        return Err(Fail::from("not answered"));
-    };
-    assert_eq!(rt;
-        report.as_slice(),
-        b"version 1 queries 1\nquery 0 rows 1\n1\n".as_slice()
-    );
+    assert!(rt; answers(&mut replica, b"version 1 queries 1\nquery 0 rows 1\n1\n"));
     assert_eq!(rt; replica.version(), 1);
     assert_eq!(rt; replica.request(), 1);
     assert!(rt; matches!(&replica.ask(), Err(AskFault::Empty)));
@@ -134,17 +187,35 @@ fn a_batch_is_answered_at_its_version(rt: HostRuntime) -> Result<(), Fail> {
 }
 
 #[test]
+fn the_rows_that_are_left_are_counted(rt: HostRuntime) -> Result<(), Fail> {
+    let replica = replica_of(rt.alloc(), &[Kind::Int, Kind::Octets(3)])?;
+    let mut replica = asking(replica)?;
+    assert_eq!(rt; get(&mut replica, &HEAD_AT_2), Got::Head(2));
+    assert_eq!(rt; get(&mut replica, &TWO_ROWS), Got::Stored);
+    assert_eq!(rt; get(&mut replica, &PATCH_AND_DELETE), Got::Stored);
+    assert!(rt; answers(&mut replica, b"version 2 queries 1\nquery 0 rows 1\n1\n"));
+    Ok(())
+}
+
+#[test]
 fn frames_are_kept_within_the_window(rt: HostRuntime) -> Result<(), Fail> {
     let mut replica = replica(rt.alloc())?;
-    assert_eq!(rt; replica.on_bytes(&frame_at(4096)), Got::Ahead);
-    assert_eq!(rt; replica.on_bytes(&frame_at(4095)), Got::Stored);
-    assert_eq!(rt; replica.on_bytes(&frame_at(u64::MAX)), Got::Ahead);
-    assert_eq!(rt; replica.on_bytes(&changed(FRAME, 27, 5)), Got::Ignored);
-    assert_eq!(rt; replica.on_bytes(&changed(FRAME, 6, 1)), Got::Ignored);
-    assert_eq!(rt; replica.on_bytes(&FRAME[..53]), Got::Ignored);
-    assert_eq!(rt; replica.on_bytes(&FRAME), Got::Stored);
-    assert_eq!(rt; replica.on_bytes(&frame_at(4097)), Got::Ahead);
-    assert_eq!(rt; replica.on_bytes(&frame_at(4096)), Got::Stored);
+    assert_eq!(rt; get(&mut replica, &frame_at(4096)), Got::Ahead);
+    assert_eq!(rt; get(&mut replica, &frame_at(4095)), Got::Stored);
+    assert_eq!(rt; get(&mut replica, &frame_at(u64::MAX)), Got::Ahead);
+    assert_eq!(rt; get(&mut replica, &FRAME), Got::Stored);
+    assert_eq!(rt; get(&mut replica, &frame_at(4097)), Got::Ahead);
+    assert_eq!(rt; get(&mut replica, &frame_at(4096)), Got::Stored);
+    Ok(())
+}
+
+#[test]
+fn frames_that_do_not_fit_are_ignored(rt: HostRuntime) -> Result<(), Fail> {
+    let mut replica = replica(rt.alloc())?;
+    assert_eq!(rt; get(&mut replica, &changed(FRAME, 27, 5)), Got::Ignored);
+    assert_eq!(rt; get(&mut replica, &changed(FRAME, 6, 1)), Got::Ignored);
+    assert_eq!(rt; get(&mut replica, &FRAME[..53]), Got::Ignored);
+    assert_eq!(rt; get(&mut replica, &PATCH_AND_DELETE), Got::Ignored);
     Ok(())
 }
 
@@ -164,6 +235,14 @@ fn a_plan_fits_where_its_table_is_there(rt: HostRuntime) -> Result<(), Fail> {
 }
 
 #[test]
+fn a_query_of_no_table_does_not_wait(rt: HostRuntime) -> Result<(), Fail> {
+    let mut replica = replica(rt.alloc())?;
+    let refused = Err(OpenFault::BadPlan(PlanFault::NoTable));
+    assert_eq!(rt; replica.open(Plan { table: 1 }), refused);
+    Ok(())
+}
+
+#[test]
 fn at_most_64_queries_wait(rt: HostRuntime) -> Result<(), Fail> {
     let mut replica = replica(rt.alloc())?;
     for count in 1..65 {
@@ -173,26 +252,151 @@ fn at_most_64_queries_wait(rt: HostRuntime) -> Result<(), Fail> {
     Ok(())
 }
 
+/// A replica that took a frame whose commit is not the next, and ran.
+fn broken(alloc: Global) -> Result<ReplicaCore, Fail> {
+    let mut replica = asking(replica(alloc)?)?;
+    if get(&mut replica, &HEAD) != Got::Head(1) {
+        return Err(Fail::from("the Head was not taken"));
+    }
+    if get(&mut replica, &changed(FRAME, 22, 2)) != Got::Stored {
+        return Err(Fail::from("the frame was not stored"));
+    }
+    match replica.run() {
+        Run::Inconsistent => Ok(replica),
+        _ => Err(Fail::from("the frames were consistent")),
+    }
+}
+
 #[test]
 fn frames_of_no_list_of_commits_break_it(rt: HostRuntime) -> Result<(), Fail> {
-    let mut replica = waiting_replica(rt.alloc())?;
-    assert_eq!(rt; replica.on_bytes(&HEAD), Got::Head(1));
-    assert_eq!(rt; replica.on_bytes(&changed(FRAME, 22, 2)), Got::Stored);
-    assert!(rt; matches!(&replica.run(), Run::Inconsistent));
-
+    let mut replica = broken(rt.alloc())?;
     assert_eq!(rt; replica.open(Plan { table: 0 }), Err(OpenFault::Broken));
     assert_eq!(rt; replica.request(), 1);
     assert!(rt; matches!(&replica.ask(), Err(AskFault::Broken)));
     assert!(rt; matches!(&replica.run(), Run::Broken));
-    assert_eq!(rt; replica.on_bytes(&FRAME), Got::Broken);
+    assert_eq!(rt; get(&mut replica, &FRAME), Got::Broken);
     Ok(())
 }
 
 #[test]
 fn a_version_without_its_frames_breaks_it(rt: HostRuntime) -> Result<(), Fail> {
-    let mut replica = waiting_replica(rt.alloc())?;
-    assert_eq!(rt; replica.on_bytes(&HEAD_WITHOUT_FRAMES), Got::Head(5));
+    let mut replica = asking(replica(rt.alloc())?)?;
+    assert_eq!(rt; get(&mut replica, &HEAD_WITHOUT_FRAMES), Got::Head(5));
     assert!(rt; matches!(&replica.run(), Run::Inconsistent));
     assert_eq!(rt; replica.version(), 0);
+    Ok(())
+}
+
+/// Accounts, each a number and three octets.
+fn accounts(alloc: Global) -> Result<Schema, Fail>
+    ensures { IfOk result (λ schema. length schema ≡ 1) }
+{
+    let kinds = [Kind::Int, Kind::Octets(3)];
+    Ok(Schema::new(alloc, &[("acct", kinds.as_slice())])?)
+}
+
+/// Whether the row has these values.
+fn holds(rows: &TableMap, row: u64, number: i64, octets: &[u8]) -> bool {
+    match rows.row(row) {
+        Some([Value::Int(first), Value::Octets(second)]) => {
+            *first == number && second.as_slice() == octets
+        }
+        _ => false,
+    }
+}
+
+/// The entry that inserts a row with 5 and `abc`.
+fn insert(alloc: Global, row: u64) -> Result<Entry, Fail> {
+    let bytes = Vec::from_slice(alloc, b"\0\0\0\0\0\0\0\x05abc")?;
+    Ok(Entry::Insert {
+        table: 0,
+        row: RowId(row),
+        bytes: ByteList::from_vec(bytes),
+    })
+}
+
+/// The entry that writes bytes over a row's from an offset on.
+fn patch(alloc: Global, row: u64, offset: u16, bytes: &[u8]) -> Result<Entry, Fail> {
+    let bytes = Vec::from_slice(alloc, bytes)?;
+    Ok(Entry::Patch {
+        table: 0,
+        row: RowId(row),
+        offset,
+        bytes: ByteList::from_vec(bytes),
+    })
+}
+
+/// What applying the entry to a table with the rows 7 and 8 answers, and the tables then.
+fn applied(alloc: Global, entry: &Entry) -> Result<(Result<(), ApplyFault>, [TableMap; 1]), Fail> {
+    let schema = accounts(alloc)?;
+    let mut tables = [TableMap::new(alloc)];
+    if apply_entry(alloc, &schema, &mut tables, &insert(alloc, 7)?).is_err() {
+        return Err(Fail::from("row 7 was not inserted"));
+    }
+    if apply_entry(alloc, &schema, &mut tables, &insert(alloc, 8)?).is_err() {
+        return Err(Fail::from("row 8 was not inserted"));
+    }
+    let answer = apply_entry(alloc, &schema, &mut tables, entry);
+    Ok((answer, tables))
+}
+
+/// Whether the entry is refused, and leaves the rows 7 and 8 as they were and no other.
+fn is_refused(alloc: Global, entry: &Entry) -> Result<bool, Fail> {
+    let (answer, tables) = applied(alloc, entry)?;
+    let kept = tables[0].len() == 2
+        && holds(&tables[0], 7, 5, b"abc")
+        && holds(&tables[0], 8, 5, b"abc");
+    Ok(kept && answer == Err(ApplyFault::Inconsistent))
+}
+
+#[test]
+fn a_patch_writes_one_column(rt: HostRuntime) -> Result<(), Fail> {
+    let (answer, tables) = applied(rt.alloc(), &patch(rt.alloc(), 7, 8, b"xyz")?)?;
+    assert_eq!(rt; answer, Ok(()));
+    assert_eq!(rt; tables[0].len(), 2);
+    assert!(rt; holds(&tables[0], 7, 5, b"xyz"));
+    assert!(rt; holds(&tables[0], 8, 5, b"abc"));
+    Ok(())
+}
+
+#[test]
+fn a_delete_takes_one_row(rt: HostRuntime) -> Result<(), Fail> {
+    let entry = Entry::Delete {
+        table: 0,
+        row: RowId(8),
+    };
+    let (answer, tables) = applied(rt.alloc(), &entry)?;
+    assert_eq!(rt; answer, Ok(()));
+    assert_eq!(rt; tables[0].len(), 1);
+    assert!(rt; holds(&tables[0], 7, 5, b"abc"));
+    Ok(())
+}
+
+#[test]
+fn an_insert_of_a_present_row_is_refused(rt: HostRuntime) -> Result<(), Fail> {
+    assert!(rt; is_refused(rt.alloc(), &insert(rt.alloc(), 7)?)?);
+    Ok(())
+}
+
+#[test]
+fn a_patch_of_an_absent_row_is_refused(rt: HostRuntime) -> Result<(), Fail> {
+    assert!(rt; is_refused(rt.alloc(), &patch(rt.alloc(), 9, 8, b"xyz")?)?);
+    Ok(())
+}
+
+#[test]
+fn a_patch_of_two_columns_is_refused(rt: HostRuntime) -> Result<(), Fail> {
+    let bytes = b"\0\0\0\0\0\0\0\x06xyz";
+    assert!(rt; is_refused(rt.alloc(), &patch(rt.alloc(), 7, 0, bytes)?)?);
+    Ok(())
+}
+
+#[test]
+fn a_delete_of_an_absent_row_is_refused(rt: HostRuntime) -> Result<(), Fail> {
+    let entry = Entry::Delete {
+        table: 0,
+        row: RowId(9),
+    };
+    assert!(rt; is_refused(rt.alloc(), &entry)?);
     Ok(())
 }

@@ -1,18 +1,18 @@
 -- Which entries are defined at a version, one behind the other.
-use Rattle.std.proofs.Common.{◌≡◌, ◌+◌, ◌<◌, ℕ, Bool, true, false, not, ◌||◌, ◌&&◌, List, [], ◌∷◌, ◌++◌, length, take, drop, get_or, sym, ap, ◌∙◌, arith}
+use Rattle.std.proofs.Common.{◌≡◌, ◌+◌, ◌<◌, ℕ, true, false, ◌&&◌, List, [], ◌∷◌, ◌++◌, length, take, drop, get_or, sym, ap, ◌∙◌}
 use Rattle.std.specs.Result.{is_ok}
-use Rattle.std.proofs.lemmas.List.{append_assoc, take_more, take-append-drop}
+use Rattle.std.proofs.lemmas.List.{take_more, take-append-drop}
 use Rattle.rows.specs.declared.entry.Entry.{Entry}
-use Rattle.rows.specs.declared.entry.Entry.TheVariants.{Insert}
-use Rattle.rows.specs.Tables.{fitting}
-use Rattle.rows.specs.Commits.{tables_after, names_row_of}
+use Rattle.rows.specs.Entries.{table_of, row_of, fitting}
+use Rattle.rows.specs.Commits.{tables_after}
+use Rattle.rows.specs.Presence.{stands_for, is_there_after}
 use Rattle.rows.proofs.TableLaws.{defined_behind, defined_before}
-use Rattle.primary.specs.History.{History, defined_at, row_at}
+use Rattle.primary.specs.History.{History, defined_at, is_row_there}
 
--- an entry is defined behind others where it fits, and its row is neither there nor named
+-- an entry is defined behind others where it fits, and its row stands as it needs it after those
 pub defined_at_push : (versions : History) (version : ℕ) (before : List Entry) (entry : Entry) → defined_at versions version before ≡ true
-    → defined_at versions version (before ++ entry ∷ []) ≡ (is_ok (fitting versions.shape entry) && not (row_at versions version entry || names_row_of entry before))
-defined_at_push versions version before (Insert table row bytes) h = defined_behind versions.shape versions.commits version before table row bytes h
+    → defined_at versions version (before ++ entry ∷ []) ≡ (is_ok (fitting versions.shape entry) && stands_for entry (is_there_after (table_of entry) (row_of entry) before (is_row_there versions version entry)))
+defined_at_push versions version before entry h = defined_behind versions.shape versions.commits version before entry h
 
 -- where the first of entries are not defined, all are not
 pub not_defined_at : (versions : History) (version : ℕ) (entries : List Entry) (i : ℕ) (entry : Entry) → i < length entries → entry ≡ get_or entries i entry

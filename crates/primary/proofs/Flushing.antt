@@ -1,7 +1,7 @@
 -- What a flush leaves: the first pending commits are durable, and their records stand behind the journal's text.
 use Rattle.std.proofs.Common.{◌≡◌, ◌+◌, ◌-◌, ◌≤◌, ℕ, min, Bool, List, ◌++◌, length, take, drop, sym, ap, ◌∙◌, arith}
 use Rattle.std.proofs.Math.Seq.{take-add}
-use Rattle.std.proofs.lemmas.List.{append_assoc, take_min, drop_min, drop-drop, length-drop, length-take-le}
+use Rattle.std.proofs.lemmas.List.{append_assoc, take_min, drop_min, drop-drop, length-take-le}
 use Rattle.rows.specs.declared.commit.Commit.{Commit}
 use Rattle.rows.specs.Shape.{Shape}
 use Rattle.primary.specs.History.{History}

@@ -1,12 +1,11 @@
 -- A worker's stream: a frame for each of its commits.
-use Rattle.std.proofs.Common.{◌≡◌, ◌≢◌, ◌+◌, ◌-◌, ◌^◌, ◌<◌, ◌≤◌, ◌==◌, ℕ, suc, zero, Bool, true, false, cond, not, List, [], ◌∷◌, ◌++◌, length, take, get_or, slice_get, add-zero, refl, sym, ap, subst, ◌∙◌, arith}
+use Rattle.std.proofs.Common.{◌≡◌, ◌+◌, ◌^◌, ◌<◌, ◌≤◌, ◌==◌, ℕ, suc, zero, Bool, true, false, cond, not, List, [], ◌∷◌, ◌++◌, length, take, get_or, refl, sym, ap, subst, arith}
 use Rattle.std.specs.List.{filter, flat_map, AllByRecursion}
-use Rattle.std.proofs.lemmas.Bool.{eq-eqb, ne_eqb}
 use Rattle.std.proofs.lemmas.List.Filters.{length-filter_both}
 use Rattle.std.proofs.lemmas.List.{length-append, length-take, length_push}
 use Rattle.rows.specs.declared.commit.Commit.{Commit}
 use Rattle.rows.specs.declared.entry.Entry.{Entry}
-use Rattle.rows.specs.declared.entry.Entry.TheVariants.{Insert}
+use Rattle.rows.specs.declared.entry.Entry.TheVariants.{Insert, Patch, Delete}
 use Rattle.rows.specs.Spelling.{HasSpelling, entry_spelling}
 use Rattle.wire.specs.Spelling.{IsFrame, AreCounts}
 use Rattle.wire.specs.Streams.{stream_from, frames_of, frame_count}
@@ -27,6 +26,8 @@ length_stream worker before first (commit ∷ commits) = one (commit.worker == w
 -- an entry's spelling is short
 short : (entry : Entry) → HasSpelling entry → length (entry_spelling entry) ≤ 524
 short (Insert table row bytes) h = omega (arith, h.few)
+short (Patch table row offset bytes) h = omega (arith, h.few)
+short (Delete table row) h = omega arith
 
 -- the few entries of a commit fit into a frame
 few_fit : (entries : List Entry) → length entries ≤ 2 → AllByRecursion HasSpelling entries → 26 + length (flat_map entry_spelling entries) ≤ 1200

@@ -4,13 +4,14 @@ use Rattle.std.specs.List.{flat_map}
 use Rattle.byteorder.specs.Endian.{big_bytes}
 use Rattle.rows.specs.declared.commit.Commit.{Commit}
 use Rattle.rows.specs.declared.kind.Kind.{Kind}
-use Rattle.rows.specs.declared.kind.Kind.TheVariants.{Int}
+use Rattle.rows.specs.declared.kind.Kind.TheVariants.{Int, Octets}
 use Rattle.rows.specs.Shape.{Shape}
 use Rattle.rows.specs.Spelling.{entry_spelling}
 
--- the byte that stands for a kind
+-- the byte that stands for a kind: octets are 1 to 64 bytes, and stand by their width
 abbrev pub kind_code : Kind → ℕ
 kind_code Int = 0
+kind_code (Octets width) = width
 
 -- a table in the header: how many columns, and a byte for each
 abbrev pub table_header : List Kind → List ℕ

@@ -6,7 +6,6 @@ use Rattle.wire.specs.declared.datagram.Datagram.{Datagram}
 use Rattle.wire.specs.declared.datagram.Datagram.TheVariants.{Frame, Ask, Head, Want}
 use Rattle.wire.specs.declared.fault.WireFault.{WireFault}
 use Rattle.wire.specs.declared.out.Out.{Out}
-use Rattle.wire.specs.declared.out.To.{To}
 use Rattle.wire.specs.declared.out.To.TheVariants.{Replica}
 use Rattle.wire.specs.Spelling.{spelling, frame_spelling}
 use Rattle.wire.specs.Reading.{reading}

@@ -1,6 +1,5 @@
 -- A transaction: what it sees, and what a change of it answers.
-use Rattle.std.specs.Prelude.{ℕ, List, [], ◌∷◌, ◌++◌, length, Bool, true, false, Option, None, Some, Result, Ok, Err, ◌&&◌, not, nat_lt, if◌then◌else◌, slice_get}
-use Rattle.rows.specs.declared.entry.Entry.{Entry}
+use Rattle.std.specs.Prelude.{ℕ, List, [], ◌∷◌, ◌++◌, length, Bool, true, false, Option, None, Some, Result, Ok, Err, ◌&&◌, not, nat_lt, ◌==◌, if◌then◌else◌, slice_get}
 use Rattle.rows.specs.declared.entry.Entry.TheVariants.{Insert}
 use Rattle.rows.specs.declared.commit.Commit.{Commit}
 use Rattle.rows.specs.declared.kind.Kind.{Kind}
@@ -9,16 +8,19 @@ use Rattle.rows.specs.declared.value.Value.{Value}
 use Rattle.rows.specs.declared.value.Value.TheVariants as values
 use Rattle.rows.specs.Shape.{Shape}
 use Rattle.rows.specs.Values.{bytes_of}
-use Rattle.rows.specs.Tables.{Tables, Refusal, changes_of, applied, is_present, rows_of}
+use Rattle.rows.specs.Tables.{Tables, applied, is_present, rows_of}
 use Rattle.rows.specs.Commits.{tables_after}
 use Rattle.primary.specs.declared.faults.TxFault.{TxFault}
 use Rattle.primary.specs.declared.faults.TxFault.TheVariants.{Exists, Unfit, TooManyEntries}
 use Rattle.primary.specs.declared.transaction.TheConstants.{TRANSACTION_ENTRIES_MAX}
 use Rattle.primary.specs.Draft.{Draft}
 
--- whether a value is of that kind
+-- whether a value is of that kind: octets are as many as their column is wide
 abbrev pub is_of_kind : Value → Kind → Bool
 is_of_kind (values.Int number) kinds.Int = true
+is_of_kind (values.Int number) (kinds.Octets width) = false
+is_of_kind (values.Octets bytes) kinds.Int = false
+is_of_kind (values.Octets bytes) (kinds.Octets width) = length bytes == width
 
 -- whether these are the values of columns of these kinds, one each
 abbrev pub are_of_kinds : List Value → List Kind → Bool

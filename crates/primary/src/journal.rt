@@ -52,12 +52,13 @@ fn push_table(bytes: &mut Vec<u8>, kinds: &[Kind]) -> Result<(), AllocError>
     Ok(())
 }
 
-/// The byte that stands for a kind.
+/// The byte that stands for a kind: 0 for an `Int`, the width for octets.
 fn kind_code(kind: Kind) -> u8
     ensures { result ≡ kind_code kind }
 {
     match kind {
         Kind::Int => 0,
+        Kind::Octets(width) => width,
     }
 }
 

@@ -3,13 +3,16 @@
 ghost use Rattle.std.specs.Prelude.{◌≡◌, ◌<◌, ◌≤◌, ◌∷◌, [], ◌++◌, length, true, OnOk};
 ghost use Rattle.std.specs.Bool.{OnTrue};
 ghost use Rattle.std.specs.List.{AllByRecursion};
+ghost use Rattle.rows.specs.Entries.{table_of, row_of};
+ghost use Rattle.rows.specs.Presence.{is_there_after};
 ghost use Rattle.rows.specs.Spelling.{HasSpelling};
-ghost use Rattle.primary.specs.History.{defined_at, row_at};
+ghost use Rattle.primary.specs.History.{defined_at, is_row_there};
 ghost use Rattle.primary.specs.Primary.{commit_answer, primary_of};
 
 use crate::faults::CommitFault;
+use crate::presence::{is_there_after, row_of, stands_for, table_of};
 use crate::transaction::Transaction;
-use crate::versions::{Versions, names_row_of};
+use crate::versions::Versions;
 use rows::{Entry, fits};
 
 /// The number that the transaction's commit would get, or the first refusal, where the first
@@ -72,16 +75,15 @@ fn is_defined(versions: &Versions, version: u64, before: &[Entry], entry: &Entry
     ensures spelled { OnTrue result (HasSpelling entry.now) }
 {
     fits(versions.schema(), entry).is_ok()
-        && !is_row_at(versions, version, entry)
-        && !names_row_of(entry, before)
+        && stands_for(entry, is_row_there_after(versions, version, before, entry))
 }
 
-/// Whether the row of the entry is there at that version.
-fn is_row_at(versions: &Versions, version: u64, entry: &Entry) -> bool
+/// Whether the row of the entry is there after these entries, on the rows at that version.
+fn is_row_there_after(versions: &Versions, version: u64, before: &[Entry], entry: &Entry) -> bool
     requires { version ≤ length versions.now.commits }
-    ensures { result ≡ row_at versions.now version entry.now }
+    ensures { result ≡ is_there_after (table_of entry.now) (row_of entry.now) before.now (is_row_there versions.now version entry.now) }
 {
-    match entry {
-        Entry::Insert { table, row, .. } => versions.is_present(version, *table, *row),
-    }
+    let table = table_of(entry);
+    let row = row_of(entry);
+    is_there_after(table, row, before, versions.is_present(version, table, row))
 }

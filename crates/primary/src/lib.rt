@@ -14,6 +14,7 @@
 mod faults;
 mod journal;
 mod judging;
+mod presence;
 mod primary_core;
 mod sending;
 mod ticket;

@@ -1,19 +1,17 @@
 //! Transactions before their commit.
 
-ghost use Rattle.std.specs.Prelude.{◌≡◌, ◌<◌, ◌≤◌, [], ◌∷◌, ◌++◌, ◌&&◌, length, IfOk, IfErr, Ok, Err, OnOk, OnErr, ◌⊎◌, IsOk, is_ok};
-ghost use Rattle.std.specs.List.{list_any};
+ghost use Rattle.std.specs.Prelude.{◌≡◌, ◌<◌, ◌≤◌, [], ◌∷◌, ◌++◌, length, IfOk, IfErr, Ok, Err, OnOk, OnErr, ◌⊎◌, IsOk};
 ghost use Rattle.std.specs.Option.{option_map};
 ghost use Rattle.rows.specs.declared.entry.Entry.TheVariants.{Insert};
-ghost use Rattle.rows.specs.Shape.{shape_of};
 ghost use Rattle.rows.specs.Values.{bytes_of};
-ghost use Rattle.rows.specs.Tables.{fitting, is_present, rows_of};
-ghost use Rattle.rows.specs.Commits.{is_of};
+ghost use Rattle.rows.specs.Tables.{is_present, rows_of};
 ghost use Rattle.primary.specs.Draft.{Draft};
 ghost use Rattle.primary.specs.Transactions.{insert_answer, match_table, are_of_kinds, is_of_kind, seen_by};
 
 use crate::faults::TxFault;
-use crate::versions::{Versions, is_of};
-use rows::{Entry, EntryList, Kind, RowId, Schema, Value, fits, row_bytes};
+use crate::presence::is_there_after_fit;
+use crate::versions::Versions;
+use rows::{Entry, EntryList, Kind, RowId, Value, row_bytes};
 use std::alloc::{AllocError, Global};
 use std::marker::Model;
 
@@ -133,8 +131,8 @@ impl Transaction {
         requires { self.now.snapshot ≤ length versions.now.commits }
         ensures { result ≡ is_present (rows_of (seen_by versions.now.shape versions.now.commits self.now) table) row.0 }
     {
-        versions.is_present(self.snapshot, table, row)
-            || is_put(versions.schema(), self.entries.as_slice(), table, row)
+        let was = versions.is_present(self.snapshot, table, row);
+        is_there_after_fit(versions.schema(), table, row, self.entries.as_slice(), was)
     }
 
     /// Adds an insert at the end. Fails for want of memory alone, and then nothing has changed.
@@ -146,13 +144,6 @@ impl Transaction {
         let bytes = row_bytes(self.alloc, values)?;
         self.entries.push(Entry::Insert { table, row, bytes })
     }
-}
-
-/// Whether one of the entries fits the schema and is of that row.
-fn is_put(schema: &Schema, entries: &[Entry], table: u8, row: RowId) -> bool
-    ensures { result ≡ list_any (λ entry. is_ok (fitting (shape_of schema.now) entry) && is_of table row.0 entry) entries.now }
-{
-    entries.iter().any(|entry| fits(schema, entry).is_ok() && is_of(entry, table, row))
 }
 
 /// Whether the table is there, and these are values of its columns, one each.
@@ -182,5 +173,7 @@ fn is_value_of(value: &Value, kind: &Kind) -> bool
 {
     match (value, kind) {
         (Value::Int(_), Kind::Int) => true,
+        (Value::Octets(bytes), Kind::Octets(width)) => bytes.as_slice().len() == *width as usize,
+        (Value::Int(_), Kind::Octets(_)) | (Value::Octets(_), Kind::Int) => false,
     }
 }

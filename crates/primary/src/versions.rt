@@ -8,6 +8,7 @@ ghost use Rattle.std.specs.List.{list_any};
 ghost use Rattle.rows.specs.Commits.{is_of, names_row_of, tables_after, last_touching, touches};
 ghost use Rattle.primary.specs.History.{History, defined_at};
 
+use crate::presence::{is_of, is_there_after_commits, row_of, table_of};
 use rows::{Commit, Entry, RowId, Schema};
 use std::alloc::{AllocError, Global};
 use std::marker::Model;
@@ -100,7 +101,7 @@ impl Versions {
         requires { version ≤ length self.now.commits }
         ensures { result ≡ is_present (rows_of (tables_after self.now.shape self.now.commits version) table) row.0 }
     {
-        names_row(&self.commits[..version as usize], table, row)
+        is_there_after_commits(table, row, &self.commits[..version as usize], false)
     }
 
     /// The number of the last commit that touches a row of these entries, 0 where none does.
@@ -121,33 +122,11 @@ fn copy_of(commit: &Commit) -> Result<Commit, AllocError>
     commit.clone()
 }
 
-/// Whether an entry of these commits is of that row.
-fn names_row(commits: &[Commit], table: u8, row: RowId) -> bool
-    ensures { result ≡ list_any (λ commit. list_any (is_of table row.0) commit.entries) commits.now }
-{
-    commits
-        .iter()
-        .any(|commit| is_named(commit.entries.as_slice(), table, row))
-}
-
 /// Whether one of the entries is of that row.
 fn is_named(entries: &[Entry], table: u8, row: RowId) -> bool
     ensures { result ≡ list_any (is_of table row.0) entries.now }
 {
     entries.iter().any(|entry| is_of(entry, table, row))
-}
-
-/// Whether the entry is of that row.
-pub fn is_of(entry: &Entry, table: u8, row: RowId) -> bool
-    ensures { result ≡ is_of table row.0 entry.now }
-{
-    match entry {
-        Entry::Insert {
-            table: other,
-            row: at,
-            ..
-        } => *other == table && at.0 == row.0,
-    }
 }
 
 /// The number of the last of the commits that touches a row of these entries, 0 where none does.
@@ -173,10 +152,8 @@ fn is_touched(commit: &Commit, entries: &[Entry]) -> bool
 }
 
 /// Whether one of the entries is of the same row as this one.
-pub fn names_row_of(entry: &Entry, entries: &[Entry]) -> bool
+fn names_row_of(entry: &Entry, entries: &[Entry]) -> bool
     ensures { result ≡ names_row_of entry.now entries.now }
 {
-    match entry {
-        Entry::Insert { table, row, .. } => is_named(entries, *table, *row),
-    }
+    is_named(entries, table_of(entry), row_of(entry))
 }

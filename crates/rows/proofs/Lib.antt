@@ -1,3 +1,5 @@
 pub mod Schemas
 pub mod Spelling
+pub mod Rows
+pub mod Presence
 pub mod TableLaws

@@ -1,13 +1,13 @@
 -- What follows where no fault stands: each table's columns are within the limits, and a name is new.
-use Rattle.std.proofs.Common.{◌≡◌, ℕ, suc, zero, ◌<◌, ◌≤◌, Bool, true, false, cond, ◌||◌, List, [], ◌∷◌, ◌++◌, length, map, slice_get, position, not, ◌+◌, subst, nat_lt, ◌==◌, Option, None, Some, refl, sym, ap, ◌∙◌, arith}
-use Rattle.std.specs.List.{list_any, position_or_len, AllByRecursion}
-use Rattle.std.specs.Option.{option_or, option_map}
+use Rattle.std.proofs.Common.{◌≡◌, ℕ, suc, zero, ◌<◌, ◌≤◌, Bool, true, false, cond, ◌||◌, List, [], ◌∷◌, ◌++◌, length, map, slice_get, position, not, ◌+◌, ◌-◌, subst, nat_lt, ◌==◌, Option, None, Some, refl, sym, ap, ◌∙◌, arith}
+use Rattle.std.specs.List.{list_any, list_all, position_or_len, AllByRecursion}
+use Rattle.std.specs.Option.{option_or, option_map, is_some}
 use Rattle.std.specs.Map.{lookup, keys_of}
 use Rattle.std.specs.String.{string_bytes, string_eq}
 use Rattle.std.specs.declared.string.String.{String}
 use Rattle.std.specs.declared.alloc.Global.{Global}
 use Rattle.std.specs.Str.{bytes_eq}
-use Rattle.std.proofs.lemmas.Bool.{ltb-false, or_parts, cond-false}
+use Rattle.std.proofs.lemmas.Bool.{ltb-false, eqb-true, or_parts, and_parts, cond-false}
 use Rattle.std.proofs.lemmas.Bool.Decides.{nat_tests, same_from_decides, Decides-like}
 use Rattle.std.proofs.lemmas.List.{length-map, map-append}
 use Rattle.std.proofs.lemmas.List.Sums.{sum_by-cons}
@@ -16,10 +16,10 @@ use Rattle.std.proofs.lemmas.Slice.Eq.{bytes_eq-Decides}
 use Rattle.indexmap.specs.IndexMap.{IndexMap, insert_entry}
 use Rattle.indexmap.proofs.CallerLemmas.{insert_entry-new}
 use Rattle.rows.specs.declared.kind.Kind.{Kind}
-use Rattle.rows.specs.declared.kind.Kind.TheVariants.{Int}
+use Rattle.rows.specs.declared.kind.Kind.TheVariants.{Int, Octets}
 use Rattle.rows.specs.declared.schema_fault.SchemaFault.TheVariants.{Empty, TooManyTables}
 use Rattle.rows.specs.declared.limits.TheConstants.{TABLES_MAX}
-use Rattle.rows.specs.Shape.{shape_of, width_of, row_width, AreColumns, AreTables}
+use Rattle.rows.specs.Shape.{shape_of, width_of, row_width, is_good, column_from, AreColumns, AreTables}
 use Rattle.rows.specs.Shown.{shown}
 use Rattle.rows.specs.SchemaFaults.{schema_fault, table_fault, tables_fault}
 
@@ -40,7 +40,7 @@ module _ (before : List (List ℕ × List Kind)) (table : List ℕ × List Kind)
 
   -- and columns within the limits
   pub AreColumns-table : table_fault before table ≡ None → AreColumns table.1
-  AreColumns-table h = record { some = grind (arith, nat_tests); few = grind (arith, nat_tests); narrow = grind (arith, nat_tests) }
+  AreColumns-table h = record { some = grind (arith, nat_tests); few = grind (arith, nat_tests); good = grind (arith, nat_tests); narrow = grind (arith, nat_tests) }
 
   -- tables without a fault: neither the first has one, nor those behind it
   pub both_none : (tables : List (List ℕ × List Kind)) → tables_fault before (table ∷ tables) ≡ None → (table_fault before table ≡ None) × (tables_fault (before ++ table ∷ []) tables ≡ None)
@@ -77,12 +77,43 @@ AreTables-schema tables h =
       each = AreColumns-all [] tables few.1;
     }
 
--- a column takes a byte at least
-pub length-le-row_width : (kinds : List Kind) → length kinds ≤ row_width kinds
-length-le-row_width [] = omega arith
-length-le-row_width (Int ∷ kinds) = omega (arith, length-le-row_width kinds, sum_by-cons width_of Int kinds)
+-- a column takes 1 to 64 bytes
+good-width : (kind : Kind) → is_good kind ≡ true → (0 < width_of kind) × (width_of kind ≤ 64)
+good-width Int h = (omega arith, omega arith)
+good-width (Octets width) h = (grind (arith, nat_tests), grind (arith, nat_tests))
+
+pub length-le-row_width : (kinds : List Kind) → list_all is_good kinds ≡ true → length kinds ≤ row_width kinds
+length-le-row_width [] h = omega arith
+length-le-row_width (kind ∷ kinds) h =
+    let parts = and_parts (is_good kind) (list_all is_good kinds) h in
+    omega (arith, (good-width kind parts.0).0, length-le-row_width kinds parts.1, sum_by-cons width_of kind kinds)
 
 pub ruleset row_width_lemmas = (length-le-row_width)
+
+-- a column's place is 1 to 64 bytes, and within the row
+pub column_from-within : (before : ℕ) (kinds : List Kind) (offset size : ℕ) → list_all is_good kinds ≡ true → is_some (column_from before kinds offset size) ≡ true
+    → (0 < size) × (size ≤ 64) × (offset + size ≤ row_width kinds)
+column_from-within before [] offset size h found = cc
+column_from-within before (kind ∷ kinds) offset size h found =
+    let parts = and_parts (is_good kind) (list_all is_good kinds) h in
+    by_tests (good-width kind parts.0) (sum_by-cons width_of kind kinds) (column_from-within (before + 1) kinds (offset - width_of kind) size parts.1)
+    (offset == 0) (size == width_of kind) (nat_lt offset (width_of kind)) refl refl refl found
+  where
+    by_tests : (0 < width_of kind) × (width_of kind ≤ 64) → row_width (kind ∷ kinds) ≡ width_of kind + row_width kinds
+        → (is_some (column_from (before + 1) kinds (offset - width_of kind) size) ≡ true → (0 < size) × (size ≤ 64) × (offset - width_of kind + size ≤ row_width kinds))
+        → (first same short : Bool) → (offset == 0) ≡ first → (size == width_of kind) ≡ same → nat_lt offset (width_of kind) ≡ short
+        → is_some (cond first (cond same (Some (before, kind)) None) (cond short None (column_from (before + 1) kinds (offset - width_of kind) size))) ≡ true
+        → (0 < size) × (size ≤ 64) × (offset + size ≤ row_width (kind ∷ kinds))
+    by_tests width whole others true true short e f g found =
+        let at : offset ≡ 0 = eqb-true offset 0 e in
+        let is : size ≡ width_of kind = eqb-true size (width_of kind) f in
+        (omega (arith, width.0), omega (arith, width.1), omega (arith, whole))
+    by_tests width whole others true false short e f g found = cc
+    by_tests width whole others false same true e f g found = cc
+    by_tests width whole others false same false e f g found =
+        let past = ltb-false offset (width_of kind) g in
+        let behind = others found in
+        (behind.0, behind.1, omega (arith, whole, past, behind.2))
 
 -- a test over what a function gives
 pub list_any-map : {X Y : Type 0} (test : Y → Bool) (f : X → Y) (xs : List X) → list_any test (map f xs) ≡ list_any (λ x. test (f x)) xs

@@ -3,9 +3,9 @@ use Rattle.std.specs.Prelude.{ℕ, ◌+◌, ◌<◌, ◌≤◌, List, [], ◌∷
 use Rattle.std.specs.List.{list_any, AllByRecursion}
 use Rattle.rows.specs.declared.commit.Commit.{Commit}
 use Rattle.rows.specs.declared.entry.Entry.{Entry}
-use Rattle.rows.specs.declared.entry.Entry.TheVariants.{Insert}
 use Rattle.rows.specs.declared.limits.TheConstants.{COMMIT_ENTRIES_MAX}
 use Rattle.rows.specs.Shape.{Shape}
+use Rattle.rows.specs.Entries.{table_of, row_of}
 use Rattle.rows.specs.Tables.{Tables, Refusal, opening, changes_of, and_then}
 
 -- the tables after all entries of these commits, in order, or the first refusal
@@ -35,11 +35,11 @@ tables_after shape commits version = or_opening (commits_of shape (opening shape
 
 -- whether an entry is of that row of that table
 abbrev pub is_of : ℕ → ℕ → Entry → Bool
-is_of table row (Insert table' row' bytes) = (table' == table) && (row'.0 == row)
+is_of table row entry = (table_of entry == table) && (row_of entry == row)
 
 -- whether an entry of the list is of the same row as this one
 abbrev pub names_row_of : Entry → List Entry → Bool
-names_row_of (Insert table row bytes) entries = list_any (is_of table row.0) entries
+names_row_of entry entries = list_any (is_of (table_of entry) (row_of entry)) entries
 
 -- whether some entry of the commit is of a row that one of these entries is of
 abbrev pub touches : List Entry → Commit → Bool

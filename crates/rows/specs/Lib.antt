@@ -1,8 +1,11 @@
 pub mod Shape
 pub mod SchemaFaults
+pub mod Padded
 pub mod Values
+pub mod Entries
 pub mod Tables
 pub mod Commits
+pub mod Presence
 pub mod Spelling
 pub mod Reading
 pub mod Shown

@@ -2,27 +2,50 @@
 use Rattle.std.specs.Prelude.{ℕ, ◌+◌, List, length, take, drop, Option, None, Some, slice_index, nat_lt, ◌==◌, ◌||◌, not, if◌then◌else◌}
 use Rattle.byteorder.specs.Endian.{big_number}
 use Rattle.rows.specs.declared.entry.Entry.{Entry}
-use Rattle.rows.specs.declared.entry.Entry.TheVariants.{Insert}
+use Rattle.rows.specs.declared.entry.Entry.TheVariants.{Insert, Patch, Delete}
 use Rattle.rows.specs.declared.entry_ref.EntryRef.{EntryRef}
 use Rattle.rows.specs.declared.entry_ref.EntryRef.TheVariants as lent
-use Rattle.rows.specs.declared.limits.TheConstants.{TABLES_MAX, ROW_WIDTH_MAX}
+use Rattle.rows.specs.declared.limits.TheConstants.{TABLES_MAX, ROW_WIDTH_MAX, OCTETS_MAX}
 
 -- the entry that is lent
 abbrev pub entry_of : EntryRef → Entry
 entry_of (lent.Insert table row bytes) = Insert table row bytes.now
+entry_of (lent.Patch table row offset bytes) = Patch table row offset bytes.now
+entry_of (lent.Delete table row) = Delete table row
 
 -- what `read_entry` found: the entry, and how many bytes it takes
 abbrev pub seen : EntryRef × ℕ → Entry × ℕ
 seen found = (entry_of found.0, found.1)
 
+-- an insert behind its row: the size in two bytes, and the data
+abbrev pub insert_at : ℕ → ℕ → List ℕ → Option (Entry × ℕ)
+insert_at table row rest = if nat_lt (length rest) 2 then None else of_size (big_number 2 rest) (drop 2 rest)
+  where
+    of_size : ℕ → List ℕ → Option (Entry × ℕ)
+    of_size size content =
+        if (size == 0) || nat_lt ROW_WIDTH_MAX size || nat_lt (length content) size then None else
+        Some (Insert table (record { 0 = row }) (take size content), 12 + size)
+
+-- a patch behind its row: the offset in two bytes, the size in two, and the data
+abbrev pub patch_at : ℕ → ℕ → List ℕ → Option (Entry × ℕ)
+patch_at table row rest =
+    if nat_lt (length rest) 4 then None else of_size (big_number 2 rest) (big_number 2 (drop 2 rest)) (drop 4 rest)
+  where
+    of_size : ℕ → ℕ → List ℕ → Option (Entry × ℕ)
+    of_size offset size content =
+        if (size == 0) || nat_lt OCTETS_MAX size || nat_lt ROW_WIDTH_MAX (offset + size) || nat_lt (length content) size then None else
+        Some (Patch table (record { 0 = row }) offset (take size content), 14 + size)
+
+-- an entry behind its row, by what it begins with
+abbrev pub entry_behind : ℕ → ℕ → ℕ → List ℕ → Option (Entry × ℕ)
+entry_behind op table row rest =
+    if not (nat_lt table TABLES_MAX) then None else
+    if op == 1 then insert_at table row rest else
+    if op == 2 then patch_at table row rest else
+    if op == 3 then Some (Delete table (record { 0 = row }), 10) else None
+
 -- the entry at the front of the bytes, and how many it takes; none where no entry is spelled there
 abbrev pub entry_at : List ℕ → Option (Entry × ℕ)
 entry_at bytes =
-    if nat_lt (length bytes) 12 then None else
-    sized (slice_index bytes 0) (slice_index bytes 1) (big_number 8 (drop 2 bytes)) (big_number 2 (drop 10 bytes)) (drop 12 bytes)
-  where
-    sized : ℕ → ℕ → ℕ → ℕ → List ℕ → Option (Entry × ℕ)
-    sized op table row size rest =
-        if not (op == 1) || not (nat_lt table TABLES_MAX) || (size == 0) || nat_lt ROW_WIDTH_MAX size || nat_lt (length rest) size
-        then None
-        else Some (Insert table (record { 0 = row }) (take size rest), 12 + size)
+    if nat_lt (length bytes) 10 then None else
+    entry_behind (slice_index bytes 0) (slice_index bytes 1) (big_number 8 (drop 2 bytes)) (drop 10 bytes)

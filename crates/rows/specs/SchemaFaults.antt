@@ -1,13 +1,13 @@
 -- The first fault of a list of tables that is to be a schema, want of memory aside.
-use Rattle.std.specs.Prelude.{ℕ, List, [], ◌∷◌, ◌++◌, length, Option, None, Some, nat_lt, ◌==◌, if◌then◌else◌}
-use Rattle.std.specs.List.{list_any}
+use Rattle.std.specs.Prelude.{ℕ, List, [], ◌∷◌, ◌++◌, length, Option, None, Some, nat_lt, ◌==◌, not, if◌then◌else◌}
+use Rattle.std.specs.List.{list_any, list_all}
 use Rattle.std.specs.Option.{option_or}
 use Rattle.std.specs.Str.{bytes_eq}
 use Rattle.rows.specs.declared.kind.Kind.{Kind}
 use Rattle.rows.specs.declared.schema_fault.SchemaFault.{SchemaFault}
-use Rattle.rows.specs.declared.schema_fault.SchemaFault.TheVariants.{TooManyTables, TooManyColumns, RowTooWide, NameTwice, Empty}
+use Rattle.rows.specs.declared.schema_fault.SchemaFault.TheVariants.{TooManyTables, TooManyColumns, RowTooWide, BadWidth, NameTwice, Empty}
 use Rattle.rows.specs.declared.limits.TheConstants.{TABLES_MAX, COLUMNS_MAX, ROW_WIDTH_MAX}
-use Rattle.rows.specs.Shape.{row_width}
+use Rattle.rows.specs.Shape.{row_width, is_good}
 
 -- the fault of one table, which stands behind these
 abbrev pub table_fault : List (List ℕ × List Kind) → List ℕ × List Kind → Option SchemaFault
@@ -16,6 +16,7 @@ table_fault before table =
     if list_any (λ other. bytes_eq other.0 table.0) before then Some NameTwice else
     if length table.1 == 0 then Some Empty else
     if nat_lt COLUMNS_MAX (length table.1) then Some TooManyColumns else
+    if not (list_all is_good table.1) then Some BadWidth else
     if nat_lt ROW_WIDTH_MAX (row_width table.1) then Some RowTooWide else None
 
 -- the first fault of these tables, which stand behind others

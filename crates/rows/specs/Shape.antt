@@ -1,9 +1,9 @@
 -- The shape of a database: for each table, by its number, the kinds of its columns.
-use Rattle.std.specs.Prelude.{ℕ, ◌<◌, ◌≤◌, List, length, map}
-use Rattle.std.specs.List.{sum_by, AllByRecursion}
+use Rattle.std.specs.Prelude.{◌≡◌, ℕ, ◌<◌, ◌≤◌, ◌+◌, ◌-◌, List, [], ◌∷◌, length, map, Bool, true, Option, None, Some, nat_lt, ◌==◌, ◌&&◌, not, if◌then◌else◌}
+use Rattle.std.specs.List.{sum_by, list_all, AllByRecursion}
 use Rattle.rows.specs.declared.kind.Kind.{Kind}
-use Rattle.rows.specs.declared.kind.Kind.TheVariants.{Int}
-use Rattle.rows.specs.declared.limits.TheConstants.{TABLES_MAX, COLUMNS_MAX, ROW_WIDTH_MAX}
+use Rattle.rows.specs.declared.kind.Kind.TheVariants.{Int, Octets}
+use Rattle.rows.specs.declared.limits.TheConstants.{TABLES_MAX, COLUMNS_MAX, ROW_WIDTH_MAX, OCTETS_MAX}
 
 abbrev pub Shape : Type 0
 Shape = List (List Kind)
@@ -15,15 +15,35 @@ shape_of schema = map (λ table. table.1) schema
 -- how many bytes a value of this kind takes
 abbrev pub width_of : Kind → ℕ
 width_of Int = 8
+width_of (Octets width) = width
+
+-- whether a column may be of this kind: octets are 1 to 64 bytes
+abbrev pub is_good : Kind → Bool
+is_good Int = true
+is_good (Octets width) = not (width == 0) && not (nat_lt OCTETS_MAX width)
 
 -- how many bytes a row of these columns takes
 abbrev pub row_width : List Kind → ℕ
 row_width kinds = sum_by width_of kinds
 
--- kinds that a table's columns may have: 1 to 16 columns, and at most 512 bytes a row
+-- the column of these, which stand behind `before` others, that begins at this offset from the first of them and has
+-- this size: its number and its kind; none where no column has just that place
+abbrev pub column_from : ℕ → List Kind → ℕ → ℕ → Option (ℕ × Kind)
+column_from before [] offset size = None
+column_from before (kind ∷ kinds) offset size =
+    if offset == 0 then (if size == width_of kind then Some (before, kind) else None) else
+    if nat_lt offset (width_of kind) then None else column_from (before + 1) kinds (offset - width_of kind) size
+
+-- the column at a place among a row's bytes
+abbrev pub column_at : List Kind → ℕ → ℕ → Option (ℕ × Kind)
+column_at kinds offset size = column_from 0 kinds offset size
+
+-- kinds that a table's columns may have: 1 to 16 columns, each of a kind that a column may have, and at most 512
+-- bytes a row
 pub record AreColumns (kinds : List Kind) : Type 0 where
   pub some : 0 < length kinds
   pub few : length kinds ≤ COLUMNS_MAX
+  pub good : list_all is_good kinds ≡ true
   pub narrow : row_width kinds ≤ ROW_WIDTH_MAX
 
 -- the tables that a schema may have: 1 to 16, each of columns that a table may have

@@ -1,20 +1,26 @@
 -- The one spelling of an entry as bytes.
-use Rattle.std.specs.Prelude.{ℕ, ◌^◌, ◌<◌, ◌≤◌, List, [], ◌∷◌, ◌++◌, length, slice_index}
+use Rattle.std.specs.Prelude.{ℕ, ◌+◌, ◌^◌, ◌<◌, ◌≤◌, List, [], ◌∷◌, ◌++◌, length, slice_index}
 use Rattle.byteorder.specs.Endian.{big_bytes}
 use Rattle.rows.specs.declared.entry.Entry.{Entry}
-use Rattle.rows.specs.declared.entry.Entry.TheVariants.{Insert}
-use Rattle.rows.specs.declared.limits.TheConstants.{TABLES_MAX, ROW_WIDTH_MAX}
+use Rattle.rows.specs.declared.entry.Entry.TheVariants.{Insert, Patch, Delete}
+use Rattle.rows.specs.declared.limits.TheConstants.{TABLES_MAX, ROW_WIDTH_MAX, OCTETS_MAX}
 
--- an insert: 01, the table in one byte, the row in eight, the size in two, and the data
+-- what every entry begins with: which it is in one byte, the table in one, and the row in eight
+abbrev pub entry_front : ℕ → ℕ → ℕ → List ℕ
+entry_front op table row = (op ∷ table ∷ []) ++ big_bytes 8 row
+
+-- an insert: 01, and behind the row the size in two bytes, and the data. A patch: 02, and behind the row the offset
+-- in two bytes, the size in two, and the data. A delete: 03, and nothing behind the row.
 abbrev pub entry_spelling : Entry → List ℕ
-entry_spelling (Insert table row bytes) =
-    (1 ∷ table ∷ []) ++ big_bytes 8 row.0 ++ big_bytes 2 (length bytes) ++ bytes
+entry_spelling (Insert table row bytes) = entry_front 1 table row.0 ++ big_bytes 2 (length bytes) ++ bytes
+entry_spelling (Patch table row offset bytes) = entry_front 2 table row.0 ++ big_bytes 2 offset ++ big_bytes 2 (length bytes) ++ bytes
+entry_spelling (Delete table row) = entry_front 3 table row.0
 
 -- these numbers are bytes
 abbrev pub AreBytes : List ℕ → Type 0
 AreBytes bytes = (i : ℕ) → slice_index bytes i < 256
 
--- an entry with a spelling: its table is below 16, its row a number of 64 bits, its data 1 to 512 bytes
+-- an insert with a spelling: its table is below 16, its row a number of 64 bits, its data 1 to 512 bytes
 pub record IsInsert (table row : ℕ) (bytes : List ℕ) : Type 0 where
   pub table_below : table < TABLES_MAX
   pub row_below : row < 2 ^ 64
@@ -22,6 +28,22 @@ pub record IsInsert (table row : ℕ) (bytes : List ℕ) : Type 0 where
   pub few : length bytes ≤ ROW_WIDTH_MAX
   pub are_bytes : AreBytes bytes
 
+-- a patch with a spelling: its data is 1 to 64 bytes, which end within 512
+pub record IsPatch (table row offset : ℕ) (bytes : List ℕ) : Type 0 where
+  pub table_below : table < TABLES_MAX
+  pub row_below : row < 2 ^ 64
+  pub some : 0 < length bytes
+  pub few : length bytes ≤ OCTETS_MAX
+  pub within : offset + length bytes ≤ ROW_WIDTH_MAX
+  pub are_bytes : AreBytes bytes
+
+-- a delete with a spelling
+pub record IsDelete (table row : ℕ) : Type 0 where
+  pub table_below : table < TABLES_MAX
+  pub row_below : row < 2 ^ 64
+
 -- which entries have a spelling
 abbrev pub HasSpelling : Entry → Type 0
 HasSpelling (Insert table row bytes) = IsInsert table row.0 bytes
+HasSpelling (Patch table row offset bytes) = IsPatch table row.0 offset bytes
+HasSpelling (Delete table row) = IsDelete table row.0

@@ -3,19 +3,19 @@
 -- A table is the list of its rows in rising identifier, each with its values: equal tables are
 -- equal lists. An entry that fits and finds what it needs changes one row, and any other is
 -- refused.
-use Rattle.std.specs.Prelude.{ℕ, List, [], ◌∷◌, map, length, Bool, Option, None, Some, Result, Ok, Err, ◌==◌, if◌then◌else◌, slice_get, slice_set, is_some, is_ok}
+use Rattle.std.specs.Prelude.{ℕ, List, [], ◌∷◌, map, length, Bool, Option, None, Some, Result, Ok, Err, ◌==◌, not, if◌then◌else◌, slice_get, slice_set, is_some, is_ok}
+use Rattle.std.specs.List.{filter}
 use Rattle.std.specs.Result.{result_unwrap_or}
 use Rattle.std.specs.Ordering.{nat_cmp}
-use Rattle.std.specs.Map.{lookup}
+use Rattle.std.specs.Map.{lookup, set_value}
 use Rattle.std.specs.BTreeMap.{is_at, insert_entry}
 use Rattle.rows.specs.declared.entry.Entry.{Entry}
-use Rattle.rows.specs.declared.entry.Entry.TheVariants.{Insert}
-use Rattle.rows.specs.declared.fitting.EntryFault.{EntryFault}
-use Rattle.rows.specs.declared.fitting.EntryFault.TheVariants.{NoTable, WrongSize}
+use Rattle.rows.specs.declared.entry.Entry.TheVariants.{Insert, Patch, Delete}
 use Rattle.rows.specs.declared.kind.Kind.{Kind}
 use Rattle.rows.specs.declared.value.Value.{Value}
-use Rattle.rows.specs.Shape.{Shape, row_width}
-use Rattle.rows.specs.Values.{values_of}
+use Rattle.rows.specs.Shape.{Shape, column_at}
+use Rattle.rows.specs.Values.{value_of, values_of}
+use Rattle.rows.specs.Entries.{fitting}
 
 -- one table: its rows in rising identifier
 abbrev pub Table : Type 0
@@ -37,18 +37,45 @@ rows_of tables table = or_none (slice_get tables table)
     or_none None = []
     or_none (Some rows) = rows
 
+-- the kinds of a table's columns; none where there is no table of that number
+abbrev pub kinds_of : Shape → ℕ → List Kind
+kinds_of shape table = or_none (slice_get shape table)
+  where
+    or_none : Option (List Kind) → List Kind
+    or_none None = []
+    or_none (Some kinds) = kinds
+
+-- the values of a row, where it is there
+abbrev pub row_at : Table → ℕ → Option (List Value)
+row_at rows row = lookup (is_at (nat_cmp row)) rows
+
 -- whether the table has a row of that identifier
 abbrev pub is_present : Table → ℕ → Bool
-is_present rows row = is_some (lookup (is_at (nat_cmp row)) rows)
+is_present rows row = is_some (row_at rows row)
 
--- whether an insert's data has the width of the table's rows
-abbrev pub sized : Option (List Kind) → ℕ → Result (Unit {0}) EntryFault
-sized None size = Err NoTable
-sized (Some kinds) size = if size == row_width kinds then Ok tt else Err WrongSize
+-- the table with this row put in
+abbrev pub with_row : Table → ℕ → List Value → Table
+with_row rows row values = insert_entry nat_cmp rows row values
 
--- whether an entry fits the shape, or its first fault
-abbrev pub fitting : Shape → Entry → Result (Unit {0}) EntryFault
-fitting shape (Insert table row bytes) = sized (slice_get shape table) (length bytes)
+-- a row's values with these bytes at one column's place
+abbrev pub patched_row : List Kind → ℕ → List ℕ → List Value → List Value
+patched_row kinds offset bytes values = put (column_at kinds offset (length bytes))
+  where
+    put : Option (ℕ × Kind) → List Value
+    put None = values
+    put (Some column) = slice_set values column.0 (value_of column.1 bytes)
+
+-- the table with these bytes at one column's place of that row
+abbrev pub with_patch : List Kind → Table → ℕ → ℕ → List ℕ → Table
+with_patch kinds rows row offset bytes = put (row_at rows row)
+  where
+    put : Option (List Value) → Table
+    put None = rows
+    put (Some values) = set_value (is_at (nat_cmp row)) rows (patched_row kinds offset bytes values)
+
+-- the table without that row
+abbrev pub without_row : Table → ℕ → Table
+without_row rows row = filter (λ entry. not (entry.0 == row)) rows
 
 -- why a change is refused
 pub data Refusal : Type 0 where
@@ -62,18 +89,29 @@ pub data Refusal : Type 0 where
 -- the tables with this row put in
 abbrev pub inserted : Shape → Tables → ℕ → ℕ → List ℕ → Tables
 inserted shape tables table row bytes =
-    slice_set tables table (insert_entry nat_cmp (rows_of tables table) row (values_of (rows_kinds (slice_get shape table)) bytes))
-  where
-    rows_kinds : Option (List Kind) → List Kind
-    rows_kinds None = []
-    rows_kinds (Some kinds) = kinds
+    slice_set tables table (with_row (rows_of tables table) row (values_of (kinds_of shape table) bytes))
+
+-- the tables with these bytes at one column's place of that row
+abbrev pub patched : Shape → Tables → ℕ → ℕ → ℕ → List ℕ → Tables
+patched shape tables table row offset bytes =
+    slice_set tables table (with_patch (kinds_of shape table) (rows_of tables table) row offset bytes)
+
+-- the tables without that row
+abbrev pub deleted : Tables → ℕ → ℕ → Tables
+deleted tables table row = slice_set tables table (without_row (rows_of tables table) row)
+
+-- a change of an entry that fits or not, whose row stands as the entry needs it or not
+abbrev pub change_where : Bool → Bool → Refusal → Tables → Result Tables Refusal
+change_where fits stands refusal after = if fits then (if stands then Ok after else Err refusal) else Err Unfit
 
 -- the tables after one entry, or why it is refused
 abbrev pub change_of : Shape → Tables → Entry → Result Tables Refusal
 change_of shape tables (Insert table row bytes) =
-    if is_ok (fitting shape (Insert table row bytes))
-    then (if is_present (rows_of tables table) row.0 then Err Exists else Ok (inserted shape tables table row.0 bytes))
-    else Err Unfit
+    change_where (is_ok (fitting shape (Insert table row bytes))) (not (is_present (rows_of tables table) row.0)) Exists (inserted shape tables table row.0 bytes)
+change_of shape tables (Patch table row offset bytes) =
+    change_where (is_ok (fitting shape (Patch table row offset bytes))) (is_present (rows_of tables table) row.0) Missing (patched shape tables table row.0 offset bytes)
+change_of shape tables (Delete table row) =
+    change_where (is_ok (fitting shape (Delete table row))) (is_present (rows_of tables table) row.0) Missing (deleted tables table row.0)
 
 -- what comes after a change, where it is not refused
 abbrev pub and_then : (Tables → Result Tables Refusal) → Result Tables Refusal → Result Tables Refusal

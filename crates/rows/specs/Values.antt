@@ -1,17 +1,18 @@
 -- A row's two forms: the values of its columns, and their bytes in order.
-use Rattle.std.specs.Prelude.{ℕ, List, [], ◌∷◌, drop}
+use Rattle.std.specs.Prelude.{ℕ, List, [], ◌∷◌, take, drop}
 use Rattle.std.specs.List.{flat_map}
 use Rattle.std.specs.Int.{w64, cast_signed, cast_unsigned}
 use Rattle.byteorder.specs.Endian.{big_bytes, big_number}
 use Rattle.rows.specs.declared.kind.Kind.{Kind}
 use Rattle.rows.specs.declared.kind.Kind.TheVariants as kinds
 use Rattle.rows.specs.declared.value.Value.{Value}
-use Rattle.rows.specs.declared.value.Value.TheVariants.{Int}
+use Rattle.rows.specs.declared.value.Value.TheVariants.{Int, Octets}
 use Rattle.rows.specs.Shape.{width_of}
 
--- a value's bytes: an `Int` is eight, big-endian, two's complement
+-- a value's bytes: an `Int` is eight, big-endian, two's complement; octets are themselves
 abbrev pub value_bytes : Value → List ℕ
 value_bytes (Int number) = big_bytes 8 (cast_unsigned w64 number)
+value_bytes (Octets bytes) = bytes
 
 -- a row's bytes: those of its columns in order
 abbrev pub bytes_of : List Value → List ℕ
@@ -20,6 +21,7 @@ bytes_of values = flat_map value_bytes values
 -- the value of a column of this kind at the front of the bytes
 abbrev pub value_of : Kind → List ℕ → Value
 value_of kinds.Int bytes = Int (cast_signed w64 (big_number 8 bytes))
+value_of (kinds.Octets width) bytes = Octets (take width bytes)
 
 -- the values of a row with these columns
 abbrev pub values_of : List Kind → List ℕ → List Value

@@ -10,4 +10,17 @@ pub enum Entry {
         row: RowId,
         bytes: ByteList,
     },
+    /// Changes one column of a row; `bytes` are the column's new bytes, and `offset` is where the
+    /// column begins among the row's.
+    Patch {
+        table: u8,
+        row: RowId,
+        offset: u16,
+        bytes: ByteList,
+    },
+    /// Takes a row out of a table.
+    Delete {
+        table: u8,
+        row: RowId,
+    },
 }

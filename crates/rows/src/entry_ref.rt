@@ -9,4 +9,16 @@ pub enum EntryRef<'a> {
         row: RowId,
         bytes: &'a [u8],
     },
+    /// Changes one column of a row, which begins at `offset` among the row's bytes.
+    Patch {
+        table: u8,
+        row: RowId,
+        offset: u16,
+        bytes: &'a [u8],
+    },
+    /// Takes a row out of a table.
+    Delete {
+        table: u8,
+        row: RowId,
+    },
 }

@@ -2,12 +2,12 @@
 
 ghost use Rattle.std.specs.Prelude.{◌≡◌, OnOk, slice_get, length};
 ghost use Rattle.rows.specs.Shape.{shape_of};
-ghost use Rattle.rows.specs.Spelling.{HasSpelling, IsInsert};
-ghost use Rattle.rows.specs.Tables.{fitting, sized};
+ghost use Rattle.rows.specs.Spelling.{HasSpelling, IsInsert, IsPatch, IsDelete};
+ghost use Rattle.rows.specs.Entries.{fitting, sized, placed, listed};
 
 use crate::entry::Entry;
 use crate::row_id::RowId;
-use crate::schema::{Schema, width_of_row};
+use crate::schema::{Schema, column_at, width_of_row};
 use thiserror::Error;
 
 /// Why an entry does not fit a schema.
@@ -19,16 +19,27 @@ pub enum EntryFault {
     /// An insert's data has not the width of the table's rows.
     #[error("the data has not the row's width")]
     WrongSize,
+    /// A patch's offset and size are not exactly one column's place.
+    #[error("the data has not one column's place")]
+    NotAColumn,
 }
 
-/// Whether the entry fits the schema: its table is there, and an insert's data has exactly the
-/// width of the table's rows. Otherwise the first fault, in this order. Takes no memory.
+/// Whether the entry fits the schema: its table is there, an insert's data has exactly the width
+/// of the table's rows, and a patch's offset and size are exactly the place of one of the table's
+/// columns. Otherwise the first fault, in this order. Takes no memory.
 pub fn fits(schema: &Schema, entry: &Entry) -> Result<(), EntryFault>
     ensures exact { result ≡ fitting (shape_of schema.now) entry.now }
     ensures spelled { OnOk result (HasSpelling entry.now) }
 {
     match entry {
         Entry::Insert { table, row, bytes } => insert_fits(schema, *table, *row, bytes.as_slice()),
+        Entry::Patch {
+            table,
+            row,
+            offset,
+            bytes,
+        } => patch_fits(schema, *table, *row, *offset, bytes.as_slice()),
+        Entry::Delete { table, row } => delete_fits(schema, *table, *row),
     }
 }
 
@@ -48,5 +59,41 @@ fn insert_fits(schema: &Schema, table: u8, row: RowId, bytes: &[u8]) -> Result<(
                 Err(EntryFault::WrongSize)
             }
         }
+    }
+}
+
+/// Whether a patch fits: its table is there, and its data has just the place of one column. The
+/// row matters to the contract alone, which says that a patch that fits has a spelling.
+fn patch_fits(
+    schema: &Schema,
+    table: u8,
+    row: RowId,
+    offset: u16,
+    bytes: &[u8],
+) -> Result<(), EntryFault>
+    ensures exact { result ≡ placed (slice_get (shape_of schema.now) table) offset (length bytes.now) }
+    ensures spelled { OnOk result (IsPatch table row.0 offset bytes.now) }
+{
+    match schema.kinds(table as usize) {
+        None => Err(EntryFault::NoTable),
+        Some(kinds) => {
+            if column_at(kinds, offset as usize, bytes.len()).is_some() {
+                Ok(())
+            } else {
+                Err(EntryFault::NotAColumn)
+            }
+        }
+    }
+}
+
+/// Whether a delete fits: its table is there. The row matters to the contract alone, which says
+/// that a delete that fits has a spelling.
+fn delete_fits(schema: &Schema, table: u8, row: RowId) -> Result<(), EntryFault>
+    ensures exact { result ≡ listed (slice_get (shape_of schema.now) table) }
+    ensures spelled { OnOk result (IsDelete table row.0) }
+{
+    match schema.kinds(table as usize) {
+        None => Err(EntryFault::NoTable),
+        Some(_) => Ok(()),
     }
 }

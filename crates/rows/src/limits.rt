@@ -6,6 +6,9 @@ pub const TABLES_MAX: usize = 16;
 /// Columns in a table, at most.
 pub const COLUMNS_MAX: usize = 16;
 
+/// Bytes of one column's value, at most.
+pub const OCTETS_MAX: usize = 64;
+
 /// Bytes in a row, at most.
 pub const ROW_WIDTH_MAX: usize = 512;
 

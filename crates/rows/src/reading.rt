@@ -2,10 +2,10 @@
 
 ghost use Rattle.std.specs.Prelude.{◌≡◌};
 ghost use Rattle.std.specs.Option.{option_map};
-ghost use Rattle.rows.specs.Reading.{entry_at, seen};
+ghost use Rattle.rows.specs.Reading.{entry_at, insert_at, patch_at, seen};
 
 use crate::entry_ref::EntryRef;
-use crate::limits::{ROW_WIDTH_MAX, TABLES_MAX};
+use crate::limits::{OCTETS_MAX, ROW_WIDTH_MAX, TABLES_MAX};
 use crate::row_id::RowId;
 use byteorder::{BigEndian, ByteOrder};
 
@@ -14,21 +14,64 @@ use byteorder::{BigEndian, ByteOrder};
 pub fn read_entry(bytes: &[u8]) -> Option<(EntryRef<'_>, usize)>
     ensures { option_map seen result ≡ entry_at bytes.now }
 {
-    if bytes.len() < 12 {
+    if bytes.len() < 10 {
         return None;
     }
-    let (head, rest) = bytes.split_at(12);
-    let table = head[1];
-    let row = RowId(BigEndian::read_u64(&head[2..]));
-    let size = BigEndian::read_u16(&head[10..]) as usize;
-    if head[0] != 1
-        || table as usize >= TABLES_MAX
-        || size == 0
-        || size > ROW_WIDTH_MAX
-        || rest.len() < size
+    let (front, rest) = bytes.split_at(10);
+    let table = front[1];
+    let row = RowId(BigEndian::read_u64(&front[2..]));
+    if table as usize >= TABLES_MAX {
+        return None;
+    }
+    match front[0] {
+        1 => read_insert(table, row, rest),
+        2 => read_patch(table, row, rest),
+        3 => Some((EntryRef::Delete { table, row }, 10)),
+        _ => None,
+    }
+}
+
+/// What stands behind an insert's row: the size, and the data.
+fn read_insert(table: u8, row: RowId, rest: &[u8]) -> Option<(EntryRef<'_>, usize)>
+    ensures { option_map seen result ≡ insert_at table row.0 rest.now }
+{
+    if rest.len() < 2 {
+        return None;
+    }
+    let (front, data) = rest.split_at(2);
+    let size = BigEndian::read_u16(front) as usize;
+    if size == 0 || size > ROW_WIDTH_MAX || data.len() < size {
+        return None;
+    }
+    let (bytes, _) = data.split_at(size);
+    Some((EntryRef::Insert { table, row, bytes }, 12 + size))
+}
+
+/// What stands behind a patch's row: the offset, the size, and the data.
+fn read_patch(table: u8, row: RowId, rest: &[u8]) -> Option<(EntryRef<'_>, usize)>
+    ensures { option_map seen result ≡ patch_at table row.0 rest.now }
+{
+    if rest.len() < 4 {
+        return None;
+    }
+    let (front, data) = rest.split_at(4);
+    let offset = BigEndian::read_u16(front);
+    let size = BigEndian::read_u16(&front[2..]) as usize;
+    if size == 0
+        || size > OCTETS_MAX
+        || offset as usize + size > ROW_WIDTH_MAX
+        || data.len() < size
     {
         return None;
     }
-    let (bytes, _) = rest.split_at(size);
-    Some((EntryRef::Insert { table, row, bytes }, 12 + size))
+    let (bytes, _) = data.split_at(size);
+    Some((
+        EntryRef::Patch {
+            table,
+            row,
+            offset,
+            bytes,
+        },
+        14 + size,
+    ))
 }

@@ -1,11 +1,13 @@
 //! A row's two forms: the values of its columns, and their bytes.
 
-ghost use Rattle.std.specs.Prelude.{◌≡◌, ◌≤◌, length, IfOk};
-ghost use Rattle.rows.specs.Shape.{row_width, width_of};
+ghost use Rattle.std.specs.Prelude.{◌≡◌, ◌≤◌, length, true, IfOk, slice_set};
+ghost use Rattle.std.specs.List.{list_all};
+ghost use Rattle.rows.specs.Shape.{row_width, width_of, is_good};
 ghost use Rattle.rows.specs.Values.{value_of, values_of, bytes_of};
 
 use crate::byte_list::ByteList;
 use crate::kind::Kind;
+use crate::octets::Octets;
 use crate::value::Value;
 use byteorder::{BigEndian, ByteOrder};
 use std::alloc::{AllocError, Global};
@@ -40,10 +42,20 @@ impl Row {
     {
         self.items.as_slice()
     }
+
+    /// Puts another value into a column. Where there is no such column nothing changes. Takes no
+    /// memory.
+    pub fn set(&mut self, column: usize, value: Value)
+        ensures { self.new ≡ slice_set self.old column value }
+    {
+        if let Some(place) = self.items.get_mut(column) {
+            *place = value;
+        }
+    }
 }
 
 /// The bytes of a row with these values: each column's bytes in order, an `Int` as eight bytes,
-/// big-endian, two's complement. Fails for want of memory alone.
+/// big-endian, two's complement, `Octets` as they are. Fails for want of memory alone.
 pub fn row_bytes(alloc: Global, values: &[Value]) -> Result<ByteList, AllocError>
     ensures { IfOk result (λ bytes. bytes ≡ bytes_of values.now) }
 {
@@ -51,6 +63,7 @@ pub fn row_bytes(alloc: Global, values: &[Value]) -> Result<ByteList, AllocError
     for value in values {
         match *value {
             Value::Int(number) => bytes.extend_from_slice(&number.to_be_bytes())?,
+            Value::Octets(octets) => bytes.extend_from_slice(octets.as_slice())?,
         }
     }
     Ok(ByteList::from_vec(bytes))
@@ -59,7 +72,8 @@ pub fn row_bytes(alloc: Global, values: &[Value]) -> Result<ByteList, AllocError
 /// The values of a row with columns of these kinds, from the row's bytes. Fails for want of
 /// memory alone.
 pub fn row_values(alloc: Global, kinds: &[Kind], bytes: &[u8]) -> Result<Row, AllocError>
-    requires { row_width kinds.now ≤ length bytes.now }
+    requires good { list_all is_good kinds.now ≡ true }
+    requires wide { row_width kinds.now ≤ length bytes.now }
     ensures { IfOk result (λ row. row ≡ values_of kinds.now bytes.now) }
 {
     let mut items = Vec::new(alloc);
@@ -72,12 +86,17 @@ pub fn row_values(alloc: Global, kinds: &[Kind], bytes: &[u8]) -> Result<Row, Al
     Ok(Row { items })
 }
 
-/// The value of a column of this kind that stands at the front of the bytes.
-fn first_value(kind: Kind, bytes: &[u8]) -> Value
-    requires { width_of kind ≤ length bytes.now }
+/// The value of a column of this kind that stands at the front of the bytes. Takes no memory.
+pub fn first_value(kind: Kind, bytes: &[u8]) -> Value
+    requires good { is_good kind ≡ true }
+    requires wide { width_of kind ≤ length bytes.now }
     ensures { result ≡ value_of kind bytes.now }
 {
     match kind {
         Kind::Int => Value::Int(BigEndian::read_i64(bytes)),
+        Kind::Octets(width) => match Octets::from_slice(&bytes[..width as usize]) {
+            Some(octets) => Value::Octets(octets),
+            None => unreachable!(),
+        },
     }
 }

@@ -1,12 +1,12 @@
 //! A schema: the tables by name, in order, each with the kinds of its columns.
 
-ghost use Rattle.std.specs.Prelude.{◌≡◌, ◌<◌, ◌≤◌, ◌++◌, ◌∷◌, [], length, map, MatchResult, IfOk, OnOk, IfSome, slice_get, position, ◌⊎◌};
+ghost use Rattle.std.specs.Prelude.{◌≡◌, ◌<◌, ◌≤◌, ◌++◌, ◌∷◌, [], length, map, true, MatchResult, IfOk, OnOk, IfSome, slice_get, position, ◌⊎◌};
 ghost use Rattle.std.specs.Option.{option_map};
-ghost use Rattle.std.specs.List.{list_any};
+ghost use Rattle.std.specs.List.{list_any, list_all};
 ghost use Rattle.std.specs.Str.{bytes_eq};
 ghost use Rattle.rows.specs.SchemaFaults.{schema_fault, table_fault, tables_fault};
 ghost use Rattle.rows.specs.Shown.{given, shown};
-ghost use Rattle.rows.specs.Shape.{shape_of, row_width, AreColumns, AreTables};
+ghost use Rattle.rows.specs.Shape.{shape_of, row_width, is_good, column_at, AreColumns, AreTables};
 
 use crate::kind::Kind;
 use crate::kind_list::KindList;
@@ -19,7 +19,7 @@ use std::marker::Model;
 /// The tables of a database, in order, each with its name and the kinds of its columns.
 ///
 /// It has 1 to 16 tables with names that differ, each of 1 to 16 columns and at most 512 bytes a
-/// row. Tables are named by their place, from 0.
+/// row; a column of `Octets` has 1 to 64 bytes. Tables are named by their place, from 0.
 #[derive(Debug, Drop)]
 pub struct Schema {
     tables: IndexMap<String, KindList>,
@@ -44,7 +44,8 @@ impl Schema {
     /// Fails with the first of these that stands: no table (`Empty`), more than 16 tables
     /// (`TooManyTables`); then table by table an empty name (`Empty`), a name that an earlier
     /// table has (`NameTwice`), no column (`Empty`), more than 16 columns (`TooManyColumns`), a
-    /// row of more than 512 bytes (`RowTooWide`); and `Memory` last.
+    /// column of 0 bytes or of more than 64 (`BadWidth`), a row of more than 512 bytes
+    /// (`RowTooWide`); and `Memory` last.
     pub fn new(alloc: Global, tables: &[(&str, &[Kind])]) -> Result<Schema, SchemaFault>
         ensures exact { MatchResult result (λ schema. (schema ≡ map given tables.now) × (schema_fault (map given tables.now) ≡ None))
             (λ fault. ((fault ≡ SchemaFault.Memory) × (schema_fault (map given tables.now) ≡ None))
@@ -117,7 +118,46 @@ pub fn width_of_row(kinds: &[Kind]) -> usize
     requires { length kinds.now ≤ COLUMNS_MAX }
     ensures { result ≡ row_width kinds.now }
 {
-    kinds.iter().map(|kind| kind.width()).sum()
+    let mut width = 0;
+    for kind in kinds {
+        width += kind.width();
+    }
+    width
+}
+
+/// Whether columns may be of these kinds.
+fn are_good(kinds: &[Kind]) -> bool
+    ensures { result ≡ list_all is_good kinds.now }
+{
+    for kind in kinds {
+        if !kind.is_good() {
+            return false;
+        }
+    }
+    true
+}
+
+/// The column that begins at this offset among a row's bytes and has this size: its number and
+/// its kind. `None` where no column has just that place. Takes no memory.
+pub fn column_at(kinds: &[Kind], offset: usize, size: usize) -> Option<(usize, Kind)>
+    ensures { result ≡ column_at kinds.now offset size }
+{
+    let mut rest = offset;
+    for column in 0..kinds.len() {
+        let kind = kinds[column];
+        if rest == 0 {
+            return if size == kind.width() {
+                Some((column, kind))
+            } else {
+                None
+            };
+        }
+        if rest < kind.width() {
+            return None;
+        }
+        rest -= kind.width();
+    }
+    None
 }
 
 /// The first fault of tables that are to be a schema, want of memory aside.
@@ -155,6 +195,9 @@ fn fault_of_table(before: &[(&str, &[Kind])], name: &str, kinds: &[Kind]) -> Opt
     }
     if kinds.len() > COLUMNS_MAX {
         return Some(SchemaFault::TooManyColumns);
+    }
+    if !are_good(kinds) {
+        return Some(SchemaFault::BadWidth);
     }
     if width_of_row(kinds) > ROW_WIDTH_MAX {
         return Some(SchemaFault::RowTooWide);

@@ -2,20 +2,23 @@
 
 ghost use Rattle.std.specs.Prelude.{◌≡◌, ◌+◌, ◌≤◌, ◌++◌, ◌∷◌, [], length, drop};
 ghost use Rattle.byteorder.specs.Endian.{big_bytes};
-ghost use Rattle.rows.specs.Spelling.{entry_spelling, HasSpelling};
+ghost use Rattle.rows.specs.Spelling.{entry_front, entry_spelling, HasSpelling};
 
 use crate::entry::Entry;
-use crate::limits::ROW_WIDTH_MAX;
+use crate::limits::{OCTETS_MAX, ROW_WIDTH_MAX};
 use crate::row_id::RowId;
 use byteorder::{BigEndian, ByteOrder};
 
-/// How many bytes the spelling of an entry takes: 12 and its data for an insert.
+/// How many bytes the spelling of an entry takes: 12 and its data for an insert, 14 and its data
+/// for a patch, 10 for a delete.
 pub fn entry_len(entry: &Entry) -> usize
     requires { HasSpelling entry.now }
     ensures { result ≡ length (entry_spelling entry.now) }
 {
     match entry {
         Entry::Insert { bytes, .. } => 12 + bytes.len(),
+        Entry::Patch { bytes, .. } => 14 + bytes.len(),
+        Entry::Delete { .. } => 10,
     }
 }
 
@@ -29,6 +32,13 @@ pub fn write_entry(entry: &Entry, buffer: &mut [u8]) -> usize
 {
     match entry {
         Entry::Insert { table, row, bytes } => write_insert(*table, *row, bytes.as_slice(), buffer),
+        Entry::Patch {
+            table,
+            row,
+            offset,
+            bytes,
+        } => write_patch(*table, *row, *offset, bytes.as_slice(), buffer),
+        Entry::Delete { table, row } => write_delete(*table, *row, buffer),
     }
 }
 
@@ -46,14 +56,58 @@ fn write_insert(table: u8, row: RowId, bytes: &[u8], buffer: &mut [u8]) -> usize
     12 + size
 }
 
+/// Writes the spelling of a patch to the front of the buffer, and answers its length.
+fn write_patch(table: u8, row: RowId, offset: u16, bytes: &[u8], buffer: &mut [u8]) -> usize
+    requires size { length bytes.now ≤ OCTETS_MAX }
+    requires room { 14 + length bytes.now ≤ length buffer.old }
+    ensures len { result ≡ 14 + length bytes.now }
+    ensures written { buffer.new
+        ≡ entry_spelling (Entry.Patch table row offset bytes.now) ++ drop result buffer.old }
+{
+    let size = bytes.len();
+    buffer[..14].copy_from_slice(&patch_head(table, row, offset, size as u16));
+    buffer[14..14 + size].copy_from_slice(bytes);
+    14 + size
+}
+
+/// Writes the spelling of a delete to the front of the buffer, and answers its length.
+fn write_delete(table: u8, row: RowId, buffer: &mut [u8]) -> usize
+    requires { 10 ≤ length buffer.old }
+    ensures len { result ≡ 10 }
+    ensures written { buffer.new ≡ entry_spelling (Entry.Delete table row) ++ drop result buffer.old }
+{
+    buffer[..10].copy_from_slice(&entry_front(3, table, row));
+    10
+}
+
+/// The ten bytes that every entry begins with: which it is, the table, and the row.
+fn entry_front(op: u8, table: u8, row: RowId) -> [u8; 10]
+    ensures { result ≡ entry_front op table row.0 }
+{
+    let mut front = [0; 10];
+    front[0] = op;
+    front[1] = table;
+    BigEndian::write_u64(&mut front[2..], row.0);
+    front
+}
+
 /// The twelve bytes before an insert's data.
 fn insert_head(table: u8, row: RowId, size: u16) -> [u8; 12]
-    ensures { result ≡ (1 ∷ table ∷ []) ++ big_bytes 8 row.0 ++ big_bytes 2 size }
+    ensures { result ≡ entry_front 1 table row.0 ++ big_bytes 2 size }
 {
     let mut head = [0; 12];
-    head[0] = 1;
-    head[1] = table;
-    BigEndian::write_u64(&mut head[2..], row.0);
+    head[..10].copy_from_slice(&entry_front(1, table, row));
     BigEndian::write_u16(&mut head[10..], size);
+    head
+}
+
+/// The fourteen bytes before a patch's data.
+fn patch_head(table: u8, row: RowId, offset: u16, size: u16) -> [u8; 14]
+    ensures { result ≡ entry_front 2 table row.0 ++ big_bytes 2 offset ++ big_bytes 2 size }
+{
+    let mut head = [0; 14];
+    head[..10].copy_from_slice(&entry_front(2, table, row));
+    BigEndian::write_u16(&mut head[10..], offset);
+    BigEndian::write_u16(&mut head[12..], size);
     head
 }

@@ -1,5 +1,5 @@
 -- Entries that fill bytes: read one after the other, what is read is spelled so, and what is spelled so is read.
-use Rattle.std.proofs.Common.{◌≡◌, ℕ, zero, suc, ◌+◌, ◌-◌, ◌<◌, Bool, List, [], ◌∷◌, ◌++◌, length, drop, Option, Some, None, refl, sym, ap, subst, ◌∙◌, append_assoc, arith}
+use Rattle.std.proofs.Common.{◌≡◌, ℕ, zero, suc, ◌+◌, ◌-◌, ◌<◌, Bool, false, List, [], ◌∷◌, ◌++◌, length, drop, Option, Some, None, refl, sym, ap, subst, ◌∙◌, append_assoc, arith}
 use Rattle.std.specs.Prelude.{is_some}
 use Rattle.std.specs.Option.{option_map}
 use Rattle.std.proofs.lemmas.List.{drop_at}
@@ -33,6 +33,9 @@ pub filled_more : (count i : ℕ) (bytes : List ℕ) (found : Entry × ℕ) (ans
 filled_more count i bytes found answer lt e so_far =
     sym (some_option_map (λ (others : List Entry). found.0 ∷ others) (entries_filling (count - (i + 1)) (drop found.1 bytes)))
     ∙ sym (ap (λ (o : Option (List Entry)). is_some o) (filling_more count i bytes found lt e)) ∙ so_far
+
+pub filled_not : (count i : ℕ) (bytes : List ℕ) (answer : Bool) → i < count → entry_at bytes ≡ None → is_some (entries_filling (count - i) bytes) ≡ answer → false ≡ answer
+filled_not count i bytes answer lt e so_far = sym (ap (λ (o : Option (List Entry)). is_some o) (filling_none count i bytes lt e)) ∙ so_far
 
 -- the entries that fill the bytes, as a loop gathers them
 pub gathered_more : (front : List Entry) (count i : ℕ) (bytes : List ℕ) (found : Entry × ℕ) (all : Option (List Entry)) → i < count → entry_at bytes ≡ Some found

@@ -4,7 +4,7 @@ use Rattle.std.specs.List.{flat_map}
 use Rattle.std.proofs.lemmas.List.{drop-drop, take_at}
 use Rattle.byteorder.specs.Endian.{big_bytes}
 use Rattle.rows.specs.declared.entry.Entry.{Entry}
-use Rattle.rows.specs.declared.entry.Entry.TheVariants.{Insert}
+use Rattle.rows.specs.declared.entry.Entry.TheVariants.{Insert, Patch, Delete}
 use Rattle.rows.specs.declared.limits.TheConstants.{DATAGRAM_MAX}
 use Rattle.rows.specs.Spelling.{entry_spelling}
 use Rattle.wire.specs.declared.fault.TooSmall.{TooSmall}
@@ -13,11 +13,15 @@ use Rattle.wire.specs.declared.datagram.Datagram.TheVariants.{Frame, Ask, Head, 
 use Rattle.wire.specs.Spelling.{spelling, HasSpelling, datagram_front, frame_head, head_head}
 
 -- no entry is spelled by nothing
+entry_some : (entry : Entry) → 0 < length (entry_spelling entry)
+entry_some (Insert table row content) = omega arith
+entry_some (Patch table row offset content) = omega arith
+entry_some (Delete table row) = omega arith
+
+-- so there are at most as many entries as bytes
 pub entries_few : (entries : List Entry) → length entries ≤ length (flat_map entry_spelling entries)
 entries_few [] = omega arith
-entries_few (Insert table row content ∷ entries) =
-    let rest = entries_few entries in
-    omega (arith, length-append content (flat_map entry_spelling entries))
+entries_few (entry ∷ entries) = omega (arith, entry_some entry, entries_few entries, length-append (entry_spelling entry) (flat_map entry_spelling entries))
 
 pub length-counts : (counts : List ℕ) → length (flat_map (big_bytes 8) counts) ≡ 8 * length counts
 length-counts [] = refl

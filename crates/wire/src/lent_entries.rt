@@ -108,5 +108,20 @@ fn owned(alloc: Global, lent: EntryRef<'_>) -> Result<Entry, AllocError>
             let bytes = ByteList::from_vec(Vec::from_slice(alloc, bytes)?);
             Ok(Entry::Insert { table, row, bytes })
         }
+        EntryRef::Patch {
+            table,
+            row,
+            offset,
+            bytes,
+        } => {
+            let bytes = ByteList::from_vec(Vec::from_slice(alloc, bytes)?);
+            Ok(Entry::Patch {
+                table,
+                row,
+                offset,
+                bytes,
+            })
+        }
+        EntryRef::Delete { table, row } => Ok(Entry::Delete { table, row }),
     }
 }

@@ -1,5 +1,5 @@
 -- The part of one table more.
-use Rattle.std.proofs.Common.{◌≡◌, ◌++◌, sym, ap, ◌∙◌, arith}
+use Rattle.std.proofs.Common.{◌++◌, sym, ap, ◌∙◌, arith}
 use Rattle.rows.specs.Shape.{shape_of}
 use Rattle.primary.specs.Journal.{table_header}
 use Rattle.primary.proofs.Text.{header_more, no_gap}

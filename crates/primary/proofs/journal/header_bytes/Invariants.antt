@@ -1,5 +1,5 @@
 -- The header of the tables so far.
-use Rattle.std.proofs.Common.{◌≡◌, take}
+use Rattle.std.proofs.Common.{◌≡◌}
 use Rattle.rows.specs.Shape.{shape_of}
 use Rattle.primary.proofs.Text.{header_so_far}
 use Rattle.primary.proofs.journal.header_bytes.Given as goal

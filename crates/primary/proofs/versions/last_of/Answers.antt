@@ -1,5 +1,5 @@
 -- One step of the walk, and its end.
-use Rattle.std.proofs.Common.{ap, sym, ◌∙◌, arith}
+use Rattle.std.proofs.Common.{ap, ◌∙◌, arith}
 use Rattle.std.proofs.lemmas.List.{take_all}
 use Rattle.rows.specs.Commits.{last_touching}
 use Rattle.rows.proofs.TableLaws.{last_touching-more}

@@ -1,9 +1,16 @@
--- Each entry that is read leaves the answer to what is left.
+-- Where no entry is read the answer is no; each that is read leaves the answer to what is left.
 use Rattle.std.proofs.Common.{is_some, sym}
 use Rattle.rows.specs.Reading.{seen}
 use Rattle.wire.specs.Entries.{entries_filling}
-use Rattle.wire.proofs.Filling.{filled_more}
+use Rattle.wire.proofs.Entries.{entry_at-within}
+use Rattle.wire.proofs.Filling.{filled_more, filled_not}
 use Rattle.wire.proofs.lent_entries.are_entries.Goals as goal
+
+pub returns-in-None : goal.returns-in-None
+returns-in-None c = filled_not c.args.count c.loop.counter c.loop.rest.now (is_some (entries_filling c.args.count c.args.bytes.now)) c.loop-test.true (sym c.in-None.ensures) c.loop.invariant
+
+pub split_at-requires : goal.split_at-requires
+split_at-requires c = entry_at-within c.loop.rest.now (seen (c.in-Some.field-0-0, c.in-Some.len)) (sym c.in-Some.ensures)
 
 pub loop-preserved : goal.loop-preserved
 loop-preserved c =

@@ -1,5 +1,5 @@
 -- The records of the commits that are moved go behind the journal's text.
-use Rattle.std.proofs.Common.{◌≡◌, ◌+◌, ◌≤◌, length, take, drop, min, sym, ap, ◌∙◌, arith}
+use Rattle.std.proofs.Common.{◌≡◌, ◌+◌, ◌≤◌, length, drop, min, sym, ap, ◌∙◌, arith}
 use Rattle.std.proofs.lemmas.List.{length-drop, length-take-le}
 use Rattle.primary.specs.State.{Primary}
 use Rattle.primary.proofs.Flushing.{moved_text, flushed_is}

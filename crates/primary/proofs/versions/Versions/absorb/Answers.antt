@@ -2,8 +2,8 @@
 use Rattle.std.proofs.Common.{◌≡◌, true, [], ◌∷◌, ◌++◌, length, subst, sym, ap, ◌∙◌}
 use Rattle.std.specs.Result.{is_ok}
 use Rattle.rows.specs.Shape.{shape_of}
-use Rattle.rows.specs.Tables.{opening, changes_of}
-use Rattle.rows.specs.Commits.{commits_of, tables_after}
+use Rattle.rows.specs.Tables.{changes_of}
+use Rattle.rows.specs.Commits.{tables_after}
 use Rattle.primary.specs.History.{History}
 use Rattle.rows.proofs.TableLaws.{commits_of-push}
 use Rattle.primary.proofs.versions.Versions.absorb.Goals as goal

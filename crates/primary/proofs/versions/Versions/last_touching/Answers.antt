@@ -1,5 +1,5 @@
 -- Entries of rows that no later commit touches stay defined.
-use Rattle.std.proofs.Common.{◌≡◌, ◌≤◌, ℕ, true, length, subst, sym, ap, ◌∙◌}
+use Rattle.std.proofs.Common.{◌≡◌, ◌≤◌, ℕ, true, length, subst, ap, ◌∙◌}
 use Rattle.rows.specs.Shape.{shape_of}
 use Rattle.rows.specs.Commits.{last_touching}
 use Rattle.rows.proofs.TableLaws.{still_defined}

@@ -1,0 +1,41 @@
+-- Which entries fit a shape, and of which row an entry is.
+use Rattle.std.specs.Prelude.{ℕ, List, length, Option, None, Some, Result, Ok, Err, ◌==◌, if◌then◌else◌, slice_get, is_some}
+use Rattle.rows.specs.declared.entry.Entry.{Entry}
+use Rattle.rows.specs.declared.entry.Entry.TheVariants.{Insert, Patch, Delete}
+use Rattle.rows.specs.declared.fitting.EntryFault.{EntryFault}
+use Rattle.rows.specs.declared.fitting.EntryFault.TheVariants.{NoTable, WrongSize, NotAColumn}
+use Rattle.rows.specs.declared.kind.Kind.{Kind}
+use Rattle.rows.specs.Shape.{Shape, row_width, column_at}
+
+-- the table that an entry is of
+abbrev pub table_of : Entry → ℕ
+table_of (Insert table row bytes) = table
+table_of (Patch table row offset bytes) = table
+table_of (Delete table row) = table
+
+-- the row that an entry is of, by its identifier
+abbrev pub row_of : Entry → ℕ
+row_of (Insert table row bytes) = row.0
+row_of (Patch table row offset bytes) = row.0
+row_of (Delete table row) = row.0
+
+-- whether an insert's data has the width of the table's rows
+abbrev pub sized : Option (List Kind) → ℕ → Result (Unit {0}) EntryFault
+sized None size = Err NoTable
+sized (Some kinds) size = if size == row_width kinds then Ok tt else Err WrongSize
+
+-- whether a patch has just the place of one of the table's columns
+abbrev pub placed : Option (List Kind) → ℕ → ℕ → Result (Unit {0}) EntryFault
+placed None offset size = Err NoTable
+placed (Some kinds) offset size = if is_some (column_at kinds offset size) then Ok tt else Err NotAColumn
+
+-- whether the table is there
+abbrev pub listed : Option (List Kind) → Result (Unit {0}) EntryFault
+listed None = Err NoTable
+listed (Some kinds) = Ok tt
+
+-- whether an entry fits the shape, or its first fault
+abbrev pub fitting : Shape → Entry → Result (Unit {0}) EntryFault
+fitting shape (Insert table row bytes) = sized (slice_get shape table) (length bytes)
+fitting shape (Patch table row offset bytes) = placed (slice_get shape table) offset (length bytes)
+fitting shape (Delete table row) = listed (slice_get shape table)

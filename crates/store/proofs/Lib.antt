@@ -1,0 +1,4 @@
+pub mod Columns
+pub mod Rows
+pub mod Runs
+pub mod Openings

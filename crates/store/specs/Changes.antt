@@ -1,0 +1,41 @@
+-- What a store answers: a row's columns, the rows in their order, and what stands after a change that is refused.
+use Rattle.std.specs.Prelude.{◌≡◌, ℕ, ◌<◌, List, length, take, Bool, true, false, Option, None, Some, Result, Ok, Err, slice_get, IfSome, IsSomeAnd}
+use Rattle.std.specs.Option.{option_map}
+use Rattle.rows.specs.declared.entry.Entry.{Entry}
+use Rattle.rows.specs.declared.value.Value.{Value}
+use Rattle.rows.specs.Shape.{Shape}
+use Rattle.rows.specs.Tables.{Table, Tables, Refusal, Unfit, Exists, Missing, change_of, changes_of}
+
+-- a column of a row, where the row is there and has that column
+abbrev pub column_of : Option (List Value) → ℕ → Option Value
+column_of None column = None
+column_of (Some values) column = slice_get values column
+
+-- the identifier of the row at a place of the table's order
+abbrev pub id_in : Table → ℕ → Option ℕ
+id_in rows i = option_map (λ row. row.0) (slice_get rows i)
+
+-- each row before that place has an identifier below this one
+abbrev pub IsAboveAllBefore : Table → ℕ → ℕ → Type 0
+IsAboveAllBefore rows i id = (j : ℕ) → j < i → IfSome (id_in rows j) (λ before. before < id)
+
+-- the number of each refusal
+abbrev pub code_of : Refusal → ℕ
+code_of Exists = 1
+code_of Missing = 2
+code_of Unfit = 3
+
+-- the kind of the fault with which a change is refused: 5, broken, at a store that is not whole; else the number of
+-- the change's own refusal; else 4, want of memory
+abbrev pub fault_kind : Bool → Result Tables Refusal → ℕ
+fault_kind false change = 5
+fault_kind true (Err refusal) = code_of refusal
+fault_kind true (Ok tables) = 4
+
+-- a run of entries that stopped at one of them: those before it made these tables of the old ones, and on these it is
+-- refused; a store that is not whole refuses the first
+pub record StopsAt (whole : Bool) (shape : Shape) (old new : Tables) (entries : List Entry) (i kind : ℕ) : Type 0 where
+  pub within : i < length entries
+  pub before : changes_of shape old (take i entries) ≡ Ok new
+  pub refused : IsSomeAnd (slice_get entries i) (λ entry. kind ≡ fault_kind whole (change_of shape new entry))
+  pub first : whole ≡ false → i ≡ 0

@@ -1,0 +1,11 @@
+-- A plain store, as its callers see it.
+use Rattle.std.specs.Prelude.{Bool}
+use Rattle.rows.specs.Shape.{Shape}
+use Rattle.rows.specs.Tables.{Tables}
+
+pub record State : Type 0 where
+  -- the kinds of its tables' columns, which never change
+  pub shape : Shape
+  pub tables : Tables
+  -- whether its tables stand as its changes made them; once it is not, it never is again
+  pub whole : Bool

@@ -1,0 +1,37 @@
+//! The interface to a store that a replica applies commits to.
+
+ghost use Rattle.std.specs.Prelude.{◌≡◌, true, false, Ok, OnOk, OnErr, IfErr};
+ghost use Rattle.rows.specs.Commits.{commits_of};
+ghost use Rattle.store.specs.Faults.{FailsAs};
+
+use crate::store::Store;
+use rows::Commit;
+use thiserror::Error;
+
+/// Why a list of commits was not applied. The store is not whole from then on.
+#[derive(Clone, Copy, Debug, PartialEq, Eq, Error)]
+pub enum ApplyFault {
+    /// A change is refused: its entry does not fit, or its row stands otherwise than it needs.
+    #[error("a change is refused")]
+    Inconsistent,
+    #[error("out of memory")]
+    Memory,
+    /// The store was not whole before.
+    #[error("the store is broken")]
+    Broken,
+}
+
+/// A store that lists of commits are applied to.
+pub trait ApplyStore: Store {
+    /// Makes all changes of these commits, in their order.
+    ///
+    /// Fails with `Broken` where the store is not whole, with `Inconsistent` where one of the
+    /// changes is refused, and with `Memory`. After any of them the store is not whole, for good.
+    fn apply_all(&mut self, commits: &[Commit]) -> Result<(), ApplyFault>
+        ensures ok { OnOk result (commits_of (Self.shape self.old) (Self.tables self.old) commits.now ≡ Ok (Self.tables self.new)) }
+        ensures only_whole { OnOk result (Self.is_whole self.old ≡ true) }
+        ensures stays_whole { OnOk result (Self.is_whole self.new ≡ true) }
+        ensures err { IfErr result (FailsAs (Self.is_whole self.old) (commits_of (Self.shape self.old) (Self.tables self.old) commits.now)) }
+        ensures broken { OnErr result (Self.is_whole self.new ≡ false) }
+        ensures shape { Self.shape self.new ≡ Self.shape self.old };
+}

@@ -1,0 +1,148 @@
+//! A store that keeps each table in an ordered map.
+
+ghost use Rattle.std.specs.Prelude.{◌≡◌, true, IfOk};
+ghost use Rattle.rows.specs.Shape.{shape_of};
+ghost use Rattle.rows.specs.Tables.{opening};
+
+use crate::apply_store::{ApplyFault, ApplyStore};
+use crate::changing::{apply_commits, change_tables, empty_tables};
+use crate::store::Store;
+use crate::store_fault::StoreFault;
+use crate::table_map::TableMap;
+use rows::{Commit, Entry, RowId, Schema, Value};
+use std::alloc::{AllocError, Global};
+use std::marker::Model;
+
+/// A store that keeps the rows of each table in an ordered map.
+///
+/// Contracts see the shape and the rows of its tables, and whether it is whole. It changes a row
+/// in place, and copies neither rows nor tables.
+#[derive(Debug, Drop)]
+pub struct PlainStore {
+    alloc: Global,
+    schema: Schema,
+    tables: Vec<TableMap>,
+    whole: bool,
+}
+
+impl Model for PlainStore {
+    ghost use Rattle.store.specs.State.{State};
+
+    ghost Value = { State };
+
+    ghost use Rattle.store.specs.Inside.{state_of, HasAllTables};
+
+    ghost view = { state_of };
+
+    ghost invariant = { HasAllTables };
+}
+
+impl PlainStore {
+    /// A store for the tables of a schema, each without rows. It is whole. Fails for want of
+    /// memory alone.
+    pub fn new(alloc: Global, schema: &Schema) -> Result<PlainStore, AllocError>
+        ensures { IfOk result (λ store. store ≡ record { shape = shape_of schema.now; tables = opening (shape_of schema.now); whole = true }) }
+    {
+        Ok(PlainStore {
+            alloc,
+            schema: schema.clone()?,
+            tables: empty_tables(alloc, schema.len())?,
+            whole: true,
+        })
+    }
+}
+
+impl Store for PlainStore {
+    ghost use Rattle.rows.specs.Tables.{rows_of, row_at};
+    ghost use Rattle.store.specs.Faults.{number_of};
+
+    /// A row's place is its identifier.
+    type Place = RowId;
+
+    type Fault = StoreFault;
+
+    ghost shape = { λ s. s.shape };
+
+    ghost tables = { λ s. s.tables };
+
+    ghost is_whole = { λ s. s.whole };
+
+    ghost values_at = { λ s table place. row_at (rows_of s.tables table) place.0 };
+
+    ghost kind_of = { number_of };
+
+    /// Whether no list of commits was refused.
+    fn whole(&self) -> bool {
+        self.whole
+    }
+
+    /// The identifier of a row of a table; `None` where the row or the table is not there.
+    fn find(&self, table: u8, row: RowId) -> Option<RowId> {
+        if self.tables.get(table as usize)?.contains(row.0) {
+            Some(row)
+        } else {
+            None
+        }
+    }
+
+    /// The value of one column of a row, columns being counted from 0.
+    fn value(&self, table: u8, place: RowId, column: usize) -> Value {
+        let Some(rows) = self.tables.get(table as usize) else {
+            unreachable!();
+        };
+        let Some(values) = rows.row(place.0) else {
+            unreachable!();
+        };
+        values[column]
+    }
+
+    /// How many rows a table has; 0 where there is no table of that number.
+    fn len(&self, table: u8) -> usize {
+        match self.tables.get(table as usize) {
+            Some(rows) => rows.len(),
+            None => 0,
+        }
+    }
+
+    /// The identifier of the row at a place of the table's order, counted from 0. It walks the
+    /// rows before it: a walk over a whole table by `id_at` takes time of its square.
+    fn id_at(&self, table: u8, i: usize) -> RowId {
+        let Some(rows) = self.tables.get(table as usize) else {
+            unreachable!();
+        };
+        RowId(rows.id_at(i))
+    }
+
+    /// Makes one change, or refuses it and changes nothing: `Broken`; `Unfit`; `Exists` or
+    /// `Missing`; `Memory`, the first that stands.
+    fn change(&mut self, entry: &Entry) -> Result<(), StoreFault> {
+        if !self.whole {
+            return Err(StoreFault::Broken);
+        }
+        change_tables(self.alloc, &self.schema, &mut self.tables, entry)
+    }
+
+    /// The number of a fault: 1 Exists, 2 Missing, 3 Unfit, 4 Memory, 5 Broken.
+    fn kind(fault: &StoreFault) -> u8 {
+        match fault {
+            StoreFault::Exists => 1,
+            StoreFault::Missing => 2,
+            StoreFault::Unfit => 3,
+            StoreFault::Memory => 4,
+            StoreFault::Broken => 5,
+        }
+    }
+}
+
+impl ApplyStore for PlainStore {
+    /// Makes all changes of these commits, in their order; `Broken`, `Inconsistent` or `Memory`
+    /// otherwise, and then the store is not whole, for good.
+    fn apply_all(&mut self, commits: &[Commit]) -> Result<(), ApplyFault> {
+        if !self.whole {
+            return Err(ApplyFault::Broken);
+        }
+        let applied = apply_commits(self.alloc, &self.schema, &mut self.tables, commits);
+        self.whole = applied.is_ok();
+        applied
+    }
+}

@@ -1,0 +1,28 @@
+//! Runs of entries.
+
+ghost use Rattle.std.specs.Prelude.{◌≡◌, Ok, OnOk, IfErr};
+ghost use Rattle.rows.specs.Tables.{changes_of};
+ghost use Rattle.store.specs.Changes.{StopsAt};
+
+use crate::store::Store;
+use rows::Entry;
+
+/// Makes the changes of a list of entries in their order, up to the first that is refused.
+///
+/// Fails with the number of that entry, counted from 0, and the fault with which the store refuses
+/// it. The changes of the entries before it are then made, and no other. A store that is not whole
+/// refuses the first entry.
+pub fn run<S: Store>(store: &mut S, entries: &[Entry]) -> Result<(), (usize, S::Fault)>
+    ensures ok { OnOk result (changes_of (S.shape store.old) (S.tables store.old) entries.now ≡ Ok (S.tables store.new)) }
+    ensures err { IfErr result (λ stop. StopsAt (S.is_whole store.old) (S.shape store.old) (S.tables store.old) (S.tables store.new) entries.now stop.0 (S.kind_of stop.1)) }
+    ensures whole { S.is_whole store.new ≡ S.is_whole store.old }
+    ensures shape { S.shape store.new ≡ S.shape store.old }
+{
+    for (i, entry) in entries.iter().enumerate() {
+        match store.change(entry) {
+            Ok(()) => {}
+            Err(fault) => return Err((i, fault)),
+        }
+    }
+    Ok(())
+}

@@ -1,0 +1,84 @@
+//! The interface to a store of rows.
+
+ghost use Rattle.std.specs.Prelude.{◌≡◌, ℕ, ◌<◌, length, true, Ok, Some, is_some, IsSome, IfSome, OnOk, OnErr, IfErr};
+ghost use Rattle.rows.specs.Tables.{rows_of, row_at, is_present, change_of};
+ghost use Rattle.store.specs.Changes.{column_of, id_in, IsAboveAllBefore, fault_kind};
+
+use rows::{Entry, RowId, Value};
+
+/// A store of rows: a map from a table and a row to the row's values, and the way to change it.
+///
+/// Contracts see its shape, which never changes, its tables, and whether it is whole. What a store
+/// answers means its tables only while it is whole, and a store that is no longer whole is never
+/// whole again. All calls but `change` take no memory.
+pub trait Store {
+    ghost use Rattle.std.specs.Prelude.{ℕ, List, Bool, Option};
+    ghost use Rattle.rows.specs.declared.value.Value.{Value};
+    ghost use Rattle.rows.specs.Shape.{Shape};
+    ghost use Rattle.rows.specs.Tables.{Tables};
+
+    /// Where a row of a table stands. It is used only until the next change.
+    type Place: Copy;
+
+    /// Why a change was refused.
+    type Fault: Drop;
+
+    /// The kinds of its tables' columns.
+    ghost shape: { Self → Shape };
+
+    /// Its rows.
+    ghost tables: { Self → Tables };
+
+    /// Whether its tables stand as its changes made them.
+    ghost is_whole: { Self → Bool };
+
+    /// The values of the row of a table that a place stands for.
+    ghost values_at: { Self → ℕ → Self.Place → Option (List Value) };
+
+    /// The number of a fault.
+    ghost kind_of: { Self.Fault → ℕ };
+
+    /// Whether its tables stand as its changes made them.
+    fn whole(&self) -> bool
+        ensures { result ≡ is_whole self.now };
+
+    /// The place of a row of a table; `None` where the row or the table is not there.
+    fn find(&self, table: u8, row: RowId) -> Option<Self::Place>
+        ensures found { is_whole self.now ≡ true → is_some result ≡ is_present (rows_of (tables self.now) table) row.0 }
+        ensures place { is_whole self.now ≡ true
+            → IfSome result (λ place. values_at self.now table place ≡ row_at (rows_of (tables self.now) table) row.0) };
+
+    /// The value of one column of the row at a place, columns being counted from 0.
+    fn value(&self, table: u8, place: Self::Place, column: usize) -> Value
+        requires whole { is_whole self.now ≡ true }
+        requires there { IsSome (column_of (values_at self.now table place) column) }
+        ensures { Some result ≡ column_of (values_at self.now table place) column };
+
+    /// How many rows a table has; 0 where there is no table of that number.
+    fn len(&self, table: u8) -> usize
+        ensures { is_whole self.now ≡ true → result ≡ length (rows_of (tables self.now) table) };
+
+    /// The identifier of the row at a place of the table's order, which rises, counted from 0.
+    fn id_at(&self, table: u8, i: usize) -> RowId
+        requires whole { is_whole self.now ≡ true }
+        requires within { i < length (rows_of (tables self.now) table) }
+        ensures value { Some result.0 ≡ id_in (rows_of (tables self.now) table) i }
+        ensures rises { IsAboveAllBefore (rows_of (tables self.now) table) i result.0 };
+
+    /// Makes one change, or refuses it and changes nothing.
+    ///
+    /// The kind of the fault is that of the first of these that stands: 5 Broken, the store is not
+    /// whole; 3 Unfit, the entry does not fit the schema; 1 Exists, an insert of a row that is
+    /// there; 2 Missing, a patch or a delete of a row that is not there; 4 Memory.
+    fn change(&mut self, entry: &Entry) -> Result<(), Self::Fault>
+        ensures ok { OnOk result (change_of (shape self.old) (tables self.old) entry.now ≡ Ok (tables self.new)) }
+        ensures only_whole { OnOk result (is_whole self.old ≡ true) }
+        ensures err { OnErr result (tables self.new ≡ tables self.old) }
+        ensures refused { IfErr result (λ fault. kind_of fault ≡ fault_kind (is_whole self.old) (change_of (shape self.old) (tables self.old) entry.now)) }
+        ensures whole { is_whole self.new ≡ is_whole self.old }
+        ensures shape { shape self.new ≡ shape self.old };
+
+    /// The number of a fault: 1 Exists, 2 Missing, 3 Unfit, 4 Memory, 5 Broken.
+    fn kind(fault: &Self::Fault) -> u8
+        ensures { result ≡ kind_of fault.now };
+}

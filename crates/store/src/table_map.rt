@@ -1,0 +1,130 @@
+//! The rows of one table, by identifier.
+
+ghost use Rattle.std.specs.Prelude.{◌≡◌, ◌<◌, [], length, true, false, Some, OnOk, OnErr};
+ghost use Rattle.std.specs.List.{list_all};
+ghost use Rattle.std.specs.Option.{option_map};
+ghost use Rattle.std.specs.Ordering.{nat_cmp};
+ghost use Rattle.std.specs.BTreeMap.{IsOrdered};
+ghost use Rattle.rows.specs.Shape.{is_good};
+ghost use Rattle.rows.specs.Tables.{row_at, is_present, with_row, with_patch, without_row, patched_row};
+ghost use Rattle.store.specs.Changes.{id_in, IsAboveAllBefore};
+
+use rows::{Kind, Row, Value, column_at, first_value};
+use std::alloc::{AllocError, Global};
+use std::collections::BTreeMap;
+use std::marker::Model;
+
+/// The rows of one table. Contracts see them in rising identifier.
+#[derive(Debug, Drop)]
+pub struct TableMap {
+    rows: BTreeMap<u64, Row>,
+}
+
+impl Model for TableMap {
+    ghost use Rattle.std.specs.Prelude.{List, ℕ};
+    ghost use Rattle.rows.specs.declared.value.Value.{Value as ColumnValue};
+
+    ghost Value = { List (ℕ × List ColumnValue) };
+
+    ghost view = { λ t. t.rows.entries };
+}
+
+impl TableMap {
+    /// No rows.
+    pub fn new(alloc: Global) -> TableMap
+        ensures { result ≡ [] }
+    {
+        TableMap {
+            rows: BTreeMap::new(alloc),
+        }
+    }
+
+    /// How many rows there are.
+    pub fn len(&self) -> usize
+        ensures { result ≡ length self.now }
+    {
+        self.rows.len()
+    }
+
+    /// Whether the row is there.
+    pub fn contains(&self, row: u64) -> bool
+        ensures { result ≡ is_present self.now row }
+    {
+        self.rows.contains_key(&row)
+    }
+
+    /// The values of a row, lent; `None` where it is not there.
+    pub fn row(&self, row: u64) -> Option<&[Value]>
+        ensures { option_map (λ values. values.now) result ≡ row_at self.now row }
+    {
+        match self.rows.get(&row) {
+            Some(values) => Some(values.as_slice()),
+            None => None,
+        }
+    }
+
+    /// The identifier of the row at a place of the order. It walks the rows before it.
+    pub fn id_at(&self, i: usize) -> u64
+        requires { i < length self.now }
+        ensures value { Some result ≡ id_in self.now i }
+        ensures rises { IsAboveAllBefore self.now i result }
+    {
+        nth_id(&self.rows, i)
+    }
+
+    /// Puts a row in. Fails for want of memory alone, and then nothing has changed.
+    pub fn insert(&mut self, row: u64, values: Row) -> Result<(), AllocError>
+        ensures ok { OnOk result (self.new ≡ with_row self.old row values) }
+        ensures err { OnErr result (self.new ≡ self.old) }
+    {
+        self.rows.insert(row, values)?;
+        Ok(())
+    }
+
+    /// Puts bytes at one column's place of a row, and answers whether the row is there; where it
+    /// is not, nothing changes. Takes no memory.
+    pub fn patch(&mut self, kinds: &[Kind], row: u64, offset: u16, bytes: &[u8]) -> bool
+        requires { list_all is_good kinds.now ≡ true }
+        ensures rows { self.new ≡ with_patch kinds.now self.old row offset bytes.now }
+        ensures found { result ≡ is_present self.old row }
+    {
+        match self.rows.get_mut(&row) {
+            Some(values) => {
+                patch_row(kinds, values, offset, bytes);
+                true
+            }
+            None => false,
+        }
+    }
+
+    /// Takes a row out, and answers whether it was there; where it was not, nothing changes.
+    pub fn remove(&mut self, row: u64) -> bool
+        ensures rows { self.new ≡ without_row self.old row }
+        ensures found { result ≡ is_present self.old row }
+        ensures kept { result ≡ false → self.new ≡ self.old }
+    {
+        self.rows.remove(&row).is_some()
+    }
+}
+
+/// The identifier at a place of a map's order.
+fn nth_id(rows: &BTreeMap<u64, Row>, i: usize) -> u64
+    requires { i < length rows.now.entries }
+    ensures value { Some result ≡ id_in rows.now.entries i }
+    ensures ordered { IsOrdered nat_cmp rows.now }
+{
+    match rows.keys().nth(i) {
+        Some(id) => *id,
+        None => unreachable!(),
+    }
+}
+
+/// Puts bytes at one column's place of a row. Where they have no column's place nothing changes.
+fn patch_row(kinds: &[Kind], row: &mut Row, offset: u16, bytes: &[u8])
+    requires { list_all is_good kinds.now ≡ true }
+    ensures { row.new ≡ patched_row kinds.now offset bytes.now row.old }
+{
+    if let Some((column, kind)) = column_at(kinds, offset as usize, bytes.len()) {
+        row.set(column, first_value(kind, bytes));
+    }
+}
