@@ -9,18 +9,19 @@ use primary::{PrimaryCore, Transaction};
 use rows::Schema;
 use std::alloc::{AllocError, Global};
 use std::marker::Model;
+use store::PlainStore;
 use wire::Packet;
 
-/// The cores, the transactions in the order of their `begin` (none where one is no longer open),
-/// every datagram that was ever sent, and for each replica how many commits were durable when its
-/// newest batch asked.
+/// The cores, each replica on a store of its own, the transactions in the order of their `begin`
+/// (none where one is no longer open), every datagram that was ever sent, and for each replica how
+/// many commits were durable when its newest batch asked.
 #[derive(Debug, Drop)]
 pub struct Cores {
     pub alloc: Global,
     pub primary: PrimaryCore,
     pub transactions: Vec<Option<Transaction>>,
     pub sent: Vec<Packet>,
-    pub replicas: Vec<ReplicaCore>,
+    pub replicas: Vec<ReplicaCore<PlainStore>>,
     pub asked_at: Vec<u64>,
 }
 
@@ -54,7 +55,8 @@ impl Cores {
         let mut cores = Vec::new(alloc);
         let mut asked_at = Vec::new(alloc);
         for number in 0..replicas {
-            cores.push(ReplicaCore::start(alloc, schema, workers, number, 1)?)?;
+            let store = PlainStore::new(alloc, schema)?;
+            cores.push(ReplicaCore::start(alloc, store, schema, workers, number, 1)?)?;
             asked_at.push(0)?;
         }
         Ok(Cores {

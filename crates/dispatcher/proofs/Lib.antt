@@ -1,8 +1,6 @@
-pub mod Columns
-pub mod Rows
 pub mod Places
 pub mod Replaying
-pub mod Openings
+pub mod Listed
 pub mod Coming
 pub mod Running
 pub mod Lists

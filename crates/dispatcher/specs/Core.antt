@@ -1,12 +1,12 @@
 -- How the parts of a replica's core are seen, and what holds of them.
-use Rattle.std.specs.Prelude.{◌≡◌, ℕ, ◌<◌, ◌≤◌, [], length, Option, if◌then◌else◌, slice_index}
+use Rattle.std.specs.Prelude.{◌≡◌, ℕ, ◌<◌, ◌≤◌, [], length, Bool, true, false, Option, None, Some, if◌then◌else◌, slice_index, IfSome}
 use Rattle.std.specs.Option.{option_map}
-use Rattle.std.specs.Prelude.{IfSome, None, Some}
 use Rattle.dispatcher.specs.declared.batch.Batch.{Batch}
 use Rattle.dispatcher.specs.declared.batch.TakenHead.{TakenHead}
 use Rattle.dispatcher.specs.declared.replica_core.ReplicaCore.TheInside.{Inside}
 use Rattle.dispatcher.specs.Replica.{Replica, Queries, Fetched}
-use Rattle.rows.specs.Shape.{shape_of}
+use Rattle.rows.specs.Shape.{Shape, shape_of}
+use Rattle.rows.specs.Tables.{Tables}
 
 abbrev pub fetched_of : TakenHead → Fetched
 fetched_of head = record { version = head.version; counts = head.counts }
@@ -14,8 +14,9 @@ fetched_of head = record { version = head.version; counts = head.counts }
 abbrev pub queries_of : Batch → Queries
 queries_of batch = record { plans = batch.plans.items; fetched = option_map fetched_of batch.head }
 
-abbrev pub replica_of : Inside → Replica
-replica_of a = record {
+-- a replica on a store of these tables
+abbrev pub replica_of : {S Place Fault : Type 0} → (S → Tables) → Inside S Place Fault → Replica
+replica_of tables a = record {
   shape = shape_of a.schema;
   workers = a.workers;
   number = a.number;
@@ -23,7 +24,7 @@ replica_of a = record {
   request = a.request;
   frames = a.frames;
   applied = a.applied;
-  tables = if a.broken then [] else a.tables.items;
+  tables = if a.broken then [] else tables a.store;
   version = a.version;
   waiting = a.waiting.items;
   batch = option_map queries_of a.batch;
@@ -40,8 +41,10 @@ abbrev pub IsTakenBy : ℕ → ℕ → Option Batch → Type 0
 IsTakenBy version applied None = Unit {0}
 IsTakenBy version applied (Some batch) = IfSome batch.head (IsTaken version applied)
 
-pub record IsCore (a : Inside) : Type 0 where
+-- what holds of a replica on a store of this shape that is whole or not
+pub record IsCore {S Place Fault : Type 0} (shape : S → Shape) (is_whole : S → Bool) (a : Inside S Place Fault) : Type 0 where
   pub one_worker : a.workers ≡ 1
   pub number_below : a.number < 16
-  pub tables_there : length a.tables.items ≡ length a.schema
+  pub store_whole : a.broken ≡ false → is_whole a.store ≡ true
+  pub store_shape : a.broken ≡ false → shape a.store ≡ shape_of a.schema
   pub taken : IsTakenBy a.version a.applied a.batch

@@ -1,12 +1,14 @@
 -- One step of a replica: what each call answers, and what it leaves.
-use Rattle.std.specs.Prelude.{◌≡◌, ℕ, ◌+◌, ◌-◌, List, [], ◌∷◌, ◌++◌, length, map, Bool, true, false, Option, None, Some, Result, Ok, Err, ◌==◌, ◌||◌, ◌&&◌, not, nat_lt, nat_le, if◌then◌else◌, is_ok, slice_index, ◌⊎◌}
+use Rattle.std.specs.Prelude.{◌≡◌, ℕ, ◌+◌, ◌-◌, List, [], ◌∷◌, ◌++◌, length, map, Bool, true, false, Option, None, Some, Result, Ok, Err, ◌==◌, ◌||◌, ◌&&◌, not, nat_lt, nat_le, if◌then◌else◌, is_ok, IsErr, IsOkAnd, slice_index, ◌⊎◌}
 use Rattle.std.specs.List.{list_all}
 use Rattle.std.specs.Option.{option_map}
 use Rattle.std.specs.Ordering.{nat_cmp}
 use Rattle.std.specs.Map.{keys_of}
 use Rattle.std.specs.BTreeMap.{insert_entry}
 use Rattle.rows.specs.declared.limits.TheConstants.{WAITING_QUERIES_MAX}
+use Rattle.rows.specs.declared.commit.Commit.{Commit}
 use Rattle.rows.specs.Shape.{Shape}
+use Rattle.rows.specs.Commits.{commits_of}
 use Rattle.rows.specs.Entries.{fitting}
 use Rattle.rows.specs.Tables.{opening}
 use Rattle.wire.specs.declared.datagram.Datagram.{Datagram}
@@ -17,8 +19,8 @@ use Rattle.wire.specs.declared.out.Out.{Out}
 use Rattle.wire.specs.declared.out.To.TheVariants.{Primary}
 use Rattle.wire.specs.Spelling.{spelling}
 use Rattle.wire.specs.Reading.{reading}
-use Rattle.dispatcher.specs.declared.applying.ApplyFault.{ApplyFault}
-use Rattle.dispatcher.specs.declared.applying.ApplyFault.TheVariants.{Inconsistent, Memory}
+use Rattle.dispatcher.specs.declared.catch_up_fault.CatchUpFault.{CatchUpFault}
+use Rattle.dispatcher.specs.declared.catch_up_fault.CatchUpFault.TheVariants.{Inconsistent, Memory, Broken}
 use Rattle.dispatcher.specs.declared.faults.AskFault.{AskFault}
 use Rattle.dispatcher.specs.declared.faults.AskFault.TheVariants as asks
 use Rattle.dispatcher.specs.declared.faults.OpenFault.{OpenFault}
@@ -189,11 +191,21 @@ WantsMemory old answer new =
     (fetched : Fetched) × (ready old ≡ Some fetched)
     × (((answer ≡ runs.Memory) × ((new ≡ old) ⊎ (caught_up old fetched ≡ Some new))) ⊎ ((answer ≡ runs.Broken) × (new ≡ broken_of old)))
 
--- what catching up answers and leaves; of want of memory only that the replica is broken then
-abbrev pub CatchesUp : Replica → Fetched → Result (Unit {0}) ApplyFault → Replica → Type 0
+-- what catching up answers and leaves: where memory is wanted before the first change, nothing has changed; where it is
+-- wanted later, the replica is broken
+abbrev pub CatchesUp : Replica → Fetched → Result (Unit {0}) CatchUpFault → Replica → Type 0
 CatchesUp old fetched (Ok done) new = caught_up old fetched ≡ Some new
 CatchesUp old fetched (Err Inconsistent) new = (caught_up old fetched ≡ None) × (new ≡ broken_of old)
-CatchesUp old fetched (Err Memory) new = new ≡ broken_of old
+CatchesUp old fetched (Err Memory) new = new ≡ old
+CatchesUp old fetched (Err Broken) new = new ≡ broken_of old
+
+-- what applying commits answers and leaves; it lists none, so that no memory is wanted before the first change
+abbrev pub Applies : Replica → List Commit → ℕ → ℕ → Result (Unit {0}) CatchUpFault → Replica → Type 0
+Applies old commits version count (Ok done) new =
+    IsOkAnd (commits_of old.shape old.tables commits) (λ tables. new ≡ record old { tables = tables; version = version; applied = count })
+Applies old commits version count (Err Inconsistent) new = IsErr (commits_of old.shape old.tables commits) × (new ≡ broken_of old)
+Applies old commits version count (Err Memory) new = ⊥
+Applies old commits version count (Err Broken) new = new ≡ broken_of old
 
 -- answering a batch on the tables as they are, which ends it
 abbrev pub answered_by : Replica → Option Queries → Run × Replica

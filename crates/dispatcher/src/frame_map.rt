@@ -17,15 +17,23 @@ use wire::Frame;
 #[derive(Debug, Drop)]
 pub struct FrameMap {
     frames: BTreeMap<u64, Frame>,
+
+    /// The least place whose frame is not known. It is at most the number of frames, and rises as
+    /// frames come, so each place is passed once.
+    missing: u64,
 }
 
 impl Model for FrameMap {
-    ghost use Rattle.std.specs.Prelude.{List, ℕ};
+    ghost use Rattle.std.specs.Prelude.{◌≡◌, List, ℕ};
+    ghost use Rattle.std.specs.Map.{keys_of};
+    ghost use Rattle.dispatcher.specs.Known.{first_missing};
     ghost use Rattle.wire.specs.declared.frame.Frame.{Frame};
 
     ghost Value = { List (ℕ × Frame) };
 
     ghost view = { λ f. f.frames.entries };
+
+    ghost invariant = { λ f. f.missing ≡ first_missing (keys_of f.frames.entries) };
 }
 
 impl FrameMap {
@@ -35,6 +43,7 @@ impl FrameMap {
     {
         FrameMap {
             frames: BTreeMap::new(alloc),
+            missing: 0,
         }
     }
 
@@ -56,13 +65,7 @@ impl FrameMap {
     pub fn first_missing(&self) -> u64
         ensures { result ≡ first_missing (keys_of self.now) }
     {
-        let len = self.frames.len() as u64;
-        for seq in 0..len {
-            if !self.contains(seq) {
-                return seq;
-            }
-        }
-        len
+        self.missing
     }
 
     /// Whether the place is too far ahead to be kept: it is the greatest number, or 4096 or more
@@ -79,6 +82,11 @@ impl FrameMap {
         ensures err { OnErr result (self.new ≡ self.old) }
     {
         self.frames.insert(seq, frame)?;
+        // There are as many known places as frames, so the first missing one is at most their number.
+        let len = self.frames.len() as u64;
+        while self.missing < len && self.frames.contains_key(&self.missing) {
+            self.missing += 1;
+        }
         Ok(())
     }
 }

@@ -2,26 +2,27 @@
 //! each batch on the rows after exactly the version that it fetched for it.
 //!
 //! Its state is what it knows: the frames that came, its tables at one version, the queries that
-//! wait, and at most one batch. `specs/` says which frames are known and which is the first that
-//! is missing (`Known.antt`), what each call answers and leaves (`Steps.antt`), the plain answer
-//! of a query (`Plans.antt`), the text of a report (`Report.antt`), and when all that a replica
-//! knows is of one list of commits (`Feeding.antt`).
+//! wait, and at most one batch. Its tables stand in a store that its caller gives it, of any kind
+//! to which lists of commits can be applied. `specs/` says which frames are known and which is the
+//! first that is missing (`Known.antt`), what each call answers and leaves (`Steps.antt`), the
+//! plain answer of a query (`Plans.antt`), the text of a report (`Report.antt`), and when all that
+//! a replica knows is of one list of commits (`Feeding.antt`).
 //!
 //! Promised: each call is exact, want of memory aside. `fed_replicas_stay_fed` says that a replica
 //! to which only what is true of a legal list of commits comes reports on rows of that list.
-//! It stands on `rows` and `wire`. For now a replica has one worker's stream.
+//! It stands on `rows`, `wire` and `store`. For now a replica has one worker's stream.
 #![tactic(auto)]
 
 mod answering;
-mod applying;
 mod batch;
+mod catch_up_fault;
 mod faults;
 mod frame_map;
 mod laws;
+mod listing;
 mod outcome;
 mod plan;
 mod replica_core;
-mod table_map;
 
 pub use faults::{AskFault, OpenFault};
 pub use laws::fed_replicas_stay_fed;

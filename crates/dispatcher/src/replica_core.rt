@@ -1,33 +1,36 @@
 //! The replica's core: bytes and values in, bytes and values out.
 
-ghost use Rattle.std.specs.Prelude.{◌≡◌, ◌<◌, ◌≤◌, ◌^◌, ◌+◌, ◌-◌, ◌==◌, ◌∷◌, [], Some, false, Ok, Err, IfOk, IfErr, IsOk, is_ok, ◌⊎◌, replicate};
+ghost use Rattle.std.specs.Prelude.{◌≡◌, ◌<◌, ◌≤◌, ◌^◌, ◌+◌, ◌-◌, ◌==◌, ◌∷◌, [], Some, true, false, Ok, Err, IfOk, IfErr, IsOk, is_ok, ◌⊎◌};
 ghost use Rattle.rows.specs.Shape.{shape_of};
+ghost use Rattle.rows.specs.Tables.{opening};
 ghost use Rattle.dispatcher.specs.Replica.{Replica};
 ghost use Rattle.std.specs.List.{list_all};
 ghost use Rattle.rows.specs.Entries.{fitting};
-ghost use Rattle.dispatcher.specs.Steps.{started, opened, asked, received, frame_comes, own_head_comes, ask_for, want_for, ready, CatchesUp, answered_by, MayRun};
+ghost use Rattle.dispatcher.specs.Steps.{started, opened, asked, received, frame_comes, own_head_comes, ask_for, want_for, ready, CatchesUp, Applies, answered_by, MayRun};
 
 use crate::answering::report;
-use crate::applying::{ApplyFault, apply_frames};
 use crate::batch::{Batch, TakenHead};
+use crate::catch_up_fault::CatchUpFault;
 use crate::faults::{AskFault, OpenFault};
 use crate::frame_map::FrameMap;
+use crate::listing::commits_at;
 use crate::outcome::{Got, Run};
 use crate::plan::Plan;
-use crate::table_map::TableMap;
 use rows::limits::WAITING_QUERIES_MAX;
-use rows::{Entry, Schema, fits};
+use rows::{Commit, Entry, Schema, fits};
 use std::alloc::{AllocError, Global};
-use std::marker::Model;
+use std::marker::{Model, Sync};
+use store::{ApplyFault, ApplyStore};
 use wire::{Counts, Datagram, Frame, LentEntries, Out, Packet, To, read};
 
-/// A replica of one primary.
+/// A replica of one primary, on a store of its own.
 ///
-/// Contracts see its known frames, its tables and their version, the queries that wait, and its
-/// batch; of the tables of a broken replica they see nothing.
+/// Contracts see its known frames, the tables of its store and their version, the queries that
+/// wait, and its batch; of the tables of a broken replica they see nothing.
 #[derive(Debug, Drop)]
-pub struct ReplicaCore {
+pub struct ReplicaCore<S: ApplyStore + Sync> {
     alloc: Global,
+    store: S,
     schema: Schema,
     workers: u8,
     number: u8,
@@ -35,41 +38,48 @@ pub struct ReplicaCore {
     request: u64,
     frames: FrameMap,
     applied: u64,
-    tables: Vec<TableMap>,
     version: u64,
     waiting: Vec<Plan>,
     batch: Option<Batch>,
     broken: bool,
 }
 
-impl Model for ReplicaCore {
+impl<S: ApplyStore + Sync> Model for ReplicaCore<S> {
     ghost use Rattle.dispatcher.specs.Replica.{Replica};
 
     ghost Value = { Replica };
 
     ghost use Rattle.dispatcher.specs.Core.{replica_of, IsCore};
 
-    ghost view = { replica_of };
+    ghost view = { replica_of S.tables };
 
-    ghost invariant = { IsCore };
+    ghost invariant = { IsCore S.shape S.is_whole };
 }
 
-impl ReplicaCore {
-    /// A replica without tables' rows, frames or queries, at version 0, for a schema and one
-    /// worker. Fails for want of memory alone.
+impl<S: ApplyStore + Sync> ReplicaCore<S> {
+    /// A replica without frames or queries, at version 0, for one worker, on a whole store whose
+    /// tables are those of the schema and have no rows. Fails for want of memory alone; the store
+    /// is dropped then.
     pub fn start(
         alloc: Global,
+        store: S,
         schema: &Schema,
         workers: u8,
         number: u8,
         boot: u64,
-    ) -> Result<ReplicaCore, AllocError>
+    ) -> Result<ReplicaCore<S>, AllocError>
+    where
+        S: Drop,
+        requires whole { S.is_whole store ≡ true }
+        requires shape { S.shape store ≡ shape_of schema.now }
+        requires tables { S.tables store ≡ opening (shape_of schema.now) }
         requires workers { workers ≡ 1 }
         requires number { number < 16 }
         ensures { IfOk result (λ replica. replica ≡ started (shape_of schema.now) workers number boot) }
     {
         Ok(ReplicaCore {
             alloc,
+            store,
             schema: schema.clone()?,
             workers,
             number,
@@ -77,7 +87,6 @@ impl ReplicaCore {
             request: 0,
             frames: FrameMap::new(alloc),
             applied: 0,
-            tables: empty_tables(alloc, schema.len())?,
             version: 0,
             waiting: Vec::new(alloc),
             batch: None,
@@ -223,8 +232,9 @@ impl ReplicaCore {
         }
         match self.catch_up(version, count) {
             Ok(()) => self.answer(),
-            Err(ApplyFault::Inconsistent) => Run::Inconsistent,
-            Err(ApplyFault::Memory) => Run::Broken,
+            Err(CatchUpFault::Inconsistent) => Run::Inconsistent,
+            Err(CatchUpFault::Memory) => Run::Memory,
+            Err(CatchUpFault::Broken) => Run::Broken,
         }
     }
 
@@ -292,33 +302,45 @@ impl ReplicaCore {
         }
     }
 
-    /// Applies the frames that are not applied yet, of which none below `count` is missing, and is
-    /// at `version` then. Where it fails, it is broken.
-    fn catch_up(&mut self, version: u64, count: u64) -> Result<(), ApplyFault>
+    /// Applies the commits above its version, of whose frames none below `count` is missing, and
+    /// is at `version` then. They are listed before the first change: where memory is wanted for
+    /// the list nothing has changed.
+    fn catch_up(&mut self, version: u64, count: u64) -> Result<(), CatchUpFault>
         requires { ready self.old ≡ Some (record { version = version; counts = count ∷ [] }) }
         ensures { CatchesUp self.old (record { version = version; counts = count ∷ [] }) result self.new }
     {
         if !is_reached(self.version, version, self.applied, count) {
             self.broken = true;
-            return Err(ApplyFault::Inconsistent);
+            return Err(CatchUpFault::Inconsistent);
         }
-        let applied = apply_frames(
-            self.alloc,
-            &self.schema,
-            &mut self.tables,
-            &self.frames,
-            self.version,
-            self.applied,
-            count,
-        );
+        match commits_at(self.alloc, &self.frames, self.version, self.applied, count) {
+            Ok(Some(commits)) => self.apply(&commits, version, count),
+            Ok(None) => {
+                self.broken = true;
+                Err(CatchUpFault::Inconsistent)
+            }
+            Err(_) => Err(CatchUpFault::Memory),
+        }
+    }
+
+    /// Applies commits, and is at `version` then, with as many frames applied. Where that fails,
+    /// it is broken.
+    fn apply(&mut self, commits: &[Commit], version: u64, count: u64) -> Result<(), CatchUpFault>
+        requires { ready self.old ≡ Some (record { version = version; counts = count ∷ [] }) }
+        ensures { Applies self.old commits.now version count result self.new }
+    {
+        let applied = self.store.apply_all(commits);
+        self.broken = applied.is_err();
         match applied {
             Ok(()) => {
                 self.version = version;
                 self.applied = count;
+                Ok(())
             }
-            Err(_) => self.broken = true,
+            Err(ApplyFault::Inconsistent) => Err(CatchUpFault::Inconsistent),
+            Err(ApplyFault::Memory) => Err(CatchUpFault::Broken),
+            Err(ApplyFault::Broken) => Err(CatchUpFault::Broken),
         }
-        applied
     }
 
     /// Answers the batch on the tables as they are, and ends it.
@@ -329,7 +351,7 @@ impl ReplicaCore {
         let Some(batch) = &self.batch else {
             return Run::NoBatch;
         };
-        match report(self.alloc, self.version, &self.tables, &batch.plans) {
+        match report(self.alloc, self.version, &self.store, &batch.plans) {
             Ok(text) => {
                 self.batch = None;
                 Run::Answered(text)
@@ -346,17 +368,6 @@ fn is_reached(version: u64, wanted: u64, applied: u64, count: u64) -> bool
     ensures { result ≡ (version + (count - applied) == wanted) }
 {
     wanted - version == count - applied
-}
-
-/// Tables without rows, this many.
-fn empty_tables(alloc: Global, count: usize) -> Result<Vec<TableMap>, AllocError>
-    ensures { IfOk result (λ tables. tables.items ≡ replicate count []) }
-{
-    let mut tables = Vec::new(alloc);
-    for _ in 0..count {
-        tables.push(TableMap::new(alloc))?;
-    }
-    Ok(tables)
 }
 
 /// The Ask of a request, on its way to the primary.

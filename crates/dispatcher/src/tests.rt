@@ -1,19 +1,16 @@
-//! A replica from its first query to its report, each fault, each public call once, and what one
-//! entry makes of a table.
+//! A replica on a plain store from its first query to its report, each fault, each public call once.
 
-ghost use Rattle.std.specs.Prelude.{◌≡◌, length, IfOk};
-
-use crate::applying::{ApplyFault, apply_entry};
 use crate::faults::{AskFault, OpenFault};
+use crate::frame_map::FrameMap;
 use crate::laws::fed_replicas_stay_fed;
 use crate::outcome::{Got, Run};
 use crate::plan::{Plan, PlanFault};
 use crate::replica_core::ReplicaCore;
-use crate::table_map::TableMap;
-use rows::{ByteList, Entry, Kind, RowId, Schema, Value};
+use rows::{EntryList, Kind, Schema};
 use std::alloc::Global;
 use std::test::Fail;
-use wire::To;
+use store::PlainStore;
+use wire::{Frame, To};
 
 /// The last frame of commit 1, the first of worker 0: it inserts row 7 with the values 5 and -1
 /// into table 0.
@@ -81,18 +78,19 @@ const WANT: [u8; 16] = [
 ];
 
 /// Replica 0 of one worker in its boot 1, with accounts of these columns.
-fn replica_of(alloc: Global, kinds: &[Kind]) -> Result<ReplicaCore, Fail> {
+fn replica_of(alloc: Global, kinds: &[Kind]) -> Result<ReplicaCore<PlainStore>, Fail> {
     let schema = Schema::new(alloc, &[("acct", kinds)])?;
-    Ok(ReplicaCore::start(alloc, &schema, 1, 0, 1)?)
+    let store = PlainStore::new(alloc, &schema)?;
+    Ok(ReplicaCore::start(alloc, store, &schema, 1, 0, 1)?)
 }
 
 /// The same, whose columns are two numbers.
-fn replica(alloc: Global) -> Result<ReplicaCore, Fail> {
+fn replica(alloc: Global) -> Result<ReplicaCore<PlainStore>, Fail> {
     replica_of(alloc, &[Kind::Int, Kind::Int])
 }
 
 /// It has a query, and waits for the Head of request 1.
-fn asking(mut replica: ReplicaCore) -> Result<ReplicaCore, Fail> {
+fn asking(mut replica: ReplicaCore<PlainStore>) -> Result<ReplicaCore<PlainStore>, Fail> {
     replica.open(Plan { table: 0 })?;
     if replica.request() != 0 {
         return Err(Fail::from("a request before the first"));
@@ -102,12 +100,12 @@ fn asking(mut replica: ReplicaCore) -> Result<ReplicaCore, Fail> {
 }
 
 /// What becomes of bytes. Nothing is said of it, which keeps the bytes out of a test's proof.
-fn get(replica: &mut ReplicaCore, bytes: &[u8]) -> Got {
+fn get(replica: &mut ReplicaCore<PlainStore>, bytes: &[u8]) -> Got {
     replica.on_bytes(bytes)
 }
 
 /// Whether a run answers the batch with this report.
-fn answers(replica: &mut ReplicaCore, expected: &[u8]) -> bool {
+fn answers(replica: &mut ReplicaCore<PlainStore>, expected: &[u8]) -> bool {
     match replica.run() {
         Run::Answered(report) => report.as_slice() == expected,
         _ => false,
@@ -209,6 +207,30 @@ fn frames_are_kept_within_the_window(rt: HostRuntime) -> Result<(), Fail> {
     Ok(())
 }
 
+/// A frame at that place, with no entry.
+fn bare_frame(alloc: Global, seq: u64) -> Frame {
+    Frame {
+        worker: 0,
+        seq,
+        commit: 1,
+        last: true,
+        entries: EntryList::new(alloc),
+    }
+}
+
+#[test]
+fn the_first_missing_place_passes_those_that_are_known(rt: HostRuntime) -> Result<(), Fail> {
+    let mut frames = FrameMap::new(rt.alloc());
+    assert_eq!(rt; frames.first_missing(), 0);
+    for (seq, first_missing) in [(1, 0), (2, 0), (0, 3)] {
+        frames.insert(seq, bare_frame(rt.alloc(), seq))?;
+        assert_eq!(rt; frames.first_missing(), first_missing);
+    }
+    assert!(rt; !frames.is_ahead(4098));
+    assert!(rt; frames.is_ahead(4099));
+    Ok(())
+}
+
 #[test]
 fn frames_that_do_not_fit_are_ignored(rt: HostRuntime) -> Result<(), Fail> {
     let mut replica = replica(rt.alloc())?;
@@ -253,7 +275,7 @@ fn at_most_64_queries_wait(rt: HostRuntime) -> Result<(), Fail> {
 }
 
 /// A replica that took a frame whose commit is not the next, and ran.
-fn broken(alloc: Global) -> Result<ReplicaCore, Fail> {
+fn broken(alloc: Global) -> Result<ReplicaCore<PlainStore>, Fail> {
     let mut replica = asking(replica(alloc)?)?;
     if get(&mut replica, &HEAD) != Got::Head(1) {
         return Err(Fail::from("the Head was not taken"));
@@ -284,119 +306,5 @@ fn a_version_without_its_frames_breaks_it(rt: HostRuntime) -> Result<(), Fail> {
     assert_eq!(rt; get(&mut replica, &HEAD_WITHOUT_FRAMES), Got::Head(5));
     assert!(rt; matches!(&replica.run(), Run::Inconsistent));
     assert_eq!(rt; replica.version(), 0);
-    Ok(())
-}
-
-/// Accounts, each a number and three octets.
-fn accounts(alloc: Global) -> Result<Schema, Fail>
-    ensures { IfOk result (λ schema. length schema ≡ 1) }
-{
-    let kinds = [Kind::Int, Kind::Octets(3)];
-    Ok(Schema::new(alloc, &[("acct", kinds.as_slice())])?)
-}
-
-/// Whether the row has these values.
-fn holds(rows: &TableMap, row: u64, number: i64, octets: &[u8]) -> bool {
-    match rows.row(row) {
-        Some([Value::Int(first), Value::Octets(second)]) => {
-            *first == number && second.as_slice() == octets
-        }
-        _ => false,
-    }
-}
-
-/// The entry that inserts a row with 5 and `abc`.
-fn insert(alloc: Global, row: u64) -> Result<Entry, Fail> {
-    let bytes = Vec::from_slice(alloc, b"\0\0\0\0\0\0\0\x05abc")?;
-    Ok(Entry::Insert {
-        table: 0,
-        row: RowId(row),
-        bytes: ByteList::from_vec(bytes),
-    })
-}
-
-/// The entry that writes bytes over a row's from an offset on.
-fn patch(alloc: Global, row: u64, offset: u16, bytes: &[u8]) -> Result<Entry, Fail> {
-    let bytes = Vec::from_slice(alloc, bytes)?;
-    Ok(Entry::Patch {
-        table: 0,
-        row: RowId(row),
-        offset,
-        bytes: ByteList::from_vec(bytes),
-    })
-}
-
-/// What applying the entry to a table with the rows 7 and 8 answers, and the tables then.
-fn applied(alloc: Global, entry: &Entry) -> Result<(Result<(), ApplyFault>, [TableMap; 1]), Fail> {
-    let schema = accounts(alloc)?;
-    let mut tables = [TableMap::new(alloc)];
-    if apply_entry(alloc, &schema, &mut tables, &insert(alloc, 7)?).is_err() {
-        return Err(Fail::from("row 7 was not inserted"));
-    }
-    if apply_entry(alloc, &schema, &mut tables, &insert(alloc, 8)?).is_err() {
-        return Err(Fail::from("row 8 was not inserted"));
-    }
-    let answer = apply_entry(alloc, &schema, &mut tables, entry);
-    Ok((answer, tables))
-}
-
-/// Whether the entry is refused, and leaves the rows 7 and 8 as they were and no other.
-fn is_refused(alloc: Global, entry: &Entry) -> Result<bool, Fail> {
-    let (answer, tables) = applied(alloc, entry)?;
-    let kept = tables[0].len() == 2
-        && holds(&tables[0], 7, 5, b"abc")
-        && holds(&tables[0], 8, 5, b"abc");
-    Ok(kept && answer == Err(ApplyFault::Inconsistent))
-}
-
-#[test]
-fn a_patch_writes_one_column(rt: HostRuntime) -> Result<(), Fail> {
-    let (answer, tables) = applied(rt.alloc(), &patch(rt.alloc(), 7, 8, b"xyz")?)?;
-    assert_eq!(rt; answer, Ok(()));
-    assert_eq!(rt; tables[0].len(), 2);
-    assert!(rt; holds(&tables[0], 7, 5, b"xyz"));
-    assert!(rt; holds(&tables[0], 8, 5, b"abc"));
-    Ok(())
-}
-
-#[test]
-fn a_delete_takes_one_row(rt: HostRuntime) -> Result<(), Fail> {
-    let entry = Entry::Delete {
-        table: 0,
-        row: RowId(8),
-    };
-    let (answer, tables) = applied(rt.alloc(), &entry)?;
-    assert_eq!(rt; answer, Ok(()));
-    assert_eq!(rt; tables[0].len(), 1);
-    assert!(rt; holds(&tables[0], 7, 5, b"abc"));
-    Ok(())
-}
-
-#[test]
-fn an_insert_of_a_present_row_is_refused(rt: HostRuntime) -> Result<(), Fail> {
-    assert!(rt; is_refused(rt.alloc(), &insert(rt.alloc(), 7)?)?);
-    Ok(())
-}
-
-#[test]
-fn a_patch_of_an_absent_row_is_refused(rt: HostRuntime) -> Result<(), Fail> {
-    assert!(rt; is_refused(rt.alloc(), &patch(rt.alloc(), 9, 8, b"xyz")?)?);
-    Ok(())
-}
-
-#[test]
-fn a_patch_of_two_columns_is_refused(rt: HostRuntime) -> Result<(), Fail> {
-    let bytes = b"\0\0\0\0\0\0\0\x06xyz";
-    assert!(rt; is_refused(rt.alloc(), &patch(rt.alloc(), 7, 0, bytes)?)?);
-    Ok(())
-}
-
-#[test]
-fn a_delete_of_an_absent_row_is_refused(rt: HostRuntime) -> Result<(), Fail> {
-    let entry = Entry::Delete {
-        table: 0,
-        row: RowId(9),
-    };
-    assert!(rt; is_refused(rt.alloc(), &entry)?);
     Ok(())
 }

@@ -3,3 +3,5 @@ pub mod Spelling
 pub mod Rows
 pub mod Presence
 pub mod TableLaws
+pub mod RowLaws
+pub mod Columns

@@ -17,12 +17,12 @@ use Rattle.rows.specs.Presence.{stands_for, left_by, is_there_after_one, is_ther
 use Rattle.rows.proofs.Rows.{is_present-with_row, is_present-with_patch, is_present-without_row}
 
 -- the rows of a table that was replaced, and of any other
-rows_of-set_same : (tables : Tables) (table : ℕ) (rows : Table) → table < length tables → rows_of (slice_set tables table rows) table ≡ rows
+pub rows_of-set_same : (tables : Tables) (table : ℕ) (rows : Table) → table < length tables → rows_of (slice_set tables table rows) table ≡ rows
 rows_of-set_same [] table rows h = absurd (omega arith)
 rows_of-set_same (first ∷ tables) zero rows h = refl
 rows_of-set_same (first ∷ tables) (suc table) rows h = rows_of-set_same tables table rows (omega arith)
 
-rows_of-set_other : (tables : Tables) (table other : ℕ) (rows : Table) → other ≢ table → rows_of (slice_set tables table rows) other ≡ rows_of tables other
+pub rows_of-set_other : (tables : Tables) (table other : ℕ) (rows : Table) → other ≢ table → rows_of (slice_set tables table rows) other ≡ rows_of tables other
 rows_of-set_other [] table other rows h = refl
 rows_of-set_other (first ∷ tables) zero zero rows h = absurd (h refl)
 rows_of-set_other (first ∷ tables) zero (suc other) rows h = refl
@@ -88,7 +88,7 @@ placed-listed : (found : Option (List Kind)) (offset size : ℕ) → is_ok (plac
 placed-listed None offset size h = h
 placed-listed (Some kinds) offset size h = refl
 
-fitting-within : (shape : Shape) (entry : Entry) → is_ok (fitting shape entry) ≡ true → table_of entry < length shape
+pub fitting-within : (shape : Shape) (entry : Entry) → is_ok (fitting shape entry) ≡ true → table_of entry < length shape
 fitting-within shape (Insert table row bytes) h = listed-within shape table (sized-listed (slice_get shape table) (length bytes) h)
 fitting-within shape (Patch table row offset bytes) h = listed-within shape table (placed-listed (slice_get shape table) offset (length bytes) h)
 fitting-within shape (Delete table row) h = listed-within shape table h
@@ -190,7 +190,7 @@ there-refused tables entry t r h = by (is_of t r entry) refl
         sym (left_by-refused entry (there tables t r) (ap (stands_for entry) (sym same) ∙ h))
 
 -- the tables after an entry, which stay where it is refused
-abbrev step : Shape → Tables → Entry → Tables
+abbrev pub step : Shape → Tables → Entry → Tables
 step shape tables entry = result_unwrap_or (change_of shape tables entry) tables
 
 Turns-step : (shape : Shape) (tables : Tables) (entry : Entry) → length tables ≡ length shape → Turns tables (step shape tables entry) (λ t r was. cond (is_ok (fitting shape entry)) (is_there_after_one t r entry was) was)

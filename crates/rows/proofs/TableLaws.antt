@@ -32,12 +32,12 @@ commits_of-append shape tables (commit ∷ before) commits =
     and_then-assoc _ _ _ (changes_of shape tables commit.entries) (λ between. commits_of-append shape between before commits)
 
 -- a change that is not refused has tables after it
-from_is_ok : (first : Result Tables Refusal) → is_ok first ≡ true → (after : Tables) × (first ≡ Ok after)
+pub from_is_ok : (first : Result Tables Refusal) → is_ok first ≡ true → (after : Tables) × (first ≡ Ok after)
 from_is_ok (Ok after) h = (after, refl)
 from_is_ok (Err refusal) h = cc
 
 -- the first of commits that are defined are defined too, and the others on what they leave
-commits_of-split : (shape : Shape) (commits : List Commit) (version : ℕ) (after : Tables) → commits_of shape (opening shape) commits ≡ Ok after
+pub commits_of-split : (shape : Shape) (commits : List Commit) (version : ℕ) (after : Tables) → commits_of shape (opening shape) commits ≡ Ok after
     → (commits_of shape (opening shape) (take version commits) ≡ Ok (tables_after shape commits version)) × (commits_of shape (tables_after shape commits version) (drop version commits) ≡ Ok after)
 commits_of-split shape commits version after h =
     let joined = commits_of-append shape (opening shape) (take version commits) (drop version commits) in
@@ -46,7 +46,7 @@ commits_of-split shape commits version after h =
     rw parts.1 (refl, parts.2)
 
 -- there are as many tables as in the shape
-tables-at : (shape : Shape) (commits : List Commit) (version : ℕ) → length (tables_after shape commits version) ≡ length shape
+pub tables-at : (shape : Shape) (commits : List Commit) (version : ℕ) → length (tables_after shape commits version) ≡ length shape
 tables-at shape commits version = counted (commits_of shape (opening shape) (take version commits)) refl
   where
     counted : (after : Result Tables Refusal) → commits_of shape (opening shape) (take version commits) ≡ after → length (tables_after shape commits version) ≡ length shape
@@ -177,7 +177,7 @@ later-above before last false (inl e) = inl (grind (arith, nat_tests))
 later-above before last t (inr h) = inr (grind (arith, nat_tests))
 
 -- the last that touches stands behind those before the list
-last_touching-above : (entries : List Entry) (before : ℕ) (commits : List Commit) → (last_touching entries before commits ≡ 0) ⊎ (before < last_touching entries before commits)
+pub last_touching-above : (entries : List Entry) (before : ℕ) (commits : List Commit) → (last_touching entries before commits ≡ 0) ⊎ (before < last_touching entries before commits)
 last_touching-above entries before [] = inl refl
 last_touching-above entries before (commit ∷ commits) = later-above before (last_touching entries (before + 1) commits) (touches entries commit) (last_touching-above entries (before + 1) commits)
 

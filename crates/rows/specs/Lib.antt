@@ -6,6 +6,7 @@ pub mod Entries
 pub mod Tables
 pub mod Commits
 pub mod Presence
+pub mod RowAfter
 pub mod Spelling
 pub mod Reading
 pub mod Shown

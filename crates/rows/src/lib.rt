@@ -40,7 +40,7 @@ pub use octets::Octets;
 pub use reading::read_entry;
 pub use row::{Row, first_value, row_bytes, row_values};
 pub use row_id::RowId;
-pub use schema::{Schema, column_at};
+pub use schema::{Schema, column_at, width_of_row};
 pub use schema_fault::SchemaFault;
 pub use value::Value;
 pub use writing::{entry_len, write_entry};

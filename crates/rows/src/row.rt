@@ -4,10 +4,12 @@ ghost use Rattle.std.specs.Prelude.{◌≡◌, ◌≤◌, length, true, IfOk, sl
 ghost use Rattle.std.specs.List.{list_all};
 ghost use Rattle.rows.specs.Shape.{row_width, width_of, is_good};
 ghost use Rattle.rows.specs.Values.{value_of, values_of, bytes_of};
+ghost use Rattle.rows.specs.Tables.{patched_row};
 
 use crate::byte_list::ByteList;
 use crate::kind::Kind;
 use crate::octets::Octets;
+use crate::schema::column_at;
 use crate::value::Value;
 use byteorder::{BigEndian, ByteOrder};
 use std::alloc::{AllocError, Global};
@@ -50,6 +52,17 @@ impl Row {
     {
         if let Some(place) = self.items.get_mut(column) {
             *place = value;
+        }
+    }
+
+    /// Puts bytes at one column's place, in a table with columns of these kinds. Where they have
+    /// no column's place nothing changes. Takes no memory.
+    pub fn patch(&mut self, kinds: &[Kind], offset: u16, bytes: &[u8])
+        requires { list_all is_good kinds.now ≡ true }
+        ensures { self.new ≡ patched_row kinds.now offset bytes.now self.old }
+    {
+        if let Some((column, kind)) = column_at(kinds, offset as usize, bytes.len()) {
+            self.set(column, first_value(kind, bytes));
         }
     }
 }

@@ -18,4 +18,4 @@ returns c =
     let none : c.args.replicas - c.loop-number.number ≡ 0 = omega arith in
     let made = rw (none, append-nil) at c.loop-number.invariant.made in
     let noted = rw (none, append-nil) at c.loop-number.invariant.noted in
-    rw (c.in_ok-start-2.ensures, c.new.ensures.items, c.new-2.ensures.items, made, noted)
+    rw (c.in_ok-start-2.ensures, c.new-2.ensures.items, c.new-3.ensures.items, made, noted)

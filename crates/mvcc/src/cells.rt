@@ -1,0 +1,121 @@
+//! What entries make of one column of a row, told from the entries alone. `None` stands for a row
+//! that is not there, and `Some(None)` for one that has no such column.
+
+ghost use Rattle.std.specs.Prelude.{◌≡◌, ◌≤◌, length, true, slice_get, ◌==◌, if◌then◌else◌};
+ghost use Rattle.std.specs.Option.{option_map};
+ghost use Rattle.std.specs.List.{list_all};
+ghost use Rattle.rows.specs.declared.limits.TheConstants.{COLUMNS_MAX};
+ghost use Rattle.rows.specs.Shape.{row_width, is_good};
+ghost use Rattle.rows.specs.Values.{values_of};
+ghost use Rattle.rows.specs.Entries.{table_of, row_of};
+ghost use Rattle.rows.specs.Commits.{is_of};
+ghost use Rattle.mvcc.specs.OwnRows.{picked};
+ghost use Rattle.mvcc.specs.Cells.{inserted_cell, patched_cell, cell_after_one, cell_after_entry, cell_after};
+
+use crate::entry_rows::is_of;
+use rows::{Entry, Kind, RowId, Value, column_at, first_value, width_of_row};
+
+/// What the entries at these places make of a column of a row, in a table with columns of these
+/// kinds. Takes no memory.
+pub fn cell_after(
+    kinds: &[Kind],
+    table: u8,
+    row: RowId,
+    column: usize,
+    entries: &[Entry],
+    places: &[usize],
+    was: Option<Option<Value>>,
+) -> Option<Option<Value>>
+    requires few { length kinds.now ≤ COLUMNS_MAX }
+    requires good { list_all is_good kinds.now ≡ true }
+    ensures { result ≡ cell_after kinds.now table row.0 column (picked entries.now places.now) was }
+{
+    let mut cell = was;
+    for place in places {
+        if let Some(entry) = entries.get(*place) {
+            cell = cell_after_entry(kinds, table, row, column, entry, cell);
+        }
+    }
+    cell
+}
+
+/// What an entry makes of a column of this row: one of another row leaves it.
+fn cell_after_entry(
+    kinds: &[Kind],
+    table: u8,
+    row: RowId,
+    column: usize,
+    entry: &Entry,
+    cell: Option<Option<Value>>,
+) -> Option<Option<Value>>
+    requires few { length kinds.now ≤ COLUMNS_MAX }
+    requires good { list_all is_good kinds.now ≡ true }
+    ensures { result ≡ cell_after_entry kinds.now table row.0 column entry.now cell }
+{
+    if !is_of(entry, table, row) {
+        return cell;
+    }
+    match entry {
+        Entry::Insert { bytes, .. } => inserted_cell(kinds, bytes.as_slice(), column, cell),
+        Entry::Patch { offset, bytes, .. } => match cell {
+            Some(value) => Some(patched_cell(kinds, *offset, bytes.as_slice(), column, value)),
+            None => None,
+        },
+        Entry::Delete { .. } => None,
+    }
+}
+
+/// What the bytes of a row make of a column, where they are inserted: nothing where the row was
+/// there, or they are not as wide as its columns.
+fn inserted_cell(
+    kinds: &[Kind],
+    bytes: &[u8],
+    column: usize,
+    cell: Option<Option<Value>>,
+) -> Option<Option<Value>>
+    requires few { length kinds.now ≤ COLUMNS_MAX }
+    requires good { list_all is_good kinds.now ≡ true }
+    ensures { result ≡ (if length bytes.now == row_width kinds.now then inserted_cell kinds.now bytes.now column cell else cell) }
+{
+    if bytes.len() != width_of_row(kinds) || cell.is_some() {
+        return cell;
+    }
+    Some(value_in_row(kinds, bytes, column))
+}
+
+/// What bytes at a place of a row make of a column of it.
+fn patched_cell(
+    kinds: &[Kind],
+    offset: u16,
+    bytes: &[u8],
+    column: usize,
+    value: Option<Value>,
+) -> Option<Value>
+    requires { list_all is_good kinds.now ≡ true }
+    ensures { result ≡ patched_cell kinds.now offset bytes.now column value }
+{
+    match column_at(kinds, offset as usize, bytes.len()) {
+        Some((place, kind)) => {
+            if place == column && value.is_some() {
+                Some(first_value(kind, bytes))
+            } else {
+                value
+            }
+        }
+        None => value,
+    }
+}
+
+/// The value of a column, in the bytes of a row with columns of these kinds; `None` where there
+/// is no such column.
+fn value_in_row(kinds: &[Kind], bytes: &[u8], column: usize) -> Option<Value>
+    requires few { length kinds.now ≤ COLUMNS_MAX }
+    requires good { list_all is_good kinds.now ≡ true }
+    requires wide { row_width kinds.now ≤ length bytes.now }
+    ensures { result ≡ slice_get (values_of kinds.now bytes.now) column }
+{
+    let kind = *kinds.get(column)?;
+    let (before, _) = kinds.split_at(column);
+    let (_, rest) = bytes.split_at(width_of_row(before));
+    Some(first_value(kind, rest))
+}

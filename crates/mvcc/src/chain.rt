@@ -1,0 +1,131 @@
+//! The versions that wrote one row.
+
+ghost use Rattle.std.specs.Prelude.{◌≡◌, ◌≤◌, [], length, take, true, OnOk, OnErr, vec_len, vec_capacity};
+ghost use Rattle.std.specs.List.{list_all};
+ghost use Rattle.std.specs.List.Sorted.{IsNonDecreasingBy};
+ghost use Rattle.std.specs.Option.{option_map};
+ghost use Rattle.rows.specs.Shape.{is_good};
+ghost use Rattle.mvcc.specs.Chains.{newest_in, latest_in, values_at, cut_at, linked, IsWide};
+
+use crate::link::Link;
+use crate::row_after::row_after_one;
+use rows::{Entry, Kind, Row};
+use std::alloc::{AllocError, Global};
+use std::marker::Model;
+
+/// The versions that wrote one row, in order, each with the row's values after it.
+#[derive(Debug, Drop)]
+pub struct Chain {
+    links: Vec<Link>,
+}
+
+impl Model for Chain {
+    ghost use Rattle.std.specs.Prelude.{List};
+    ghost use Rattle.mvcc.specs.declared.link.Link.{Link as LinkOf};
+
+    ghost Value = { List LinkOf };
+
+    ghost view = { λ c. c.links.items };
+}
+
+impl Chain {
+    /// The chain without links. Takes no memory.
+    pub fn new(alloc: Global) -> Chain
+        ensures { result ≡ [] }
+    {
+        Chain {
+            links: Vec::new(alloc),
+        }
+    }
+
+    /// The version of the last link, 0 where there is none.
+    pub fn newest(&self) -> u64
+        ensures { result ≡ newest_in self.now }
+    {
+        newest_of(self.links.as_slice())
+    }
+
+    /// The row's values after the last link; `None` where it is not there.
+    pub fn latest(&self) -> Option<&Row>
+        ensures { option_map (λ r. r.now) result ≡ latest_in self.now }
+    {
+        match self.links.last() {
+            None => None,
+            Some(link) => link.values.as_ref(),
+        }
+    }
+
+    /// The row's values at a version; `None` where it is not there. The versions of the links do
+    /// not fall.
+    pub fn values_at(&self, version: u64) -> Option<&Row>
+        requires { IsNonDecreasingBy (λ link. link.version) self.now }
+        ensures { option_map (λ r. r.now) result ≡ values_at version self.now }
+    {
+        let end = end_of(self.links.as_slice(), version);
+        if end == 0 {
+            return None;
+        }
+        self.links[end - 1].values.as_ref()
+    }
+
+    /// Takes the last link off, where it is of this number.
+    pub fn cut(&mut self, number: u64)
+        ensures { self.new ≡ cut_at number self.old }
+    {
+        cut_links(&mut self.links, number);
+    }
+
+    /// Links what an entry of the commit of this number makes of the row. Fails for want of
+    /// memory alone, and then nothing has changed.
+    pub fn link(
+        &mut self,
+        alloc: Global,
+        kinds: &[Kind],
+        number: u64,
+        entry: &Entry,
+    ) -> Result<(), AllocError>
+        requires good { list_all is_good kinds.now ≡ true }
+        requires wide { IsWide kinds.now entry.now }
+        ensures ok { OnOk result (self.new ≡ linked kinds.now number entry.now self.old) }
+        ensures err { OnErr result (self.new ≡ self.old) }
+    {
+        let values = row_after_one(alloc, kinds, entry, self.latest())?;
+        self.links.reserve(1)?;
+        cut_links(&mut self.links, number);
+        self.links.push_reserved(Link {
+            version: number,
+            values,
+        });
+        Ok(())
+    }
+}
+
+/// The version of the last of these links, 0 where there is none.
+fn newest_of(links: &[Link]) -> u64
+    ensures { result ≡ newest_in links.now }
+{
+    match links.last() {
+        None => 0,
+        Some(link) => link.version,
+    }
+}
+
+/// How many of these links, whose versions do not fall, are of this version or an earlier one.
+fn end_of(links: &[Link], version: u64) -> usize
+    requires { IsNonDecreasingBy (λ link. link.version) links.now }
+    ensures within { result ≤ length links.now }
+    ensures before { values_at version links.now ≡ latest_in (take result links.now) }
+{
+    links.partition_point(|link| link.version <= version)
+}
+
+/// Takes the last link off, where it is of this number. The memory stays.
+fn cut_links(links: &mut Vec<Link>, number: u64)
+    ensures items { links.new.items ≡ cut_at number links.old.items }
+    ensures len { vec_len links.new ≤ vec_len links.old }
+    ensures capacity { vec_capacity links.new ≡ vec_capacity links.old }
+{
+    if newest_of(links.as_slice()) == number {
+        links.pop();
+    }
+}

@@ -1,0 +1,32 @@
+//! Versions: every state of the database since it was empty, and transactions that read one.
+//!
+//! `Versions` is the list of commits. Version `n` is the rows after the first `n` of them, and
+//! each row's values at each version are found by a look-up and a halving: for each row a chain
+//! is kept of the versions that wrote it.
+//!
+//! A `Transaction` reads one version, and sees its rows changed by its own entries in the order of
+//! its calls. An index has, for each row that it writes, those of its entries that tell of it.
+//!
+//! Promised: a value at a version is that of the tables after so many commits; the newest
+//! version of a row is the last commit that wrote it; a commit is absorbed wholly or not at all;
+//! each call of a transaction answers what `specs/Transactions.antt` says of what it sees.
+//! It stands on `rows` alone.
+#![tactic(auto)]
+
+mod cells;
+mod chain;
+mod chain_map;
+mod chains;
+mod entry_rows;
+mod faults;
+mod link;
+mod own_rows;
+mod parts;
+mod row_after;
+mod transaction;
+mod values;
+mod versions;
+
+pub use faults::TxFault;
+pub use transaction::{TRANSACTION_ENTRIES_MAX, Transaction};
+pub use versions::Versions;

@@ -1,0 +1,342 @@
+//! Transactions before their commit.
+
+ghost use Rattle.std.specs.Prelude.{◌≡◌, ◌<◌, ◌≤◌, [], ◌∷◌, ◌++◌, length, IfErr, Ok, Err, Some, None, OnOk, OnErr, ◌⊎◌, IsOk, is_some, if◌then◌else◌};
+ghost use Rattle.rows.specs.declared.entry.Entry.TheVariants.{Insert, Patch, Delete};
+ghost use Rattle.rows.specs.Shape.{shape_of};
+ghost use Rattle.rows.specs.Values.{bytes_of, value_bytes};
+ghost use Rattle.rows.specs.Tables.{rows_of, row_at};
+ghost use Rattle.rows.specs.Commits.{tables_after};
+ghost use Rattle.mvcc.specs.Draft.{Draft};
+ghost use Rattle.mvcc.specs.Cells.{cell_of};
+ghost use Rattle.mvcc.specs.Transactions.{insert_answer, set_answer, delete_answer, get_answer, match_column, column_kind, column_offset, seen_by, sees};
+
+use crate::cells::cell_after;
+use crate::entry_rows::{row_of, table_of};
+use crate::faults::TxFault;
+use crate::own_rows::{OwnRows, places_with};
+use crate::values::{is_value_of, matches_table};
+use crate::versions::Versions;
+use rows::{Entry, EntryList, RowId, Schema, Value, row_bytes, width_of_row};
+use std::alloc::{AllocError, Global};
+use std::marker::Model;
+
+/// Entries that a transaction may have, at most; one frame holds as many.
+pub const TRANSACTION_ENTRIES_MAX: usize = 2;
+
+/// A transaction: the version that it reads, and its entries in the order of its calls.
+///
+/// It sees the rows at its snapshot, changed by its own entries. A look at a row costs a look-up,
+/// however many entries there are: an index has the places of those that tell of the row.
+#[derive(Debug, Drop)]
+pub struct Transaction {
+    alloc: Global,
+    snapshot: u64,
+    entries: Vec<Entry>,
+    rows: OwnRows,
+}
+
+impl Model for Transaction {
+    ghost use Rattle.std.specs.Prelude.{◌≤◌, length};
+    ghost use Rattle.mvcc.specs.Draft.{Draft};
+    ghost use Rattle.mvcc.specs.OwnRows.{IsIndexOf};
+    ghost use Rattle.mvcc.specs.declared.transaction.TheConstants.{TRANSACTION_ENTRIES_MAX};
+
+    ghost Value = { Draft };
+
+    ghost view = { λ t. record { snapshot = t.snapshot; entries = t.entries.items } };
+
+    ghost invariant = { λ t. (length t.entries.items ≤ TRANSACTION_ENTRIES_MAX) × IsIndexOf t.entries.items t.rows };
+}
+
+impl Transaction {
+    /// A transaction without entries that reads this version. Takes no memory.
+    pub fn begin(alloc: Global, version: u64) -> Transaction
+        ensures { result ≡ record { snapshot = version; entries = [] } }
+    {
+        Transaction {
+            alloc,
+            snapshot: version,
+            entries: Vec::new(alloc),
+            rows: OwnRows::new(alloc),
+        }
+    }
+
+    /// The version that it reads.
+    pub fn snapshot(&self) -> u64
+        ensures { result ≡ self.now.snapshot }
+    {
+        self.snapshot
+    }
+
+    /// Its entries, lent.
+    pub fn entries(&self) -> &[Entry]
+        ensures entries { result.now ≡ self.now.entries }
+        ensures few { length result.now ≤ TRANSACTION_ENTRIES_MAX }
+    {
+        self.entries.as_slice()
+    }
+
+    /// Its entries. Takes no memory.
+    pub fn into_entries(self) -> EntryList
+        ensures entries { result ≡ self.entries }
+        ensures few { length result ≤ TRANSACTION_ENTRIES_MAX }
+    {
+        let Transaction {
+            alloc: _,
+            snapshot: _,
+            entries,
+            rows: _,
+        } = self;
+        EntryList::from_vec(entries)
+    }
+
+    /// Puts a new row into a table. `versions` are those that it began on, with at least as many
+    /// commits as its snapshot.
+    ///
+    /// Fails with the first of these: `Unfit`, the table is not there or the values are not of its
+    /// columns' kinds, one each; `Exists`, the row is there as the transaction sees it;
+    /// `TooManyEntries`; `Memory`. The transaction is then as it was.
+    pub fn insert(
+        &mut self,
+        versions: &Versions,
+        table: u8,
+        row: RowId,
+        values: &[Value],
+    ) -> Result<(), TxFault>
+        requires { self.old.snapshot ≤ length versions.now.commits }
+        ensures ok { OnOk result (insert_answer versions.now.shape versions.now.commits self.old table row.0 values.now ≡ Ok self.new) }
+        ensures refused { IfErr result (λ fault. (self.new ≡ self.old)
+            × (((fault ≡ TxFault.Memory) × IsOk (insert_answer versions.now.shape versions.now.commits self.old table row.0 values.now))
+            ⊎ (insert_answer versions.now.shape versions.now.commits self.old table row.0 values.now ≡ Err fault))) }
+    {
+        if !matches_table(values, versions.schema().kinds(table as usize)) {
+            return Err(TxFault::Unfit);
+        }
+        if self.sees(versions, table, row) {
+            return Err(TxFault::Exists);
+        }
+        if self.entries.len() >= TRANSACTION_ENTRIES_MAX {
+            return Err(TxFault::TooManyEntries);
+        }
+        match self.add_insert(table, row, values) {
+            Ok(()) => Ok(()),
+            Err(_) => Err(TxFault::Memory),
+        }
+    }
+
+    /// Gives one column of a row another value. `versions` are those that it began on, with at
+    /// least as many commits as its snapshot.
+    ///
+    /// Fails with the first of these: `Unfit`, the table or the column is not there or the value
+    /// is not of its kind; `Missing`, the row is not there as the transaction sees it;
+    /// `TooManyEntries`; `Memory`. The transaction is then as it was.
+    pub fn set(
+        &mut self,
+        versions: &Versions,
+        table: u8,
+        row: RowId,
+        column: usize,
+        value: Value,
+    ) -> Result<(), TxFault>
+        requires { self.old.snapshot ≤ length versions.now.commits }
+        ensures ok { OnOk result (set_answer versions.now.shape versions.now.commits self.old table row.0 column value ≡ Ok self.new) }
+        ensures refused { IfErr result (λ fault. (self.new ≡ self.old)
+            × (((fault ≡ TxFault.Memory) × IsOk (set_answer versions.now.shape versions.now.commits self.old table row.0 column value))
+            ⊎ (set_answer versions.now.shape versions.now.commits self.old table row.0 column value ≡ Err fault))) }
+    {
+        let Some(offset) = offset_for(versions.schema(), table, column, &value) else {
+            return Err(TxFault::Unfit);
+        };
+        if self.cell(versions, table, row, column).is_none() {
+            return Err(TxFault::Missing);
+        }
+        if self.entries.len() >= TRANSACTION_ENTRIES_MAX {
+            return Err(TxFault::TooManyEntries);
+        }
+        match self.add_patch(table, row, offset, value) {
+            Ok(()) => Ok(()),
+            Err(_) => Err(TxFault::Memory),
+        }
+    }
+
+    /// Takes a row out of a table. `versions` are those that it began on, with at least as many
+    /// commits as its snapshot.
+    ///
+    /// Fails with the first of these: `Unfit`, the table is not there; `Missing`, the row is not
+    /// there as the transaction sees it; `TooManyEntries`; `Memory`. The transaction is then as it
+    /// was.
+    pub fn delete(&mut self, versions: &Versions, table: u8, row: RowId) -> Result<(), TxFault>
+        requires { self.old.snapshot ≤ length versions.now.commits }
+        ensures ok { OnOk result (delete_answer versions.now.shape versions.now.commits self.old table row.0 ≡ Ok self.new) }
+        ensures refused { IfErr result (λ fault. (self.new ≡ self.old)
+            × (((fault ≡ TxFault.Memory) × IsOk (delete_answer versions.now.shape versions.now.commits self.old table row.0))
+            ⊎ (delete_answer versions.now.shape versions.now.commits self.old table row.0 ≡ Err fault))) }
+    {
+        if versions.schema().kinds(table as usize).is_none() {
+            return Err(TxFault::Unfit);
+        }
+        if !self.sees(versions, table, row) {
+            return Err(TxFault::Missing);
+        }
+        if self.entries.len() >= TRANSACTION_ENTRIES_MAX {
+            return Err(TxFault::TooManyEntries);
+        }
+        match self.add(Entry::Delete { table, row }) {
+            Ok(()) => Ok(()),
+            Err(_) => Err(TxFault::Memory),
+        }
+    }
+
+    /// The value of one column of a row, as the transaction sees it. `versions` are those that it
+    /// began on, with at least as many commits as its snapshot. Takes no memory.
+    ///
+    /// Fails with the first of these: `Unfit`, the table or the column is not there; `Missing`,
+    /// the row is not there as the transaction sees it.
+    pub fn get(
+        &self,
+        versions: &Versions,
+        table: u8,
+        row: RowId,
+        column: usize,
+    ) -> Result<Value, TxFault>
+        requires { self.now.snapshot ≤ length versions.now.commits }
+        ensures { result ≡ get_answer versions.now.shape versions.now.commits self.now table row.0 column }
+    {
+        if !has_column(versions.schema(), table, column) {
+            return Err(TxFault::Unfit);
+        }
+        match self.cell(versions, table, row, column) {
+            Some(Some(value)) => Ok(value),
+            Some(None) | None => Err(TxFault::Missing),
+        }
+    }
+
+    /// Whether the row is there, as the transaction sees it.
+    fn sees(&self, versions: &Versions, table: u8, row: RowId) -> bool
+        requires { self.now.snapshot ≤ length versions.now.commits }
+        ensures { result ≡ sees versions.now.shape versions.now.commits self.now table row.0 }
+    {
+        self.cell(versions, table, row, 0).is_some()
+    }
+
+    /// One column of a row, as the transaction sees it: `None` where the row is not there, and
+    /// `Some(None)` where it has no such column.
+    fn cell(
+        &self,
+        versions: &Versions,
+        table: u8,
+        row: RowId,
+        column: usize,
+    ) -> Option<Option<Value>>
+        requires { self.now.snapshot ≤ length versions.now.commits }
+        ensures { result ≡ cell_of column (row_at (rows_of (seen_by versions.now.shape versions.now.commits self.now) table) row.0) }
+    {
+        let was = cell_at(versions, self.snapshot, table, row, column);
+        match versions.schema().kinds(table as usize) {
+            None => was,
+            Some(kinds) => {
+                let places = self.rows.places(table, row);
+                cell_after(
+                    kinds,
+                    table,
+                    row,
+                    column,
+                    self.entries.as_slice(),
+                    places,
+                    was,
+                )
+            }
+        }
+    }
+
+    /// Adds an insert at the end. Fails for want of memory alone, and then nothing has changed.
+    fn add_insert(&mut self, table: u8, row: RowId, values: &[Value]) -> Result<(), AllocError>
+        requires { length self.old.entries < TRANSACTION_ENTRIES_MAX }
+        ensures ok { OnOk result (self.new ≡ record self.old { entries = self.old.entries ++ Insert table row (bytes_of values.now) ∷ [] }) }
+        ensures err { OnErr result (self.new ≡ self.old) }
+    {
+        let bytes = row_bytes(self.alloc, values)?;
+        self.add(Entry::Insert { table, row, bytes })
+    }
+
+    /// Adds a patch at the end. Fails for want of memory alone, and then nothing has changed.
+    fn add_patch(
+        &mut self,
+        table: u8,
+        row: RowId,
+        offset: u16,
+        value: Value,
+    ) -> Result<(), AllocError>
+        requires { length self.old.entries < TRANSACTION_ENTRIES_MAX }
+        ensures ok { OnOk result (self.new ≡ record self.old { entries = self.old.entries ++ Patch table row offset (value_bytes value) ∷ [] }) }
+        ensures err { OnErr result (self.new ≡ self.old) }
+    {
+        let bytes = row_bytes(self.alloc, &[value])?;
+        self.add(Entry::Patch {
+            table,
+            row,
+            offset,
+            bytes,
+        })
+    }
+
+    /// Adds an entry at the end. Fails for want of memory alone, and then nothing has changed.
+    fn add(&mut self, entry: Entry) -> Result<(), AllocError>
+        requires { length self.old.entries < TRANSACTION_ENTRIES_MAX }
+        ensures ok { OnOk result (self.new ≡ record self.old { entries = self.old.entries ++ entry ∷ [] }) }
+        ensures err { OnErr result (self.new ≡ self.old) }
+    {
+        let table = table_of(&entry);
+        let row = row_of(&entry);
+        let earlier = self.rows.places(table, row);
+        let places = places_with(self.alloc, self.entries.as_slice(), earlier, &entry)?;
+        self.entries.reserve(1)?;
+        self.rows.put(table, row, places)?;
+        self.entries.push_reserved(entry);
+        Ok(())
+    }
+}
+
+/// One column of a row at a version: `None` where the row is not there, and `Some(None)` where it
+/// has no such column.
+fn cell_at(
+    versions: &Versions,
+    version: u64,
+    table: u8,
+    row: RowId,
+    column: usize,
+) -> Option<Option<Value>>
+    requires { version ≤ length versions.now.commits }
+    ensures { result ≡ cell_of column (row_at (rows_of (tables_after versions.now.shape versions.now.commits version) table) row.0) }
+{
+    if versions.is_present(version, table, row) {
+        Some(versions.value_at(version, table, row, column))
+    } else {
+        None
+    }
+}
+
+/// Whether the table and the column are there.
+fn has_column(schema: &Schema, table: u8, column: usize) -> bool
+    ensures { result ≡ is_some (column_kind (shape_of schema.now) table column) }
+{
+    match schema.kinds(table as usize) {
+        None => false,
+        Some(kinds) => column < kinds.len(),
+    }
+}
+
+/// Where the column begins among its row's bytes; `None` where the table or the column is not
+/// there, or the value is not of its kind.
+fn offset_for(schema: &Schema, table: u8, column: usize, value: &Value) -> Option<u16>
+    ensures { result ≡ (if match_column value.now (column_kind (shape_of schema.now) table column)
+        then Some (column_offset (shape_of schema.now) table column) else None) }
+{
+    let kinds = schema.kinds(table as usize)?;
+    let kind = kinds.get(column)?;
+    if !is_value_of(value, kind) {
+        return None;
+    }
+    let (before, _) = kinds.split_at(column);
+    Some(width_of_row(before) as u16)
+}

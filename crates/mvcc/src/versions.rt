@@ -1,0 +1,170 @@
+//! Every version of the database: the list of its commits.
+
+ghost use Rattle.std.specs.Prelude.{◌≡◌, ◌+◌, ◌≤◌, ◌<◌, ◌-◌, ◌∷◌, [], ◌++◌, ℕ, length, true, is_ok, IfOk, OnOk, OnErr, slice_get, if◌then◌else◌, ◌==◌, None};
+ghost use Rattle.std.specs.Option.{option_map, option_copied};
+ghost use Rattle.rows.specs.Shape.{shape_of};
+ghost use Rattle.rows.specs.Tables.{is_present, rows_of};
+ghost use Rattle.std.specs.List.{list_any};
+ghost use Rattle.rows.specs.Commits.{is_of, names_row_of, tables_after, last_touching, touches};
+ghost use Rattle.mvcc.specs.History.{History, defined_at};
+ghost use Rattle.mvcc.specs.Newest.{newest_of};
+ghost use Rattle.mvcc.specs.Values.{value_in};
+
+use crate::chain_map::ChainMap;
+use crate::chains::{link_commit, newest_at, no_chains, values_at};
+use crate::parts::{row_of, table_of};
+use rows::{Commit, Entry, RowId, Schema, Value};
+use std::alloc::{AllocError, Global};
+use std::marker::Model;
+
+/// The versions of a database: version `n` is the rows after the first `n` commits.
+///
+/// Contracts see the shape of its tables and the list of commits. Each commit's entries are
+/// defined in their place.
+#[derive(Debug, Drop)]
+pub struct Versions {
+    alloc: Global,
+    schema: Schema,
+    commits: Vec<Commit>,
+    /// For each table the chains of its rows.
+    chains: Vec<ChainMap>,
+}
+
+impl Model for Versions {
+    ghost use Rattle.rows.specs.Shape.{shape_of};
+    ghost use Rattle.mvcc.specs.History.{History};
+    ghost use Rattle.mvcc.specs.Chains.{AreVersions};
+
+    ghost Value = { History };
+
+    ghost view = { λ v. record { shape = shape_of v.schema; commits = v.commits.items } };
+
+    ghost invariant = { λ v. AreVersions (shape_of v.schema) v.commits.items v.chains.items };
+}
+
+impl Versions {
+    /// The versions of a database without commits. Fails for want of memory alone.
+    pub fn new(alloc: Global, schema: &Schema) -> Result<Versions, AllocError>
+        ensures { IfOk result (λ versions. versions ≡ record { shape = shape_of schema.now; commits = [] }) }
+    {
+        Ok(Versions {
+            alloc,
+            schema: schema.clone()?,
+            commits: Vec::new(alloc),
+            chains: no_chains(alloc, schema.len())?,
+        })
+    }
+
+    /// How many commits there are, which is the newest version.
+    pub fn len(&self) -> u64
+        ensures { result ≡ length self.now.commits }
+    {
+        self.commits.len() as u64
+    }
+
+    /// Whether there is no commit.
+    pub fn is_empty(&self) -> bool
+        ensures { result ≡ (length self.now.commits == 0) }
+    {
+        self.commits.is_empty()
+    }
+
+    /// The schema of the tables.
+    pub fn schema(&self) -> &Schema
+        ensures { shape_of result.now ≡ self.now.shape }
+    {
+        &self.schema
+    }
+
+    /// The commits, lent.
+    pub fn commits(&self) -> &[Commit]
+        ensures { result.now ≡ self.now.commits }
+    {
+        self.commits.as_slice()
+    }
+
+    /// The `number`-th commit, counted from 1.
+    pub fn commit_at(&self, number: u64) -> Option<&Commit>
+        ensures { option_map (λ c. c.now) result ≡ (if number == 0 then None else slice_get self.now.commits (number - 1)) }
+    {
+        let index = number.checked_sub(1)?;
+        self.commits.as_slice().get(index as usize)
+    }
+
+    /// Adds a commit at the end. Fails for want of memory alone, and then nothing has changed.
+    pub fn absorb(&mut self, commit: &Commit) -> Result<(), AllocError>
+        requires { defined_at self.old (length self.old.commits) commit.now.entries ≡ true }
+        ensures ok { OnOk result (self.new ≡ record self.old { commits = self.old.commits ++ commit.now ∷ [] }) }
+        ensures err { OnErr result (self.new ≡ self.old) }
+    {
+        self.commits.reserve(1)?;
+        let copy = copy_of(commit)?;
+        link_commit(
+            self.alloc,
+            &self.schema,
+            self.commits.as_slice(),
+            &mut self.chains,
+            commit.entries.as_slice(),
+        )?;
+        self.commits.push_reserved(copy);
+        Ok(())
+    }
+
+    /// Whether the row is there at that version.
+    pub fn is_present(&self, version: u64, table: u8, row: RowId) -> bool
+        requires { version ≤ length self.now.commits }
+        ensures { result ≡ is_present (rows_of (tables_after self.now.shape self.now.commits version) table) row.0 }
+    {
+        values_at(self.chains.as_slice(), version, table, row).is_some()
+    }
+
+    /// The value of a column of a row at that version; `None` where the row is not there, or has
+    /// no such column.
+    pub fn value_at(&self, version: u64, table: u8, row: RowId, column: usize) -> Option<Value>
+        requires { version ≤ length self.now.commits }
+        ensures { result ≡ value_in (tables_after self.now.shape self.now.commits version) table row.0 column }
+    {
+        let values = values_at(self.chains.as_slice(), version, table, row)?;
+        column_of(values.as_slice(), column)
+    }
+
+    /// The number of the last commit with an entry of that row, 0 where there is none.
+    pub fn newest(&self, table: u8, row: RowId) -> u64
+        ensures { result ≡ newest_of table row.0 self.now.commits }
+    {
+        newest_at(self.chains.as_slice(), table, row)
+    }
+
+    /// The number of the last commit that touches a row of these entries, 0 where none does.
+    /// Entries that are defined at that version, or at a later one, are defined at the newest.
+    pub fn last_touching(&self, entries: &[Entry]) -> u64
+        ensures last { result ≡ last_touching entries.now 0 self.now.commits }
+        ensures stay_defined { (version : ℕ) → result ≤ version → defined_at self.now version entries.now ≡ true
+            → defined_at self.now (length self.now.commits) entries.now ≡ true }
+    {
+        // A look at a field brings the invariant to the proof.
+        let _ = &self.commits;
+        let mut last = 0;
+        for entry in entries {
+            let newest = self.newest(table_of(entry), row_of(entry));
+            if last < newest {
+                last = newest;
+            }
+        }
+        last
+    }
+}
+
+/// A second commit with the same worker and entries. Fails for want of memory alone.
+fn copy_of(commit: &Commit) -> Result<Commit, AllocError>
+    ensures { IfOk result (λ copy. copy ≡ commit.now) }
+{
+    commit.clone()
+}
+
+/// The value of a column of a row; `None` where there is no such column.
+fn column_of(values: &[Value], column: usize) -> Option<Value>
+    ensures { result ≡ slice_get values.now column }
+{
+    values.get(column).copied()
+}

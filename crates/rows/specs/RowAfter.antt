@@ -1,0 +1,45 @@
+-- What entries make of one row's values, told from the entries alone; `None` where the row is not there.
+use Rattle.std.specs.Prelude.{ℕ, List, [], ◌∷◌, Option, None, Some, if◌then◌else◌, is_ok}
+use Rattle.std.specs.Option.{option_map}
+use Rattle.rows.specs.declared.commit.Commit.{Commit}
+use Rattle.rows.specs.declared.entry.Entry.{Entry}
+use Rattle.rows.specs.declared.entry.Entry.TheVariants.{Insert, Patch, Delete}
+use Rattle.rows.specs.declared.kind.Kind.{Kind}
+use Rattle.rows.specs.declared.value.Value.{Value}
+use Rattle.rows.specs.Shape.{Shape}
+use Rattle.rows.specs.Values.{values_of}
+use Rattle.rows.specs.Entries.{fitting}
+use Rattle.rows.specs.Tables.{kinds_of, patched_row}
+use Rattle.rows.specs.Commits.{is_of}
+
+-- the values that an insert leaves: its own, where the row was not there
+abbrev pub inserted_row : List Kind → List ℕ → Option (List Value) → Option (List Value)
+inserted_row kinds bytes None = Some (values_of kinds bytes)
+inserted_row kinds bytes (Some values) = Some values
+
+-- what an entry of a row, in a table with columns of these kinds, makes of the row's values
+abbrev pub row_after_one : List Kind → Entry → Option (List Value) → Option (List Value)
+row_after_one kinds (Insert table row bytes) was = inserted_row kinds bytes was
+row_after_one kinds (Patch table row offset bytes) was = option_map (patched_row kinds offset bytes) was
+row_after_one kinds (Delete table row) was = None
+
+-- what an entry makes of the values of this row: one of another row leaves them
+abbrev pub row_after_entry : Shape → ℕ → ℕ → Entry → Option (List Value) → Option (List Value)
+row_after_entry shape table row entry was = if is_of table row entry then row_after_one (kinds_of shape table) entry was else was
+
+-- a row's values after entries that are defined one after the other
+abbrev pub row_after : Shape → ℕ → ℕ → List Entry → Option (List Value) → Option (List Value)
+row_after shape table row [] was = was
+row_after shape table row (entry ∷ entries) was = row_after shape table row entries (row_after_entry shape table row entry was)
+
+-- a row's values after the commits of a list
+abbrev pub row_after_commits : Shape → ℕ → ℕ → List Commit → Option (List Value) → Option (List Value)
+row_after_commits shape table row [] was = was
+row_after_commits shape table row (commit ∷ commits) was =
+    row_after_commits shape table row commits (row_after shape table row commit.entries was)
+
+-- a row's values after entries, where one that does not fit changes nothing
+abbrev pub row_after_fit : Shape → ℕ → ℕ → List Entry → Option (List Value) → Option (List Value)
+row_after_fit shape table row [] was = was
+row_after_fit shape table row (entry ∷ entries) was =
+    row_after_fit shape table row entries (if is_ok (fitting shape entry) then row_after_entry shape table row entry was else was)
