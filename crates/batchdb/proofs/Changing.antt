@@ -19,10 +19,10 @@ use Rattle.rows.specs.Shape.{Shape, AreColumns, row_width, width_of, is_good, Ar
 use Rattle.rows.specs.Spelling.{AreBytes, HasSpelling}
 use Rattle.rows.specs.Tables.{is_present, rows_of}
 use Rattle.rows.specs.Values.{bytes_of}
-use Rattle.primary.specs.declared.faults.TxFault.TheVariants as changes
-use Rattle.primary.specs.declared.transaction.TheConstants.{TRANSACTION_ENTRIES_MAX}
-use Rattle.primary.specs.Draft.{Draft}
-use Rattle.primary.specs.Transactions.{are_of_kinds, match_table, seen_by, insert_answer}
+use Rattle.mvcc.specs.declared.faults.TxFault.TheVariants as changes
+use Rattle.mvcc.specs.declared.transaction.TheConstants.{TRANSACTION_ENTRIES_MAX}
+use Rattle.mvcc.specs.Draft.{Draft}
+use Rattle.mvcc.specs.Transactions.{are_of_kinds, match_table, seen_by, insert_answer}
 use Rattle.batchdb.specs.Steps.{IsValue}
 use Rattle.batchdb.proofs.Lists.{All-append, All-get}
 use Rattle.batchdb.proofs.Sound.{IsSmallDraft}

@@ -19,14 +19,14 @@ use Rattle.wire.specs.declared.frame.Frame.{Frame}
 use Rattle.wire.specs.Reading.{reading}
 use Rattle.wire.specs.Spelling.{spelling, frame_spelling, IsAsk}
 use Rattle.wire.specs.Streams.{stream_of, frame_count}
-use Rattle.primary.specs.declared.faults.TxFault.{TxFault}
+use Rattle.mvcc.specs.declared.faults.TxFault.{TxFault}
 use Rattle.primary.specs.declared.faults.CommitFault.{CommitFault}
 use Rattle.primary.specs.declared.faults.CommitFault.TheVariants as faults
-use Rattle.primary.specs.Draft.{Draft}
+use Rattle.mvcc.specs.Draft.{Draft}
 use Rattle.primary.specs.Primary.{commit_answer, committed, is_foreign, last_writer, next_number}
 use Rattle.primary.specs.Sending.{answers, answers_to, head_for, counts_of}
 use Rattle.primary.specs.State.{Primary}
-use Rattle.primary.specs.Transactions.{insert_answer}
+use Rattle.mvcc.specs.Transactions.{insert_answer}
 use Rattle.dispatcher.specs.Replica.{Replica}
 use Rattle.dispatcher.proofs.Streams.{count-is, frame-commit}
 use Rattle.dispatcher.proofs.Versions.{tables-stay}

@@ -17,10 +17,10 @@ use Rattle.rows.specs.Commits.{tables_after}
 use Rattle.rows.specs.Presence.{is_there_after}
 use Rattle.rows.specs.Values.{bytes_of}
 use Rattle.rows.proofs.TableLaws.{there-seen, is_there_after_fit-defined, defined_behind}
-use Rattle.primary.specs.declared.faults.TxFault.TheVariants as changes
-use Rattle.primary.specs.declared.transaction.TheConstants.{TRANSACTION_ENTRIES_MAX}
-use Rattle.primary.specs.Draft.{Draft}
-use Rattle.primary.specs.Transactions.{match_table, seen_by, insert_answer}
+use Rattle.mvcc.specs.declared.faults.TxFault.TheVariants as changes
+use Rattle.mvcc.specs.declared.transaction.TheConstants.{TRANSACTION_ENTRIES_MAX}
+use Rattle.mvcc.specs.Draft.{Draft}
+use Rattle.mvcc.specs.Transactions.{match_table, seen_by, insert_answer}
 use Rattle.batchdb.proofs.Changing.{length-values, matched}
 
 sized-matched : (found : Option (List Kind)) (kinds : List Kind) (size : ℕ) → found ≡ Some kinds → size ≡ row_width kinds → is_ok (sized found size) ≡ true

@@ -12,7 +12,7 @@ use Rattle.wire.specs.declared.datagram.Datagram.TheVariants as datagrams
 use Rattle.wire.specs.declared.fault.WireFault.{WireFault}
 use Rattle.wire.specs.Reading.{reading}
 use Rattle.wire.specs.Spelling.{IsAsk}
-use Rattle.primary.specs.Draft.{Draft}
+use Rattle.mvcc.specs.Draft.{Draft}
 use Rattle.primary.specs.Primary.{committed, flushed}
 use Rattle.dispatcher.specs.Replica.{Fetched}
 use Rattle.batchdb.specs.World.{World, Member, Batch, fresh, fresh_from, opening_world, with_member}

@@ -5,7 +5,7 @@ use Rattle.std.proofs.lemmas.Option.{none-some, same_Some, slice_get_within}
 use Rattle.rows.specs.declared.limits.TheConstants.{REPLICAS_MAX, WAITING_QUERIES_MAX}
 use Rattle.wire.specs.Reading.{reading}
 use Rattle.wire.specs.Streams.{stream_of}
-use Rattle.primary.specs.Transactions.{insert_answer}
+use Rattle.mvcc.specs.Transactions.{insert_answer}
 use Rattle.dispatcher.specs.declared.plan.Plan.{Plan}
 use Rattle.dispatcher.specs.declared.plan.PlanFault.{PlanFault}
 use Rattle.dispatcher.specs.Known.{first_missing}

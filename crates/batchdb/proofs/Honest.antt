@@ -20,15 +20,15 @@ use Rattle.wire.specs.declared.datagram.Datagram.TheVariants as datagrams
 use Rattle.wire.specs.declared.fault.WireFault.{WireFault}
 use Rattle.wire.specs.declared.out.Out.{Out}
 use Rattle.wire.specs.Reading.{reading}
-use Rattle.primary.specs.declared.faults.TxFault.{TxFault}
-use Rattle.primary.specs.declared.faults.TxFault.TheVariants as changes
+use Rattle.mvcc.specs.declared.faults.TxFault.{TxFault}
+use Rattle.mvcc.specs.declared.faults.TxFault.TheVariants as changes
 use Rattle.primary.specs.declared.faults.CommitFault.{CommitFault}
 use Rattle.primary.specs.declared.faults.CommitFault.TheVariants as faults
-use Rattle.primary.specs.Draft.{Draft}
+use Rattle.mvcc.specs.Draft.{Draft}
 use Rattle.primary.specs.Primary.{commit_answer, committed, flushed, is_foreign, last_writer, next_number}
 use Rattle.primary.specs.Sending.{pushed, answers}
 use Rattle.primary.specs.State.{Primary}
-use Rattle.primary.specs.Transactions.{insert_answer}
+use Rattle.mvcc.specs.Transactions.{insert_answer}
 use Rattle.dispatcher.specs.declared.plan.Plan.{Plan}
 use Rattle.dispatcher.specs.declared.plan.PlanFault.{PlanFault}
 use Rattle.dispatcher.specs.Known.{is_known, is_ahead, first_missing}
@@ -111,6 +111,7 @@ begins w =
 
 change-faultless : (fault : TxFault) → IsFaultless (of_change fault)
 change-faultless changes.Exists = tt
+change-faultless changes.Missing = tt
 change-faultless changes.Unfit = tt
 change-faultless changes.TooManyEntries = tt
 change-faultless changes.Memory = tt

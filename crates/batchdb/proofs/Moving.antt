@@ -3,10 +3,10 @@ use Rattle.std.proofs.Common.{◌≡◌, ℕ, ◌++◌, ◌⊎◌, inl, inr, Lis
 use Rattle.std.proofs.lemmas.List.{set-set}
 use Rattle.rows.specs.declared.value.Value.{Value}
 use Rattle.rows.specs.declared.row_id.RowId.{RowId}
-use Rattle.primary.specs.declared.faults.TxFault.{TxFault}
-use Rattle.primary.specs.declared.faults.TxFault.TheVariants as changes
-use Rattle.primary.specs.Draft.{Draft}
-use Rattle.primary.specs.Transactions.{insert_answer}
+use Rattle.mvcc.specs.declared.faults.TxFault.{TxFault}
+use Rattle.mvcc.specs.declared.faults.TxFault.TheVariants as changes
+use Rattle.mvcc.specs.Draft.{Draft}
+use Rattle.mvcc.specs.Transactions.{insert_answer}
 use Rattle.dispatcher.specs.declared.faults.AskFault.{AskFault}
 use Rattle.dispatcher.specs.declared.faults.OpenFault.{OpenFault}
 use Rattle.dispatcher.specs.declared.faults.OpenFault.TheVariants as opens

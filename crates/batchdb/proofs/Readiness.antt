@@ -4,10 +4,10 @@ use Rattle.std.specs.List.{AllByRecursion}
 use Rattle.std.proofs.lemmas.List.{length-set}
 use Rattle.rows.specs.declared.value.Value.{Value}
 use Rattle.wire.specs.declared.out.Out.{Out}
-use Rattle.primary.specs.declared.faults.TxFault.{TxFault}
+use Rattle.mvcc.specs.declared.faults.TxFault.{TxFault}
 use Rattle.primary.specs.declared.faults.CommitFault.{CommitFault}
-use Rattle.primary.specs.Draft.{Draft}
-use Rattle.primary.specs.Transactions.{insert_answer}
+use Rattle.mvcc.specs.Draft.{Draft}
+use Rattle.mvcc.specs.Transactions.{insert_answer}
 use Rattle.primary.specs.Primary.{commit_answer, flushed}
 use Rattle.primary.specs.Sending.{pushed}
 use Rattle.dispatcher.specs.declared.plan.Plan.{Plan}

@@ -2,11 +2,11 @@
 use Rattle.std.proofs.Common.{◌≡◌, ℕ, Bool, true, false, cond, List, length, Option, Some, None, Result, Ok, Err, refl}
 use Rattle.std.specs.List.{slice_set}
 use Rattle.rows.specs.declared.commit.Commit.{Commit}
-use Rattle.primary.specs.declared.faults.TxFault.{TxFault}
-use Rattle.primary.specs.declared.faults.TxFault.TheVariants as changes
+use Rattle.mvcc.specs.declared.faults.TxFault.{TxFault}
+use Rattle.mvcc.specs.declared.faults.TxFault.TheVariants as changes
 use Rattle.primary.specs.declared.faults.CommitFault.{CommitFault}
 use Rattle.primary.specs.declared.faults.CommitFault.TheVariants as faults
-use Rattle.primary.specs.Draft.{Draft}
+use Rattle.mvcc.specs.Draft.{Draft}
 use Rattle.primary.specs.Primary.{commit_answer, flushed}
 use Rattle.batchdb.specs.declared.event.Event.{Event}
 use Rattle.batchdb.specs.declared.output.Output.{Output}
@@ -38,6 +38,7 @@ quiet old event answer fresh silent = record { fresh = fresh; reports = no-repor
 
 change-silent : (fault : TxFault) → IsNoReport (of_change fault)
 change-silent changes.Exists = tt
+change-silent changes.Missing = tt
 change-silent changes.Unfit = tt
 change-silent changes.TooManyEntries = tt
 change-silent changes.Memory = tt

@@ -12,8 +12,8 @@ use Rattle.wire.specs.declared.datagram.Datagram.TheVariants as datagrams
 use Rattle.wire.specs.declared.fault.WireFault.{WireFault}
 use Rattle.wire.specs.Reading.{reading}
 use Rattle.wire.specs.Spelling.{IsAsk}
-use Rattle.primary.specs.declared.transaction.TheConstants.{TRANSACTION_ENTRIES_MAX}
-use Rattle.primary.specs.Draft.{Draft}
+use Rattle.mvcc.specs.declared.transaction.TheConstants.{TRANSACTION_ENTRIES_MAX}
+use Rattle.mvcc.specs.Draft.{Draft}
 use Rattle.primary.specs.State.{Primary}
 use Rattle.dispatcher.specs.Feeding.{IsFedFrom, Tells}
 use Rattle.dispatcher.specs.Replica.{Replica, Queries}

@@ -1,7 +1,7 @@
 -- What an event answers, from what the primary and the replicas answer.
 use Rattle.std.specs.Prelude.{ℕ, ◌+◌, List, [], ◌∷◌, length}
-use Rattle.primary.specs.declared.faults.TxFault.{TxFault}
-use Rattle.primary.specs.declared.faults.TxFault.TheVariants as changes
+use Rattle.mvcc.specs.declared.faults.TxFault.{TxFault}
+use Rattle.mvcc.specs.declared.faults.TxFault.TheVariants as changes
 use Rattle.primary.specs.declared.faults.CommitFault.{CommitFault}
 use Rattle.primary.specs.declared.faults.CommitFault.TheVariants as commits
 use Rattle.dispatcher.specs.declared.faults.OpenFault.{OpenFault}
@@ -18,6 +18,7 @@ use Rattle.batchdb.specs.declared.output.Output.TheVariants as outputs
 -- a refused change of a transaction
 abbrev pub of_change : TxFault → Output
 of_change changes.Exists = outputs.Exists
+of_change changes.Missing = outputs.Missing
 of_change changes.Unfit = outputs.Unfit
 of_change changes.TooManyEntries = outputs.TooManyEntries
 of_change changes.Memory = outputs.Memory

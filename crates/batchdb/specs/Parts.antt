@@ -2,7 +2,7 @@
 use Rattle.std.specs.Prelude.{ℕ, zero, suc, ◌≤◌, ◌≡◌, List, [], ◌∷◌, length, Option, IfSome}
 use Rattle.std.specs.List.{AllByRecursion}
 use Rattle.rows.specs.Shape.{Shape}
-use Rattle.primary.specs.Draft.{Draft}
+use Rattle.mvcc.specs.Draft.{Draft}
 use Rattle.primary.specs.State.{Primary}
 use Rattle.primary.specs.Primary.{started as primary_started}
 use Rattle.dispatcher.specs.Replica.{Replica}

@@ -14,11 +14,11 @@ use Rattle.wire.specs.declared.datagram.Datagram.TheVariants as datagrams
 use Rattle.wire.specs.declared.fault.WireFault.{WireFault}
 use Rattle.wire.specs.Spelling.{spelling}
 use Rattle.wire.specs.Reading.{reading}
-use Rattle.primary.specs.declared.faults.TxFault.{TxFault}
+use Rattle.mvcc.specs.declared.faults.TxFault.{TxFault}
 use Rattle.primary.specs.declared.faults.CommitFault.{CommitFault}
-use Rattle.primary.specs.Draft.{Draft}
+use Rattle.mvcc.specs.Draft.{Draft}
 use Rattle.primary.specs.State.{Primary}
-use Rattle.primary.specs.Transactions.{insert_answer}
+use Rattle.mvcc.specs.Transactions.{insert_answer}
 use Rattle.primary.specs.Primary.{started, commit_answer, committed, flushed}
 use Rattle.primary.specs.Sending.{pushed, answers}
 use Rattle.dispatcher.specs.declared.plan.Plan.{Plan}

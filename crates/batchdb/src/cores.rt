@@ -5,7 +5,8 @@ ghost use Rattle.rows.specs.Shape.{shape_of};
 ghost use Rattle.batchdb.specs.Parts.{Parts, parts_started};
 
 use dispatcher::ReplicaCore;
-use primary::{PrimaryCore, Transaction};
+use mvcc::Transaction;
+use primary::PrimaryCore;
 use rows::Schema;
 use std::alloc::{AllocError, Global};
 use std::marker::Model;

@@ -5,7 +5,8 @@ ghost use Rattle.batchdb.specs.Outputs.{of_change, of_commit, of_open, of_ask, o
 
 use crate::output::Output;
 use dispatcher::{AskFault, Got, OpenFault};
-use primary::{CommitFault, TxFault};
+use mvcc::TxFault;
+use primary::CommitFault;
 
 /// A refused change of a transaction.
 pub fn change_output(fault: TxFault) -> Output
@@ -13,6 +14,7 @@ pub fn change_output(fault: TxFault) -> Output
 {
     match fault {
         TxFault::Exists => Output::Exists,
+        TxFault::Missing => Output::Missing,
         TxFault::Unfit => Output::Unfit,
         TxFault::TooManyEntries => Output::TooManyEntries,
         TxFault::Memory => Output::Memory,

@@ -11,6 +11,8 @@ pub enum Output {
     Accepted,
     /// The row to insert is there.
     Exists,
+    /// The row to change is not there.
+    Missing,
     /// The values do not fit the table.
     Unfit,
     /// The transaction has as many entries as it may have.

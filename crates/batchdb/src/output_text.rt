@@ -92,6 +92,7 @@ fn word_of(output: &Output) -> &'static str {
     match output {
         Output::Accepted => "ok",
         Output::Exists => "exists",
+        Output::Missing => "missing",
         Output::Unfit => "unfit",
         Output::TooManyEntries => "too many entries",
         Output::NoTx => "no tx",

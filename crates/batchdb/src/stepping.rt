@@ -11,7 +11,8 @@ use crate::naming::{ask_output, change_output, commit_output, got_output, open_o
 use crate::output::Output;
 use crate::sent::{Sent, SentList};
 use dispatcher::{Plan, Run};
-use primary::{CommitFault, FlushFault, Transaction};
+use mvcc::Transaction;
+use primary::{CommitFault, FlushFault};
 use rows::{ByteList, Row, RowId};
 use std::alloc::{AllocError, Global};
 use wire::{Out, Packet};

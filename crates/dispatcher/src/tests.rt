@@ -184,6 +184,27 @@ fn a_batch_is_answered_at_its_version(rt: HostRuntime) -> Result<(), Fail> {
     Ok(())
 }
 
+/// Whichever allocation is refused: a run that lacks memory can be run again, or breaks the replica.
+#[test]
+fn a_run_without_memory_stands_or_breaks(rt: HostRuntime) -> Result<(), Fail> {
+    let mut replica = asking(replica(rt.alloc())?)?;
+    assert_eq!(rt; get(&mut replica, &HEAD), Got::Head(1));
+    if get(&mut replica, &FRAME) != Got::Stored {
+        return Err(Fail::from("out of memory"));
+    }
+    match replica.run() {
+        Run::Answered(_) => assert_eq!(rt; replica.version(), 1),
+        Run::Memory => {
+            assert!(rt; answers(&mut replica, b"version 1 queries 1\nquery 0 rows 1\n1\n"));
+        }
+        other => {
+            assert!(rt; matches!(&other, Run::Broken));
+            assert!(rt; matches!(&replica.run(), Run::Broken));
+        }
+    }
+    Ok(())
+}
+
 #[test]
 fn the_rows_that_are_left_are_counted(rt: HostRuntime) -> Result<(), Fail> {
     let replica = replica_of(rt.alloc(), &[Kind::Int, Kind::Octets(3)])?;

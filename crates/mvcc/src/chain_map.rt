@@ -1,6 +1,6 @@
 //! The chains of one table's rows.
 
-ghost use Rattle.std.specs.Prelude.{◌≡◌, [], length, true, OnOk, OnErr};
+ghost use Rattle.std.specs.Prelude.{◌≡◌, [], true, OnOk, OnErr};
 ghost use Rattle.std.specs.List.{list_all};
 ghost use Rattle.std.specs.List.Sorted.{IsNonDecreasingBy};
 ghost use Rattle.std.specs.Option.{option_map};
@@ -9,7 +9,7 @@ ghost use Rattle.rows.specs.Entries.{row_of};
 ghost use Rattle.mvcc.specs.Chains.{newest_in, values_at, links_in, with_cut, with_link, IsWide};
 
 use crate::chain::Chain;
-use crate::parts::row_of;
+use crate::entry_rows::row_of;
 use rows::{Entry, Kind, Row};
 use std::alloc::{AllocError, Global};
 use std::collections::BTreeMap;

@@ -9,7 +9,7 @@ ghost use Rattle.rows.specs.Entries.{fitting};
 ghost use Rattle.mvcc.specs.Chains.{newest_in, values_at, links_at, tables_linked, tables_cut, tables_cut_all, and_entries, AreChains, AreChainsCut};
 
 use crate::chain_map::ChainMap;
-use crate::parts::{row_of, table_of};
+use crate::entry_rows::{row_of, table_of};
 use rows::{Commit, Entry, Row, RowId, Schema};
 use std::alloc::{AllocError, Global};
 

@@ -21,7 +21,6 @@ mod entry_rows;
 mod faults;
 mod link;
 mod own_rows;
-mod parts;
 mod row_after;
 mod transaction;
 mod values;
@@ -30,3 +29,8 @@ mod versions;
 pub use faults::TxFault;
 pub use transaction::{TRANSACTION_ENTRIES_MAX, Transaction};
 pub use versions::Versions;
+
+#[cfg(test)]
+mod transaction_tests;
+#[cfg(test)]
+mod versions_tests;

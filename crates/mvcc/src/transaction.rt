@@ -104,6 +104,7 @@ impl Transaction {
         values: &[Value],
     ) -> Result<(), TxFault>
         requires { self.old.snapshot ≤ length versions.now.commits }
+        ensures same_snapshot { self.new.snapshot ≡ self.old.snapshot }
         ensures ok { OnOk result (insert_answer versions.now.shape versions.now.commits self.old table row.0 values.now ≡ Ok self.new) }
         ensures refused { IfErr result (λ fault. (self.new ≡ self.old)
             × (((fault ≡ TxFault.Memory) × IsOk (insert_answer versions.now.shape versions.now.commits self.old table row.0 values.now))
@@ -139,6 +140,7 @@ impl Transaction {
         value: Value,
     ) -> Result<(), TxFault>
         requires { self.old.snapshot ≤ length versions.now.commits }
+        ensures same_snapshot { self.new.snapshot ≡ self.old.snapshot }
         ensures ok { OnOk result (set_answer versions.now.shape versions.now.commits self.old table row.0 column value ≡ Ok self.new) }
         ensures refused { IfErr result (λ fault. (self.new ≡ self.old)
             × (((fault ≡ TxFault.Memory) × IsOk (set_answer versions.now.shape versions.now.commits self.old table row.0 column value))
@@ -167,6 +169,7 @@ impl Transaction {
     /// was.
     pub fn delete(&mut self, versions: &Versions, table: u8, row: RowId) -> Result<(), TxFault>
         requires { self.old.snapshot ≤ length versions.now.commits }
+        ensures same_snapshot { self.new.snapshot ≡ self.old.snapshot }
         ensures ok { OnOk result (delete_answer versions.now.shape versions.now.commits self.old table row.0 ≡ Ok self.new) }
         ensures refused { IfErr result (λ fault. (self.new ≡ self.old)
             × (((fault ≡ TxFault.Memory) × IsOk (delete_answer versions.now.shape versions.now.commits self.old table row.0))

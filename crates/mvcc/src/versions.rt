@@ -1,18 +1,17 @@
 //! Every version of the database: the list of its commits.
 
-ghost use Rattle.std.specs.Prelude.{◌≡◌, ◌+◌, ◌≤◌, ◌<◌, ◌-◌, ◌∷◌, [], ◌++◌, ℕ, length, true, is_ok, IfOk, OnOk, OnErr, slice_get, if◌then◌else◌, ◌==◌, None};
-ghost use Rattle.std.specs.Option.{option_map, option_copied};
+ghost use Rattle.std.specs.Prelude.{◌≡◌, ◌≤◌, ◌-◌, ◌∷◌, [], ◌++◌, ℕ, length, true, IfOk, OnOk, OnErr, slice_get, if◌then◌else◌, ◌==◌, None};
+ghost use Rattle.std.specs.Option.{option_map};
 ghost use Rattle.rows.specs.Shape.{shape_of};
 ghost use Rattle.rows.specs.Tables.{is_present, rows_of};
-ghost use Rattle.std.specs.List.{list_any};
-ghost use Rattle.rows.specs.Commits.{is_of, names_row_of, tables_after, last_touching, touches};
-ghost use Rattle.mvcc.specs.History.{History, defined_at};
+ghost use Rattle.rows.specs.Commits.{tables_after, last_touching};
+ghost use Rattle.mvcc.specs.History.{defined_at};
 ghost use Rattle.mvcc.specs.Newest.{newest_of};
 ghost use Rattle.mvcc.specs.Values.{value_in};
 
 use crate::chain_map::ChainMap;
 use crate::chains::{link_commit, newest_at, no_chains, values_at};
-use crate::parts::{row_of, table_of};
+use crate::entry_rows::{row_of, table_of};
 use rows::{Commit, Entry, RowId, Schema, Value};
 use std::alloc::{AllocError, Global};
 use std::marker::Model;

@@ -7,7 +7,7 @@ use Rattle.rows.specs.Entries.{table_of, row_of, fitting}
 use Rattle.rows.specs.Commits.{tables_after}
 use Rattle.rows.specs.Presence.{stands_for, is_there_after}
 use Rattle.rows.proofs.TableLaws.{defined_behind, defined_before}
-use Rattle.primary.specs.History.{History, defined_at, is_row_there}
+use Rattle.mvcc.specs.History.{History, defined_at, is_row_there}
 
 -- an entry is defined behind others where it fits, and its row stands as it needs it after those
 pub defined_at_push : (versions : History) (version : ℕ) (before : List Entry) (entry : Entry) → defined_at versions version before ≡ true

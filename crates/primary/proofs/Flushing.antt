@@ -4,7 +4,7 @@ use Rattle.std.proofs.Math.Seq.{take-add}
 use Rattle.std.proofs.lemmas.List.{append_assoc, take_min, drop_min, drop-drop, length-take-le}
 use Rattle.rows.specs.declared.commit.Commit.{Commit}
 use Rattle.rows.specs.Shape.{Shape}
-use Rattle.primary.specs.History.{History}
+use Rattle.mvcc.specs.History.{History}
 use Rattle.primary.specs.Journal.{header, records_from, journal_text}
 use Rattle.primary.specs.Primary.{primary_of, flushed}
 use Rattle.primary.proofs.Text.{records_from_append}

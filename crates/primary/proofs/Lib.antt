@@ -2,3 +2,4 @@ pub mod Definedness
 pub mod Text
 pub mod Flushing
 pub mod Streams
+pub mod Numbering

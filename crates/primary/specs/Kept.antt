@@ -4,7 +4,7 @@ use Rattle.std.specs.List.{AllByRecursion}
 use Rattle.rows.specs.declared.commit.Commit.{Commit}
 use Rattle.rows.specs.declared.limits.TheConstants.{WORKERS_MAX}
 use Rattle.rows.specs.Spelling.{HasSpelling}
-use Rattle.primary.specs.declared.transaction.TheConstants.{TRANSACTION_ENTRIES_MAX}
+use Rattle.mvcc.specs.declared.transaction.TheConstants.{TRANSACTION_ENTRIES_MAX}
 
 pub record IsKept (commit : Commit) : Type 0 where
   pub worker_below : commit.worker < WORKERS_MAX

@@ -1,9 +1,7 @@
-pub mod History
-pub mod Draft
-pub mod Transactions
 pub mod State
 pub mod Primary
 pub mod Kept
 pub mod Journal
+pub mod Places
 pub mod Sending
 pub mod Core

@@ -6,8 +6,8 @@ use Rattle.rows.specs.Tables.{changes_of}
 use Rattle.rows.specs.Commits.{tables_after, last_touching}
 use Rattle.primary.specs.declared.faults.CommitFault.{CommitFault}
 use Rattle.primary.specs.declared.faults.CommitFault.TheVariants.{Conflict, ReadOnly, Failed, NumbersUsedUp, Foreign}
-use Rattle.primary.specs.Draft.{Draft}
-use Rattle.primary.specs.History.{History}
+use Rattle.mvcc.specs.Draft.{Draft}
+use Rattle.mvcc.specs.History.{History}
 use Rattle.primary.specs.State.{Primary}
 
 -- a primary without commits

@@ -1,22 +1,5 @@
 use thiserror::Error;
 
-/// Why a change is not taken into a transaction: the first that stands, in the order `Unfit`,
-/// `Exists`, `TooManyEntries`, `Memory`.
-#[derive(Clone, Copy, Debug, PartialEq, Eq, Error)]
-pub enum TxFault {
-    /// The row to insert is there, as the transaction sees it.
-    #[error("the row exists")]
-    Exists,
-    /// The table is not there, or the values are not of its columns' kinds.
-    #[error("the values do not fit the table")]
-    Unfit,
-    /// The transaction has as many entries as one may have.
-    #[error("too many entries")]
-    TooManyEntries,
-    #[error("out of memory")]
-    Memory,
-}
-
 /// Why a transaction is not committed: the first that stands, in the order `Failed`, `ReadOnly`,
 /// `Foreign`, `Conflict`, `NumbersUsedUp`, `Memory`.
 #[derive(Clone, Copy, Debug, PartialEq, Eq, Error)]

@@ -8,8 +8,8 @@ ghost use Rattle.rows.specs.Spelling.{HasSpelling, entry_spelling};
 ghost use Rattle.primary.specs.Journal.{header, table_header, kind_code, record_of, records_from};
 ghost use Rattle.primary.specs.Kept.{IsKept};
 
-use crate::transaction::TRANSACTION_ENTRIES_MAX;
 use byteorder::{BigEndian, ByteOrder};
+use mvcc::TRANSACTION_ENTRIES_MAX;
 use rows::{Commit, Entry, Kind, Schema, entry_len, write_entry};
 use std::alloc::{AllocError, Global};
 

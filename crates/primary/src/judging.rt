@@ -6,13 +6,12 @@ ghost use Rattle.std.specs.List.{AllByRecursion};
 ghost use Rattle.rows.specs.Entries.{table_of, row_of};
 ghost use Rattle.rows.specs.Presence.{is_there_after};
 ghost use Rattle.rows.specs.Spelling.{HasSpelling};
-ghost use Rattle.primary.specs.History.{defined_at, is_row_there};
+ghost use Rattle.mvcc.specs.History.{defined_at, is_row_there};
 ghost use Rattle.primary.specs.Primary.{commit_answer, primary_of};
 
 use crate::faults::CommitFault;
 use crate::presence::{is_there_after, row_of, stands_for, table_of};
-use crate::transaction::Transaction;
-use crate::versions::Versions;
+use mvcc::{Transaction, Versions};
 use rows::{Entry, fits};
 
 /// The number that the transaction's commit would get, or the first refusal, where the first

@@ -1,12 +1,11 @@
 //! Whether a row is there after entries, told from the entries alone.
 
 ghost use Rattle.std.specs.Prelude.{◌≡◌};
-ghost use Rattle.rows.specs.Shape.{shape_of};
 ghost use Rattle.rows.specs.Entries.{table_of, row_of};
 ghost use Rattle.rows.specs.Commits.{is_of};
-ghost use Rattle.rows.specs.Presence.{stands_for, left_by, is_there_after_one, is_there_after, is_there_after_commits, is_there_after_fit};
+ghost use Rattle.rows.specs.Presence.{stands_for, left_by, is_there_after_one, is_there_after};
 
-use rows::{Commit, Entry, RowId, Schema, fits};
+use rows::{Entry, RowId};
 
 /// The table that the entry is of.
 pub fn table_of(entry: &Entry) -> u8
@@ -31,7 +30,7 @@ pub fn row_of(entry: &Entry) -> RowId
 }
 
 /// Whether the entry is of that row.
-pub fn is_of(entry: &Entry, table: u8, row: RowId) -> bool
+fn is_of(entry: &Entry, table: u8, row: RowId) -> bool
     ensures { result ≡ is_of table row.0 entry.now }
 {
     table_of(entry) == table && row_of(entry).0 == row.0
@@ -76,37 +75,6 @@ pub fn is_there_after(table: u8, row: RowId, entries: &[Entry], was: bool) -> bo
     let mut there = was;
     for entry in entries {
         there = is_there_after_one(table, row, entry, there);
-    }
-    there
-}
-
-/// Whether the row is there after these commits, where it was there or not.
-pub fn is_there_after_commits(table: u8, row: RowId, commits: &[Commit], was: bool) -> bool
-    ensures { result ≡ is_there_after_commits table row.0 commits.now was }
-{
-    let mut there = was;
-    for commit in commits {
-        there = is_there_after(table, row, commit.entries.as_slice(), there);
-    }
-    there
-}
-
-/// Whether the row is there after these entries, of which those that do not fit the schema change
-/// nothing, where it was there or not.
-pub fn is_there_after_fit(
-    schema: &Schema,
-    table: u8,
-    row: RowId,
-    entries: &[Entry],
-    was: bool,
-) -> bool
-    ensures { result ≡ is_there_after_fit (shape_of schema.now) table row.0 entries.now was }
-{
-    let mut there = was;
-    for entry in entries {
-        if fits(schema, entry).is_ok() {
-            there = is_there_after_one(table, row, entry, there);
-        }
     }
     there
 }

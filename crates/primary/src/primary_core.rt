@@ -1,8 +1,10 @@
 //! The primary's core: bytes and values in, bytes and values out.
 
-ghost use Rattle.std.specs.Prelude.{◌≡◌, ◌<◌, ◌≤◌, length, true, false, Ok, Err, IfOk, IfErr, IsOk, OnOk, OnErr, ◌⊎◌, ◌++◌, ◌+◌, ◌^◌};
+ghost use Rattle.std.specs.Prelude.{◌≡◌, ◌<◌, ◌≤◌, length, true, false, Ok, Err, IfOk, IfErr, IsOk, OnOk, OnErr, ◌⊎◌, ◌∷◌, [], ◌++◌, ◌+◌, ◌^◌};
 ghost use Rattle.std.specs.List.{AllByRecursion};
 ghost use Rattle.rows.specs.Shape.{shape_of};
+ghost use Rattle.mvcc.specs.History.{defined_at};
+ghost use Rattle.primary.specs.Places.{ArePlaces};
 ghost use Rattle.primary.specs.State.{Primary};
 ghost use Rattle.primary.specs.Primary.{started, commit_answer, committed, flushed};
 ghost use Rattle.primary.specs.Sending.{pushed, head_for, answers};
@@ -13,11 +15,11 @@ ghost use Rattle.primary.specs.Journal.{records_from};
 use crate::faults::{CommitFault, FlushFault};
 use crate::journal::{header_bytes, records};
 use crate::judging::judge;
+use crate::places::Places;
 use crate::sending::{counts, frame_packet};
 use crate::ticket::Ticket;
-use crate::transaction::Transaction;
-use crate::versions::Versions;
-use rows::{Commit, Schema};
+use mvcc::{Transaction, Versions};
+use rows::{Commit, Entry, EntryList, Schema};
 use std::alloc::{AllocError, Global};
 use std::marker::Model;
 use wire::{Datagram, Out, Packet, To, read};
@@ -30,6 +32,7 @@ use wire::{Datagram, Out, Packet, To, read};
 pub struct PrimaryCore {
     alloc: Global,
     versions: Versions,
+    places: Places,
     durable: usize,
     workers: u8,
     failed: bool,
@@ -45,7 +48,7 @@ impl Model for PrimaryCore {
 
     ghost view = { λ p. primary_of p.versions p.durable p.workers p.failed };
 
-    ghost invariant = { λ p. IsCore p.versions p.durable p.workers p.journal.items };
+    ghost invariant = { λ p. IsCore p.versions p.places p.durable p.workers p.journal.items };
 }
 
 impl PrimaryCore {
@@ -59,6 +62,7 @@ impl PrimaryCore {
         Ok(PrimaryCore {
             alloc,
             versions: Versions::new(alloc, schema)?,
+            places: Places::start(alloc, workers)?,
             durable: 0,
             workers,
             failed: false,
@@ -117,23 +121,20 @@ impl PrimaryCore {
             Ok(number) => number,
             Err(fault) => return Err((transaction, fault)),
         };
-        let snapshot = transaction.snapshot();
-        let commit = Commit {
+        let kept = keep(
+            self.alloc,
+            &mut self.versions,
+            &mut self.places,
             worker,
-            entries: transaction.into_entries(),
-        };
-        let absorbed = self.versions.absorb(&commit);
-        let entries = commit.entries;
-        match absorbed {
+            transaction.entries(),
+        );
+        match kept {
             Ok(()) => Ok(Ticket {
                 number,
                 worker,
-                entries,
+                entries: transaction.into_entries(),
             }),
-            Err(_) => {
-                let transaction = Transaction::with_entries(self.alloc, snapshot, entries);
-                Err((transaction, CommitFault::Memory))
-            }
+            Err(_) => Err((transaction, CommitFault::Memory)),
         }
     }
 
@@ -167,7 +168,8 @@ impl PrimaryCore {
         requires { worker < self.now.workers }
         ensures { result ≡ pushed self.now worker seq }
     {
-        frame_packet(&self.versions.commits()[..self.durable], worker, seq)
+        let durable = self.durable as u64;
+        frame_packet(&self.versions, &self.places, durable, worker, seq)
     }
 
     /// What the primary sends for bytes that came: to an Ask, one Head with what is durable and
@@ -198,19 +200,66 @@ impl PrimaryCore {
         requires { IsAsk replica boot request }
         ensures { result ≡ record { to = To.Replica replica; packet = spelling (head_for self.now replica boot request) } }
     {
-        let durable = &self.versions.commits()[..self.durable];
+        let version = self.durable as u64;
         let head = Datagram::Head {
             replica,
             boot,
             request,
-            version: self.durable as u64,
-            counts: counts(durable, self.workers),
+            version,
+            counts: counts(&self.places, version, self.workers),
         };
         Out {
             to: To::Replica(replica),
             packet: Packet::of(&head),
         }
     }
+}
+
+/// Adds the next commit, of these entries, to the versions and to the places. All memory is taken
+/// before anything changes: fails for want of memory alone, and then no commit has been added.
+fn keep(
+    alloc: Global,
+    versions: &mut Versions,
+    places: &mut Places,
+    worker: u8,
+    entries: &[Entry],
+) -> Result<(), AllocError>
+    requires defined { defined_at versions.old (length versions.old.commits) entries.now ≡ true }
+    requires numbered { length versions.old.commits + 1 < 2 ^ 64 }
+    requires there { worker < length places.old }
+    requires placed { ArePlaces places.old versions.old.commits }
+    ensures workers { length places.new ≡ length places.old }
+    ensures placed { ArePlaces places.new versions.new.commits }
+    ensures ok { OnOk result (versions.new ≡ record versions.old { commits = versions.old.commits ++ record { worker = worker; entries = entries.now } ∷ [] }) }
+    ensures err { OnErr result (versions.new ≡ versions.old) }
+{
+    let commit = Commit {
+        worker,
+        entries: copied(alloc, entries)?,
+    };
+    places.reserve(worker)?;
+    let number = versions.len() + 1;
+    versions.absorb(&commit)?;
+    places.add(worker, number);
+    Ok(())
+}
+
+/// The same entries once more. Fails for want of memory alone.
+fn copied(alloc: Global, entries: &[Entry]) -> Result<EntryList, AllocError>
+    ensures { IfOk result (λ copy. copy ≡ entries.now) }
+{
+    let mut copy = EntryList::new(alloc);
+    for entry in entries {
+        copy.push(copy_of(entry)?)?;
+    }
+    Ok(copy)
+}
+
+/// The same entry once more. Fails for want of memory alone.
+fn copy_of(entry: &Entry) -> Result<Entry, AllocError>
+    ensures { IfOk result (λ copy. copy ≡ entry.now) }
+{
+    entry.clone()
 }
 
 /// Appends the records of commits that stand behind `before` others. Fails for want of memory

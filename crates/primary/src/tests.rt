@@ -5,15 +5,12 @@ ghost use Rattle.std.specs.Prelude.{◌≡◌, ◌<◌, IfOk};
 ghost use Rattle.rows.specs.Spelling.{HasSpelling};
 ghost use Rattle.primary.specs.Kept.{IsKept};
 
-use crate::faults::{CommitFault, TxFault};
+use crate::faults::CommitFault;
 use crate::journal::{header_bytes, records};
 use crate::primary_core::PrimaryCore;
 use crate::ticket::Ticket;
-use crate::transaction::Transaction;
-use crate::versions::Versions;
-use rows::{
-    ByteList, Commit, Entry, EntryList, Kind, Octets, RowId, Schema, SchemaFault, Value, row_bytes,
-};
+use mvcc::{Transaction, TxFault};
+use rows::{ByteList, Commit, Entry, EntryList, Kind, RowId, Schema, SchemaFault, Value};
 use std::alloc::{AllocError, Global};
 use std::test::Fail;
 use wire::To;
@@ -107,72 +104,44 @@ fn primary_with_rows(alloc: Global, rows: &[u64]) -> Result<PrimaryCore, Fail>
     Ok(primary)
 }
 
-/// An insert of that row into table 0, with the values 5 and -1.
-fn insert(alloc: Global, row: u64) -> Result<Entry, AllocError> {
-    Ok(Entry::Insert {
-        table: 0,
-        row: RowId(row),
-        bytes: row_bytes(alloc, &[Value::Int(5), Value::Int(-1)])?,
-    })
+/// A transaction on what is durable that gives the second column of that row the value 0.
+fn setting(alloc: Global, primary: &PrimaryCore, row: u64) -> Result<Transaction, TxFault> {
+    let mut transaction = Transaction::begin(alloc, primary.durable());
+    transaction.set(primary.versions(), 0, RowId(row), 1, Value::Int(0))?;
+    Ok(transaction)
 }
 
-/// A patch of the second column of that row of table 0, to 0.
-fn patch(alloc: Global, row: u64) -> Result<Entry, AllocError> {
-    Ok(Entry::Patch {
-        table: 0,
-        row: RowId(row),
-        offset: 8,
-        bytes: ByteList::from_vec(Vec::from_slice(alloc, &[0; 8])?),
-    })
+/// A transaction on what is durable that deletes that row.
+fn deleting(alloc: Global, primary: &PrimaryCore, row: u64) -> Result<Transaction, TxFault> {
+    let mut transaction = Transaction::begin(alloc, primary.durable());
+    transaction.delete(primary.versions(), 0, RowId(row))?;
+    Ok(transaction)
 }
 
-/// A delete of that row of table 0.
-fn delete(row: u64) -> Entry
-    ensures { HasSpelling result }
-{
-    Entry::Delete {
-        table: 0,
-        row: RowId(row),
-    }
+/// A transaction on what is durable that deletes that row and puts it in again.
+fn replacing(alloc: Global, primary: &PrimaryCore, row: u64) -> Result<Transaction, TxFault> {
+    let mut transaction = Transaction::begin(alloc, primary.durable());
+    let versions = primary.versions();
+    transaction.delete(versions, 0, RowId(row))?;
+    transaction.insert(versions, 0, RowId(row), &[Value::Int(5), Value::Int(-1)])?;
+    Ok(transaction)
 }
 
-/// What a commit of one entry, on the rows at that version, gets: its number, or its refusal.
-fn commit_one(
-    alloc: Global,
-    primary: &mut PrimaryCore,
-    version: u64,
-    entry: Entry,
-) -> Result<Result<u64, CommitFault>, AllocError>
+/// A transaction on what is durable that puts that row in and deletes it again.
+fn undoing(alloc: Global, primary: &PrimaryCore, row: u64) -> Result<Transaction, TxFault> {
+    let mut transaction = Transaction::begin(alloc, primary.durable());
+    let versions = primary.versions();
+    transaction.insert(versions, 0, RowId(row), &[Value::Int(5), Value::Int(-1)])?;
+    transaction.delete(versions, 0, RowId(row))?;
+    Ok(transaction)
+}
+
+/// What a commit of the transaction gets: its number, or its refusal.
+fn answer(primary: &mut PrimaryCore, transaction: Transaction) -> Result<u64, CommitFault>
     requires { 0 < primary.old.workers }
     ensures { primary.new.workers ≡ primary.old.workers }
 {
-    let mut entries = EntryList::new(alloc);
-    entries.push(entry)?;
-    let transaction = Transaction::with_entries(alloc, version, entries);
-    Ok(outcome(commit(primary, transaction)))
-}
-
-/// The same of two entries.
-fn commit_two(
-    alloc: Global,
-    primary: &mut PrimaryCore,
-    version: u64,
-    first: Entry,
-    second: Entry,
-) -> Result<Result<u64, CommitFault>, AllocError>
-    requires { 0 < primary.old.workers }
-    ensures { primary.new.workers ≡ primary.old.workers }
-{
-    let mut entries = EntryList::new(alloc);
-    entries.push(first)?;
-    entries.push(second)?;
-    let transaction = Transaction::with_entries(alloc, version, entries);
-    Ok(outcome(commit(primary, transaction)))
-}
-
-/// The number of a commit, or its refusal.
-fn outcome(committed: Result<Ticket, (Transaction, CommitFault)>) -> Result<u64, CommitFault> {
-    match committed {
+    match commit(primary, transaction) {
         Ok(ticket) => Ok(ticket.number),
         Err((_, fault)) => Err(fault),
     }
@@ -261,80 +230,37 @@ fn a_version_that_is_not_durable_is_foreign(rt: HostRuntime) -> Result<(), Fail>
 #[test]
 fn a_row_that_is_there_is_foreign(rt: HostRuntime) -> Result<(), Fail> {
     let alloc = rt.alloc();
-    let entries = inserting(alloc, &primary(alloc)?, &[7])?.into_entries();
-    let blind = Transaction::with_entries(alloc, 1, entries);
+    let elsewhere = primary_with_rows(alloc, &[9])?;
     let mut primary = primary_with_row(alloc)?;
-    let Err((_, fault)) = commit(&mut primary, blind) else {
-        return Err("committed".into());
-    };
-    assert_eq!(rt; fault, CommitFault::Foreign);
+    let foreign = Err(CommitFault::Foreign);
+    let inserting = inserting(alloc, &elsewhere, &[7])?;
+    assert_eq!(rt; answer(&mut primary, inserting), foreign);
+    let undoing = undoing(alloc, &elsewhere, 7)?;
+    assert_eq!(rt; answer(&mut primary, undoing), foreign);
     Ok(())
 }
 
 #[test]
-fn an_insert_is_refused(rt: HostRuntime) -> Result<(), Fail> {
+fn a_row_that_is_absent_is_foreign(rt: HostRuntime) -> Result<(), Fail> {
     let alloc = rt.alloc();
-    let primary = primary_with_row(alloc)?;
-    assert_eq!(rt; inserting(alloc, &primary, &[8, 9])?.entries().len(), 2);
-    let exists = Some(TxFault::Exists);
-    assert_eq!(rt;
-        inserting(alloc, &primary, &[7]).err(),
-        exists,
-        "at its snapshot"
-    );
-    assert_eq!(rt;
-        inserting(alloc, &primary, &[8, 8]).err(),
-        exists,
-        "by itself"
-    );
-    let many = Some(TxFault::TooManyEntries);
-    assert_eq!(rt; inserting(alloc, &primary, &[8, 9, 10]).err(), many);
-
-    let versions = primary.versions();
-    let mut transaction = Transaction::begin(alloc, 0);
-    let unfit = Err(TxFault::Unfit);
-    let one = [Value::Int(5)];
-    let two = [Value::Int(5), Value::Int(-1)];
-    assert_eq!(rt; transaction.insert(versions, 0, RowId(7), &one), unfit);
-    assert_eq!(rt; transaction.insert(versions, 1, RowId(7), &two), unfit);
-    assert!(rt; transaction.entries().is_empty());
+    let elsewhere = primary_with_rows(alloc, &[9])?;
+    let mut primary = primary_with_row(alloc)?;
+    let foreign = Err(CommitFault::Foreign);
+    let setting = setting(alloc, &elsewhere, 9)?;
+    assert_eq!(rt; answer(&mut primary, setting), foreign);
+    let deleting = deleting(alloc, &elsewhere, 9)?;
+    assert_eq!(rt; answer(&mut primary, deleting), foreign);
+    let replacing = replacing(alloc, &elsewhere, 9)?;
+    assert_eq!(rt; answer(&mut primary, replacing), foreign);
     Ok(())
 }
 
 #[test]
-fn versions_tell_their_rows(rt: HostRuntime) -> Result<(), Fail> {
-    let alloc = rt.alloc();
-    let primary = primary_with_row(alloc)?;
-    let versions = primary.versions();
-    assert_eq!(rt; versions.len(), 1);
-    assert_eq!(rt; versions.schema().len(), 1);
-    assert!(rt; !versions.is_present(0, 0, RowId(7)));
-    let commit = versions.commit_at(1).ok_or("no commit 1")?;
-    assert_eq!(rt; versions.last_touching(commit.entries.as_slice()), 1);
-    assert_eq!(rt; versions.last_touching(&[]), 0);
-    assert!(rt; versions.commit_at(0).is_none());
-    assert!(rt; versions.commit_at(2).is_none());
-    Ok(())
-}
-
-#[test]
-fn versions_take_a_commit(rt: HostRuntime) -> Result<(), Fail> {
-    let alloc = rt.alloc();
-    let mut versions = Versions::new(alloc, &schema(alloc)?)?;
-    assert!(rt; versions.is_empty());
-    let entries = EntryList::new(alloc);
-    versions.absorb(&Commit { worker: 3, entries })?;
-    assert!(rt; !versions.is_empty());
-    assert_eq!(rt; versions.commits().len(), 1);
-    Ok(())
-}
-
-#[test]
-fn a_row_is_patched(rt: HostRuntime) -> Result<(), Fail> {
+fn a_row_is_set(rt: HostRuntime) -> Result<(), Fail> {
     let alloc = rt.alloc();
     let mut primary = primary_with_row(alloc)?;
-    let patch = patch(alloc, 7)?;
-    assert_eq!(rt; commit_one(alloc, &mut primary, 1, patch)?, Ok(2));
+    let setting = setting(alloc, &primary, 7)?;
+    assert_eq!(rt; answer(&mut primary, setting), Ok(2));
     Ok(())
 }
 
@@ -342,82 +268,71 @@ fn a_row_is_patched(rt: HostRuntime) -> Result<(), Fail> {
 fn a_row_is_deleted(rt: HostRuntime) -> Result<(), Fail> {
     let alloc = rt.alloc();
     let mut primary = primary_with_row(alloc)?;
-    assert_eq!(rt; commit_one(alloc, &mut primary, 1, delete(7))?, Ok(2));
+    let deleting = deleting(alloc, &primary, 7)?;
+    assert_eq!(rt; answer(&mut primary, deleting), Ok(2));
     assert_eq!(rt; primary.flush(1)?, 2);
     assert_eq!(rt; inserting(alloc, &primary, &[7])?.entries().len(), 1);
     Ok(())
 }
 
 #[test]
-fn an_absent_row_is_not_changed(rt: HostRuntime) -> Result<(), Fail> {
+fn a_row_is_replaced_and_one_undone(rt: HostRuntime) -> Result<(), Fail> {
     let alloc = rt.alloc();
     let mut primary = primary_with_row(alloc)?;
-    let foreign = Err(CommitFault::Foreign);
-    let patch = patch(alloc, 8)?;
-    assert_eq!(rt; commit_one(alloc, &mut primary, 1, patch)?, foreign);
-    assert_eq!(rt; commit_one(alloc, &mut primary, 1, delete(8))?, foreign);
+    let replacing = replacing(alloc, &primary, 7)?;
+    assert_eq!(rt; answer(&mut primary, replacing), Ok(2));
+    let undoing = undoing(alloc, &primary, 8)?;
+    assert_eq!(rt; answer(&mut primary, undoing), Ok(3));
     Ok(())
 }
 
 #[test]
-fn a_row_that_is_there_is_deleted_first(rt: HostRuntime) -> Result<(), Fail> {
-    let alloc = rt.alloc();
-    let mut primary = primary_with_row(alloc)?;
-    let foreign = Err(CommitFault::Foreign);
-    let insert_first = commit_two(alloc, &mut primary, 1, insert(alloc, 7)?, delete(7))?;
-    assert_eq!(rt; insert_first, foreign);
-    let delete_first = commit_two(alloc, &mut primary, 1, delete(7), insert(alloc, 7)?)?;
-    assert_eq!(rt; delete_first, Ok(2));
-    Ok(())
-}
-
-#[test]
-fn an_absent_row_is_inserted_first(rt: HostRuntime) -> Result<(), Fail> {
-    let alloc = rt.alloc();
-    let mut primary = primary(alloc)?;
-    let foreign = Err(CommitFault::Foreign);
-    let delete_first = commit_two(alloc, &mut primary, 0, delete(7), insert(alloc, 7)?)?;
-    assert_eq!(rt; delete_first, foreign);
-    let insert_first = commit_two(alloc, &mut primary, 0, insert(alloc, 7)?, delete(7))?;
-    assert_eq!(rt; insert_first, Ok(1));
-    Ok(())
-}
-
-#[test]
-fn patches_of_one_row_conflict(rt: HostRuntime) -> Result<(), Fail> {
+fn changes_of_one_row_conflict(rt: HostRuntime) -> Result<(), Fail> {
     let alloc = rt.alloc();
     let mut primary = primary_with_rows(alloc, &[7, 8])?;
-    let first = patch(alloc, 7)?;
-    assert_eq!(rt; commit_one(alloc, &mut primary, 1, first)?, Ok(2));
-    let again = patch(alloc, 7)?;
+    let first = setting(alloc, &primary, 7)?;
+    let again = setting(alloc, &primary, 7)?;
+    let gone = deleting(alloc, &primary, 7)?;
+    let other = setting(alloc, &primary, 8)?;
+    assert_eq!(rt; answer(&mut primary, first), Ok(2));
     let conflict = Err(CommitFault::Conflict(2));
-    assert_eq!(rt; commit_one(alloc, &mut primary, 1, again)?, conflict);
-    let other = patch(alloc, 8)?;
-    assert_eq!(rt; commit_one(alloc, &mut primary, 1, other)?, Ok(3));
+    assert_eq!(rt; answer(&mut primary, again), conflict);
+    assert_eq!(rt; answer(&mut primary, other), Ok(3));
+    assert_eq!(rt; primary.flush(2)?, 3);
+    assert_eq!(rt; answer(&mut primary, gone), conflict);
     Ok(())
 }
 
-/// What an insert of these octets answers, in a transaction on a database without rows.
-fn insert_octets(alloc: Global, bytes: &[u8]) -> Result<Result<(), TxFault>, Fail> {
-    let octets = Octets::from_slice(bytes).ok_or("too many octets")?;
-    insert_pair(alloc, Value::Octets(octets))
-}
-
-/// What an insert of this value answers, in a transaction on a database without rows.
-fn insert_pair(alloc: Global, value: Value) -> Result<Result<(), TxFault>, Fail> {
-    let versions = Versions::new(alloc, &pairs(alloc)?)?;
-    let mut transaction = Transaction::begin(alloc, 0);
-    Ok(transaction.insert(&versions, 0, RowId(7), &[value]))
+/// Commits an insert of that row for the worker, or answers the refusal.
+fn commit_for(alloc: Global, primary: &mut PrimaryCore, worker: u8, row: u64) -> Result<u64, Fail>
+    requires { worker < primary.old.workers }
+    ensures { primary.new.workers ≡ primary.old.workers }
+{
+    let transaction = inserting(alloc, primary, &[row])?;
+    match primary.commit(transaction, worker) {
+        Ok(ticket) => Ok(ticket.number),
+        Err((_, fault)) => Err(fault.into()),
+    }
 }
 
 #[test]
-fn octets_have_the_width_of_their_column(rt: HostRuntime) -> Result<(), Fail> {
+fn each_worker_has_a_stream(rt: HostRuntime) -> Result<(), Fail> {
     let alloc = rt.alloc();
-    let unfit = Err(TxFault::Unfit);
-    assert_eq!(rt; insert_octets(alloc, &[1])?, unfit);
-    assert_eq!(rt; insert_octets(alloc, &[1, 2])?, Ok(()));
-    assert_eq!(rt; insert_octets(alloc, &[1, 2, 3])?, unfit);
-    assert_eq!(rt; insert_pair(alloc, Value::Int(1))?, unfit);
+    let mut primary = PrimaryCore::start(alloc, &schema(alloc)?, 2)?;
+    assert_eq!(rt; commit_for(alloc, &mut primary, 1, 7)?, 1);
+    assert_eq!(rt; commit_for(alloc, &mut primary, 0, 8)?, 2);
+    assert_eq!(rt; commit_for(alloc, &mut primary, 1, 9)?, 3);
+    assert_eq!(rt; commit_for(alloc, &mut primary, 1, 10)?, 4);
+    assert_eq!(rt; primary.flush(3)?, 3);
+    let packet = primary.push(1, 1).ok_or("no frame")?;
+    let names = [6, 14, 22].map(|place| packet.bytes().get(place).copied());
+    assert_eq!(rt; names, [Some(1), Some(1), Some(3)]);
+    assert!(rt; primary.push(1, 2).is_none());
+    assert!(rt; primary.push(0, 1).is_none());
+    let outs = primary.on_bytes(&ASK)?;
+    let head = outs.first().ok_or("no answer")?;
+    let counts = [31, 39, 47].map(|place| head.packet.bytes().get(place).copied());
+    assert_eq!(rt; counts, [Some(2), Some(1), Some(2)]);
     Ok(())
 }
 
@@ -428,6 +343,16 @@ fn a_journal_begins_with_its_header(rt: HostRuntime) -> Result<(), Fail> {
     let expected = [0x42, 0x44, 0x4a, 0x31, 0x01, 0x01, 0x01, 0x02];
     assert_eq!(rt; header.as_slice(), expected.as_slice());
     Ok(())
+}
+
+/// A delete of that row of table 0.
+fn delete(row: u64) -> Entry
+    ensures { HasSpelling result }
+{
+    Entry::Delete {
+        table: 0,
+        row: RowId(row),
+    }
 }
 
 /// Puts two bytes at offset 4 of row 8 of table 1.

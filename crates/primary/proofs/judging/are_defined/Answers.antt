@@ -1,6 +1,6 @@
 -- One entry that is not defined behind those before it decides.
 use Rattle.std.proofs.Common.{◌∷◌, ◌++◌, [], ap, ◌∙◌}
-use Rattle.primary.specs.History.{defined_at}
+use Rattle.mvcc.specs.History.{defined_at}
 use Rattle.primary.proofs.Definedness.{not_defined_at}
 use Rattle.primary.proofs.judging.are_defined.Goals as goal
 

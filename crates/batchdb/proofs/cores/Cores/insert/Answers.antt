@@ -1,6 +1,6 @@
 -- The transaction is taken out of its place, changed or not, and put back.
 use Rattle.std.proofs.Common.{◌≤◌, length, sym, ◌∙◌, arith, length-append}
-use Rattle.primary.specs.Draft.{Draft}
+use Rattle.mvcc.specs.Draft.{Draft}
 use Rattle.batchdb.proofs.Slots.{slot_at}
 use Rattle.batchdb.proofs.Moving.{insert_nothing, inserted, insert_refused}
 use Rattle.batchdb.proofs.cores.Cores.insert.Goals as goal

@@ -16,6 +16,8 @@ invariant_of-self c =
       within = omega (arith, length-drop inside.durable inside.versions.commits);
       numbered = kept.numbered;
       kept = kept.kept;
+      all_placed = kept.all_placed;
+      placed = kept.placed;
       text = moved_text inside.workers inside.versions.shape inside.versions.commits c.commits.result.now inside.durable c.min-moved.result inside.journal.items c.append.new.journal.items
           c.commits.ensures kept.within kept.text c.in-Ok.ensures.ok;
     }
