@@ -8,7 +8,7 @@ use Rattle.std.proofs.lemmas.List.{append_assoc, length-append}
 use Rattle.std.proofs.lemmas.Option.{none-some, same_Some, slice_get_within}
 use Rattle.rows.specs.declared.commit.Commit.{Commit}
 use Rattle.rows.specs.declared.value.Value.{Value}
-use Rattle.rows.specs.Shape.{Shape, AreTables}
+use Rattle.rows.specs.Shape.{Shape}
 use Rattle.rows.specs.Tables.{opening, changes_of}
 use Rattle.rows.specs.Commits.{commits_of, tables_after}
 use Rattle.rows.proofs.TableLaws.{still_defined, commits_of-push}
@@ -26,20 +26,18 @@ use Rattle.mvcc.specs.Draft.{Draft}
 use Rattle.primary.specs.Primary.{commit_answer, committed, is_foreign, last_writer, next_number}
 use Rattle.primary.specs.Sending.{answers, answers_to, head_for, counts_of}
 use Rattle.primary.specs.State.{Primary}
-use Rattle.mvcc.specs.Transactions.{insert_answer}
 use Rattle.dispatcher.specs.Replica.{Replica}
 use Rattle.dispatcher.proofs.Streams.{count-is, frame-commit}
 use Rattle.dispatcher.proofs.Versions.{tables-stay}
-use Rattle.batchdb.specs.Outputs.{packets_of}
+use Rattle.batchdb.specs.Outputs.{of_look, packets_of}
 use Rattle.batchdb.specs.Parts.{Parts}
-use Rattle.batchdb.specs.Steps.{IsValue, open_draft, inserting, insert_by, committing, commit_by, push_by, to_primary}
-use Rattle.batchdb.specs.World.{insert_happens, commit_happens, on_draft, push_happens}
+use Rattle.batchdb.specs.Steps.{changing, change_by, look_by, committing, commit_by, abort_by, push_by, to_primary}
+use Rattle.batchdb.specs.World.{open_draft, change_happens, commit_happens, abort_happens, on_draft, push_happens}
 use Rattle.batchdb.proofs.Lists.{get-set, get-append, get-one, All-get, All-left, All-append}
 use Rattle.batchdb.proofs.Sound.{Sound, IsSoundPrimary, IsSmall, IsSmallDraft, Means}
 use Rattle.batchdb.proofs.Datagrams.{frame-read, head-read}
 use Rattle.batchdb.specs.Standing.{world_of}
 use Rattle.batchdb.proofs.Moves.{Follows, legal-durable, Sound-drafts, Sound-sent, Sound-one, Sound-primary}
-use Rattle.batchdb.proofs.Changing.{insert-small}
 
 -- ---- transactions
 
@@ -56,14 +54,15 @@ drafts-begun shape p sound =
       | inl old ↦ sound.drafts_are i draft old
       | inr new ↦
           let same : draft ≡ fresh = same_Some draft fresh (get-one (Some fresh) new.0 (Some draft) new.1) in
-          subst IsSmallDraft (sym same) (record { few = omega arith; spelled = tt })
+          subst (IsSmallDraft (length p.primary.durable)) (sym same) (record { known = omega arith; few = omega arith; spelled = tt })
     ])
 
 -- one transaction changed
-drafts-changed : (shape : Shape) (p : Parts) (number : ℕ) (new : Draft) → Sound shape p → IsSmallDraft new → Sound shape (record p { transactions = slice_set p.transactions number (Some new) })
+drafts-changed : (shape : Shape) (p : Parts) (number : ℕ) (new : Draft) → Sound shape p → IsSmallDraft (length p.primary.durable) new
+    → Sound shape (record p { transactions = slice_set p.transactions number (Some new) })
 drafts-changed shape p number new sound small =
     Sound-drafts shape p (slice_set p.transactions number (Some new)) sound (λ i draft here. elim (get-set p.transactions number (Some new) i (Some draft) here) [
-      | inl same ↦ subst IsSmallDraft (sym (same_Some draft new same.1)) small
+      | inl same ↦ subst (IsSmallDraft (length p.primary.durable)) (sym (same_Some draft new same.1)) small
       | inr old ↦ sound.drafts_are i draft old
     ])
 
@@ -75,23 +74,37 @@ drafts-ended shape p number sound =
       | inr old ↦ sound.drafts_are i draft old
     ])
 
--- ---- inserts
+-- ---- changes, looks, and giving up
 
-inserts : (shape : Shape) (p : Parts) (number : ℕ) (answer : Result Draft TxFault) → Sound shape p → ((new : Draft) → answer ≡ Ok new → IsSmallDraft new)
-    → Follows shape (insert_happens (world_of p) number answer) (inserting p number answer)
-inserts shape p number (Ok new) sound small = (refl, drafts-changed shape p number new sound (small new refl))
-inserts shape p number (Err fault) sound small = (refl, sound)
+changed : (shape : Shape) (p : Parts) (number : ℕ) (answer : Result Draft TxFault) → Sound shape p → ((new : Draft) → answer ≡ Ok new → IsSmallDraft (length p.primary.durable) new)
+    → Follows shape (change_happens (world_of p) number answer) (changing p number answer)
+changed shape p number (Ok new) sound small = (refl, drafts-changed shape p number new sound (small new refl))
+changed shape p number (Err fault) sound small = (refl, sound)
 
-pub insert-follows : (shape : Shape) (p : Parts) (number table row : ℕ) (values : List Value) (found : Option Draft) → AreTables shape → Sound shape p → row < 2 ^ 64 → AllByRecursion IsValue values → open_draft p.transactions number ≡ found
-    → Follows shape
-    (on_draft (world_of p) found (λ draft. insert_happens (world_of p) number (insert_answer p.primary.shape (p.primary.durable ++ p.primary.pending) draft table row values)))
-    (insert_by p number table row values found)
-insert-follows shape p number table row values None tables sound below held here = (refl, sound)
-insert-follows shape p number table row values (Some draft) tables sound below held here =
-    let commits = p.primary.durable ++ p.primary.pending in
-    let small = sound.drafts_are number draft (opened (slice_get p.transactions number) draft here) in
-    inserts shape p number (insert_answer p.primary.shape commits draft table row values) sound
-    (λ new h. insert-small shape commits draft table row values new tables below held small (ap (λ (s : Shape). insert_answer s commits draft table row values) (sym sound.primary_is.shape_is) ∙ h))
+-- what a transaction's call answers in the world, where it is told what is durable, and what it answers to the program,
+-- which tells it all commits
+pub change-follows : (shape : Shape) (p : Parts) (number : ℕ) (there here : Draft → Result Draft TxFault) (found : Option Draft) → Sound shape p
+    → ((draft : Draft) → draft.snapshot ≤ length p.primary.durable → here draft ≡ there draft)
+    → ((draft new : Draft) → IsSmallDraft (length p.primary.durable) draft → there draft ≡ Ok new → IsSmallDraft (length p.primary.durable) new) → open_draft p.transactions number ≡ found
+    → Follows shape (on_draft (world_of p) found (λ draft. change_happens (world_of p) number (there draft))) (change_by p number here found)
+change-follows shape p number there here None sound same small at = (refl, sound)
+change-follows shape p number there here (Some draft) sound same small at =
+    let begun = sound.drafts_are number draft (opened (slice_get p.transactions number) draft at) in
+    subst (λ (answer : Result Draft TxFault). Follows shape (change_happens (world_of p) number (there draft)) (changing p number answer)) (sym (same draft begun.known))
+    (changed shape p number (there draft) sound (λ new h. small draft new begun h))
+
+pub look-follows : (shape : Shape) (p : Parts) (number : ℕ) (there here : Draft → Result Value TxFault) (found : Option Draft) → Sound shape p
+    → ((draft : Draft) → draft.snapshot ≤ length p.primary.durable → here draft ≡ there draft) → open_draft p.transactions number ≡ found
+    → Follows shape (on_draft (world_of p) found (λ draft. (of_look (there draft), world_of p))) (look_by here found, p)
+look-follows shape p number there here None sound same at = (refl, sound)
+look-follows shape p number there here (Some draft) sound same at =
+    let begun = sound.drafts_are number draft (opened (slice_get p.transactions number) draft at) in
+    subst (λ (answer : Result Value TxFault). Follows shape (of_look (there draft), world_of p) (of_look answer, p)) (sym (same draft begun.known)) (refl, sound)
+
+pub abort-follows : (shape : Shape) (p : Parts) (number : ℕ) (found : Option Draft) → Sound shape p
+    → Follows shape (on_draft (world_of p) found (λ draft. abort_happens (world_of p) number)) (abort_by p number found)
+abort-follows shape p number None sound = (refl, sound)
+abort-follows shape p number (Some draft) sound = (refl, drafts-ended shape p number sound)
 
 -- ---- commits
 
@@ -126,7 +139,7 @@ commit-taken p draft number h =
           numbered = ltb-true (next_number p) (2 ^ 64) t;
         }
 
-primary-committed : (shape : Shape) (p : Primary) (worker : ℕ) (draft : Draft) → IsSoundPrimary shape p → IsSmallDraft draft → worker < 1 → IsTaken p draft → IsSoundPrimary shape (committed p worker draft.entries)
+primary-committed : (shape : Shape) (p : Primary) (worker : ℕ) (draft : Draft) → IsSoundPrimary shape p → IsSmallDraft (length p.durable) draft → worker < 1 → IsTaken p draft → IsSoundPrimary shape (committed p worker draft.entries)
 primary-committed shape p worker draft sound small below taken =
     let commits = p.durable ++ p.pending in
     let commit : Commit = record { worker = worker; entries = draft.entries } in
@@ -144,7 +157,8 @@ primary-committed shape p worker draft sound small below taken =
       numbered = omega (arith, length-append p.pending (commit ∷ []));
     }
 
-commits : (shape : Shape) (p : Parts) (number worker : ℕ) (draft : Draft) (answer : Result ℕ CommitFault) → Sound shape p → IsSmallDraft draft → worker < 1 → commit_answer p.primary draft ≡ answer
+commits : (shape : Shape) (p : Parts) (number worker : ℕ) (draft : Draft) (answer : Result ℕ CommitFault) → Sound shape p → IsSmallDraft (length p.primary.durable) draft → worker < 1
+    → commit_answer p.primary draft ≡ answer
     → Follows shape (commit_happens (world_of p) number worker draft answer) (committing p number worker draft answer)
 commits shape p number worker draft (Ok ticket) sound small below h = (
   refl,

@@ -1,13 +1,13 @@
 -- Each step of a fresh world leaves one, and a report that it answers is that of the batch of the replica that ran.
-use Rattle.std.proofs.Common.{◌≡◌, ℕ, ◌+◌, ◌^◌, ◌<◌, ◌≤◌, Bool, true, false, cond, ◌==◌, List, [], ◌∷◌, length, ◌++◌, Option, Some, None, Result, Ok, Err, nat_le, refl, sym, ap, subst, ◌∙◌, inl, inr, arith}
+use Rattle.std.proofs.Common.{◌≡◌, ℕ, ◌+◌, ◌^◌, ◌<◌, ◌≤◌, Bool, true, false, cond, ◌==◌, List, [], ◌∷◌, length, Option, Some, None, Result, Ok, Err, nat_le, refl, sym, ap, subst, ◌∙◌, inl, inr, arith}
 use Rattle.std.specs.List.{slice_get, slice_set}
 use Rattle.std.proofs.lemmas.Option.{none-some, same_Some, slice_get_within}
 use Rattle.rows.specs.declared.limits.TheConstants.{REPLICAS_MAX, WAITING_QUERIES_MAX}
 use Rattle.wire.specs.Reading.{reading}
 use Rattle.wire.specs.Streams.{stream_of}
-use Rattle.mvcc.specs.Transactions.{insert_answer}
 use Rattle.dispatcher.specs.declared.plan.Plan.{Plan}
 use Rattle.dispatcher.specs.declared.plan.PlanFault.{PlanFault}
+use Rattle.mvcc.specs.Transactions.{insert_answer, set_answer, delete_answer, get_answer}
 use Rattle.dispatcher.specs.Known.{first_missing}
 use Rattle.dispatcher.specs.Plans.{checked}
 use Rattle.dispatcher.specs.Replica.{Fetched}
@@ -15,13 +15,12 @@ use Rattle.batchdb.specs.declared.event.Event.{Event}
 use Rattle.batchdb.specs.declared.event.Event.TheVariants as events
 use Rattle.batchdb.specs.declared.output.Output.{Output}
 use Rattle.batchdb.specs.declared.output.Output.TheVariants as outputs
-use Rattle.batchdb.specs.Steps.{open_draft}
-use Rattle.batchdb.specs.World.{World, Member, Batch, happens, with_member, send, on_member, open_happens, ask_happens, new_batch, ask_bytes, run_happens, lacks_frame, wait_happens, want_bytes, batch_report}
+use Rattle.batchdb.specs.World.{World, Member, Batch, open_draft, happens, with_member, send, on_member, open_happens, ask_happens, new_batch, ask_bytes, run_happens, lacks_frame, wait_happens, want_bytes, batch_report}
 use Rattle.batchdb.specs.Allowed.{RunIsCut, RunIsCutAt, MayHappen}
 use Rattle.batchdb.proofs.Lists.{get-set_same}
 use Rattle.batchdb.proofs.Datagrams.{ask-read, ask-kept}
 use Rattle.batchdb.proofs.Fresh.{IsFreshBatch, IsFreshReading, Fresh, Fresh-drafts, Fresh-sent, Follows, alike, Fresh-member}
-use Rattle.batchdb.proofs.Serving.{IsNoReport, Serves, quiet, insert-serves, commit-serves, flush-serves}
+use Rattle.batchdb.proofs.Serving.{IsNoReport, Serves, quiet, change-serves, look-serves, commit-serves, abort-serves, flush-serves}
 use Rattle.batchdb.proofs.FreshDatagrams.{send-serves, push-serves, deliver-serves, show-serves}
 
 -- ---- batches
@@ -148,8 +147,14 @@ cut-serves w event i (Some m) output new h here cut = elim cut.2 [
 happens-serves : (w : World) (event : Event) → Fresh w → Serves w event (happens w event)
 happens-serves w events.Begin h = quiet w events.Begin _ (Fresh-drafts w _ h) tt
 happens-serves w (events.Insert transaction table row values) h =
-    insert-serves w _ transaction (open_draft w.transactions transaction) (λ draft. insert_answer w.primary.shape (w.primary.durable ++ w.primary.pending) draft table row.0 values) h
+    change-serves w _ transaction (open_draft w.transactions transaction) (λ draft. insert_answer w.primary.shape w.primary.durable draft table row.0 values) h
+happens-serves w (events.Set transaction table row column value) h =
+    change-serves w _ transaction (open_draft w.transactions transaction) (λ draft. set_answer w.primary.shape w.primary.durable draft table row.0 column value) h
+happens-serves w (events.Delete transaction table row) h =
+    change-serves w _ transaction (open_draft w.transactions transaction) (λ draft. delete_answer w.primary.shape w.primary.durable draft table row.0) h
+happens-serves w (events.Get transaction table row column) h = look-serves w _ (open_draft w.transactions transaction) (λ draft. get_answer w.primary.shape w.primary.durable draft table row.0 column) h
 happens-serves w (events.Commit transaction worker) h = commit-serves w _ transaction worker (open_draft w.transactions transaction) h
+happens-serves w (events.Abort transaction) h = abort-serves w _ transaction (open_draft w.transactions transaction) h
 happens-serves w (events.Flush count) h = flush-serves w _ count w.primary.failed h
 happens-serves w (events.Push worker seq) h = push-serves w _ (slice_get (stream_of w.primary.durable worker) seq) h
 happens-serves w (events.Deliver place node) h = deliver-serves w _ place node (slice_get w.sent place) h refl
@@ -162,7 +167,11 @@ cut-event : (w : World) (event : Event) (output : Output) (new : World) → Fres
 cut-event w (events.Run replica) output new h cut = cut-serves w (events.Run replica) replica (slice_get w.members replica) output new h refl cut
 cut-event w events.Begin output new h cut = absurd cut
 cut-event w (events.Insert transaction table row values) output new h cut = absurd cut
+cut-event w (events.Set transaction table row column value) output new h cut = absurd cut
+cut-event w (events.Delete transaction table row) output new h cut = absurd cut
+cut-event w (events.Get transaction table row column) output new h cut = absurd cut
 cut-event w (events.Commit transaction worker) output new h cut = absurd cut
+cut-event w (events.Abort transaction) output new h cut = absurd cut
 cut-event w (events.Flush count) output new h cut = absurd cut
 cut-event w (events.Push worker seq) output new h cut = absurd cut
 cut-event w (events.Deliver place node) output new h cut = absurd cut

@@ -25,10 +25,10 @@ use Rattle.mvcc.specs.declared.faults.TxFault.TheVariants as changes
 use Rattle.primary.specs.declared.faults.CommitFault.{CommitFault}
 use Rattle.primary.specs.declared.faults.CommitFault.TheVariants as faults
 use Rattle.mvcc.specs.Draft.{Draft}
+use Rattle.mvcc.specs.Transactions.{insert_answer, set_answer, delete_answer, get_answer}
 use Rattle.primary.specs.Primary.{commit_answer, committed, flushed, is_foreign, last_writer, next_number}
 use Rattle.primary.specs.Sending.{pushed, answers}
 use Rattle.primary.specs.State.{Primary}
-use Rattle.mvcc.specs.Transactions.{insert_answer}
 use Rattle.dispatcher.specs.declared.plan.Plan.{Plan}
 use Rattle.dispatcher.specs.declared.plan.PlanFault.{PlanFault}
 use Rattle.dispatcher.specs.Known.{is_known, is_ahead, first_missing}
@@ -41,13 +41,12 @@ use Rattle.batchdb.specs.declared.event.Node.{Node}
 use Rattle.batchdb.specs.declared.event.Node.TheVariants as nodes
 use Rattle.batchdb.specs.declared.output.Output.{Output}
 use Rattle.batchdb.specs.declared.output.Output.TheVariants as outputs
-use Rattle.batchdb.specs.Outputs.{of_change, of_commit, of_answers}
-use Rattle.batchdb.specs.Steps.{open_draft}
+use Rattle.batchdb.specs.Outputs.{of_change, of_look, of_commit, of_answers}
 use Rattle.batchdb.specs.Theorem.{DurableOnlyGrows, IsFaultless, AllowedAreFaultless}
-use Rattle.batchdb.specs.World.{World, Member, Batch, happens, opening_world, with_member, send, on_draft, insert_happens, commit_happens, push_happens, head_happens, datagram_happens, on_member, member_output, deliver_happens, shown, open_happens, ask_happens, new_batch, ask_bytes, run_happens, lacks_frame, wait_happens, want_bytes, batch_report}
+use Rattle.batchdb.specs.World.{World, Member, Batch, open_draft, happens, opening_world, with_member, send, on_draft, change_happens, commit_happens, abort_happens, push_happens, head_happens, datagram_happens, on_member, member_output, deliver_happens, shown, open_happens, ask_happens, new_batch, ask_bytes, run_happens, lacks_frame, wait_happens, want_bytes, batch_report}
 use Rattle.batchdb.specs.Allowed.{RunIsCut, RunIsCutAt, MayHappen, Runs}
 use Rattle.batchdb.proofs.Lists.{get-set, get-append, get-one}
-use Rattle.batchdb.proofs.Defined.{insert-defined}
+use Rattle.batchdb.proofs.Defined.{IsDefined, insert-defined, set-defined, delete-defined}
 use Rattle.batchdb.proofs.Committing.{opened}
 
 -- a transaction that the primary began: its entries are defined on the rows at a version that is durable
@@ -116,32 +115,50 @@ change-faultless changes.Unfit = tt
 change-faultless changes.TooManyEntries = tt
 change-faultless changes.Memory = tt
 
-inserts : (w : World) (number : ℕ) (answer : Result Draft TxFault) → (IsHonest w → (new : Draft) → answer ≡ Ok new → IsBegun w.primary new) → IsFine w (insert_happens w number answer)
-inserts w number (Err fault) begun = plain w w (of_change fault) refl refl (change-faultless fault)
-inserts w number (Ok new) begun = record {
+look-faultless : (answer : Result Value TxFault) → IsFaultless (of_look answer)
+look-faultless (Ok value) = tt
+look-faultless (Err fault) = change-faultless fault
+
+-- a transaction that reads the same version, with entries that are defined there
+made-begun : (p : Primary) (draft new : Draft) → IsBegun p draft
+    → (is_ok (changes_of p.shape (tables_after p.shape p.durable draft.snapshot) draft.entries) ≡ true → IsDefined p.shape p.durable draft new) → IsBegun p new
+made-begun p draft new begun makes =
+    let made = makes begun.defined in
+    let known = begun.known in
+    let same = made.reads in
+    record {
+      known = omega arith;
+      defined = ap (λ (n : ℕ). is_ok (changes_of p.shape (tables_after p.shape p.durable n) new.entries)) same ∙ made.defined;
+    }
+
+changed : (w : World) (number : ℕ) (answer : Result Draft TxFault) → (IsHonest w → (new : Draft) → answer ≡ Ok new → IsBegun w.primary new) → IsFine w (change_happens w number answer)
+changed w number (Err fault) begun = plain w w (of_change fault) refl refl (change-faultless fault)
+changed w number (Ok new) begun = record {
   grows = ([], sym (append-nil w.primary.durable));
   output = λ honest. tt;
   honest = λ honest. record { whole = honest.whole; begun = set-begun w.primary w.transactions number new honest.begun (begun honest new refl) };
 }
 
-insert-begun : (p : Primary) (draft : Draft) (table row : ℕ) (values : List Value) (new : Draft) → IsBegun p draft → insert_answer p.shape (p.durable ++ p.pending) draft table row values ≡ Ok new → IsBegun p new
-insert-begun p draft table row values new begun h =
-    let commits = p.durable ++ p.pending in
-    let here = tables-stay p.shape p.durable p.pending draft.snapshot begun.known in
-    let made = insert-defined p.shape commits draft table row values new (ap (λ t. is_ok (changes_of p.shape t draft.entries)) here ∙ begun.defined) h in
-    let known = begun.known in
-    let same = made.0 in
-    record {
-      known = omega arith;
-      defined = ap (λ (n : ℕ). is_ok (changes_of p.shape (tables_after p.shape p.durable n) new.entries)) same ∙ ap (λ t. is_ok (changes_of p.shape t new.entries)) (sym here) ∙ made.1;
-    }
+change-fine : (w : World) (number : ℕ) (change : Draft → Result Draft TxFault) (found : Option Draft) → open_draft w.transactions number ≡ found
+    → ((draft new : Draft) → change draft ≡ Ok new → is_ok (changes_of w.primary.shape (tables_after w.primary.shape w.primary.durable draft.snapshot) draft.entries) ≡ true
+    → IsDefined w.primary.shape w.primary.durable draft new)
+    → IsFine w (on_draft w found (λ draft. change_happens w number (change draft)))
+change-fine w number change None here makes = plain w w outputs.NoTx refl refl tt
+change-fine w number change (Some draft) here makes =
+    changed w number (change draft) (λ honest new h.
+    made-begun w.primary draft new (honest.begun number draft (opened (slice_get w.transactions number) draft here)) (makes draft new h))
 
-insert-fine : (w : World) (number table row : ℕ) (values : List Value) (found : Option Draft) → open_draft w.transactions number ≡ found
-    → IsFine w (on_draft w found (λ draft. insert_happens w number (insert_answer w.primary.shape (w.primary.durable ++ w.primary.pending) draft table row values)))
-insert-fine w number table row values None here = plain w w outputs.NoTx refl refl tt
-insert-fine w number table row values (Some draft) here =
-    inserts w number (insert_answer w.primary.shape (w.primary.durable ++ w.primary.pending) draft table row values)
-    (λ honest new h. insert-begun w.primary draft table row values new (honest.begun number draft (opened (slice_get w.transactions number) draft here)) h)
+look-fine : (w : World) (look : Draft → Result Value TxFault) (found : Option Draft) → IsFine w (on_draft w found (λ draft. (of_look (look draft), w)))
+look-fine w look None = plain w w outputs.NoTx refl refl tt
+look-fine w look (Some draft) = plain w w (of_look (look draft)) refl refl (look-faultless (look draft))
+
+abort-fine : (w : World) (number : ℕ) (found : Option Draft) → IsFine w (on_draft w found (λ draft. abort_happens w number))
+abort-fine w number None = plain w w outputs.NoTx refl refl tt
+abort-fine w number (Some draft) = record {
+  grows = ([], sym (append-nil w.primary.durable));
+  output = λ honest. tt;
+  honest = λ honest. record { whole = honest.whole; begun = ended-begun w.primary w.transactions number honest.begun };
+}
 
 -- ---- commits
 
@@ -329,8 +346,18 @@ run-fine w (Some m) = by m.broken
 
 happens-fine : (w : World) (event : Event) → IsFine w (happens w event)
 happens-fine w events.Begin = begins w
-happens-fine w (events.Insert transaction table row values) = insert-fine w transaction table row.0 values (open_draft w.transactions transaction) refl
+happens-fine w (events.Insert transaction table row values) =
+    change-fine w transaction (λ draft. insert_answer w.primary.shape w.primary.durable draft table row.0 values) (open_draft w.transactions transaction) refl
+    (λ draft new h defined. insert-defined w.primary.shape w.primary.durable draft new defined table row.0 values h)
+happens-fine w (events.Set transaction table row column value) =
+    change-fine w transaction (λ draft. set_answer w.primary.shape w.primary.durable draft table row.0 column value) (open_draft w.transactions transaction) refl
+    (λ draft new h defined. set-defined w.primary.shape w.primary.durable draft new defined table row.0 column value h)
+happens-fine w (events.Delete transaction table row) =
+    change-fine w transaction (λ draft. delete_answer w.primary.shape w.primary.durable draft table row.0) (open_draft w.transactions transaction) refl
+    (λ draft new h defined. delete-defined w.primary.shape w.primary.durable draft new defined table row.0 h)
+happens-fine w (events.Get transaction table row column) = look-fine w (λ draft. get_answer w.primary.shape w.primary.durable draft table row.0 column) (open_draft w.transactions transaction)
 happens-fine w (events.Commit transaction worker) = commit-fine w transaction worker (open_draft w.transactions transaction) refl
+happens-fine w (events.Abort transaction) = abort-fine w transaction (open_draft w.transactions transaction)
 happens-fine w (events.Flush count) = flush-fine w count w.primary.failed refl
 happens-fine w (events.Push worker seq) = push-fine w (pushed w.primary worker seq)
 happens-fine w (events.Deliver place node) = deliver-fine w node (slice_get w.sent place)
@@ -350,7 +377,11 @@ cut-event : (w : World) (event : Event) (output : Output) (new : World) → RunI
 cut-event w (events.Run replica) output new cut = cut-fine w (slice_get w.members replica) output new cut
 cut-event w events.Begin output new cut = absurd cut
 cut-event w (events.Insert transaction table row values) output new cut = absurd cut
+cut-event w (events.Set transaction table row column value) output new cut = absurd cut
+cut-event w (events.Delete transaction table row) output new cut = absurd cut
+cut-event w (events.Get transaction table row column) output new cut = absurd cut
 cut-event w (events.Commit transaction worker) output new cut = absurd cut
+cut-event w (events.Abort transaction) output new cut = absurd cut
 cut-event w (events.Flush count) output new cut = absurd cut
 cut-event w (events.Push worker seq) output new cut = absurd cut
 cut-event w (events.Deliver place node) output new cut = absurd cut

@@ -6,8 +6,11 @@ pub mod Moves
 pub mod Replicas
 pub mod Querying
 pub mod Running
+pub mod Adding
+pub mod Placing
 pub mod Changing
 pub mod Committing
+pub mod Told
 pub mod Whole
 pub mod Defined
 pub mod Honest

@@ -142,7 +142,7 @@ Sound-one shape p bytes sound means =
 
 -- ---- transactions
 
-pub Sound-drafts : (shape : Shape) (p : Parts) (transactions : List (Option Draft)) → Sound shape p → ((i : ℕ) (draft : Draft) → slice_get transactions i ≡ Some (Some draft) → IsSmallDraft draft)
+pub Sound-drafts : (shape : Shape) (p : Parts) (transactions : List (Option Draft)) → Sound shape p → ((i : ℕ) (draft : Draft) → slice_get transactions i ≡ Some (Some draft) → IsSmallDraft (length p.primary.durable) draft)
     → Sound shape (record p { transactions = transactions })
 Sound-drafts shape p transactions sound are = record {
   primary_is = sound.primary_is;
@@ -171,6 +171,11 @@ fed-grows shape durable more i r fed = record { feeding = commits-feed shape dur
 means-grows : (durable more : List Commit) (replicas : List Replica) (datagram : Result Datagram WireFault) → Means durable replicas datagram → Means (durable ++ more) replicas datagram
 means-grows durable more replicas datagram h = record { tells = tells-stay durable more datagram h.tells; requests = h.requests }
 
+draft-stays : (durable more : List Commit) (draft : Draft) → IsSmallDraft (length durable) draft → IsSmallDraft (length (durable ++ more)) draft
+draft-stays durable more draft small =
+    let known = small.known in
+    record { known = omega (arith, length-append durable more); few = small.few; spelled = small.spelled }
+
 -- the first pending commits become durable
 pub Sound-flushed : (shape : Shape) (p : Parts) (count : ℕ) → Sound shape p → Sound shape (record p { primary = flushed p.primary count })
 Sound-flushed shape p count sound =
@@ -187,7 +192,7 @@ Sound-flushed shape p count sound =
         small = subst (AllByRecursion IsSmall) (sym whole) sound.primary_is.small;
         numbered = omega (arith, length-append {A = Commit}, ap length whole);
       };
-      drafts_are = sound.drafts_are;
+      drafts_are = λ i draft here. draft-stays durable (take count pending) draft (sound.drafts_are i draft here);
       asked_there = sound.asked_there;
       few = sound.few;
       fed = λ i r here. fed-grows shape durable (take count pending) i r (sound.fed i r here);

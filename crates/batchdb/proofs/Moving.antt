@@ -1,12 +1,10 @@
 -- What the calls of the cores answer and leave is what an event may.
-use Rattle.std.proofs.Common.{◌≡◌, ℕ, ◌++◌, ◌⊎◌, inl, inr, List, Option, None, Some, Result, Ok, Err, IsOk, slice_get, slice_set, ap, sym, subst, ◌∙◌}
+use Rattle.std.proofs.Common.{◌≡◌, ℕ, ◌⊎◌, inl, inr, List, Option, None, Some, Result, Ok, Err, IsOk, slice_get, slice_set, ap, sym, subst, ◌∙◌}
 use Rattle.std.proofs.lemmas.List.{set-set}
-use Rattle.rows.specs.declared.value.Value.{Value}
 use Rattle.rows.specs.declared.row_id.RowId.{RowId}
 use Rattle.mvcc.specs.declared.faults.TxFault.{TxFault}
 use Rattle.mvcc.specs.declared.faults.TxFault.TheVariants as changes
 use Rattle.mvcc.specs.Draft.{Draft}
-use Rattle.mvcc.specs.Transactions.{insert_answer}
 use Rattle.dispatcher.specs.declared.faults.AskFault.{AskFault}
 use Rattle.dispatcher.specs.declared.faults.OpenFault.{OpenFault}
 use Rattle.dispatcher.specs.declared.faults.OpenFault.TheVariants as opens
@@ -19,7 +17,8 @@ use Rattle.batchdb.specs.declared.output.Output.{Output}
 use Rattle.batchdb.specs.declared.output.Output.TheVariants as outputs
 use Rattle.batchdb.specs.Outputs.{of_change, of_open, of_ask}
 use Rattle.batchdb.specs.Parts.{Parts}
-use Rattle.batchdb.specs.Steps.{open_draft, inserting, insert_by, commit_by, with_replica, opening_query, open_by, asking, ask_by, MayStep}
+use Rattle.batchdb.specs.Steps.{looking, changing, change_by, look_by, commit_by, abort_by, with_replica, opening_query, open_by, asking, ask_by, stepped, MayStep}
+use Rattle.batchdb.specs.World.{open_draft}
 use Rattle.batchdb.proofs.Slots.{set_same, slot_same}
 
 -- what stood at a place is put back there
@@ -28,38 +27,50 @@ put_same : (p : Parts) (number : ℕ) (slot : Option Draft) (left : List (Option
 put_same p number slot left at is = ap (λ (slots : List (Option Draft)). record p { transactions = slots }) (sym (is ∙ slot_same p.transactions number slot at))
 
 module _ (p old : Parts) (seen : p ≡ old) (number : ℕ) where
-  module _ (table : ℕ) (row : RowId) (values : List Value) where
-    abbrev pub event : Event
-    event = events.Insert number table row values
-
-    abbrev pub answer : Draft → Result Draft TxFault
-    answer draft = insert_answer p.primary.shape (p.primary.durable ++ p.primary.pending) draft table row.0 values
-
+  -- a change of a transaction, which is taken out of its place, changed or not, and put back
+  module _ (event : Event) (change : Draft → Result Draft TxFault) (is_change : stepped p event ≡ change_by p number change (open_draft p.transactions number)) where
     by_slot : (slot : Option Draft) (output : Output) (new : Parts) → open_draft p.transactions number ≡ slot
-        → insert_by p number table row.0 values slot ≡ (output, new) → MayStep old event output new
-    by_slot slot output new at is = subst (λ x. MayStep x event output new) seen (inl (ap (insert_by p number table row.0 values) at ∙ is))
+        → change_by p number change slot ≡ (output, new) → MayStep old event output new
+    by_slot slot output new at is = subst (λ x. MayStep x event output new) seen (inl (is_change ∙ ap (change_by p number change) at ∙ is))
 
-    pub insert_nothing : (left : List (Option Draft)) → open_draft p.transactions number ≡ None → left ≡ slice_set p.transactions number None
+    pub change_nothing : (left : List (Option Draft)) → open_draft p.transactions number ≡ None → left ≡ slice_set p.transactions number None
         → MayStep old event outputs.NoTx (record p { transactions = left })
-    insert_nothing left at is = by_slot None _ _ at (ap (λ x. (outputs.NoTx, x)) (put_same p number None left at is))
+    change_nothing left at is = by_slot None _ _ at (ap (λ x. (outputs.NoTx, x)) (put_same p number None left at is))
 
-    pub inserted : (draft after : Draft) (left : List (Option Draft)) → open_draft p.transactions number ≡ Some draft
-        → left ≡ slice_set (slice_set p.transactions number None) number (Some after) → answer draft ≡ Ok after
+    pub changed : (draft after : Draft) (left : List (Option Draft)) → open_draft p.transactions number ≡ Some draft
+        → left ≡ slice_set (slice_set p.transactions number None) number (Some after) → change draft ≡ Ok after
         → MayStep old event outputs.Accepted (record p { transactions = left })
-    inserted draft after left at is ok =
+    changed draft after left at is ok =
         by_slot (Some draft) _ _ at
-        (ap (inserting p number) ok ∙ ap (λ (slots : List (Option Draft)). (outputs.Accepted, record p { transactions = slots })) (sym (is ∙ set-set p.transactions number None (Some after))))
+        (ap (changing p number) ok ∙ ap (λ (slots : List (Option Draft)). (outputs.Accepted, record p { transactions = slots })) (sym (is ∙ set-set p.transactions number None (Some after))))
 
-    pub insert_refused : (draft after : Draft) (fault : TxFault) (left : List (Option Draft)) → open_draft p.transactions number ≡ Some draft
+    pub change_refused : (draft after : Draft) (fault : TxFault) (left : List (Option Draft)) → open_draft p.transactions number ≡ Some draft
         → left ≡ slice_set (slice_set p.transactions number None) number (Some after) → after ≡ draft
-        → ((fault ≡ changes.Memory) × IsOk (answer draft)) ⊎ (answer draft ≡ Err fault)
+        → ((fault ≡ changes.Memory) × IsOk (change draft)) ⊎ (change draft ≡ Err fault)
         → MayStep old event (of_change fault) (record p { transactions = left })
-    insert_refused draft after fault left at is same refusal =
+    change_refused draft after fault left at is same refusal =
         let stays = put_same p number (Some draft) left at (is ∙ set-set p.transactions number None (Some after) ∙ ap (λ x. slice_set p.transactions number (Some x)) same) in
         elim refusal [
           | inl memory ↦ inr (inl (ap of_change memory.0, sym stays ∙ seen))
-          | inr refused ↦ by_slot (Some draft) _ _ at (ap (inserting p number) refused ∙ ap (λ x. (of_change fault, x)) stays)
+          | inr refused ↦ by_slot (Some draft) _ _ at (ap (changing p number) refused ∙ ap (λ x. (of_change fault, x)) stays)
         ]
+
+  -- a look at a column
+  pub looked : (table : ℕ) (row : RowId) (column : ℕ) (slot : Option Draft) → open_draft p.transactions number ≡ slot
+      → MayStep old (events.Get number table row column) (look_by (looking p.primary table row.0 column) slot) old
+  looked table row column slot at =
+      let look = looking p.primary table row.0 column in
+      subst (λ x. MayStep x (events.Get number table row column) (look_by look slot) x) seen (inl (ap (λ s. (look_by look s, p)) at))
+
+  -- a transaction is taken out of its place for good
+  pub gave_up : (slot : Option Draft) (left : List (Option Draft)) → open_draft p.transactions number ≡ slot → left ≡ slice_set p.transactions number None
+      → MayStep old (events.Abort number) (abort_by p number slot).0 (record p { transactions = left })
+  gave_up slot left at is =
+      subst (λ x. MayStep x (events.Abort number) (abort_by p number slot).0 (record p { transactions = left })) seen (inl (ap (abort_by p number) at ∙ by slot at))
+    where
+      by : (slot : Option Draft) → open_draft p.transactions number ≡ slot → abort_by p number slot ≡ ((abort_by p number slot).0, record p { transactions = left })
+      by None at = ap (λ x. (outputs.NoTx, x)) (put_same p number None left at is)
+      by (Some draft) at = ap (λ (slots : List (Option Draft)). (outputs.Accepted, record p { transactions = slots })) (sym is)
 
   pub commit_nothing : (worker : ℕ) (left : List (Option Draft)) → open_draft p.transactions number ≡ None → left ≡ slice_set p.transactions number None
       → MayStep old (events.Commit number worker) outputs.NoTx (record p { transactions = left })

@@ -2,12 +2,11 @@
 use Rattle.std.proofs.Common.{◌≡◌, ℕ, ◌+◌, ◌≤◌, inl, inr, Bool, true, false, cond, List, [], ◌∷◌, ◌++◌, length, take, Option, None, Some, Result, Ok, Err, IfSome, slice_get, slice_set, refl, ap, sym, subst, ◌∙◌, arith, length-append}
 use Rattle.std.specs.List.{AllByRecursion}
 use Rattle.std.proofs.lemmas.List.{length-set}
-use Rattle.rows.specs.declared.value.Value.{Value}
+use Rattle.rows.specs.declared.commit.Commit.{Commit}
 use Rattle.wire.specs.declared.out.Out.{Out}
 use Rattle.mvcc.specs.declared.faults.TxFault.{TxFault}
 use Rattle.primary.specs.declared.faults.CommitFault.{CommitFault}
 use Rattle.mvcc.specs.Draft.{Draft}
-use Rattle.mvcc.specs.Transactions.{insert_answer}
 use Rattle.primary.specs.Primary.{commit_answer, flushed}
 use Rattle.primary.specs.Sending.{pushed}
 use Rattle.dispatcher.specs.declared.plan.Plan.{Plan}
@@ -23,8 +22,10 @@ use Rattle.batchdb.specs.declared.event.Node.{Node}
 use Rattle.batchdb.specs.declared.event.Node.TheVariants as nodes
 use Rattle.batchdb.specs.declared.output.Output.{Output}
 use Rattle.batchdb.specs.Parts.{Parts, IsReady}
-use Rattle.batchdb.specs.Steps.{open_draft, inserting, insert_by, committing, commit_by, push_by, with_replica, to_replica, to_node, deliver_by, opening_query, open_by, asked_durable, asking, ask_by, run_output, run_by, stepped, RunIsCut, IsCutAt, MayStep}
+use Rattle.batchdb.specs.Steps.{inserting, setting, deleting, changing, change_by, committing, commit_by, abort_by, push_by, with_replica, to_replica, to_node, deliver_by, opening_query, open_by, asked_durable, asking, ask_by, run_output, run_by, stepped, RunIsCut, IsCutAt, MayStep}
+use Rattle.batchdb.specs.World.{open_draft}
 use Rattle.batchdb.proofs.Slots.{all_at, all_set, all_push, all_weaker, slot_at}
+use Rattle.batchdb.proofs.Adding.{reads_same, insert-added, set-added, delete-added}
 use Rattle.batchdb.proofs.Requests.{received_keeps, opened_keeps, asked_keeps, ran_keeps, cut_keeps}
 
 pub record Keeps (old new : Parts) : Type 0 where
@@ -159,20 +160,20 @@ module _ (p : Parts) (ready : IsReady p) where
   cut_run_keeps number (Some replica) output new at (answer, after, cut, is) =
       subst (Keeps p) (ap (λ x. x.1) is) (output_keeps number replica after answer at (cut_keeps replica answer after cut))
 
-  -- inserts, commits and flushes
+  -- changes, commits and flushes
 
-  inserting_keeps : (number table row : ℕ) (values : List Value) (draft : Draft) (answer : Result Draft TxFault) → open_draft p.transactions number ≡ Some draft
-      → insert_answer p.primary.shape (p.primary.durable ++ p.primary.pending) draft table row values ≡ answer → Keeps p (inserting p number answer).1
-  inserting_keeps number table row values draft (Ok after) there is =
+  changing_keeps : (number : ℕ) (draft : Draft) (answer : Result Draft TxFault) → open_draft p.transactions number ≡ Some draft
+      → ((after : Draft) → answer ≡ Ok after → after.snapshot ≡ draft.snapshot) → Keeps p (changing p number answer).1
+  changing_keeps number draft (Ok after) there reads =
       let within = slot_at _ p.transactions number draft there ready.snapshots in
-      let same : after.snapshot ≡ draft.snapshot = grind arith in
+      let same = reads after refl in
       set_keeps number (Some after) (omega arith)
-  inserting_keeps number table row values draft (Err fault) there is = keeps_self
+  changing_keeps number draft (Err fault) there reads = keeps_self
 
-  insert_keeps : (number table row : ℕ) (values : List Value) (slot : Option Draft) → open_draft p.transactions number ≡ slot
-      → Keeps p (insert_by p number table row values slot).1
-  insert_keeps number table row values None there = keeps_self
-  insert_keeps number table row values (Some draft) there = inserting_keeps number table row values draft _ there refl
+  change_keeps : (number : ℕ) (change : Draft → Result Draft TxFault) (slot : Option Draft) → open_draft p.transactions number ≡ slot
+      → ((draft after : Draft) → change draft ≡ Ok after → after.snapshot ≡ draft.snapshot) → Keeps p (change_by p number change slot).1
+  change_keeps number change None there reads = keeps_self
+  change_keeps number change (Some draft) there reads = changing_keeps number draft (change draft) there (reads draft)
 
   committing_keeps : (transaction worker : ℕ) (draft : Draft) (answer : Result ℕ CommitFault) → Keeps p (committing p transaction worker draft answer).1
   committing_keeps transaction worker draft (Ok number) =
@@ -187,6 +188,10 @@ module _ (p : Parts) (ready : IsReady p) where
   commit_keeps : (transaction worker : ℕ) (slot : Option Draft) → Keeps p (commit_by p transaction worker slot).1
   commit_keeps transaction worker None = keeps_self
   commit_keeps transaction worker (Some draft) = committing_keeps transaction worker draft (commit_answer p.primary draft)
+
+  abort_keeps : (transaction : ℕ) (slot : Option Draft) → Keeps p (abort_by p transaction slot).1
+  abort_keeps transaction None = keeps_self
+  abort_keeps transaction (Some draft) = set_keeps transaction None tt
 
   still_within : (count : ℕ) (slot : Option Draft) → IfSome slot (λ draft. draft.snapshot ≤ length p.primary.durable)
       → IfSome slot (λ draft. draft.snapshot ≤ length (flushed p.primary count).durable)
@@ -208,10 +213,20 @@ module _ (p : Parts) (ready : IsReady p) where
 
   -- every event
 
+  abbrev commits : List Commit
+  commits = p.primary.durable ++ p.primary.pending
+
   stepped_keeps : (event : Event) → Keeps p (stepped p event).1
   stepped_keeps events.Begin = begin_keeps
-  stepped_keeps (events.Insert transaction table row values) = insert_keeps transaction table row.0 values _ refl
+  stepped_keeps (events.Insert transaction table row values) =
+      change_keeps transaction (inserting p.primary table row.0 values) _ refl (λ draft after is. reads_same p.primary.shape commits draft _ after (insert-added p.primary.shape commits draft table row.0 after values is).1)
+  stepped_keeps (events.Set transaction table row column value) =
+      change_keeps transaction (setting p.primary table row.0 column value) _ refl (λ draft after is. reads_same p.primary.shape commits draft _ after (set-added p.primary.shape commits draft table row.0 after column value is).1)
+  stepped_keeps (events.Delete transaction table row) =
+      change_keeps transaction (deleting p.primary table row.0) _ refl (λ draft after is. reads_same p.primary.shape commits draft _ after (delete-added p.primary.shape commits draft table row.0 after is).1)
+  stepped_keeps (events.Get transaction table row column) = keeps_self
   stepped_keeps (events.Commit transaction worker) = commit_keeps transaction worker (open_draft p.transactions transaction)
+  stepped_keeps (events.Abort transaction) = abort_keeps transaction (open_draft p.transactions transaction)
   stepped_keeps (events.Flush count) = flush_keeps count p.primary.failed _ _
   stepped_keeps (events.Push worker seq) = push_keeps (pushed p.primary worker seq)
   stepped_keeps (events.Deliver place node) = deliver_keeps node (slice_get p.sent place)
@@ -223,7 +238,11 @@ module _ (p : Parts) (ready : IsReady p) where
   cut_at_keeps : (event : Event) (output : Output) (new : Parts) → IsCutAt p event output new → Keeps p new
   cut_at_keeps events.Begin output new cut = absurd cut
   cut_at_keeps (events.Insert transaction table row values) output new cut = absurd cut
+  cut_at_keeps (events.Set transaction table row column value) output new cut = absurd cut
+  cut_at_keeps (events.Delete transaction table row) output new cut = absurd cut
+  cut_at_keeps (events.Get transaction table row column) output new cut = absurd cut
   cut_at_keeps (events.Commit transaction worker) output new cut = absurd cut
+  cut_at_keeps (events.Abort transaction) output new cut = absurd cut
   cut_at_keeps (events.Flush count) output new cut = absurd cut
   cut_at_keeps (events.Push worker seq) output new cut = absurd cut
   cut_at_keeps (events.Deliver place node) output new cut = absurd cut

@@ -2,6 +2,7 @@
 use Rattle.std.proofs.Common.{◌≡◌, ℕ, Bool, true, false, cond, List, length, Option, Some, None, Result, Ok, Err, refl}
 use Rattle.std.specs.List.{slice_set}
 use Rattle.rows.specs.declared.commit.Commit.{Commit}
+use Rattle.rows.specs.declared.value.Value.{Value}
 use Rattle.mvcc.specs.declared.faults.TxFault.{TxFault}
 use Rattle.mvcc.specs.declared.faults.TxFault.TheVariants as changes
 use Rattle.primary.specs.declared.faults.CommitFault.{CommitFault}
@@ -11,9 +12,9 @@ use Rattle.primary.specs.Primary.{commit_answer, flushed}
 use Rattle.batchdb.specs.declared.event.Event.{Event}
 use Rattle.batchdb.specs.declared.output.Output.{Output}
 use Rattle.batchdb.specs.declared.output.Output.TheVariants as outputs
-use Rattle.batchdb.specs.Outputs.{of_change, of_commit}
+use Rattle.batchdb.specs.Outputs.{of_change, of_look, of_commit}
 use Rattle.batchdb.specs.Theorem.{ReportsItsBatch}
-use Rattle.batchdb.specs.World.{World, on_draft, insert_happens, commit_happens}
+use Rattle.batchdb.specs.World.{World, on_draft, change_happens, commit_happens, abort_happens}
 use Rattle.batchdb.proofs.Fresh.{Fresh, Fresh-drafts, Fresh-committed, Fresh-flushed}
 use Rattle.batchdb.proofs.Committing.{commit-taken}
 
@@ -43,13 +44,25 @@ change-silent changes.Unfit = tt
 change-silent changes.TooManyEntries = tt
 change-silent changes.Memory = tt
 
-pub insert-serves : (w : World) (event : Event) (number : ℕ) (found : Option Draft) (answer : Draft → Result Draft TxFault) → Fresh w → Serves w event (on_draft w found (λ draft. insert_happens w number (answer draft)))
-insert-serves w event number None answer h = quiet w event (outputs.NoTx, w) h tt
-insert-serves w event number (Some draft) answer h = by (answer draft)
+pub change-serves : (w : World) (event : Event) (number : ℕ) (found : Option Draft) (answer : Draft → Result Draft TxFault) → Fresh w → Serves w event (on_draft w found (λ draft. change_happens w number (answer draft)))
+change-serves w event number None answer h = quiet w event (outputs.NoTx, w) h tt
+change-serves w event number (Some draft) answer h = by (answer draft)
   where
-    by : (made : Result Draft TxFault) → Serves w event (insert_happens w number made)
+    by : (made : Result Draft TxFault) → Serves w event (change_happens w number made)
     by (Ok new) = quiet w event (outputs.Accepted, _) (Fresh-drafts w (slice_set w.transactions number (Some new)) h) tt
     by (Err fault) = quiet w event (of_change fault, w) h (change-silent fault)
+
+look-silent : (answer : Result Value TxFault) → IsNoReport (of_look answer)
+look-silent (Ok value) = tt
+look-silent (Err fault) = change-silent fault
+
+pub look-serves : (w : World) (event : Event) (found : Option Draft) (answer : Draft → Result Value TxFault) → Fresh w → Serves w event (on_draft w found (λ draft. (of_look (answer draft), w)))
+look-serves w event None answer h = quiet w event (outputs.NoTx, w) h tt
+look-serves w event (Some draft) answer h = quiet w event (of_look (answer draft), w) h (look-silent (answer draft))
+
+pub abort-serves : (w : World) (event : Event) (number : ℕ) (found : Option Draft) → Fresh w → Serves w event (on_draft w found (λ draft. abort_happens w number))
+abort-serves w event number None h = quiet w event (outputs.NoTx, w) h tt
+abort-serves w event number (Some draft) h = quiet w event (outputs.Accepted, _) (Fresh-drafts w (slice_set w.transactions number None) h) tt
 
 commit-silent : (fault : CommitFault) → IsNoReport (of_commit fault)
 commit-silent (faults.Conflict number) = tt

@@ -26,8 +26,9 @@ pub record IsSmall (commit : Commit) : Type 0 where
   pub few : length commit.entries ≤ TRANSACTION_ENTRIES_MAX
   pub spelled : AllByRecursion HasSpelling commit.entries
 
--- the same of a transaction, which may have no entries yet
-pub record IsSmallDraft (draft : Draft) : Type 0 where
+-- the same of a transaction, which may have no entries yet, and reads a version that is durable
+pub record IsSmallDraft (durable : ℕ) (draft : Draft) : Type 0 where
+  pub known : draft.snapshot ≤ durable
   pub few : length draft.entries ≤ TRANSACTION_ENTRIES_MAX
   pub spelled : AllByRecursion HasSpelling draft.entries
 
@@ -73,7 +74,7 @@ pub record Means (durable : List Commit) (replicas : List Replica) (datagram : R
 
 pub record Sound (shape : Shape) (p : Parts) : Type 0 where
   pub primary_is : IsSoundPrimary shape p.primary
-  pub drafts_are : (i : ℕ) (draft : Draft) → slice_get p.transactions i ≡ Some (Some draft) → IsSmallDraft draft
+  pub drafts_are : (i : ℕ) (draft : Draft) → slice_get p.transactions i ≡ Some (Some draft) → IsSmallDraft (length p.primary.durable) draft
   pub asked_there : length p.asked_at ≡ length p.replicas
   pub few : length p.replicas ≤ REPLICAS_MAX
   pub fed : (i : ℕ) (r : Replica) → slice_get p.replicas i ≡ Some r → IsFed shape p.primary.durable i r

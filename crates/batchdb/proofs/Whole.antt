@@ -12,6 +12,8 @@ use Rattle.dispatcher.specs.Replica.{Replica}
 use Rattle.dispatcher.specs.Steps.{started}
 use Rattle.dispatcher.specs.Feeding.{IsFedFrom}
 use Rattle.dispatcher.proofs.Feeding.{fresh-fed}
+use Rattle.mvcc.specs.Draft.{Draft}
+use Rattle.mvcc.specs.Transactions.{insert_answer, set_answer, delete_answer, get_answer}
 use Rattle.batchdb.specs.declared.event.Event.{Event}
 use Rattle.batchdb.specs.declared.event.Event.TheVariants as events
 use Rattle.batchdb.specs.declared.event.Node.{Node}
@@ -19,9 +21,9 @@ use Rattle.batchdb.specs.declared.event.Node.TheVariants as nodes
 use Rattle.batchdb.specs.declared.output.Output.{Output}
 use Rattle.batchdb.specs.declared.output.Output.TheVariants as outputs
 use Rattle.batchdb.specs.Parts.{Parts, parts_started, replicas_from, zeros}
-use Rattle.batchdb.specs.Steps.{stepped, to_node, deliver_by, show_by, open_draft, MayStep, IsCutAt, Steps, IsPossible}
+use Rattle.batchdb.specs.Steps.{stepped, to_node, deliver_by, show_by, inserting, setting, deleting, looking, MayStep, IsCutAt, Steps, IsPossible}
 use Rattle.batchdb.specs.Theorem.{StepsAreAllowed, StepsStand}
-use Rattle.batchdb.specs.World.{World, Member, happens, on_member, delivered, deliver_happens, shown}
+use Rattle.batchdb.specs.World.{World, Member, open_draft, happens, on_member, delivered, deliver_happens, shown}
 use Rattle.batchdb.specs.Allowed.{MayHappen, Runs, Allowed}
 use Rattle.batchdb.proofs.Sound.{Sound, IsFed, Means}
 use Rattle.batchdb.specs.Standing.{world_of, member_of, members_of, AreFed, Stands, CoresStand}
@@ -30,7 +32,9 @@ use Rattle.batchdb.proofs.Moves.{Follows, Sound-flushed}
 use Rattle.batchdb.proofs.Replicas.{bytes-come}
 use Rattle.batchdb.proofs.Querying.{query-opens, version-asked}
 use Rattle.batchdb.proofs.Running.{batch-run, run-cut, Cuts}
-use Rattle.batchdb.proofs.Committing.{drafts-begun, insert-follows, commit-follows, push-follows, primary-answers}
+use Rattle.batchdb.proofs.Committing.{drafts-begun, change-follows, look-follows, commit-follows, abort-follows, push-follows, primary-answers}
+use Rattle.batchdb.proofs.Changing.{insert-small, set-small, delete-small}
+use Rattle.batchdb.proofs.Told.{insert-told, set-told, delete-told, get-told}
 
 -- ---- one step
 
@@ -60,11 +64,33 @@ show-same : (found : Option (List ℕ)) → shown found ≡ show_by found
 show-same None = refl
 show-same (Some bytes) = refl
 
+-- the primary's tables are those of the shape
+own-tables : (shape : Shape) (p : Parts) → AreTables shape → Sound shape p → AreTables p.primary.shape
+own-tables shape p tables sound = subst AreTables (sym sound.primary_is.shape_is) tables
+
 step-follows : (shape : Shape) (p : Parts) (replicas : ℕ) (event : Event) → AreTables shape → Sound shape p → IsPossible 1 replicas event → Follows shape (happens (world_of p) event) (stepped p event)
 step-follows shape p replicas events.Begin tables sound possible = (refl, drafts-begun shape p sound)
 step-follows shape p replicas (events.Insert transaction table row values) tables sound possible =
-    insert-follows shape p transaction table row.0 values (open_draft p.transactions transaction) tables sound possible.0 possible.1 refl
+    let primary = p.primary in
+    change-follows shape p transaction (λ draft. insert_answer primary.shape primary.durable draft table row.0 values) (inserting primary table row.0 values) (open_draft p.transactions transaction) sound
+    (λ draft known. insert-told primary.shape primary.durable primary.pending draft table row.0 known values)
+    (λ draft new small h. insert-small primary.shape primary.durable draft table row.0 new (own-tables shape p tables sound) possible.0 small values possible.1 h) refl
+step-follows shape p replicas (events.Set transaction table row column value) tables sound possible =
+    let primary = p.primary in
+    change-follows shape p transaction (λ draft. set_answer primary.shape primary.durable draft table row.0 column value) (setting primary table row.0 column value) (open_draft p.transactions transaction) sound
+    (λ draft known. set-told primary.shape primary.durable primary.pending draft table row.0 known column value)
+    (λ draft new small h. set-small primary.shape primary.durable draft table row.0 new (own-tables shape p tables sound) possible.0 small column value possible.1 h) refl
+step-follows shape p replicas (events.Delete transaction table row) tables sound possible =
+    let primary = p.primary in
+    change-follows shape p transaction (λ draft. delete_answer primary.shape primary.durable draft table row.0) (deleting primary table row.0) (open_draft p.transactions transaction) sound
+    (λ draft known. delete-told primary.shape primary.durable primary.pending draft table row.0 known)
+    (λ draft new small h. delete-small primary.shape primary.durable draft table row.0 new (own-tables shape p tables sound) possible small h) refl
+step-follows shape p replicas (events.Get transaction table row column) tables sound possible =
+    let primary = p.primary in
+    look-follows shape p transaction (λ draft. get_answer primary.shape primary.durable draft table row.0 column) (looking primary table row.0 column) (open_draft p.transactions transaction) sound
+    (λ draft known. get-told primary.shape primary.durable primary.pending draft table row.0 known column) refl
 step-follows shape p replicas (events.Commit transaction worker) tables sound possible = commit-follows shape p transaction worker (open_draft p.transactions transaction) sound possible refl
+step-follows shape p replicas (events.Abort transaction) tables sound possible = abort-follows shape p transaction (open_draft p.transactions transaction) sound
 step-follows shape p replicas (events.Flush count) tables sound possible = flush-follows shape p count p.primary.failed sound
 step-follows shape p replicas (events.Push worker seq) tables sound possible = push-follows shape p worker seq (slice_get (stream_of p.primary.durable worker) seq) sound possible refl
 step-follows shape p replicas (events.Deliver place node) tables sound possible = deliver-follows shape p place node (slice_get p.sent place) sound refl
@@ -90,7 +116,11 @@ cut-follows shape p (events.Run replica) output new sound cut =
     (cut-member p replica output (world_of new) follows.0, follows.1)
 cut-follows shape p events.Begin output new sound cut = absurd cut
 cut-follows shape p (events.Insert transaction table row values) output new sound cut = absurd cut
+cut-follows shape p (events.Set transaction table row column value) output new sound cut = absurd cut
+cut-follows shape p (events.Delete transaction table row) output new sound cut = absurd cut
+cut-follows shape p (events.Get transaction table row column) output new sound cut = absurd cut
 cut-follows shape p (events.Commit transaction worker) output new sound cut = absurd cut
+cut-follows shape p (events.Abort transaction) output new sound cut = absurd cut
 cut-follows shape p (events.Flush count) output new sound cut = absurd cut
 cut-follows shape p (events.Push worker seq) output new sound cut = absurd cut
 cut-follows shape p (events.Deliver place node) output new sound cut = absurd cut

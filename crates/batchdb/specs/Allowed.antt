@@ -33,7 +33,11 @@ abbrev pub RunIsCutAt : World → Event → Output → World → Type 0
 RunIsCutAt old (events.Run replica) output new = RunIsCut old (slice_get old.members replica) output new
 RunIsCutAt old events.Begin output new = ⊥
 RunIsCutAt old (events.Insert transaction table row values) output new = ⊥
+RunIsCutAt old (events.Set transaction table row column value) output new = ⊥
+RunIsCutAt old (events.Delete transaction table row) output new = ⊥
+RunIsCutAt old (events.Get transaction table row column) output new = ⊥
 RunIsCutAt old (events.Commit transaction worker) output new = ⊥
+RunIsCutAt old (events.Abort transaction) output new = ⊥
 RunIsCutAt old (events.Flush count) output new = ⊥
 RunIsCutAt old (events.Push worker seq) output new = ⊥
 RunIsCutAt old (events.Deliver place node) output new = ⊥

@@ -1,9 +1,9 @@
 pub mod Outputs
-pub mod Parts
-pub mod Steps
 pub mod World
 pub mod Allowed
-pub mod Standing
 pub mod Worked
+pub mod Parts
+pub mod Steps
+pub mod Standing
 pub mod Theorem
 pub mod Script

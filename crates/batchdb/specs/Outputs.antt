@@ -1,5 +1,6 @@
 -- What an event answers, from what the primary and the replicas answer.
-use Rattle.std.specs.Prelude.{ℕ, ◌+◌, List, [], ◌∷◌, length}
+use Rattle.std.specs.Prelude.{ℕ, ◌+◌, List, [], ◌∷◌, length, Result, Ok, Err}
+use Rattle.rows.specs.declared.value.Value.{Value}
 use Rattle.mvcc.specs.declared.faults.TxFault.{TxFault}
 use Rattle.mvcc.specs.declared.faults.TxFault.TheVariants as changes
 use Rattle.primary.specs.declared.faults.CommitFault.{CommitFault}
@@ -15,13 +16,18 @@ use Rattle.batchdb.specs.declared.sent.Sent.{Sent}
 use Rattle.batchdb.specs.declared.output.Output.{Output}
 use Rattle.batchdb.specs.declared.output.Output.TheVariants as outputs
 
--- a refused change of a transaction
+-- a refused call of a transaction
 abbrev pub of_change : TxFault → Output
 of_change changes.Exists = outputs.Exists
 of_change changes.Missing = outputs.Missing
 of_change changes.Unfit = outputs.Unfit
 of_change changes.TooManyEntries = outputs.TooManyEntries
 of_change changes.Memory = outputs.Memory
+
+-- a look at a column
+abbrev pub of_look : Result Value TxFault → Output
+of_look (Ok value) = outputs.Value value
+of_look (Err fault) = of_change fault
 
 -- a refused commit
 abbrev pub of_commit : CommitFault → Output

@@ -1,17 +1,17 @@
 -- One step of the parts: each event is one call on a core, and this is what it answers and leaves.
 use Rattle.std.specs.Prelude.{◌≡◌, ℕ, ◌^◌, ◌<◌, List, [], ◌∷◌, ◌++◌, length, Option, None, Some, Result, Ok, Err, slice_get, slice_set, ◌⊎◌, if◌then◌else◌}
 use Rattle.std.specs.List.{AllByRecursion}
-use Rattle.std.specs.Option.{option_and_then}
 use Rattle.rows.specs.declared.value.Value.{Value}
 use Rattle.rows.specs.declared.value.Value.TheVariants as values
 use Rattle.rows.specs.Spelling.{AreBytes}
 use Rattle.wire.specs.declared.out.Out.{Out}
 use Rattle.mvcc.specs.declared.faults.TxFault.{TxFault}
-use Rattle.primary.specs.declared.faults.CommitFault.{CommitFault}
 use Rattle.mvcc.specs.Draft.{Draft}
-use Rattle.mvcc.specs.Transactions.{insert_answer}
+use Rattle.mvcc.specs.Transactions.{insert_answer, set_answer, delete_answer, get_answer}
+use Rattle.primary.specs.declared.faults.CommitFault.{CommitFault}
 use Rattle.primary.specs.Primary.{commit_answer, committed, flushed}
 use Rattle.primary.specs.Sending.{pushed, answers}
+use Rattle.primary.specs.State.{Primary}
 use Rattle.dispatcher.specs.declared.plan.Plan.{Plan}
 use Rattle.dispatcher.specs.declared.faults.OpenFault.{OpenFault}
 use Rattle.dispatcher.specs.declared.faults.AskFault.{AskFault}
@@ -26,12 +26,9 @@ use Rattle.batchdb.specs.declared.event.Node.{Node}
 use Rattle.batchdb.specs.declared.event.Node.TheVariants as nodes
 use Rattle.batchdb.specs.declared.output.Output.{Output}
 use Rattle.batchdb.specs.declared.output.Output.TheVariants as outputs
-use Rattle.batchdb.specs.Outputs.{of_change, of_commit, of_open, of_ask, of_got, of_answers, packets_of}
+use Rattle.batchdb.specs.Outputs.{of_change, of_look, of_commit, of_open, of_ask, of_got, of_answers, packets_of}
 use Rattle.batchdb.specs.Parts.{Parts}
-
--- the open transaction of this number, where there is one
-abbrev pub open_draft : List (Option Draft) → ℕ → Option Draft
-open_draft transactions number = option_and_then (λ slot. slot) (slice_get transactions number)
+use Rattle.batchdb.specs.World.{open_draft}
 
 -- one more datagram is sent
 abbrev pub with_sent : Parts → List ℕ → Parts
@@ -40,16 +37,34 @@ with_sent p bytes = record p { sent = p.sent ++ bytes ∷ [] }
 abbrev pub sent_one : Parts → List ℕ → Output
 sent_one p bytes = outputs.Sent (record { place = length p.sent; len = length bytes } ∷ [])
 
-abbrev pub inserting : Parts → ℕ → Result Draft TxFault → Output × Parts
-inserting p number (Ok draft) = (outputs.Accepted, record p { transactions = slice_set p.transactions number (Some draft) })
-inserting p number (Err fault) = (of_change fault, p)
+-- what a transaction's call answers: it is told all commits, durable or pending, and reads those up to its snapshot
+abbrev pub inserting : Primary → ℕ → ℕ → List Value → Draft → Result Draft TxFault
+inserting primary table row values draft = insert_answer primary.shape (primary.durable ++ primary.pending) draft table row values
 
-abbrev pub insert_by : Parts → ℕ → ℕ → ℕ → List Value → Option Draft → Output × Parts
-insert_by p number table row values None = (outputs.NoTx, p)
-insert_by p number table row values (Some draft) =
-    inserting p number (insert_answer p.primary.shape (p.primary.durable ++ p.primary.pending) draft table row values)
+abbrev pub setting : Primary → ℕ → ℕ → ℕ → Value → Draft → Result Draft TxFault
+setting primary table row column value draft = set_answer primary.shape (primary.durable ++ primary.pending) draft table row column value
 
--- a transaction is open until its commit is answered
+abbrev pub deleting : Primary → ℕ → ℕ → Draft → Result Draft TxFault
+deleting primary table row draft = delete_answer primary.shape (primary.durable ++ primary.pending) draft table row
+
+abbrev pub looking : Primary → ℕ → ℕ → ℕ → Draft → Result Value TxFault
+looking primary table row column draft = get_answer primary.shape (primary.durable ++ primary.pending) draft table row column
+
+-- a change that is taken stands in the transaction, and a refused one leaves it
+abbrev pub changing : Parts → ℕ → Result Draft TxFault → Output × Parts
+changing p number (Ok draft) = (outputs.Accepted, record p { transactions = slice_set p.transactions number (Some draft) })
+changing p number (Err fault) = (of_change fault, p)
+
+abbrev pub change_by : Parts → ℕ → (Draft → Result Draft TxFault) → Option Draft → Output × Parts
+change_by p number change None = (outputs.NoTx, p)
+change_by p number change (Some draft) = changing p number (change draft)
+
+-- a look changes nothing
+abbrev pub look_by : (Draft → Result Value TxFault) → Option Draft → Output
+look_by look None = outputs.NoTx
+look_by look (Some draft) = of_look (look draft)
+
+-- a transaction is open until its commit is answered, or it is given up
 abbrev pub committing : Parts → ℕ → ℕ → Draft → Result ℕ CommitFault → Output × Parts
 committing p transaction worker draft (Ok number) =
     (outputs.Ticket number, record p { primary = committed p.primary worker draft.entries; transactions = slice_set p.transactions transaction None })
@@ -58,6 +73,10 @@ committing p transaction worker draft (Err fault) = (of_commit fault, record p {
 abbrev pub commit_by : Parts → ℕ → ℕ → Option Draft → Output × Parts
 commit_by p transaction worker None = (outputs.NoTx, p)
 commit_by p transaction worker (Some draft) = committing p transaction worker draft (commit_answer p.primary draft)
+
+abbrev pub abort_by : Parts → ℕ → Option Draft → Output × Parts
+abort_by p transaction None = (outputs.NoTx, p)
+abort_by p transaction (Some draft) = (outputs.Accepted, record p { transactions = slice_set p.transactions transaction None })
 
 abbrev pub push_by : Parts → Option (List ℕ) → Output × Parts
 push_by p None = (outputs.NoFrame, p)
@@ -139,8 +158,16 @@ stepped p events.Begin = (
   outputs.Tx (length p.transactions) (length p.primary.durable),
   record p { transactions = p.transactions ++ Some (record { snapshot = length p.primary.durable; entries = [] }) ∷ [] },
 )
-stepped p (events.Insert transaction table row values) = insert_by p transaction table row.0 values (open_draft p.transactions transaction)
+stepped p (events.Insert transaction table row values) =
+    change_by p transaction (inserting p.primary table row.0 values) (open_draft p.transactions transaction)
+stepped p (events.Set transaction table row column value) =
+    change_by p transaction (setting p.primary table row.0 column value) (open_draft p.transactions transaction)
+stepped p (events.Delete transaction table row) =
+    change_by p transaction (deleting p.primary table row.0) (open_draft p.transactions transaction)
+stepped p (events.Get transaction table row column) =
+    (look_by (looking p.primary table row.0 column) (open_draft p.transactions transaction), p)
 stepped p (events.Commit transaction worker) = commit_by p transaction worker (open_draft p.transactions transaction)
+stepped p (events.Abort transaction) = abort_by p transaction (open_draft p.transactions transaction)
 stepped p (events.Flush count) =
     if p.primary.failed then (outputs.Failed, p) else
     (outputs.Durable (length (flushed p.primary count).durable), record p { primary = flushed p.primary count })
@@ -161,7 +188,11 @@ abbrev pub IsCutAt : Parts → Event → Output → Parts → Type 0
 IsCutAt old (events.Run replica) output new = RunIsCut old replica (slice_get old.replicas replica) output new
 IsCutAt old events.Begin output new = ⊥
 IsCutAt old (events.Insert transaction table row values) output new = ⊥
+IsCutAt old (events.Set transaction table row column value) output new = ⊥
+IsCutAt old (events.Delete transaction table row) output new = ⊥
+IsCutAt old (events.Get transaction table row column) output new = ⊥
 IsCutAt old (events.Commit transaction worker) output new = ⊥
+IsCutAt old (events.Abort transaction) output new = ⊥
 IsCutAt old (events.Flush count) output new = ⊥
 IsCutAt old (events.Push worker seq) output new = ⊥
 IsCutAt old (events.Deliver place node) output new = ⊥
@@ -192,12 +223,16 @@ abbrev pub IsValue : Value → Type 0
 IsValue (values.Int number) = Unit {0}
 IsValue (values.Octets bytes) = AreBytes bytes
 
--- an event that may be asked for: the workers and replicas that it names are there, a row's identifier has 64 bits, and
--- its values can be held
+-- an event that may be asked for: the workers and replicas that it names are there, the identifier of a row that it
+-- changes has 64 bits, and its values can be held
 abbrev pub IsPossible : ℕ → ℕ → Event → Type 0
 IsPossible workers replicas events.Begin = Unit {0}
 IsPossible workers replicas (events.Insert transaction table row values) = (row.0 < 2 ^ 64) × AllByRecursion IsValue values
+IsPossible workers replicas (events.Set transaction table row column value) = (row.0 < 2 ^ 64) × IsValue value
+IsPossible workers replicas (events.Delete transaction table row) = row.0 < 2 ^ 64
+IsPossible workers replicas (events.Get transaction table row column) = Unit {0}
 IsPossible workers replicas (events.Commit transaction worker) = worker < workers
+IsPossible workers replicas (events.Abort transaction) = Unit {0}
 IsPossible workers replicas (events.Flush count) = Unit {0}
 IsPossible workers replicas (events.Push worker seq) = worker < workers
 IsPossible workers replicas (events.Deliver place node) = IsThere replicas node

@@ -1,10 +1,12 @@
--- Two scripts as events, with what they are to answer: `examples/first-commit.script` and `examples/lost-frame.script`.
--- One worker, one replica, and one table of two `int` columns.
+-- Events with what they are to answer: three scripts, `examples/first-commit.script`, `examples/lost-frame.script` and
+-- `examples/conflict.script`; write skew; and each refusal of a transaction's calls. One worker, one replica, and one table
+-- of two `int` columns.
 use Rattle.std.specs.Prelude.{ℕ, ◌∷◌, [], List, pos, negsuc, codes, ◌++◌}
 use Rattle.rows.specs.declared.kind.Kind.TheVariants.{Int as IntKind}
+use Rattle.rows.specs.declared.row_id.RowId.{RowId}
 use Rattle.rows.specs.declared.value.Value.TheVariants.{Int}
 use Rattle.batchdb.specs.declared.event.Event.{Event}
-use Rattle.batchdb.specs.declared.event.Event.TheVariants.{Begin, Insert, Commit, Flush, Push, Deliver, Show, Open, Ask, Run}
+use Rattle.batchdb.specs.declared.event.Event.TheVariants.{Begin, Insert, Set, Delete, Get, Commit, Abort, Flush, Push, Deliver, Show, Open, Ask, Run}
 use Rattle.batchdb.specs.declared.event.Node.TheVariants.{Primary, Replica}
 use Rattle.batchdb.specs.declared.output.Output.{Output}
 use Rattle.batchdb.specs.declared.output.Output.TheVariants as outputs
@@ -56,3 +58,59 @@ abbrev pub lost_frame_outputs : List Output
 lost_frame_outputs =
     commit_and_push_outputs ++ open_and_fetch_outputs
     ++ outputs.Waiting 0 0 (record { place = 3; len = 16 }) ∷ outputs.Stored ∷ outputs.Report report ∷ []
+
+abbrev pub account : RowId
+account = record { 0 = 7 }
+
+-- two clerks change one account, and the first committer wins; the other one begins anew, and a third one gives up
+abbrev pub conflict : List Event
+conflict =
+    Begin ∷ Insert 0 0 account (Int (pos 100) ∷ Int (pos 50) ∷ []) ∷ Commit 0 0 ∷ Flush 1
+    ∷ Begin ∷ Begin ∷ Get 1 0 account 0 ∷ Get 2 0 account 0 ∷ Set 1 0 account 0 (Int (pos 120)) ∷ Set 2 0 account 0 (Int (pos 130))
+    ∷ Get 1 0 account 0 ∷ Get 2 0 account 0 ∷ Commit 1 0 ∷ Commit 2 0 ∷ Get 2 0 account 0
+    ∷ Flush 1 ∷ Begin ∷ Get 3 0 account 0 ∷ Set 3 0 account 0 (Int (pos 150)) ∷ Commit 3 0 ∷ Flush 1
+    ∷ Begin ∷ Get 4 0 account 0 ∷ Set 4 0 account 1 (Int (pos 0)) ∷ Abort 4 ∷ Commit 4 0 ∷ []
+
+abbrev pub conflict_outputs : List Output
+conflict_outputs =
+    outputs.Tx 0 0 ∷ outputs.Accepted ∷ outputs.Ticket 1 ∷ outputs.Durable 1
+    ∷ outputs.Tx 1 1 ∷ outputs.Tx 2 1 ∷ outputs.Value (Int (pos 100)) ∷ outputs.Value (Int (pos 100)) ∷ outputs.Accepted ∷ outputs.Accepted
+    ∷ outputs.Value (Int (pos 120)) ∷ outputs.Value (Int (pos 130)) ∷ outputs.Ticket 2 ∷ outputs.Conflict 2 ∷ outputs.NoTx
+    ∷ outputs.Durable 2 ∷ outputs.Tx 3 2 ∷ outputs.Value (Int (pos 120)) ∷ outputs.Accepted ∷ outputs.Ticket 3 ∷ outputs.Durable 3
+    ∷ outputs.Tx 4 3 ∷ outputs.Value (Int (pos 150)) ∷ outputs.Accepted ∷ outputs.Accepted ∷ outputs.NoTx ∷ []
+
+abbrev pub other_account : RowId
+other_account = record { 0 = 8 }
+
+-- each of two transactions sets the row that the other one looked at, and both are committed: write skew
+abbrev pub write_skew : List Event
+write_skew =
+    Begin ∷ Insert 0 0 account (Int (pos 5) ∷ Int (negsuc 0) ∷ []) ∷ Insert 0 0 other_account (Int (pos 9) ∷ Int (pos 0) ∷ []) ∷ Commit 0 0 ∷ Flush 1
+    ∷ Begin ∷ Begin ∷ Get 1 0 other_account 0 ∷ Get 2 0 account 0 ∷ Set 1 0 account 0 (Int (pos 0)) ∷ Set 2 0 other_account 0 (Int (pos 0))
+    ∷ Commit 1 0 ∷ Commit 2 0 ∷ []
+
+abbrev pub write_skew_outputs : List Output
+write_skew_outputs =
+    outputs.Tx 0 0 ∷ outputs.Accepted ∷ outputs.Accepted ∷ outputs.Ticket 1 ∷ outputs.Durable 1
+    ∷ outputs.Tx 1 1 ∷ outputs.Tx 2 1 ∷ outputs.Value (Int (pos 9)) ∷ outputs.Value (Int (pos 5)) ∷ outputs.Accepted ∷ outputs.Accepted
+    ∷ outputs.Ticket 2 ∷ outputs.Ticket 3 ∷ []
+
+-- what does not fit is refused first, then what is there or missing, then a third entry; a commit without entries takes no
+-- number, and a pending commit is one to conflict with
+abbrev pub refusals : List Event
+refusals =
+    Begin ∷ Commit 0 0 ∷ Commit 0 0
+    ∷ Begin ∷ Set 1 0 account 2 (Int (pos 6)) ∷ Set 1 0 account 0 (Int (pos 6)) ∷ Get 1 0 account 2 ∷ Get 1 0 account 0
+    ∷ Delete 1 1 account ∷ Delete 1 0 account ∷ Insert 1 0 account (Int (pos 5) ∷ []) ∷ Insert 1 0 account (Int (pos 5) ∷ Int (negsuc 0) ∷ [])
+    ∷ Insert 1 0 account (Int (pos 5) ∷ []) ∷ Insert 1 0 account (Int (pos 5) ∷ Int (negsuc 0) ∷ []) ∷ Delete 1 0 account ∷ Get 1 0 account 0
+    ∷ Set 1 0 account 0 (Int (pos 6)) ∷ Insert 1 0 account (Int (pos 5) ∷ []) ∷ Insert 1 0 account (Int (pos 5) ∷ Int (negsuc 0) ∷ [])
+    ∷ Begin ∷ Insert 2 0 account (Int (pos 5) ∷ Int (negsuc 0) ∷ []) ∷ Commit 1 0 ∷ Commit 2 0 ∷ Abort 2 ∷ []
+
+abbrev pub refusals_outputs : List Output
+refusals_outputs =
+    outputs.Tx 0 0 ∷ outputs.ReadOnly ∷ outputs.NoTx
+    ∷ outputs.Tx 1 0 ∷ outputs.Unfit ∷ outputs.Missing ∷ outputs.Unfit ∷ outputs.Missing
+    ∷ outputs.Unfit ∷ outputs.Missing ∷ outputs.Unfit ∷ outputs.Accepted
+    ∷ outputs.Unfit ∷ outputs.Exists ∷ outputs.Accepted ∷ outputs.Missing
+    ∷ outputs.Missing ∷ outputs.Unfit ∷ outputs.TooManyEntries
+    ∷ outputs.Tx 2 0 ∷ outputs.Accepted ∷ outputs.Ticket 1 ∷ outputs.Conflict 1 ∷ outputs.NoTx ∷ []

@@ -2,6 +2,7 @@
 -- No replica's tables are held: what a batch answers is said by the one list of durable commits.
 use Rattle.std.specs.Prelude.{ℕ, zero, suc, ◌+◌, List, [], ◌∷◌, ◌++◌, length, map, Bool, false, Option, None, Some, Result, Ok, Err, slice_get, slice_set, slice_index, ◌==◌, ◌||◌, ◌&&◌, not, nat_lt, nat_le, if◌then◌else◌, is_ok}
 use Rattle.std.specs.List.{list_all}
+use Rattle.std.specs.Option.{option_and_then}
 use Rattle.std.specs.Ordering.{nat_cmp}
 use Rattle.std.specs.BTreeSet.{insert_key}
 use Rattle.rows.specs.declared.limits.TheConstants.{WAITING_QUERIES_MAX}
@@ -15,10 +16,10 @@ use Rattle.wire.specs.declared.fault.WireFault.{WireFault}
 use Rattle.wire.specs.Spelling.{spelling}
 use Rattle.wire.specs.Reading.{reading}
 use Rattle.mvcc.specs.declared.faults.TxFault.{TxFault}
-use Rattle.primary.specs.declared.faults.CommitFault.{CommitFault}
 use Rattle.mvcc.specs.Draft.{Draft}
+use Rattle.mvcc.specs.Transactions.{insert_answer, set_answer, delete_answer, get_answer}
+use Rattle.primary.specs.declared.faults.CommitFault.{CommitFault}
 use Rattle.primary.specs.State.{Primary}
-use Rattle.mvcc.specs.Transactions.{insert_answer}
 use Rattle.primary.specs.Primary.{started, commit_answer, committed, flushed}
 use Rattle.primary.specs.Sending.{pushed, answers}
 use Rattle.dispatcher.specs.declared.plan.Plan.{Plan}
@@ -33,8 +34,7 @@ use Rattle.batchdb.specs.declared.event.Node.{Node}
 use Rattle.batchdb.specs.declared.event.Node.TheVariants as nodes
 use Rattle.batchdb.specs.declared.output.Output.{Output}
 use Rattle.batchdb.specs.declared.output.Output.TheVariants as outputs
-use Rattle.batchdb.specs.Outputs.{of_change, of_commit, of_answers, packets_of}
-use Rattle.batchdb.specs.Steps.{open_draft}
+use Rattle.batchdb.specs.Outputs.{of_change, of_look, of_commit, of_answers, packets_of}
 
 -- a batch: its queries, how many commits were durable when it asked, and what was fetched for it
 pub record Batch : Type 0 where
@@ -80,19 +80,27 @@ opening_world shape workers replicas =
 
 -- ---- transactions, commits and flushes
 
-abbrev pub insert_happens : World → ℕ → Result Draft TxFault → Output × World
-insert_happens w number (Ok draft) = (outputs.Accepted, record w { transactions = slice_set w.transactions number (Some draft) })
-insert_happens w number (Err fault) = (of_change fault, w)
+-- the open transaction of this number, where there is one
+abbrev pub open_draft : List (Option Draft) → ℕ → Option Draft
+open_draft transactions number = option_and_then (λ slot. slot) (slice_get transactions number)
+
+-- a change that is taken stands in the transaction, and a refused one leaves it
+abbrev pub change_happens : World → ℕ → Result Draft TxFault → Output × World
+change_happens w number (Ok draft) = (outputs.Accepted, record w { transactions = slice_set w.transactions number (Some draft) })
+change_happens w number (Err fault) = (of_change fault, w)
 
 abbrev pub on_draft : World → Option Draft → (Draft → Output × World) → Output × World
 on_draft w None next = (outputs.NoTx, w)
 on_draft w (Some draft) next = next draft
 
--- a transaction is open until its commit is answered
+-- a transaction is open until its commit is answered, or it is given up
 abbrev pub commit_happens : World → ℕ → ℕ → Draft → Result ℕ CommitFault → Output × World
 commit_happens w transaction worker draft (Ok number) =
     (outputs.Ticket number, record w { primary = committed w.primary worker draft.entries; transactions = slice_set w.transactions transaction None })
 commit_happens w transaction worker draft (Err fault) = (of_commit fault, record w { transactions = slice_set w.transactions transaction None })
+
+abbrev pub abort_happens : World → ℕ → Output × World
+abort_happens w transaction = (outputs.Accepted, record w { transactions = slice_set w.transactions transaction None })
 
 -- ---- datagrams
 
@@ -219,10 +227,20 @@ happens w events.Begin = (
 )
 happens w (events.Insert transaction table row values) =
     on_draft w (open_draft w.transactions transaction)
-    (λ draft. insert_happens w transaction (insert_answer w.primary.shape (w.primary.durable ++ w.primary.pending) draft table row.0 values))
+    (λ draft. change_happens w transaction (insert_answer w.primary.shape w.primary.durable draft table row.0 values))
+happens w (events.Set transaction table row column value) =
+    on_draft w (open_draft w.transactions transaction)
+    (λ draft. change_happens w transaction (set_answer w.primary.shape w.primary.durable draft table row.0 column value))
+happens w (events.Delete transaction table row) =
+    on_draft w (open_draft w.transactions transaction)
+    (λ draft. change_happens w transaction (delete_answer w.primary.shape w.primary.durable draft table row.0))
+happens w (events.Get transaction table row column) =
+    on_draft w (open_draft w.transactions transaction)
+    (λ draft. (of_look (get_answer w.primary.shape w.primary.durable draft table row.0 column), w))
 happens w (events.Commit transaction worker) =
     on_draft w (open_draft w.transactions transaction)
     (λ draft. commit_happens w transaction worker draft (commit_answer w.primary draft))
+happens w (events.Abort transaction) = on_draft w (open_draft w.transactions transaction) (λ draft. abort_happens w transaction)
 happens w (events.Flush count) =
     if w.primary.failed then (outputs.Failed, w) else
     (outputs.Durable (length (flushed w.primary count).durable), record w { primary = flushed w.primary count })

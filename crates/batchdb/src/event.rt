@@ -1,5 +1,5 @@
 use dispatcher::Plan;
-use rows::{Row, RowId};
+use rows::{Row, RowId, Value};
 
 /// A node that a datagram is delivered to.
 #[derive(Clone, Copy, Debug, PartialEq, Eq)]
@@ -20,10 +20,35 @@ pub enum Event {
         row: RowId,
         values: Row,
     },
+    /// A transaction gives one column of a row another value.
+    Set {
+        transaction: u64,
+        table: u8,
+        row: RowId,
+        column: u8,
+        value: Value,
+    },
+    /// A transaction takes out a row.
+    Delete {
+        transaction: u64,
+        table: u8,
+        row: RowId,
+    },
+    /// A transaction looks at one column of a row.
+    Get {
+        transaction: u64,
+        table: u8,
+        row: RowId,
+        column: u8,
+    },
     /// A transaction is committed for a worker.
     Commit {
         transaction: u64,
         worker: u8,
+    },
+    /// A transaction is given up.
+    Abort {
+        transaction: u64,
     },
     /// The first pending commits become durable, this many at the most.
     Flush {

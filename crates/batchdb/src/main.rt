@@ -25,6 +25,7 @@ mod setup;
 mod simulator;
 mod stepping;
 mod theorem;
+mod transacting;
 mod words;
 mod worked;
 
@@ -43,7 +44,11 @@ pub use theorem::steps_are_allowed;
 pub use worked::worked_scripts;
 
 #[cfg(test)]
+mod reading_tests;
+#[cfg(test)]
 mod tests;
+#[cfg(test)]
+mod transaction_tests;
 
 /// Runs the words that the program was called with, and ends with their status.
 fn main(rt: HostRuntime) -> io::Result<ExitCode> {

@@ -1,14 +1,15 @@
 //! What the refusals of the cores are called among the outputs.
 
 ghost use Rattle.std.specs.Prelude.{◌≡◌};
-ghost use Rattle.batchdb.specs.Outputs.{of_change, of_commit, of_open, of_ask, of_got};
+ghost use Rattle.batchdb.specs.Outputs.{of_change, of_look, of_commit, of_open, of_ask, of_got};
 
 use crate::output::Output;
 use dispatcher::{AskFault, Got, OpenFault};
 use mvcc::TxFault;
 use primary::CommitFault;
+use rows::Value;
 
-/// A refused change of a transaction.
+/// A refused call of a transaction.
 pub fn change_output(fault: TxFault) -> Output
     ensures { result ≡ of_change fault }
 {
@@ -18,6 +19,16 @@ pub fn change_output(fault: TxFault) -> Output
         TxFault::Unfit => Output::Unfit,
         TxFault::TooManyEntries => Output::TooManyEntries,
         TxFault::Memory => Output::Memory,
+    }
+}
+
+/// A look at a column.
+pub fn look_output(looked: Result<Value, TxFault>) -> Output
+    ensures { result ≡ of_look looked }
+{
+    match looked {
+        Ok(value) => Output::Value(value),
+        Err(fault) => change_output(fault),
     }
 }
 

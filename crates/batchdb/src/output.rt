@@ -1,6 +1,6 @@
 use crate::sent::{Sent, SentList};
 use dispatcher::PlanFault;
-use rows::ByteList;
+use rows::{ByteList, Value};
 
 /// What an event answers.
 #[derive(Debug, Drop)]
@@ -11,14 +11,16 @@ pub enum Output {
     Accepted,
     /// The row to insert is there.
     Exists,
-    /// The row to change is not there.
+    /// The row to change or to look at is not there.
     Missing,
-    /// The values do not fit the table.
+    /// The values do not fit the table, or it has no such column.
     Unfit,
     /// The transaction has as many entries as it may have.
     TooManyEntries,
     /// No transaction of that number is open.
     NoTx,
+    /// The value of the column, as the transaction sees it.
+    Value(Value),
     /// The transaction was committed under that number.
     Ticket(u64),
     /// The commit of that number touches a row of the transaction.

@@ -5,6 +5,7 @@ ghost use Rattle.std.specs.Prelude.{◌<◌};
 use crate::output::Output;
 use crate::sent::Sent;
 use dispatcher::PlanFault;
+use rows::Value;
 use std::alloc::{AllocError, Global};
 
 /// The text of outputs, a line for each, but two for a run that waits for a frame and as many as
@@ -25,6 +26,7 @@ fn push_output(alloc: Global, text: &mut Vec<u8>, output: &Output) -> Result<(),
             push_hex(text, bytes.as_slice())?;
             text.extend_from_slice(b"\n")
         }
+        Output::Value(value) => push_value(alloc, text, value),
         Output::Sent(list) => push_sent(alloc, text, list.as_slice()),
         Output::Waiting { worker, seq, want } => {
             let line = format!(in alloc; "waiting {worker} {seq}\n")?;
@@ -34,6 +36,21 @@ fn push_output(alloc: Global, text: &mut Vec<u8>, output: &Output) -> Result<(),
         other => {
             let line = line_of(alloc, other)?;
             text.extend_from_slice(line.as_bytes())?;
+            text.extend_from_slice(b"\n")
+        }
+    }
+}
+
+/// Adds the line of a value: a number in decimal, or `x` and bytes in lower-case hexadecimal.
+fn push_value(alloc: Global, text: &mut Vec<u8>, value: &Value) -> Result<(), AllocError> {
+    match value {
+        Value::Int(number) => {
+            let line = format!(in alloc; "value {number}\n")?;
+            text.extend_from_slice(line.as_bytes())
+        }
+        Value::Octets(bytes) => {
+            text.extend_from_slice(b"value x")?;
+            push_hex(text, bytes.as_slice())?;
             text.extend_from_slice(b"\n")
         }
     }

@@ -10,7 +10,7 @@ use crate::line_fault::LineFault;
 use crate::script_fault::{Reason, ScriptFault};
 use crate::settings::{Settings, is_table, read_setting};
 use crate::setup::Setup;
-use crate::words::{is_name, number, number_below, text, value_of, words_of};
+use crate::words::{column_of, is_name, number, number_below, text, value_of, words_of};
 use dispatcher::Plan;
 use rows::{Row, RowId, Value};
 use std::alloc::Global;
@@ -99,6 +99,12 @@ fn read_event(alloc: Global, setup: &Setup, words: &[&[u8]]) -> Result<Event, Li
         [first, rest @ ..] => {
             if *first == b"insert".as_slice() {
                 read_insert(alloc, setup, rest)
+            } else if *first == b"set".as_slice() {
+                read_set(setup, rest)
+            } else if *first == b"delete".as_slice() {
+                read_delete(setup, rest)
+            } else if *first == b"get".as_slice() {
+                read_get(setup, rest)
             } else if *first == b"open".as_slice() {
                 read_open(setup, rest)
             } else if is_setting(first) {
@@ -135,6 +141,8 @@ fn read_plain_event(setup: &Setup, first: &[u8], rest: &[&[u8]]) -> Result<Event
         or_bad_words(read_replica(setup, rest).map(|replica| Event::Ask { replica }))
     } else if first == b"run".as_slice() {
         or_bad_words(read_replica(setup, rest).map(|replica| Event::Run { replica }))
+    } else if first == b"abort".as_slice() {
+        or_bad_words(read_abort(rest))
     } else {
         Err(LineFault::Because(Reason::UnknownEvent))
     }
@@ -163,6 +171,17 @@ fn read_commit(setup: &Setup, rest: &[&[u8]]) -> Option<Event>
         [transaction, worker] => Some(Event::Commit {
             transaction: number(transaction)?,
             worker: number_below(worker, setup.workers)?,
+        }),
+        _ => None,
+    }
+}
+
+fn read_abort(rest: &[&[u8]]) -> Option<Event>
+    ensures { (workers replicas : ℕ) → IfSome result (IsPossible workers replicas) }
+{
+    match rest {
+        [transaction] => Some(Event::Abort {
+            transaction: number(transaction)?,
         }),
         _ => None,
     }
@@ -242,19 +261,79 @@ fn read_insert(alloc: Global, setup: &Setup, rest: &[&[u8]]) -> Result<Event, Li
     let [transaction, name, row, values @ ..] = rest else {
         return Err(LineFault::Because(Reason::BadWords));
     };
-    let (Some(transaction), Some(row)) = (number(transaction), number(row)) else {
-        return Err(LineFault::Because(Reason::BadWords));
-    };
-    if !is_name(name) || values.is_empty() {
+    let (transaction, row) = transaction_and_row(transaction, row)?;
+    if values.is_empty() {
         return Err(LineFault::Because(Reason::BadWords));
     }
     let values = read_values(alloc, values)?;
     Ok(Event::Insert {
         transaction,
-        table: find_table(setup, name)?,
-        row: RowId(row),
+        table: named_table(setup, name)?,
+        row,
         values: Row::from_vec(values),
     })
+}
+
+/// Reads `set T NAME ROW COL V`.
+fn read_set(setup: &Setup, rest: &[&[u8]]) -> Result<Event, LineFault>
+    ensures { IfOk result (IsPossible setup.now.workers setup.now.replicas) }
+{
+    let [transaction, name, row, column, value] = rest else {
+        return Err(LineFault::Because(Reason::BadWords));
+    };
+    let (transaction, row) = transaction_and_row(transaction, row)?;
+    let (Some(column), Some(value)) = (column_of(column), value_of(value)) else {
+        return Err(LineFault::Because(Reason::BadWords));
+    };
+    Ok(Event::Set {
+        transaction,
+        table: named_table(setup, name)?,
+        row,
+        column,
+        value,
+    })
+}
+
+/// Reads `delete T NAME ROW`.
+fn read_delete(setup: &Setup, rest: &[&[u8]]) -> Result<Event, LineFault>
+    ensures { IfOk result (IsPossible setup.now.workers setup.now.replicas) }
+{
+    let [transaction, name, row] = rest else {
+        return Err(LineFault::Because(Reason::BadWords));
+    };
+    let (transaction, row) = transaction_and_row(transaction, row)?;
+    Ok(Event::Delete {
+        transaction,
+        table: named_table(setup, name)?,
+        row,
+    })
+}
+
+/// Reads `get T NAME ROW COL`.
+fn read_get(setup: &Setup, rest: &[&[u8]]) -> Result<Event, LineFault>
+    ensures { IfOk result (IsPossible setup.now.workers setup.now.replicas) }
+{
+    let [transaction, name, row, column] = rest else {
+        return Err(LineFault::Because(Reason::BadWords));
+    };
+    let (transaction, row) = transaction_and_row(transaction, row)?;
+    let Some(column) = column_of(column) else {
+        return Err(LineFault::Because(Reason::BadWords));
+    };
+    Ok(Event::Get {
+        transaction,
+        table: named_table(setup, name)?,
+        row,
+        column,
+    })
+}
+
+/// A transaction's number and a row's identifier.
+fn transaction_and_row(transaction: &[u8], row: &[u8]) -> Result<(u64, RowId), LineFault> {
+    match (number(transaction), number(row)) {
+        (Some(transaction), Some(row)) => Ok((transaction, RowId(row))),
+        _ => Err(LineFault::Because(Reason::BadWords)),
+    }
 }
 
 /// Reads the values of a row.
@@ -280,10 +359,7 @@ fn read_open(setup: &Setup, rest: &[&[u8]]) -> Result<Event, LineFault>
             let Some(replica) = number_below(replica, setup.replicas) else {
                 return Err(LineFault::Because(Reason::BadWords));
             };
-            if !is_name(name) {
-                return Err(LineFault::Because(Reason::BadWords));
-            }
-            let table = find_table(setup, name)?;
+            let table = named_table(setup, name)?;
             Ok(Event::Open {
                 replica,
                 plan: Plan { table },
@@ -293,8 +369,12 @@ fn read_open(setup: &Setup, rest: &[&[u8]]) -> Result<Event, LineFault>
     }
 }
 
-/// The number of the table of that name.
-fn find_table(setup: &Setup, name: &[u8]) -> Result<u8, LineFault> {
+/// The number of the table of that name. A word that is no name is bad, whichever tables there
+/// are.
+fn named_table(setup: &Setup, name: &[u8]) -> Result<u8, LineFault> {
+    if !is_name(name) {
+        return Err(LineFault::Because(Reason::BadWords));
+    }
     let found = match text(name) {
         Some(name) => setup.schema.table_named(name),
         None => None,

@@ -42,7 +42,7 @@ impl SentList {
     {
         let mut items = Vec::new(alloc);
         items.push(sent)?;
-        Ok(SentList { items })
+        Ok(SentList::from_vec(items))
     }
 
     /// The datagrams, lent.

@@ -1,19 +1,19 @@
-//! One step of the cores: each event is one call on one of them.
+//! One step of the cores: each event is one call on one of them. `transacting.rt` has those of
+//! transactions.
 
-ghost use Rattle.std.specs.Prelude.{◌≡◌, ◌<◌, ◌++◌, ◌⊎◌, length, None, Some, IfOk, IfSome, OnErr, slice_set, vec_len};
+ghost use Rattle.std.specs.Prelude.{◌≡◌, ◌<◌, ◌++◌, ◌⊎◌, length, IfOk, OnErr};
 ghost use Rattle.batchdb.specs.Outputs.{sent_from, packets_of};
 ghost use Rattle.batchdb.specs.Parts.{IsReady};
-ghost use Rattle.batchdb.specs.Steps.{MayStep, IsPossible, IsThere, open_draft, sent_one, with_sent};
+ghost use Rattle.batchdb.specs.Steps.{MayStep, IsPossible, IsThere, sent_one, with_sent};
 
 use crate::cores::Cores;
 use crate::event::{Event, Node};
-use crate::naming::{ask_output, change_output, commit_output, got_output, open_output};
+use crate::naming::{ask_output, got_output, open_output};
 use crate::output::Output;
 use crate::sent::{Sent, SentList};
 use dispatcher::{Plan, Run};
-use mvcc::Transaction;
-use primary::{CommitFault, FlushFault};
-use rows::{ByteList, Row, RowId};
+use primary::FlushFault;
+use rows::ByteList;
 use std::alloc::{AllocError, Global};
 use wire::{Out, Packet};
 
@@ -44,10 +44,29 @@ impl Cores {
                 row,
                 values,
             } => self.insert(*transaction, *table, *row, values),
+            Event::Set {
+                transaction,
+                table,
+                row,
+                column,
+                value,
+            } => self.set(*transaction, *table, *row, *column, *value),
+            Event::Delete {
+                transaction,
+                table,
+                row,
+            } => self.delete(*transaction, *table, *row),
+            Event::Get {
+                transaction,
+                table,
+                row,
+                column,
+            } => self.get(*transaction, *table, *row, *column),
             Event::Commit {
                 transaction,
                 worker,
             } => self.commit(*transaction, *worker),
+            Event::Abort { transaction } => self.abort(*transaction),
             Event::Flush { count } => self.flush(*count),
             Event::Push { worker, seq } => self.push(*worker, *seq),
             Event::Deliver { place, node } => self.deliver(*place, *node),
@@ -55,51 +74,6 @@ impl Cores {
             Event::Open { replica, plan } => self.open(*replica, *plan),
             Event::Ask { replica } => self.ask(*replica),
             Event::Run { replica } => self.run(*replica),
-        }
-    }
-
-    fn begin(&mut self) -> Output
-        ensures { MayStep self.old Event.Begin result self.new }
-    {
-        let number = self.transactions.len() as u64;
-        let snapshot = self.primary.durable();
-        let transaction = Transaction::begin(self.alloc, snapshot);
-        match self.transactions.push(Some(transaction)) {
-            Ok(()) => Output::Tx { number, snapshot },
-            Err(_) => Output::Memory,
-        }
-    }
-
-    fn insert(&mut self, number: u64, table: u8, row: RowId, values: &Row) -> Output
-        requires { IsReady self.old }
-        ensures { MayStep self.old (Event.Insert number table row values.now) result self.new }
-    {
-        let Some(mut transaction) = take_open(&mut self.transactions, number) else {
-            return Output::NoTx;
-        };
-        let values = values.as_slice();
-        let inserted = transaction.insert(self.primary.versions(), table, row, values);
-        put_back(&mut self.transactions, number, transaction);
-        match inserted {
-            Ok(()) => Output::Accepted,
-            Err(fault) => change_output(fault),
-        }
-    }
-
-    fn commit(&mut self, number: u64, worker: u8) -> Output
-        requires { worker < self.old.primary.workers }
-        ensures { MayStep self.old (Event.Commit number worker) result self.new }
-    {
-        let Some(transaction) = take_open(&mut self.transactions, number) else {
-            return Output::NoTx;
-        };
-        match self.primary.commit(transaction, worker) {
-            Ok(ticket) => Output::Ticket(ticket.number),
-            Err((transaction, CommitFault::Memory)) => {
-                put_back(&mut self.transactions, number, transaction);
-                Output::Memory
-            }
-            Err((_, fault)) => commit_output(fault),
         }
     }
 
@@ -258,26 +232,6 @@ impl Cores {
             Run::Memory => Output::Memory,
         }
     }
-}
-
-/// Takes the open transaction of that number out of its place, where there is one.
-fn take_open(transactions: &mut Vec<Option<Transaction>>, number: u64) -> Option<Transaction>
-    ensures taken { result ≡ open_draft transactions.old.items number }
-    ensures left { transactions.new.items ≡ slice_set transactions.old.items number None }
-    ensures within { IfSome result (λ _. number < vec_len transactions.new) }
-{
-    if number >= transactions.len() as u64 {
-        return None;
-    }
-    std::mem::replace(&mut transactions[number as usize], None)
-}
-
-/// Puts a transaction back into its place.
-fn put_back(transactions: &mut Vec<Option<Transaction>>, number: u64, transaction: Transaction)
-    requires { number < vec_len transactions.old }
-    ensures { transactions.new.items ≡ slice_set transactions.old.items number (Some transaction) }
-{
-    transactions[number as usize] = Some(transaction);
 }
 
 /// Sends datagrams one after the other, and answers where they are found. Fails for want of

@@ -52,6 +52,11 @@ pub fn number_below(word: &[u8], limit: u8) -> Option<u8>
     }
 }
 
+/// A column's number: a decimal number up to 255.
+pub fn column_of(word: &[u8]) -> Option<u8> {
+    u8::try_from(number(word)?).ok()
+}
+
 /// A signed decimal number of 64 bits; `-` stands only before a number that is not 0.
 pub fn int(word: &[u8]) -> Option<i64> {
     match word {

@@ -1,12 +1,18 @@
-//! Two scripts, worked on the definitions alone.
+//! Events that are worked on the definitions alone.
 
 ghost use Rattle.std.specs.Prelude.{◌≡◌};
-ghost use Rattle.batchdb.specs.Worked.{first_commit, first_commit_outputs, lost_frame, lost_frame_outputs, worked_world};
+ghost use Rattle.batchdb.specs.Worked.{first_commit, first_commit_outputs, lost_frame, lost_frame_outputs, conflict, conflict_outputs};
+ghost use Rattle.batchdb.specs.Worked.{write_skew, write_skew_outputs, refusals, refusals_outputs, worked_world};
 ghost use Rattle.batchdb.specs.World.{outputs_of};
 
-/// What the definitions of the world say of the events of two scripts: a first commit that is
-/// reported, and the same where its frame is lost at first. No code takes part.
+/// What the definitions of the world say of five lists of events: a first commit that is reported,
+/// the same where its frame is lost at first, two transactions that change one row, two that each
+/// set the row that the other one looked at, and the refusals of a transaction's calls in their
+/// order. No code takes part.
 pub fn worked_scripts()
     ensures first_commit { outputs_of worked_world first_commit ≡ first_commit_outputs }
     ensures lost_frame { outputs_of worked_world lost_frame ≡ lost_frame_outputs }
+    ensures conflict { outputs_of worked_world conflict ≡ conflict_outputs }
+    ensures write_skew { outputs_of worked_world write_skew ≡ write_skew_outputs }
+    ensures refusals { outputs_of worked_world refusals ≡ refusals_outputs }
 {}

@@ -1,5 +1,5 @@
 -- One column of a row after entries: what they make of the row, and what they make of the column.
-use Rattle.std.proofs.Common.{◌≡◌, ◌≢◌, ℕ, zero, suc, ◌+◌, ◌<◌, get_or, drop, Bool, true, false, cond, ◌==◌, List, [], ◌∷◌, length, Option, None, Some, slice_get, refl, sym, ap, ◌∙◌, inl, inr}
+use Rattle.std.proofs.Common.{◌≡◌, ◌≢◌, ℕ, zero, suc, ◌+◌, ◌<◌, get_or, drop, Bool, true, false, cond, ◌==◌, List, [], ◌∷◌, length, Option, None, Some, slice_get, refl, ap, ◌∙◌, inl, inr}
 use Rattle.std.specs.List.{slice_set}
 use Rattle.std.specs.Option.{option_map}
 use Rattle.std.proofs.lemmas.Bool.{cases_eq, eq-eqb, ne_eqb}

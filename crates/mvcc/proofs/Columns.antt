@@ -1,10 +1,9 @@
 -- The values of a row's columns in its bytes.
-use Rattle.std.proofs.Common.{◌≡◌, ℕ, zero, suc, ◌+◌, ◌≤◌, List, [], ◌∷◌, length, take, drop, Option, None, Some, slice_get, refl, sym, ap, ◌∙◌, arith}
+use Rattle.std.proofs.Common.{◌≡◌, ℕ, zero, suc, ◌+◌, ◌≤◌, List, [], ◌∷◌, take, drop, Some, slice_get, refl, sym, ap, ◌∙◌, arith}
 use Rattle.std.specs.Option.{option_map}
 use Rattle.std.proofs.lemmas.List.{drop-drop}
 use Rattle.std.proofs.lemmas.List.Sums.{sum_by-cons}
 use Rattle.rows.specs.declared.kind.Kind.{Kind}
-use Rattle.rows.specs.declared.value.Value.{Value}
 use Rattle.rows.specs.Shape.{width_of, row_width}
 use Rattle.rows.specs.Values.{value_of, values_of}
 

@@ -1,5 +1,5 @@
 -- What an entry makes of a row, by the kinds of its table's columns alone, and which entries leave nothing of others.
-use Rattle.std.proofs.Common.{◌≡◌, ◌≢◌, ℕ, Bool, true, false, cond, ◌&&◌, ◌==◌, not, List, [], ◌∷◌, ◌++◌, length, Option, None, Some, Result, Ok, Err, slice_get, refl, sym, ap, subst, ◌∙◌, inl, inr}
+use Rattle.std.proofs.Common.{◌≡◌, ℕ, Bool, true, false, cond, ◌==◌, not, List, [], ◌∷◌, ◌++◌, length, Option, None, Some, Ok, Err, slice_get, refl, sym, ap, subst, ◌∙◌, inl, inr}
 use Rattle.std.specs.List.{filter, slice_set}
 use Rattle.std.specs.Option.{option_map, is_some}
 use Rattle.std.specs.Result.{is_ok}
@@ -14,12 +14,12 @@ use Rattle.rows.specs.declared.row_id.RowId.{RowId}
 use Rattle.rows.specs.declared.value.Value.{Value}
 use Rattle.rows.specs.Shape.{Shape, row_width, column_at}
 use Rattle.rows.specs.Values.{value_of}
-use Rattle.rows.specs.Entries.{table_of, row_of, fitting, sized, placed, listed}
+use Rattle.rows.specs.Entries.{table_of, row_of, fitting}
 use Rattle.rows.specs.Tables.{kinds_of, patched_row}
 use Rattle.rows.specs.Commits.{is_of}
 use Rattle.rows.specs.RowAfter.{inserted_row, row_after_one, row_after_entry, row_after_fit}
 use Rattle.rows.proofs.RowLaws.{row_after_fit-push}
-use Rattle.mvcc.specs.OwnRows.{is_patch_of, supersedes}
+use Rattle.mvcc.specs.OwnRows.{supersedes}
 
 -- what an entry of a row makes of it, in a table with columns of these kinds, or in none
 abbrev pub effect : Option (List Kind) → Entry → Option (List Value) → Option (List Value)

@@ -7,12 +7,9 @@ ghost use Rattle.std.specs.List.{list_all};
 ghost use Rattle.rows.specs.declared.limits.TheConstants.{COLUMNS_MAX};
 ghost use Rattle.rows.specs.Shape.{row_width, is_good};
 ghost use Rattle.rows.specs.Values.{values_of};
-ghost use Rattle.rows.specs.Entries.{table_of, row_of};
-ghost use Rattle.rows.specs.Commits.{is_of};
 ghost use Rattle.mvcc.specs.OwnRows.{picked};
 ghost use Rattle.mvcc.specs.Cells.{inserted_cell, patched_cell, cell_after_one, cell_after_entry, cell_after};
 
-use crate::entry_rows::is_of;
 use rows::{Entry, Kind, RowId, Value, column_at, first_value, width_of_row};
 
 /// What the entries at these places make of a column of a row, in a table with columns of these
@@ -52,7 +49,7 @@ fn cell_after_entry(
     requires good { list_all is_good kinds.now ≡ true }
     ensures { result ≡ cell_after_entry kinds.now table row.0 column entry.now cell }
 {
-    if !is_of(entry, table, row) {
+    if !entry.is_of(table, row) {
         return cell;
     }
     match entry {

@@ -5,11 +5,9 @@ ghost use Rattle.std.specs.List.{list_all};
 ghost use Rattle.std.specs.List.Sorted.{IsNonDecreasingBy};
 ghost use Rattle.std.specs.Option.{option_map};
 ghost use Rattle.rows.specs.Shape.{is_good};
-ghost use Rattle.rows.specs.Entries.{row_of};
 ghost use Rattle.mvcc.specs.Chains.{newest_in, values_at, links_in, with_cut, with_link, IsWide};
 
 use crate::chain::Chain;
-use crate::entry_rows::row_of;
 use rows::{Entry, Kind, Row};
 use std::alloc::{AllocError, Global};
 use std::collections::BTreeMap;
@@ -84,7 +82,7 @@ impl ChainMap {
         ensures ok { OnOk result (self.new ≡ with_link kinds.now number entry.now self.old) }
         ensures err { OnErr result (self.new ≡ self.old) }
     {
-        let row = row_of(entry).0;
+        let row = entry.row().0;
         if let Some(chain) = self.chains.get_mut(&row) {
             return chain.link(alloc, kinds, number, entry);
         }

@@ -9,7 +9,6 @@ ghost use Rattle.rows.specs.Entries.{fitting};
 ghost use Rattle.mvcc.specs.Chains.{newest_in, values_at, links_at, tables_linked, tables_cut, tables_cut_all, and_entries, AreChains, AreChainsCut};
 
 use crate::chain_map::ChainMap;
-use crate::entry_rows::{row_of, table_of};
 use rows::{Commit, Entry, Row, RowId, Schema};
 use std::alloc::{AllocError, Global};
 
@@ -103,7 +102,7 @@ fn link_entry(
     ensures ok { OnOk result (tables.new ≡ tables_linked (shape_of schema.now) number tables.old entry.now) }
     ensures err { OnErr result (tables.new ≡ tables.old) }
 {
-    let table = table_of(entry) as usize;
+    let table = entry.table() as usize;
     let Some(kinds) = schema.kinds(table) else {
         unreachable!();
     };
@@ -123,8 +122,8 @@ fn cut_entries(tables: &mut [ChainMap], number: u64, entries: &[Entry])
 fn cut_entry(tables: &mut [ChainMap], number: u64, entry: &Entry)
     ensures { tables.new ≡ tables_cut number tables.old entry.now }
 {
-    let table = table_of(entry) as usize;
+    let table = entry.table() as usize;
     if table < tables.len() {
-        tables[table].cut(number, row_of(entry).0);
+        tables[table].cut(number, entry.row().0);
     }
 }

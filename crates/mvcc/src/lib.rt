@@ -17,7 +17,6 @@ mod cells;
 mod chain;
 mod chain_map;
 mod chains;
-mod entry_rows;
 mod faults;
 mod link;
 mod own_rows;

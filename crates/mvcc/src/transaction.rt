@@ -11,7 +11,6 @@ ghost use Rattle.mvcc.specs.Cells.{cell_of};
 ghost use Rattle.mvcc.specs.Transactions.{insert_answer, set_answer, delete_answer, get_answer, match_column, column_kind, column_offset, seen_by, sees};
 
 use crate::cells::cell_after;
-use crate::entry_rows::{row_of, table_of};
 use crate::faults::TxFault;
 use crate::own_rows::{OwnRows, places_with};
 use crate::values::{is_value_of, matches_table};
@@ -238,16 +237,9 @@ impl Transaction {
         match versions.schema().kinds(table as usize) {
             None => was,
             Some(kinds) => {
+                let entries = self.entries.as_slice();
                 let places = self.rows.places(table, row);
-                cell_after(
-                    kinds,
-                    table,
-                    row,
-                    column,
-                    self.entries.as_slice(),
-                    places,
-                    was,
-                )
+                cell_after(kinds, table, row, column, entries, places, was)
             }
         }
     }
@@ -289,8 +281,8 @@ impl Transaction {
         ensures ok { OnOk result (self.new ≡ record self.old { entries = self.old.entries ++ entry ∷ [] }) }
         ensures err { OnErr result (self.new ≡ self.old) }
     {
-        let table = table_of(&entry);
-        let row = row_of(&entry);
+        let table = entry.table();
+        let row = entry.row();
         let earlier = self.rows.places(table, row);
         let places = places_with(self.alloc, self.entries.as_slice(), earlier, &entry)?;
         self.entries.reserve(1)?;

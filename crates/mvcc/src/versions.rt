@@ -11,7 +11,6 @@ ghost use Rattle.mvcc.specs.Values.{value_in};
 
 use crate::chain_map::ChainMap;
 use crate::chains::{link_commit, newest_at, no_chains, values_at};
-use crate::entry_rows::{row_of, table_of};
 use rows::{Commit, Entry, RowId, Schema, Value};
 use std::alloc::{AllocError, Global};
 use std::marker::Model;
@@ -79,7 +78,7 @@ impl Versions {
     pub fn commits(&self) -> &[Commit]
         ensures { result.now ≡ self.now.commits }
     {
-        self.commits.as_slice()
+        &self.commits
     }
 
     /// The `number`-th commit, counted from 1.
@@ -142,10 +141,10 @@ impl Versions {
             → defined_at self.now (length self.now.commits) entries.now ≡ true }
     {
         // A look at a field brings the invariant to the proof.
-        let _ = &self.commits;
+        let _ = &self.chains;
         let mut last = 0;
         for entry in entries {
-            let newest = self.newest(table_of(entry), row_of(entry));
+            let newest = self.newest(entry.table(), entry.row());
             if last < newest {
                 last = newest;
             }

@@ -3,12 +3,13 @@
 ghost use Rattle.std.specs.Prelude.{◌≡◌, ◌∷◌, [], ◌++◌, length, true};
 ghost use Rattle.std.specs.Bool.{OnTrue};
 ghost use Rattle.rows.specs.Entries.{table_of, row_of};
-ghost use Rattle.rows.specs.Presence.{stands_for, left_by, is_there_after_one, is_there_after};
+ghost use Rattle.rows.specs.Presence.{is_there_after};
 ghost use Rattle.mvcc.specs.History.{defined_at, is_row_there};
 
-use crate::entry_rows::{is_of, row_of, table_of};
 use crate::versions::Versions;
-use rows::{Commit, Entry, EntryList, Kind, Octets, RowId, Schema, Value, fits, row_bytes};
+use rows::{
+    Commit, Entry, EntryList, Kind, Octets, RowId, Schema, Value, fits, is_there_after, row_bytes,
+};
 use std::alloc::Global;
 use std::test::Fail;
 
@@ -68,49 +69,6 @@ fn three(alloc: Global, first: Entry, second: Entry, third: Entry) -> Result<Com
     Ok(Commit { worker: 0, entries })
 }
 
-/// Whether the row of the entry stands as the entry needs it, where it is there or not.
-fn stands_for(entry: &Entry, there: bool) -> bool
-    ensures { result ≡ stands_for entry.now there }
-{
-    match entry {
-        Entry::Insert { .. } => !there,
-        Entry::Patch { .. } | Entry::Delete { .. } => there,
-    }
-}
-
-/// Whether the row of the entry is there after it, where it was there or not.
-fn left_by(entry: &Entry, was: bool) -> bool
-    ensures { result ≡ left_by entry.now was }
-{
-    match entry {
-        Entry::Insert { .. } => true,
-        Entry::Patch { .. } => was,
-        Entry::Delete { .. } => false,
-    }
-}
-
-/// Whether the row is there after the entry, where it was there or not.
-fn is_there_after_one(table: u8, row: RowId, entry: &Entry, was: bool) -> bool
-    ensures { result ≡ is_there_after_one table row.0 entry.now was }
-{
-    if is_of(entry, table, row) {
-        left_by(entry, was)
-    } else {
-        was
-    }
-}
-
-/// Whether the row is there after these entries, where it was there or not.
-fn is_there_after(table: u8, row: RowId, entries: &[Entry], was: bool) -> bool
-    ensures { result ≡ is_there_after table row.0 entries.now was }
-{
-    let mut there = was;
-    for entry in entries {
-        there = is_there_after_one(table, row, entry, there);
-    }
-    there
-}
-
 /// Whether an entry is defined behind these, which are, on the newest rows.
 #[tactic(auto, using(crate::proofs::Defined::defined_at_push))]
 fn is_defined(versions: &Versions, before: &[Entry], entry: &Entry) -> bool
@@ -118,15 +76,15 @@ fn is_defined(versions: &Versions, before: &[Entry], entry: &Entry) -> bool
     ensures { result ≡ defined_at versions.now (length versions.now.commits) (before.now ++ entry.now ∷ []) }
 {
     fits(versions.schema(), entry).is_ok()
-        && stands_for(entry, is_row_there_after(versions, before, entry))
+        && entry.is_possible(is_row_there_after(versions, before, entry))
 }
 
 /// Whether the row of the entry is there after these entries, on the newest rows.
 fn is_row_there_after(versions: &Versions, before: &[Entry], entry: &Entry) -> bool
     ensures { result ≡ is_there_after (table_of entry.now) (row_of entry.now) before.now (is_row_there versions.now (length versions.now.commits) entry.now) }
 {
-    let table = table_of(entry);
-    let row = row_of(entry);
+    let table = entry.table();
+    let row = entry.row();
     let was = versions.is_present(versions.len(), table, row);
     is_there_after(table, row, before, was)
 }

@@ -3,3 +3,4 @@ pub mod Text
 pub mod Flushing
 pub mod Streams
 pub mod Numbering
+pub mod Telling

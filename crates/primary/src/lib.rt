@@ -17,8 +17,8 @@ mod journal;
 mod judging;
 mod number_list;
 mod places;
-mod presence;
 mod primary_core;
+mod rows_told;
 mod sending;
 mod ticket;
 
@@ -26,5 +26,7 @@ pub use faults::{CommitFault, FlushFault};
 pub use primary_core::PrimaryCore;
 pub use ticket::Ticket;
 
+#[cfg(test)]
+mod memory_tests;
 #[cfg(test)]
 mod tests;

@@ -112,6 +112,7 @@ impl PrimaryCore {
             ⊎ (commit_answer self.old transaction ≡ Err refusal.1))) }
     {
         let number = match judge(
+            self.alloc,
             &self.versions,
             self.durable,
             self.workers,

@@ -74,7 +74,7 @@ fn inserting(alloc: Global, primary: &PrimaryCore, rows: &[u64]) -> Result<Trans
 }
 
 /// Commits for worker 0.
-fn commit(
+pub fn commit(
     primary: &mut PrimaryCore,
     transaction: Transaction,
 ) -> Result<Ticket, (Transaction, CommitFault)>
@@ -85,7 +85,7 @@ fn commit(
 }
 
 /// A primary of one worker with row 7 durable as commit 1.
-fn primary_with_row(alloc: Global) -> Result<PrimaryCore, Fail>
+pub fn primary_with_row(alloc: Global) -> Result<PrimaryCore, Fail>
     ensures { IfOk result (λ primary. primary.workers ≡ 1) }
 {
     primary_with_rows(alloc, &[7])
@@ -119,7 +119,7 @@ fn deleting(alloc: Global, primary: &PrimaryCore, row: u64) -> Result<Transactio
 }
 
 /// A transaction on what is durable that deletes that row and puts it in again.
-fn replacing(alloc: Global, primary: &PrimaryCore, row: u64) -> Result<Transaction, TxFault> {
+pub fn replacing(alloc: Global, primary: &PrimaryCore, row: u64) -> Result<Transaction, TxFault> {
     let mut transaction = Transaction::begin(alloc, primary.durable());
     let versions = primary.versions();
     transaction.delete(versions, 0, RowId(row))?;
@@ -137,7 +137,7 @@ fn undoing(alloc: Global, primary: &PrimaryCore, row: u64) -> Result<Transaction
 }
 
 /// What a commit of the transaction gets: its number, or its refusal.
-fn answer(primary: &mut PrimaryCore, transaction: Transaction) -> Result<u64, CommitFault>
+pub fn answer(primary: &mut PrimaryCore, transaction: Transaction) -> Result<u64, CommitFault>
     requires { 0 < primary.old.workers }
     ensures { primary.new.workers ≡ primary.old.workers }
 {

@@ -1,5 +1,5 @@
 -- What follows where no fault stands: each table's columns are within the limits, and a name is new.
-use Rattle.std.proofs.Common.{◌≡◌, ℕ, suc, zero, ◌<◌, ◌≤◌, Bool, true, false, cond, ◌||◌, List, [], ◌∷◌, ◌++◌, length, map, slice_get, position, not, ◌+◌, ◌-◌, subst, nat_lt, ◌==◌, Option, None, Some, refl, sym, ap, ◌∙◌, arith}
+use Rattle.std.proofs.Common.{◌≡◌, ℕ, suc, zero, ◌<◌, ◌≤◌, Bool, true, false, cond, ◌||◌, ◌&&◌, List, [], ◌∷◌, ◌++◌, length, map, slice_get, position, not, ◌+◌, ◌-◌, subst, nat_lt, ◌==◌, Option, None, Some, refl, sym, ap, ◌∙◌, arith}
 use Rattle.std.specs.List.{list_any, list_all, position_or_len, AllByRecursion}
 use Rattle.std.specs.Option.{option_or, option_map, is_some}
 use Rattle.std.specs.Map.{lookup, keys_of}
@@ -99,21 +99,25 @@ column_from-within before (kind ∷ kinds) offset size h found =
     by_tests (good-width kind parts.0) (sum_by-cons width_of kind kinds) (column_from-within (before + 1) kinds (offset - width_of kind) size parts.1)
     (offset == 0) (size == width_of kind) (nat_lt offset (width_of kind)) refl refl refl found
   where
+    further : row_width (kind ∷ kinds) ≡ width_of kind + row_width kinds → nat_lt offset (width_of kind) ≡ false
+        → (0 < size) × (size ≤ 64) × (offset - width_of kind + size ≤ row_width kinds) → (0 < size) × (size ≤ 64) × (offset + size ≤ row_width (kind ∷ kinds))
+    further whole g behind =
+        let past = ltb-false offset (width_of kind) g in
+        (behind.0, behind.1, omega (arith, whole, past, behind.2))
+
     by_tests : (0 < width_of kind) × (width_of kind ≤ 64) → row_width (kind ∷ kinds) ≡ width_of kind + row_width kinds
         → (is_some (column_from (before + 1) kinds (offset - width_of kind) size) ≡ true → (0 < size) × (size ≤ 64) × (offset - width_of kind + size ≤ row_width kinds))
         → (first same short : Bool) → (offset == 0) ≡ first → (size == width_of kind) ≡ same → nat_lt offset (width_of kind) ≡ short
-        → is_some (cond first (cond same (Some (before, kind)) None) (cond short None (column_from (before + 1) kinds (offset - width_of kind) size))) ≡ true
+        → is_some (cond (first && same) (Some (before, kind)) (cond short None (column_from (before + 1) kinds (offset - width_of kind) size))) ≡ true
         → (0 < size) × (size ≤ 64) × (offset + size ≤ row_width (kind ∷ kinds))
     by_tests width whole others true true short e f g found =
         let at : offset ≡ 0 = eqb-true offset 0 e in
         let is : size ≡ width_of kind = eqb-true size (width_of kind) f in
         (omega (arith, width.0), omega (arith, width.1), omega (arith, whole))
-    by_tests width whole others true false short e f g found = cc
+    by_tests width whole others true false true e f g found = cc
+    by_tests width whole others true false false e f g found = further whole g (others found)
     by_tests width whole others false same true e f g found = cc
-    by_tests width whole others false same false e f g found =
-        let past = ltb-false offset (width_of kind) g in
-        let behind = others found in
-        (behind.0, behind.1, omega (arith, whole, past, behind.2))
+    by_tests width whole others false same false e f g found = further whole g (others found)
 
 -- a test over what a function gives
 pub list_any-map : {X Y : Type 0} (test : Y → Bool) (f : X → Y) (xs : List X) → list_any test (map f xs) ≡ list_any (λ x. test (f x)) xs

@@ -31,7 +31,7 @@ row_width kinds = sum_by width_of kinds
 abbrev pub column_from : ℕ → List Kind → ℕ → ℕ → Option (ℕ × Kind)
 column_from before [] offset size = None
 column_from before (kind ∷ kinds) offset size =
-    if offset == 0 then (if size == width_of kind then Some (before, kind) else None) else
+    if offset == 0 && size == width_of kind then Some (before, kind) else
     if nat_lt offset (width_of kind) then None else column_from (before + 1) kinds (offset - width_of kind) size
 
 -- the column at a place among a row's bytes

@@ -1,3 +1,7 @@
+//! Entries, and what each tells of its row.
+
+ghost use Rattle.std.specs.Prelude.{◌≡◌};
+
 use crate::byte_list::ByteList;
 use crate::row_id::RowId;
 
@@ -23,4 +27,60 @@ pub enum Entry {
         table: u8,
         row: RowId,
     },
+}
+
+impl Entry {
+    ghost use Rattle.rows.specs.Entries.{table_of, row_of};
+    ghost use Rattle.rows.specs.Commits.{is_of};
+    ghost use Rattle.rows.specs.Presence.{stands_for, left_by};
+
+    /// The table that the entry is of.
+    pub fn table(&self) -> u8
+        ensures { result ≡ table_of self.now }
+    {
+        match self {
+            Entry::Insert { table, .. }
+            | Entry::Patch { table, .. }
+            | Entry::Delete { table, .. } => *table,
+        }
+    }
+
+    /// The row that the entry is of.
+    pub fn row(&self) -> RowId
+        ensures { result.0 ≡ row_of self.now }
+    {
+        match self {
+            Entry::Insert { row, .. } | Entry::Patch { row, .. } | Entry::Delete { row, .. } =>
+                *row,
+        }
+    }
+
+    /// Whether the entry is of that row.
+    pub fn is_of(&self, table: u8, row: RowId) -> bool
+        ensures { result ≡ is_of table row.0 self.now }
+    {
+        self.table() == table && self.row().0 == row.0
+    }
+
+    /// Whether the entry is possible, where its row is there or not: an insert needs it absent, a
+    /// patch and a delete need it there.
+    pub fn is_possible(&self, there: bool) -> bool
+        ensures { result ≡ stands_for self.now there }
+    {
+        match self {
+            Entry::Insert { .. } => !there,
+            Entry::Patch { .. } | Entry::Delete { .. } => there,
+        }
+    }
+
+    /// Whether the entry leaves its row there, where it was there or not.
+    pub fn leaves_row(&self, was: bool) -> bool
+        ensures { result ≡ left_by self.now was }
+    {
+        match self {
+            Entry::Insert { .. } => true,
+            Entry::Patch { .. } => was,
+            Entry::Delete { .. } => false,
+        }
+    }
 }

@@ -23,6 +23,7 @@ mod octets;
 mod reading;
 mod row;
 mod row_id;
+mod row_presence;
 mod schema;
 mod schema_fault;
 mod value;
@@ -40,10 +41,13 @@ pub use octets::Octets;
 pub use reading::read_entry;
 pub use row::{Row, first_value, row_bytes, row_values};
 pub use row_id::RowId;
+pub use row_presence::is_there_after;
 pub use schema::{Schema, column_at, width_of_row};
 pub use schema_fault::SchemaFault;
 pub use value::Value;
 pub use writing::{entry_len, write_entry};
 
+#[cfg(test)]
+mod schema_tests;
 #[cfg(test)]
 mod tests;

@@ -145,12 +145,8 @@ pub fn column_at(kinds: &[Kind], offset: usize, size: usize) -> Option<(usize, K
     let mut rest = offset;
     for column in 0..kinds.len() {
         let kind = kinds[column];
-        if rest == 0 {
-            return if size == kind.width() {
-                Some((column, kind))
-            } else {
-                None
-            };
+        if rest == 0 && size == kind.width() {
+            return Some((column, kind));
         }
         if rest < kind.width() {
             return None;

@@ -1,4 +1,3 @@
-pub mod Columns
 pub mod Rows
 pub mod Runs
 pub mod Openings

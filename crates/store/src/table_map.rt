@@ -6,10 +6,10 @@ ghost use Rattle.std.specs.Option.{option_map};
 ghost use Rattle.std.specs.Ordering.{nat_cmp};
 ghost use Rattle.std.specs.BTreeMap.{IsOrdered};
 ghost use Rattle.rows.specs.Shape.{is_good};
-ghost use Rattle.rows.specs.Tables.{row_at, is_present, with_row, with_patch, without_row, patched_row};
+ghost use Rattle.rows.specs.Tables.{row_at, is_present, with_row, with_patch, without_row};
 ghost use Rattle.store.specs.Changes.{id_in, IsAboveAllBefore};
 
-use rows::{Kind, Row, Value, column_at, first_value};
+use rows::{Kind, Row, Value};
 use std::alloc::{AllocError, Global};
 use std::collections::BTreeMap;
 use std::marker::Model;
@@ -90,7 +90,7 @@ impl TableMap {
     {
         match self.rows.get_mut(&row) {
             Some(values) => {
-                patch_row(kinds, values, offset, bytes);
+                values.patch(kinds, offset, bytes);
                 true
             }
             None => false,
@@ -116,15 +116,5 @@ fn nth_id(rows: &BTreeMap<u64, Row>, i: usize) -> u64
     match rows.keys().nth(i) {
         Some(id) => *id,
         None => unreachable!(),
-    }
-}
-
-/// Puts bytes at one column's place of a row. Where they have no column's place nothing changes.
-fn patch_row(kinds: &[Kind], row: &mut Row, offset: u16, bytes: &[u8])
-    requires { list_all is_good kinds.now ≡ true }
-    ensures { row.new ≡ patched_row kinds.now offset bytes.now row.old }
-{
-    if let Some((column, kind)) = column_at(kinds, offset as usize, bytes.len()) {
-        row.set(column, first_value(kind, bytes));
     }
 }

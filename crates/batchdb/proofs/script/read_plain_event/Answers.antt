@@ -22,3 +22,8 @@ pub returns-then-eq-6 : goal.returns-then-eq-6
 returns-then-eq-6 c =
     let setup = c.args.setup.now in
     rw c.or_bad_words-then-eq-6.ensures (given (IsPossible setup.workers setup.replicas) c.read_show.result _ (c.read_show.ensures setup.workers setup.replicas))
+
+pub returns-then-eq-9 : goal.returns-then-eq-9
+returns-then-eq-9 c =
+    let setup = c.args.setup.now in
+    rw c.or_bad_words-then-eq-9.ensures (given (IsPossible setup.workers setup.replicas) c.read_abort.result _ (c.read_abort.ensures setup.workers setup.replicas))

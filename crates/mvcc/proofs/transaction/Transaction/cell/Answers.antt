@@ -35,7 +35,7 @@ returns-in-Some c =
     let some : slice_get versions.shape table ≡ Some kinds = sym (c.in-Some.ensures.value ∙ ap (λ shape. slice_get shape table) c.schema.ensures) in
     rw (← c.self.view_is)
     (c.cell_after.ensures
-    ∙ ap (λ own. cell_after kinds table row column (picked own c.places-places.result.now) c.cell_at-was.result) c.as_slice.ensures.value
+    ∙ ap (λ own. cell_after kinds table row column (picked own c.places-places.result.now) c.cell_at-was.result) c.as_slice-entries.ensures.value
     ∙ ap (λ places. cell_after kinds table row column (picked entries places) c.cell_at-was.result) c.places-places.ensures
     ∙ ap (cell_after kinds table row column (picked entries places)) c.cell_at-was.ensures
     ∙ sym (cell-row versions.shape kinds table row column (picked entries places) was some)

@@ -20,7 +20,7 @@ loop-entry-preserved c =
     let entry = c.entry-item.result in
     let next = last_touching-next c.args.entries.now commits c.loop-entry.entry-index c.entry-item.result c.loop-entry-test.true c.entry-item.is in
     let newest : c.newest-newest.result ≡ newest_of (table_of entry) (row_of entry) commits =
-    c.newest-newest.ensures ∙ ap (λ t. newest_of t c.row_of.result.0 commits) c.table_of.ensures ∙ ap (λ r. newest_of (table_of entry) r commits) c.row_of.ensures in
+    c.newest-newest.ensures ∙ ap (λ t. newest_of t c.row.result.0 commits) c.table.ensures ∙ ap (λ r. newest_of (table_of entry) r commits) c.row.ensures in
     elim c.if-last-newest.branch [ then-last-newest w ↦ omega arith | else-last-newest w ↦ omega arith ]
 
 pub returns-clause-stay_defined : goal.returns-clause-stay_defined

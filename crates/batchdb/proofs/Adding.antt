@@ -1,0 +1,78 @@
+-- A change of a transaction that is taken adds one entry, and its row stands as the entry needs it.
+use Rattle.std.proofs.Common.{◌≡◌, ℕ, ◌<◌, Bool, true, false, cond, not, List, [], ◌∷◌, ◌++◌, length, Ok, Err, nat_lt, refl, sym, ap}
+use Rattle.std.specs.List.{slice_get}
+use Rattle.std.specs.Option.{is_some}
+use Rattle.std.proofs.lemmas.Bool.{ltb-true}
+use Rattle.rows.specs.declared.commit.Commit.{Commit}
+use Rattle.rows.specs.declared.entry.Entry.{Entry}
+use Rattle.rows.specs.declared.entry.Entry.TheVariants.{Insert, Patch, Delete}
+use Rattle.rows.specs.declared.value.Value.{Value}
+use Rattle.rows.specs.Shape.{Shape}
+use Rattle.rows.specs.Entries.{table_of, row_of}
+use Rattle.rows.specs.Presence.{stands_for}
+use Rattle.rows.specs.Values.{bytes_of, value_bytes}
+use Rattle.mvcc.specs.declared.faults.TxFault.TheVariants.{Exists, Missing, Unfit, TooManyEntries}
+use Rattle.mvcc.specs.declared.transaction.TheConstants.{TRANSACTION_ENTRIES_MAX}
+use Rattle.mvcc.specs.Draft.{Draft}
+use Rattle.mvcc.specs.Transactions.{match_table, match_column, column_kind, column_offset, sees, draft_with, insert_answer, set_answer, delete_answer}
+
+-- the transaction with this entry behind its others
+pub record IsAdded (shape : Shape) (commits : List Commit) (draft : Draft) (entry : Entry) (new : Draft) : Type 0 where
+  pub stands : stands_for entry (sees shape commits draft (table_of entry) (row_of entry)) ≡ true
+  pub few : length draft.entries < TRANSACTION_ENTRIES_MAX
+  pub made : new ≡ record draft { entries = draft.entries ++ entry ∷ [] }
+
+pub reads_same : (shape : Shape) (commits : List Commit) (draft : Draft) (entry : Entry) (new : Draft) → IsAdded shape commits draft entry new → new.snapshot ≡ draft.snapshot
+reads_same shape commits draft entry new added = ap (λ (d : Draft). d.snapshot) added.made
+
+added_to : (shape : Shape) (commits : List Commit) (draft : Draft) (entry : Entry) (new : Draft) → stands_for entry (sees shape commits draft (table_of entry) (row_of entry)) ≡ true
+    → draft_with draft entry ≡ Ok new → IsAdded shape commits draft entry new
+added_to shape commits draft entry new stands h = by (nat_lt (length draft.entries) TRANSACTION_ENTRIES_MAX) refl h
+  where
+    with : Draft
+    with = record draft { entries = draft.entries ++ entry ∷ [] }
+
+    by : (c : Bool) → nat_lt (length draft.entries) TRANSACTION_ENTRIES_MAX ≡ c → cond c (Ok with) (Err TooManyEntries) ≡ Ok new → IsAdded shape commits draft entry new
+    by false f h = absurd (cc)
+    by true f h =
+        let same : with ≡ new = cc in
+        record { stands = stands; few = ltb-true (length draft.entries) TRANSACTION_ENTRIES_MAX f; made = sym same }
+
+module _ (shape : Shape) (commits : List Commit) (draft : Draft) (table row : ℕ) (new : Draft) where
+  pub insert-added : (values : List Value) → insert_answer shape commits draft table row values ≡ Ok new
+      → (match_table values (slice_get shape table) ≡ true) × IsAdded shape commits draft (Insert table (record { 0 = row }) (bytes_of values)) new
+  insert-added values h = by (match_table values (slice_get shape table)) (sees shape commits draft table row) refl refl h
+    where
+      entry : Entry
+      entry = Insert table (record { 0 = row }) (bytes_of values)
+
+      by : (a b : Bool) → match_table values (slice_get shape table) ≡ a → sees shape commits draft table row ≡ b → cond (not a) (Err Unfit) (cond b (Err Exists) (draft_with draft entry)) ≡ Ok new
+          → (match_table values (slice_get shape table) ≡ true) × IsAdded shape commits draft entry new
+      by false b e f h = absurd (cc)
+      by true true e f h = absurd (cc)
+      by true false e f h = (e, added_to shape commits draft entry new (ap not f) h)
+
+  pub set-added : (column : ℕ) (value : Value) → set_answer shape commits draft table row column value ≡ Ok new
+      → (match_column value (column_kind shape table column) ≡ true) × IsAdded shape commits draft (Patch table (record { 0 = row }) (column_offset shape table column) (value_bytes value)) new
+  set-added column value h = by (match_column value (column_kind shape table column)) (sees shape commits draft table row) refl refl h
+    where
+      entry : Entry
+      entry = Patch table (record { 0 = row }) (column_offset shape table column) (value_bytes value)
+
+      by : (a b : Bool) → match_column value (column_kind shape table column) ≡ a → sees shape commits draft table row ≡ b → cond (not a) (Err Unfit) (cond (not b) (Err Missing) (draft_with draft entry)) ≡ Ok new
+          → (match_column value (column_kind shape table column) ≡ true) × IsAdded shape commits draft entry new
+      by false b e f h = absurd (cc)
+      by true false e f h = absurd (cc)
+      by true true e f h = (e, added_to shape commits draft entry new f h)
+
+  pub delete-added : delete_answer shape commits draft table row ≡ Ok new → (is_some (slice_get shape table) ≡ true) × IsAdded shape commits draft (Delete table (record { 0 = row })) new
+  delete-added h = by (is_some (slice_get shape table)) (sees shape commits draft table row) refl refl h
+    where
+      entry : Entry
+      entry = Delete table (record { 0 = row })
+
+      by : (a b : Bool) → is_some (slice_get shape table) ≡ a → sees shape commits draft table row ≡ b → cond (not a) (Err Unfit) (cond (not b) (Err Missing) (draft_with draft entry)) ≡ Ok new
+          → (is_some (slice_get shape table) ≡ true) × IsAdded shape commits draft entry new
+      by false b e f h = absurd (cc)
+      by true false e f h = absurd (cc)
+      by true true e f h = (e, added_to shape commits draft entry new f h)
