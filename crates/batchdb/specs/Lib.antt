@@ -1,9 +1,1 @@
-pub mod Outputs
-pub mod World
-pub mod Allowed
-pub mod Worked
-pub mod Parts
-pub mod Steps
-pub mod Standing
-pub mod Theorem
-pub mod Script
+pub mod Status

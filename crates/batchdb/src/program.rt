@@ -1,10 +1,13 @@
 //! The words that the program is called with.
 
-use crate::run_script::{RunFault, run_script};
+ghost use Rattle.std.specs.Prelude.{◌≡◌, ◌≤◌};
+ghost use Rattle.batchdb.specs.Status.{fault_status};
+
 use clap::Command;
 use clap::error::ErrorKind;
 use std::alloc::{AllocError, Global};
 use std::io::{Read, Write};
+use world::{RunFault, run_script};
 
 /// The work was done.
 const DONE: u8 = 0;
@@ -24,7 +27,9 @@ pub fn run_words<R: Read, W: Write, E: Write>(
     reader: &mut R,
     writer: &mut W,
     errors: &mut E,
-) -> u8 {
+) -> u8
+    ensures { result ≤ 2 }
+{
     match is_sim(alloc, words) {
         Ok(true) => simulate(alloc, reader, writer, errors),
         Ok(false) => {
@@ -55,17 +60,26 @@ fn simulate<R: Read, W: Write, E: Write>(
     reader: &mut R,
     writer: &mut W,
     errors: &mut E,
-) -> u8 {
+) -> u8
+    ensures { result ≤ 2 }
+{
     match run_script(alloc, reader, writer) {
         Ok(()) => DONE,
         Err(fault) => {
             // The line is lost where it cannot be written; the status still tells.
             let _ = writeln!(errors, "{fault}");
-            match fault {
-                RunFault::Script { .. } => NOT_READ,
-                RunFault::Read | RunFault::Write | RunFault::Memory => FAILED,
-            }
+            status_of(fault)
         }
+    }
+}
+
+/// The exit status of a script that was not run to its end.
+fn status_of(fault: RunFault) -> u8
+    ensures { result ≡ fault_status fault }
+{
+    match fault {
+        RunFault::Script { .. } => NOT_READ,
+        RunFault::Read | RunFault::Write | RunFault::Memory => FAILED,
     }
 }
 

@@ -1,50 +1,19 @@
-//! What no clause says: the text of scripts and outputs, exit statuses, and that calls succeed
-//! where there is memory.
+//! The words of the program and its exit statuses.
 
-use crate::{Event, Node, Output, Setup, read_script, run, run_script, run_words};
-use rows::{Kind, Schema};
+use crate::run_words;
 use std::alloc::Global;
 use std::io;
 use std::io::{ErrorKind, Read, Write};
-use std::process::Abort;
 use std::test::Fail;
 
-/// What a script prints.
-pub fn printed(alloc: Global, script: &[u8]) -> Result<Vec<u8>, Fail> {
-    let mut reader = script;
-    let mut text = Vec::new(alloc);
-    run_script(alloc, &mut reader, &mut text)?;
-    Ok(text)
-}
+/// A script without events.
+const SETTINGS: &str = "workers 1\nreplicas 1\ntable acct int int\n";
 
-/// One table of two numbers.
-pub const SETTINGS: &str = "workers 1\nreplicas 1\ntable acct int int\n";
-
-/// Two tables, one with a column of bytes.
-pub const TWO_TABLES: &str = "workers 1\nreplicas 1\ntable acct int int\ntable item int bytes2\n";
-
-/// Refuses what the events behind these settings print, unless it is what stands beside them.
-pub fn expect(
-    rt: &impl Abort,
-    alloc: Global,
-    settings: &str,
-    story: &[(&str, &str)],
-) -> Result<(), Fail> {
-    let mut script = String::from_str(alloc, settings)?;
-    let mut expected = String::new(alloc);
-    for (event, answer) in story {
-        script.push_str(event)?;
-        script.push_str("\n")?;
-        expected.push_str(answer)?;
-        expected.push_str("\n")?;
-    }
-    let text = printed(alloc, script.as_bytes())?;
-    assert_eq!(rt; text.as_slice(), expected.as_bytes());
-    Ok(())
-}
+/// The words of the simulator.
+const SIM: [&str; 2] = ["batchdb", "sim"];
 
 /// The exit status, and what was written to the output and to the errors.
-pub fn called(alloc: Global, words: &[&str], script: &[u8]) -> (u8, Vec<u8>, Vec<u8>) {
+fn called(alloc: Global, words: &[&str], script: &[u8]) -> (u8, Vec<u8>, Vec<u8>) {
     let mut reader = script;
     let mut text = Vec::new(alloc);
     let mut errors = Vec::new(alloc);
@@ -52,119 +21,9 @@ pub fn called(alloc: Global, words: &[&str], script: &[u8]) -> (u8, Vec<u8>, Vec
     (status, text, errors)
 }
 
-/// What the program says of a script that it does not run; nothing where it does run it.
-pub fn refusal(alloc: Global, script: &[u8]) -> Vec<u8> {
-    let (status, text, errors) = called(alloc, &["batchdb", "sim"], script);
-    if status == 2 && text.is_empty() {
-        errors
-    } else {
-        Vec::new(alloc)
-    }
-}
-
-/// Events, each beside what it answers.
-const STORY: [(&str, &str); 37] = [
-    ("begin", "tx 0 at 0"),
-    ("insert 0 acct 7 5 -1", "ok"),
-    ("insert 0 acct 7 0 0", "exists"),
-    ("insert 0 acct 8 5", "unfit"),
-    (
-        "insert 0 acct 8 9223372036854775807 -9223372036854775808",
-        "ok",
-    ),
-    ("insert 0 acct 9 0 0", "too many entries"),
-    ("insert 1 acct 9 0 0", "no tx"),
-    ("begin", "tx 1 at 0"),
-    ("insert 1 acct 7 1 1", "ok"),
-    ("commit 0 0", "ticket 1"),
-    ("commit 0 0", "no tx"),
-    ("commit 1 0", "conflict 1"),
-    ("push 0 0", "no frame"),
-    ("begin", "tx 2 at 0"),
-    ("commit 2 0", "read only"),
-    ("flush 4294967295", "durable 1"),
-    ("push 0 1", "no frame"),
-    ("push 0 0", "sent 0 82"),
-    ("run 0", "no batch"),
-    ("ask 0", "empty"),
-    ("open 0 query acct get count", "opened 1"),
-    ("open 0 query acct get count", "opened 2"),
-    ("ask 0", "sent 1 23"),
-    ("ask 0", "sent 2 23"),
-    ("run 0", "waiting head"),
-    ("deliver 1 r0", "ignored"),
-    ("deliver 0 p", "ignored"),
-    ("deliver 9 p", "never sent"),
-    ("show 9", "never sent"),
-    ("deliver 2 p", "sent 3 40"),
-    ("deliver 3 r0", "head 1"),
-    ("deliver 3 r0", "ignored"),
-    ("ask 0", "busy"),
-    ("run 0", "waiting 0 0\nsent 4 16"),
-    ("deliver 0 r0", "stored"),
-    ("deliver 0 r0", "repeat"),
-    (
-        "run 0",
-        "version 1 queries 2\nquery 0 rows 1\n2\nquery 1 rows 1\n2",
-    ),
-];
-
+/// What words that are none of the program's get: one line, and status 2.
 #[test]
-fn events_answer_as_they_should(rt: HostRuntime) -> Result<(), Fail> {
-    expect(&rt, rt.alloc(), SETTINGS, &STORY)
-}
-
-#[test]
-fn a_frame_is_shown_to_the_byte(rt: HostRuntime) -> Result<(), Fail> {
-    let script = "begin\ninsert 0 acct 7 5 -1\ncommit 0 0\nflush 1\npush 0 0\nshow 0";
-    let whole = format!(in rt.alloc(); "{SETTINGS}{script}")?;
-    let text = printed(rt.alloc(), whole.as_bytes())?;
-    let frame =
-        "42440101003600000000000000000000000000000000010100010100000000000000000700100000000000000005ffffffffffffffff\n";
-    assert!(rt; text.as_slice().ends_with(frame.as_bytes()));
-    Ok(())
-}
-
-#[test]
-fn values_are_of_their_columns_kinds(rt: HostRuntime) -> Result<(), Fail> {
-    let events =
-        "begin\ninsert 0 item 7 5 xab\ninsert 0 item 7 5 xabcdef\ninsert 0 item 7 xabcd 5\ninsert 0 item 7 5 5\ninsert 0 acct 7 5 xabcd\ninsert 0 item 7 5 xabcd\n";
-    let script = format!(in rt.alloc(); "{TWO_TABLES}{events}")?;
-    let text = printed(rt.alloc(), script.as_bytes())?;
-    let answers = "tx 0 at 0\nunfit\nunfit\nunfit\nunfit\nunfit\nok\n";
-    assert_eq!(rt; text.as_slice(), answers.as_bytes());
-    Ok(())
-}
-
-#[test]
-fn a_value_of_bytes_is_sent_as_it_is(rt: HostRuntime) -> Result<(), Fail> {
-    let events = "begin\ninsert 0 item 7 5 xabcd\ncommit 0 0\nflush 1\npush 0 0\nshow 0\n";
-    let script = format!(in rt.alloc(); "{TWO_TABLES}{events}")?;
-    let text = printed(rt.alloc(), script.as_bytes())?;
-    let frame =
-        "424401010030000000000000000000000000000000000101000101010000000000000007000a0000000000000005abcd\n";
-    assert!(rt; text.as_slice().ends_with(frame.as_bytes()));
-    Ok(())
-}
-
-#[test]
-fn a_report_counts_each_table(rt: HostRuntime) -> Result<(), Fail> {
-    let commit =
-        "begin\ninsert 0 item 7 5 xabcd\ninsert 0 item 8 5 xabcd\ncommit 0 0\nflush 1\npush 0 0\ndeliver 0 r0\n";
-    let report =
-        "open 0 query acct get count\nopen 0 query item get count\nask 0\ndeliver 1 p\ndeliver 2 r0\nrun 0\n";
-    let script = format!(in rt.alloc(); "{TWO_TABLES}{commit}{report}")?;
-    let text = printed(rt.alloc(), script.as_bytes())?;
-    let answers = "head 1\nversion 1 queries 2\nquery 0 rows 1\n0\nquery 1 rows 1\n2\n";
-    assert!(rt; text.as_slice().ends_with(answers.as_bytes()));
-    Ok(())
-}
-
-#[test]
-fn words_have_their_statuses(rt: HostRuntime) -> Result<(), Fail> {
-    let good = SETTINGS.as_bytes();
-    let (status, text, errors) = called(rt.alloc(), &["batchdb", "sim"], good);
-    assert_eq!(rt; (status, text.len(), errors.len()), (0, 0, 0));
+fn wrong_words_have_status_2(rt: HostRuntime) -> Result<(), Fail> {
     let wrong: [&[&str]; 4] = [
         &["batchdb"],
         &["batchdb", "frobnicate"],
@@ -172,14 +31,42 @@ fn words_have_their_statuses(rt: HostRuntime) -> Result<(), Fail> {
         &["batchdb", "--help"],
     ];
     for words in wrong {
-        let (status, text, errors) = called(rt.alloc(), words, good);
-        assert_eq!(rt; status, 2, "{words:?}");
-        assert_eq!(rt; text.len(), 0, "{words:?}");
+        let (status, text, errors) = called(rt.alloc(), words, SETTINGS.as_bytes());
+        assert_eq!(rt; (status, text.len()), (2, 0), "{words:?}");
         assert_eq!(rt;
             errors.as_slice(),
             b"expected the word `sim`: batchdb sim < SCRIPT\n".as_slice(),
             "{words:?}"
         );
+    }
+    Ok(())
+}
+
+/// Scripts, each beside its exit status, what it prints, and the line of its fault.
+const SCRIPTS: [(&str, u8, &str, &str); 4] = [
+    (SETTINGS, 0, "", ""),
+    (
+        "workers 1\nreplicas 1\ntable acct int int\nbegin\n",
+        0,
+        "tx 0 at 0\n",
+        "",
+    ),
+    (
+        "workers 1\nreplicas 1\ntable acct int int\nfrobnicate\n",
+        2,
+        "",
+        "line 4: unknown event\n",
+    ),
+    ("", 2, "", "line 1: bad setting\n"),
+];
+
+#[test]
+fn scripts_have_their_statuses(rt: HostRuntime) -> Result<(), Fail> {
+    for (script, expected, output, line) in &SCRIPTS {
+        let (status, text, errors) = called(rt.alloc(), &SIM, script.as_bytes());
+        assert_eq!(rt; status, *expected, "{script}");
+        assert_eq!(rt; text.as_slice(), output.as_bytes(), "{script}");
+        assert_eq!(rt; errors.as_slice(), line.as_bytes(), "{script}");
     }
     Ok(())
 }
@@ -206,10 +93,9 @@ impl Write for Failing {
 
 #[test]
 fn a_failed_read_or_write_has_status_1(rt: HostRuntime) -> Result<(), Fail> {
-    let words = ["batchdb", "sim"];
     let mut text = Vec::new(rt.alloc());
     let mut errors = Vec::new(rt.alloc());
-    let status = run_words(rt.alloc(), &words, &mut Failing, &mut text, &mut errors);
+    let status = run_words(rt.alloc(), &SIM, &mut Failing, &mut text, &mut errors);
     assert_eq!(rt; (status, text.len()), (1, 0));
     assert_eq!(rt;
         errors.as_slice(),
@@ -219,64 +105,11 @@ fn a_failed_read_or_write_has_status_1(rt: HostRuntime) -> Result<(), Fail> {
     let script = format!(in rt.alloc(); "{SETTINGS}begin\n")?;
     let mut reader = script.as_bytes();
     let mut errors = Vec::new(rt.alloc());
-    let status = run_words(rt.alloc(), &words, &mut reader, &mut Failing, &mut errors);
+    let status = run_words(rt.alloc(), &SIM, &mut reader, &mut Failing, &mut errors);
     assert_eq!(rt; status, 1);
     assert_eq!(rt;
         errors.as_slice(),
         b"the output could not be written\n".as_slice()
-    );
-    Ok(())
-}
-
-#[test]
-fn scripts_read_as_their_events(rt: HostRuntime) -> Result<(), Fail> {
-    let script = format!(in rt.alloc(); "{SETTINGS}push 0 3\ndeliver 2 p\n")?;
-    let (setup, events) = read_script(rt.alloc(), script.as_bytes())?;
-    assert_eq!(rt; (setup.workers, setup.replicas), (1, 1));
-    assert_eq!(rt; setup.schema.name(0), Some("acct"));
-    assert_eq!(rt;
-        setup.schema.kinds(0),
-        Some([Kind::Int, Kind::Int].as_slice())
-    );
-    assert!(rt;
-        matches!(
-            events.as_slice(),
-            [
-                Event::Push { worker: 0, seq: 3 },
-                Event::Deliver {
-                    place: 2,
-                    node: Node::Primary
-                }
-            ]
-        )
-    );
-    Ok(())
-}
-
-#[test]
-fn a_run_answers_each_event(rt: HostRuntime) -> Result<(), Fail> {
-    let kinds = [Kind::Int];
-    let setup = Setup {
-        schema: Schema::new(rt.alloc(), &[("acct", &kinds)])?,
-        workers: 1,
-        replicas: 1,
-    };
-    let outputs = run(
-        rt.alloc(),
-        &setup,
-        &[Event::Begin, Event::Show { place: 0 }],
-    )?;
-    assert!(rt;
-        matches!(
-            outputs.as_slice(),
-            [
-                Output::Tx {
-                    number: 0,
-                    snapshot: 0
-                },
-                Output::NeverSent
-            ]
-        )
     );
     Ok(())
 }

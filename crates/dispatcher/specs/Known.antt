@@ -1,7 +1,7 @@
 -- Known frames: the places of a worker's stream whose frames have come. Only membership counts.
 use Rattle.std.specs.Prelude.{ℕ, zero, suc, ◌+◌, ◌-◌, ◌^◌, List, length, Bool, ◌==◌, ◌||◌, nat_le, if◌then◌else◌}
 use Rattle.std.specs.List.{list_any}
-use Rattle.rows.specs.declared.limits.TheConstants.{FRAME_WINDOW}
+use Rattle.rows.specs.Limits.{frame_window}
 
 -- whether the frame at that place is known
 abbrev pub is_known : List ℕ → ℕ → Bool
@@ -19,4 +19,4 @@ first_missing known = missing_from (length known) 0 known
 -- whether a place is too far ahead to be kept: no stream has the greatest number, and the window is 4096 places from
 -- the first that is missing
 abbrev pub is_ahead : List ℕ → ℕ → Bool
-is_ahead known seq = (seq == 2 ^ 64 - 1) || nat_le (first_missing known + FRAME_WINDOW) seq
+is_ahead known seq = (seq == 2 ^ 64 - 1) || nat_le (first_missing known + frame_window) seq

@@ -5,7 +5,7 @@ use Rattle.std.specs.Option.{option_map}
 use Rattle.std.specs.Ordering.{nat_cmp}
 use Rattle.std.specs.Map.{keys_of}
 use Rattle.std.specs.BTreeMap.{insert_entry}
-use Rattle.rows.specs.declared.limits.TheConstants.{WAITING_QUERIES_MAX}
+use Rattle.rows.specs.Limits.{waiting_queries_max}
 use Rattle.rows.specs.declared.commit.Commit.{Commit}
 use Rattle.rows.specs.Shape.{Shape}
 use Rattle.rows.specs.Commits.{commits_of}
@@ -58,7 +58,7 @@ started shape workers number boot = record {
 abbrev pub opened : Replica → Plan → Result (ℕ × Replica) OpenFault
 opened r plan =
     if r.broken then Err opens.Broken else
-    if nat_le WAITING_QUERIES_MAX (length r.waiting) then Err opens.BatchFull else
+    if nat_le waiting_queries_max (length r.waiting) then Err opens.BatchFull else
     by_check (checked r.shape plan)
   where
     by_check : Result (Unit {0}) PlanFault → Result (ℕ × Replica) OpenFault

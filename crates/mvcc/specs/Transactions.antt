@@ -14,9 +14,8 @@ use Rattle.rows.specs.Tables.{Tables, applied, is_present, rows_of, kinds_of}
 use Rattle.rows.specs.Commits.{tables_after}
 use Rattle.mvcc.specs.declared.faults.TxFault.{TxFault}
 use Rattle.mvcc.specs.declared.faults.TxFault.TheVariants.{Exists, Missing, Unfit, TooManyEntries}
-use Rattle.mvcc.specs.declared.transaction.TheConstants.{TRANSACTION_ENTRIES_MAX}
 use Rattle.mvcc.specs.Values.{value_in}
-use Rattle.mvcc.specs.Draft.{Draft}
+use Rattle.mvcc.specs.Draft.{Draft, transaction_entries_max}
 
 -- whether a value is of that kind: octets are as many as their column is wide
 abbrev pub is_of_kind : Value → Kind → Bool
@@ -61,7 +60,7 @@ sees shape commits draft table row = is_present (rows_of (seen_by shape commits 
 -- the transaction with one more entry, where it may have one more
 abbrev pub draft_with : Draft → Entry → Result Draft TxFault
 draft_with draft entry =
-    if nat_lt (length draft.entries) TRANSACTION_ENTRIES_MAX
+    if nat_lt (length draft.entries) transaction_entries_max
     then Ok (record draft { entries = draft.entries ++ entry ∷ [] })
     else Err TooManyEntries
 

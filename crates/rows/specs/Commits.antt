@@ -3,7 +3,7 @@ use Rattle.std.specs.Prelude.{ℕ, ◌+◌, ◌<◌, ◌≤◌, List, [], ◌∷
 use Rattle.std.specs.List.{list_any, AllByRecursion}
 use Rattle.rows.specs.declared.commit.Commit.{Commit}
 use Rattle.rows.specs.declared.entry.Entry.{Entry}
-use Rattle.rows.specs.declared.limits.TheConstants.{COMMIT_ENTRIES_MAX}
+use Rattle.rows.specs.Limits.{commit_entries_max}
 use Rattle.rows.specs.Shape.{Shape}
 use Rattle.rows.specs.Entries.{table_of, row_of}
 use Rattle.rows.specs.Tables.{Tables, Refusal, opening, changes_of, and_then}
@@ -17,7 +17,7 @@ commits_of shape tables (commit ∷ commits) = and_then (λ after. commits_of sh
 pub record IsCommit (workers : ℕ) (commit : Commit) : Type 0 where
   pub worker : commit.worker < workers
   pub some : 0 < length commit.entries
-  pub few : length commit.entries ≤ COMMIT_ENTRIES_MAX
+  pub few : length commit.entries ≤ commit_entries_max
 
 -- a list of commits that a primary may have: each is a commit, and each entry is defined in its place
 pub record IsLegal (shape : Shape) (workers : ℕ) (commits : List Commit) : Type 0 where

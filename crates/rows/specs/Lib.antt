@@ -1,3 +1,4 @@
+pub mod Limits
 pub mod Shape
 pub mod SchemaFaults
 pub mod Padded

@@ -5,7 +5,7 @@ use Rattle.rows.specs.declared.entry.Entry.{Entry}
 use Rattle.rows.specs.declared.entry.Entry.TheVariants.{Insert, Patch, Delete}
 use Rattle.rows.specs.declared.entry_ref.EntryRef.{EntryRef}
 use Rattle.rows.specs.declared.entry_ref.EntryRef.TheVariants as lent
-use Rattle.rows.specs.declared.limits.TheConstants.{TABLES_MAX, ROW_WIDTH_MAX, OCTETS_MAX}
+use Rattle.rows.specs.Limits.{tables_max, row_width_max, octets_max}
 
 -- the entry that is lent
 abbrev pub entry_of : EntryRef → Entry
@@ -23,7 +23,7 @@ insert_at table row rest = if nat_lt (length rest) 2 then None else of_size (big
   where
     of_size : ℕ → List ℕ → Option (Entry × ℕ)
     of_size size content =
-        if (size == 0) || nat_lt ROW_WIDTH_MAX size || nat_lt (length content) size then None else
+        if (size == 0) || nat_lt row_width_max size || nat_lt (length content) size then None else
         Some (Insert table (record { 0 = row }) (take size content), 12 + size)
 
 -- a patch behind its row: the offset in two bytes, the size in two, and the data
@@ -33,13 +33,13 @@ patch_at table row rest =
   where
     of_size : ℕ → ℕ → List ℕ → Option (Entry × ℕ)
     of_size offset size content =
-        if (size == 0) || nat_lt OCTETS_MAX size || nat_lt ROW_WIDTH_MAX (offset + size) || nat_lt (length content) size then None else
+        if (size == 0) || nat_lt octets_max size || nat_lt row_width_max (offset + size) || nat_lt (length content) size then None else
         Some (Patch table (record { 0 = row }) offset (take size content), 14 + size)
 
 -- an entry behind its row, by what it begins with
 abbrev pub entry_behind : ℕ → ℕ → ℕ → List ℕ → Option (Entry × ℕ)
 entry_behind op table row rest =
-    if not (nat_lt table TABLES_MAX) then None else
+    if not (nat_lt table tables_max) then None else
     if op == 1 then insert_at table row rest else
     if op == 2 then patch_at table row rest else
     if op == 3 then Some (Delete table (record { 0 = row }), 10) else None

@@ -6,7 +6,7 @@ use Rattle.std.specs.Str.{bytes_eq}
 use Rattle.rows.specs.declared.kind.Kind.{Kind}
 use Rattle.rows.specs.declared.schema_fault.SchemaFault.{SchemaFault}
 use Rattle.rows.specs.declared.schema_fault.SchemaFault.TheVariants.{TooManyTables, TooManyColumns, RowTooWide, BadWidth, NameTwice, Empty}
-use Rattle.rows.specs.declared.limits.TheConstants.{TABLES_MAX, COLUMNS_MAX, ROW_WIDTH_MAX}
+use Rattle.rows.specs.Limits.{tables_max, columns_max, row_width_max}
 use Rattle.rows.specs.Shape.{row_width, is_good}
 
 -- the fault of one table, which stands behind these
@@ -15,9 +15,9 @@ table_fault before table =
     if length table.0 == 0 then Some Empty else
     if list_any (λ other. bytes_eq other.0 table.0) before then Some NameTwice else
     if length table.1 == 0 then Some Empty else
-    if nat_lt COLUMNS_MAX (length table.1) then Some TooManyColumns else
+    if nat_lt columns_max (length table.1) then Some TooManyColumns else
     if not (list_all is_good table.1) then Some BadWidth else
-    if nat_lt ROW_WIDTH_MAX (row_width table.1) then Some RowTooWide else None
+    if nat_lt row_width_max (row_width table.1) then Some RowTooWide else None
 
 -- the first fault of these tables, which stand behind others
 abbrev pub tables_fault : List (List ℕ × List Kind) → List (List ℕ × List Kind) → Option SchemaFault
@@ -27,4 +27,4 @@ tables_fault before (table ∷ tables) = option_or (table_fault before table) (t
 abbrev pub schema_fault : List (List ℕ × List Kind) → Option SchemaFault
 schema_fault tables =
     if length tables == 0 then Some Empty else
-    if nat_lt TABLES_MAX (length tables) then Some TooManyTables else tables_fault [] tables
+    if nat_lt tables_max (length tables) then Some TooManyTables else tables_fault [] tables

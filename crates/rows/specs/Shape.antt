@@ -3,7 +3,7 @@ use Rattle.std.specs.Prelude.{◌≡◌, ℕ, ◌<◌, ◌≤◌, ◌+◌, ◌-�
 use Rattle.std.specs.List.{sum_by, list_all, AllByRecursion}
 use Rattle.rows.specs.declared.kind.Kind.{Kind}
 use Rattle.rows.specs.declared.kind.Kind.TheVariants.{Int, Octets}
-use Rattle.rows.specs.declared.limits.TheConstants.{TABLES_MAX, COLUMNS_MAX, ROW_WIDTH_MAX, OCTETS_MAX}
+use Rattle.rows.specs.Limits.{tables_max, columns_max, row_width_max, octets_max}
 
 abbrev pub Shape : Type 0
 Shape = List (List Kind)
@@ -20,7 +20,7 @@ width_of (Octets width) = width
 -- whether a column may be of this kind: octets are 1 to 64 bytes
 abbrev pub is_good : Kind → Bool
 is_good Int = true
-is_good (Octets width) = not (width == 0) && not (nat_lt OCTETS_MAX width)
+is_good (Octets width) = not (width == 0) && not (nat_lt octets_max width)
 
 -- how many bytes a row of these columns takes
 abbrev pub row_width : List Kind → ℕ
@@ -42,12 +42,12 @@ column_at kinds offset size = column_from 0 kinds offset size
 -- bytes a row
 pub record AreColumns (kinds : List Kind) : Type 0 where
   pub some : 0 < length kinds
-  pub few : length kinds ≤ COLUMNS_MAX
+  pub few : length kinds ≤ columns_max
   pub good : list_all is_good kinds ≡ true
-  pub narrow : row_width kinds ≤ ROW_WIDTH_MAX
+  pub narrow : row_width kinds ≤ row_width_max
 
 -- the tables that a schema may have: 1 to 16, each of columns that a table may have
 pub record AreTables (shape : Shape) : Type 0 where
   pub some : 0 < length shape
-  pub few : length shape ≤ TABLES_MAX
+  pub few : length shape ≤ tables_max
   pub each : AllByRecursion AreColumns shape

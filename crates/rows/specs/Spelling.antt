@@ -3,7 +3,7 @@ use Rattle.std.specs.Prelude.{ℕ, ◌+◌, ◌^◌, ◌<◌, ◌≤◌, List, [
 use Rattle.byteorder.specs.Endian.{big_bytes}
 use Rattle.rows.specs.declared.entry.Entry.{Entry}
 use Rattle.rows.specs.declared.entry.Entry.TheVariants.{Insert, Patch, Delete}
-use Rattle.rows.specs.declared.limits.TheConstants.{TABLES_MAX, ROW_WIDTH_MAX, OCTETS_MAX}
+use Rattle.rows.specs.Limits.{tables_max, row_width_max, octets_max}
 
 -- what every entry begins with: which it is in one byte, the table in one, and the row in eight
 abbrev pub entry_front : ℕ → ℕ → ℕ → List ℕ
@@ -22,24 +22,24 @@ AreBytes bytes = (i : ℕ) → slice_index bytes i < 256
 
 -- an insert with a spelling: its table is below 16, its row a number of 64 bits, its data 1 to 512 bytes
 pub record IsInsert (table row : ℕ) (bytes : List ℕ) : Type 0 where
-  pub table_below : table < TABLES_MAX
+  pub table_below : table < tables_max
   pub row_below : row < 2 ^ 64
   pub some : 0 < length bytes
-  pub few : length bytes ≤ ROW_WIDTH_MAX
+  pub few : length bytes ≤ row_width_max
   pub are_bytes : AreBytes bytes
 
 -- a patch with a spelling: its data is 1 to 64 bytes, which end within 512
 pub record IsPatch (table row offset : ℕ) (bytes : List ℕ) : Type 0 where
-  pub table_below : table < TABLES_MAX
+  pub table_below : table < tables_max
   pub row_below : row < 2 ^ 64
   pub some : 0 < length bytes
-  pub few : length bytes ≤ OCTETS_MAX
-  pub within : offset + length bytes ≤ ROW_WIDTH_MAX
+  pub few : length bytes ≤ octets_max
+  pub within : offset + length bytes ≤ row_width_max
   pub are_bytes : AreBytes bytes
 
 -- a delete with a spelling
 pub record IsDelete (table row : ℕ) : Type 0 where
-  pub table_below : table < TABLES_MAX
+  pub table_below : table < tables_max
   pub row_below : row < 2 ^ 64
 
 -- which entries have a spelling

@@ -1,5 +1,9 @@
 //! The limits of the engine, each stated once.
 
+ghost use Rattle.std.specs.Prelude.{◌≡◌};
+ghost use Rattle.rows.specs.Limits.{tables_max, columns_max, octets_max, row_width_max, commit_entries_max};
+ghost use Rattle.rows.specs.Limits.{workers_max, replicas_max, datagram_max, waiting_queries_max, frame_window};
+
 /// Tables in a schema, at most.
 pub const TABLES_MAX: usize = 16;
 
@@ -29,3 +33,18 @@ pub const WAITING_QUERIES_MAX: usize = 64;
 
 /// Frames that a replica keeps of one worker, counted from the first that is missing.
 pub const FRAME_WINDOW: u64 = 4096;
+
+/// The limits are the numbers that the definitions name. It does nothing: its contract says so,
+/// so that a limit which is changed here alone is refused.
+pub fn are_as_defined()
+    ensures tables { TABLES_MAX ≡ tables_max }
+    ensures columns { COLUMNS_MAX ≡ columns_max }
+    ensures octets { OCTETS_MAX ≡ octets_max }
+    ensures row_width { ROW_WIDTH_MAX ≡ row_width_max }
+    ensures commit_entries { COMMIT_ENTRIES_MAX ≡ commit_entries_max }
+    ensures workers { WORKERS_MAX ≡ workers_max }
+    ensures replicas { REPLICAS_MAX ≡ replicas_max }
+    ensures datagram { DATAGRAM_MAX ≡ datagram_max }
+    ensures waiting_queries { WAITING_QUERIES_MAX ≡ waiting_queries_max }
+    ensures window { FRAME_WINDOW ≡ frame_window }
+{}

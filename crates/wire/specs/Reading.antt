@@ -2,7 +2,7 @@
 use Rattle.std.specs.Prelude.{ℕ, zero, suc, ◌+◌, ◌*◌, List, [], ◌∷◌, length, drop, Option, None, Some, Result, Err, slice_index, nat_lt, ◌==◌, ◌||◌, ◌&&◌, not, if◌then◌else◌}
 use Rattle.std.specs.Option.{option_map, ok_or}
 use Rattle.byteorder.specs.Endian.{big_number}
-use Rattle.rows.specs.declared.limits.TheConstants.{DATAGRAM_MAX, WORKERS_MAX, REPLICAS_MAX}
+use Rattle.rows.specs.Limits.{datagram_max, workers_max, replicas_max}
 use Rattle.wire.specs.declared.datagram.Datagram.{Datagram}
 use Rattle.wire.specs.declared.datagram.Datagram.TheVariants.{Frame, Ask, Head, Want}
 use Rattle.wire.specs.declared.fault.WireFault.{WireFault}
@@ -14,14 +14,14 @@ use Rattle.wire.specs.Entries.{entries_filling}
 abbrev pub frame_at : List ℕ → Option Datagram
 frame_at body =
     if nat_lt (length body) 20 then None else
-    if not (nat_lt (slice_index body 0) WORKERS_MAX) || (big_number 8 (drop 9 body) == 0) || nat_lt 1 (slice_index body 17) || (big_number 2 (drop 18 body) == 0) then None else
+    if not (nat_lt (slice_index body 0) workers_max) || (big_number 8 (drop 9 body) == 0) || nat_lt 1 (slice_index body 17) || (big_number 2 (drop 18 body) == 0) then None else
     option_map (λ entries. Frame (slice_index body 0) (big_number 8 (drop 1 body)) (big_number 8 (drop 9 body)) (slice_index body 17 == 1) entries)
     (entries_filling (big_number 2 (drop 18 body)) (drop 20 body))
 
 -- an Ask's body: 17 bytes, the replica below 16
 abbrev pub ask_at : List ℕ → Option Datagram
 ask_at body =
-    if not (length body == 17) || not (nat_lt (slice_index body 0) REPLICAS_MAX) then None else
+    if not (length body == 17) || not (nat_lt (slice_index body 0) replicas_max) then None else
     Some (Ask (slice_index body 0) (big_number 8 (drop 1 body)) (big_number 8 (drop 9 body)))
 
 -- the counts of this many workers
@@ -33,7 +33,7 @@ counts_at (suc workers) bytes = big_number 8 bytes ∷ counts_at workers (drop 8
 abbrev pub head_at : List ℕ → Option Datagram
 head_at body =
     if nat_lt (length body) 26 then None else
-    if not (nat_lt (slice_index body 0) REPLICAS_MAX) || (slice_index body 25 == 0) || nat_lt WORKERS_MAX (slice_index body 25) || not (length body == 26 + 8 * slice_index body 25) then None else
+    if not (nat_lt (slice_index body 0) replicas_max) || (slice_index body 25 == 0) || nat_lt workers_max (slice_index body 25) || not (length body == 26 + 8 * slice_index body 25) then None else
     Some (Head (slice_index body 0) (big_number 8 (drop 1 body)) (big_number 8 (drop 9 body)) (big_number 8 (drop 17 body)) (counts_at (slice_index body 25) (drop 26 body)))
 
 -- the body of a datagram of this kind
@@ -46,7 +46,7 @@ reading bytes =
     if not (big_number 2 bytes == 0x4244) then Err Magic else
     if not (slice_index bytes 2 == 1) then Err Version else
     if not (slice_index bytes 3 == 1) && not (slice_index bytes 3 == 2) && not (slice_index bytes 3 == 3) then Err Kind else
-    if not (big_number 2 (drop 4 bytes) == length bytes) || nat_lt DATAGRAM_MAX (length bytes) then Err Length else
+    if not (big_number 2 (drop 4 bytes) == length bytes) || nat_lt datagram_max (length bytes) then Err Length else
     ok_or (body_at (slice_index bytes 3) (drop 6 bytes)) Body
 
 -- which datagrams are read: a Want alone is not

@@ -6,7 +6,7 @@ use Rattle.std.specs.Prelude.{ℕ, ◌+◌, ◌^◌, ◌<◌, ◌≤◌, List, [
 use Rattle.std.specs.List.{flat_map, AllByRecursion}
 use Rattle.byteorder.specs.Endian.{big_bytes}
 use Rattle.rows.specs.declared.entry.Entry.{Entry}
-use Rattle.rows.specs.declared.limits.TheConstants.{DATAGRAM_MAX, WORKERS_MAX, REPLICAS_MAX}
+use Rattle.rows.specs.Limits.{datagram_max, workers_max, replicas_max}
 use Rattle.rows.specs.Spelling.{entry_spelling, HasSpelling as EntryHasSpelling}
 use Rattle.wire.specs.declared.datagram.Datagram.{Datagram}
 use Rattle.wire.specs.declared.datagram.Datagram.TheVariants.{Frame, Ask, Head, Want}
@@ -54,24 +54,24 @@ spelling (Want replica worker from) = datagram_of 4 (want_body replica worker fr
 -- which frames have a spelling: the worker is below 16, the commit's number is not 0, there is an entry, each
 -- has a spelling, and all fit into 1200 bytes
 pub record IsFrame (worker seq commit : ℕ) (entries : List Entry) : Type 0 where
-  pub worker_below : worker < WORKERS_MAX
+  pub worker_below : worker < workers_max
   pub seq_below : seq < 2 ^ 64
   pub commit_numbered : 0 < commit
   pub commit_below : commit < 2 ^ 64
   pub some : 0 < length entries
   pub spelled : AllByRecursion EntryHasSpelling entries
-  pub few : 26 + length (flat_map entry_spelling entries) ≤ DATAGRAM_MAX
+  pub few : 26 + length (flat_map entry_spelling entries) ≤ datagram_max
 
 -- which Asks and Heads have a spelling, their counts aside: the replica is below 16, and the numbers are of 64 bits
 pub record IsAsk (replica boot request : ℕ) : Type 0 where
-  pub replica_below : replica < REPLICAS_MAX
+  pub replica_below : replica < replicas_max
   pub boot_below : boot < 2 ^ 64
   pub request_below : request < 2 ^ 64
 
 -- which counts a Head may have: 1 to 16 numbers of 64 bits
 pub record AreCounts (counts : List ℕ) : Type 0 where
   pub some : 0 < length counts
-  pub few : length counts ≤ WORKERS_MAX
+  pub few : length counts ≤ workers_max
   pub below : AllByRecursion (λ count. count < 2 ^ 64) counts
 
 -- which datagrams have a spelling
@@ -79,7 +79,7 @@ abbrev pub HasSpelling : Datagram → Type 0
 HasSpelling (Frame worker seq commit last entries) = IsFrame worker seq commit entries
 HasSpelling (Ask replica boot request) = IsAsk replica boot request
 HasSpelling (Head replica boot request version counts) = IsAsk replica boot request × (version < 2 ^ 64) × AreCounts counts
-HasSpelling (Want replica worker from) = (replica < REPLICAS_MAX) × (worker < WORKERS_MAX) × (from < 2 ^ 64)
+HasSpelling (Want replica worker from) = (replica < replicas_max) × (worker < workers_max) × (from < 2 ^ 64)
 
 -- an owned frame as a datagram
 abbrev pub datagram_of_frame : frames.Frame → Datagram

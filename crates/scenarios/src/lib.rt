@@ -1,0 +1,11 @@
+//! Scenarios: what the public calls of all crates do together, on whole stories. There is nothing
+//! here but tests, as in the folder `tests/` of a Rust crate. What only a crate itself can see is
+//! tested there; a test within a crate proves the whole crate once more.
+#![tactic(auto)]
+
+#[cfg(test)]
+mod script_faults;
+#[cfg(test)]
+mod script_transactions;
+#[cfg(test)]
+mod scripts;

@@ -1,0 +1,27 @@
+//! Scripts of the simulator: settings, events and outputs as values, and their text.
+//!
+//! `read_script` reads the settings and the events of a script, or says which line is the first
+//! that does not read, and why. `text_of` is the text of what events answer. `specs/` says which
+//! events may be asked for (`Events.antt`). What the text of a line is, is shown by tests.
+//!
+//! It stands on `rows` for schemas and values, and on `dispatcher` for plans.
+#![tactic(auto)]
+
+mod event;
+mod line_fault;
+mod output;
+mod output_text;
+mod reading;
+mod script_fault;
+mod sent;
+mod settings;
+mod setup;
+mod words;
+
+pub use event::{Event, Node};
+pub use output::Output;
+pub use output_text::text_of;
+pub use reading::read_script;
+pub use script_fault::{Reason, ScriptFault};
+pub use sent::{Sent, SentList};
+pub use setup::Setup;

@@ -1,0 +1,11 @@
+-- The replicas so far, followed by those that are still to be made.
+use Rattle.std.proofs.Common.{◌≡◌, ◌-◌, ◌++◌}
+use Rattle.rows.specs.Shape.{shape_of}
+use Rattle.world.specs.Parts.{replicas_from, zeros}
+use Rattle.world.proofs.cores.Cores.start.Given as goal
+
+abbrev pub invariant-loop-number : goal.invariant-loop-number
+invariant-loop-number l = record {
+  made : l.cores.items ++ replicas_from (shape_of l.schema) l.workers l.number (l.replicas - l.number) ≡ replicas_from (shape_of l.schema) l.workers 0 l.replicas;
+  noted : l.asked_at.items ++ zeros (l.replicas - l.number) ≡ zeros l.replicas;
+}

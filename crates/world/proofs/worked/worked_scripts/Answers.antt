@@ -1,0 +1,21 @@
+-- The scripts compute, once the digits of a number do.
+use Rattle.std.proofs.Common.{refl}
+use Rattle.std.specs.Fmt.{digits}
+use Rattle.world.proofs.worked.worked_scripts.Goals as goal
+
+pub returns-clause-first_commit : goal.returns-clause-first_commit
+unfolding digits
+returns-clause-first_commit c = refl
+
+pub returns-clause-lost_frame : goal.returns-clause-lost_frame
+unfolding digits
+returns-clause-lost_frame c = refl
+
+pub returns-clause-conflict : goal.returns-clause-conflict
+returns-clause-conflict c = refl
+
+pub returns-clause-write_skew : goal.returns-clause-write_skew
+returns-clause-write_skew c = refl
+
+pub returns-clause-refusals : goal.returns-clause-refusals
+returns-clause-refusals c = refl

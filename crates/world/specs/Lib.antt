@@ -1,0 +1,8 @@
+pub mod Outputs
+pub mod World
+pub mod Allowed
+pub mod Worked
+pub mod Parts
+pub mod Steps
+pub mod Standing
+pub mod Theorem

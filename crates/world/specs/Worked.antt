@@ -1,0 +1,116 @@
+-- Events with what they are to answer: three scripts, `examples/first-commit.script`, `examples/lost-frame.script` and
+-- `examples/conflict.script`; write skew; and each refusal of a transaction's calls. One worker, one replica, and one table
+-- of two `int` columns.
+use Rattle.std.specs.Prelude.{ℕ, ◌∷◌, [], List, pos, negsuc, codes, ◌++◌}
+use Rattle.rows.specs.declared.kind.Kind.TheVariants.{Int as IntKind}
+use Rattle.rows.specs.declared.row_id.RowId.{RowId}
+use Rattle.rows.specs.declared.value.Value.TheVariants.{Int}
+use Rattle.script.specs.declared.event.Event.{Event}
+use Rattle.script.specs.declared.event.Event.TheVariants.{Begin, Insert, Set, Delete, Get, Commit, Abort, Flush, Push, Deliver, Show, Open, Ask, Run}
+use Rattle.script.specs.declared.event.Node.TheVariants.{Primary, Replica}
+use Rattle.script.specs.declared.output.Output.{Output}
+use Rattle.script.specs.declared.output.Output.TheVariants as outputs
+use Rattle.world.specs.World.{World, opening_world}
+
+-- the world of the scripts: one worker, one replica, `table acct int int`
+abbrev pub worked_world : World
+worked_world = opening_world ((IntKind ∷ IntKind ∷ []) ∷ []) 1 1
+
+-- row 7 with the values 5 and -1 is committed, made durable, and pushed
+abbrev pub commit_and_push : List Event
+commit_and_push =
+    Begin ∷ Insert 0 0 (record { 0 = 7 }) (Int (pos 5) ∷ Int (negsuc 0) ∷ []) ∷ Commit 0 0 ∷ Flush 1 ∷ Push 0 0 ∷ []
+
+abbrev pub commit_and_push_outputs : List Output
+commit_and_push_outputs =
+    outputs.Tx 0 0 ∷ outputs.Accepted ∷ outputs.Ticket 1 ∷ outputs.Durable 1 ∷ outputs.Sent (record { place = 0; len = 54 } ∷ []) ∷ []
+
+-- a count is opened, and the newest durable version asked for and fetched
+abbrev pub open_and_fetch : List Event
+open_and_fetch = Open 0 (record { table = 0 }) ∷ Ask 0 ∷ Deliver 1 Primary ∷ Deliver 2 (Replica 0) ∷ []
+
+abbrev pub open_and_fetch_outputs : List Output
+open_and_fetch_outputs =
+    outputs.Opened 1 ∷ outputs.Sent (record { place = 1; len = 23 } ∷ []) ∷ outputs.Sent (record { place = 2; len = 40 } ∷ []) ∷ outputs.Head 1 ∷ []
+
+abbrev pub report : List ℕ
+report = codes "version 1 queries 1\nquery 0 rows 1\n1\n"
+
+-- the bytes of the frame
+abbrev pub frame_bytes : List ℕ
+frame_bytes =
+    0x42 ∷ 0x44 ∷ 1 ∷ 1 ∷ 0 ∷ 0x36 ∷ 0 ∷ 0 ∷ 0 ∷ 0 ∷ 0 ∷ 0 ∷ 0 ∷ 0 ∷ 0 ∷ 0 ∷ 0 ∷ 0 ∷ 0 ∷ 0 ∷ 0 ∷ 0 ∷ 1 ∷ 1 ∷ 0 ∷ 1 ∷ 1 ∷ 0
+    ∷ 0 ∷ 0 ∷ 0 ∷ 0 ∷ 0 ∷ 0 ∷ 0 ∷ 7 ∷ 0 ∷ 0x10 ∷ 0 ∷ 0 ∷ 0 ∷ 0 ∷ 0 ∷ 0 ∷ 0 ∷ 5 ∷ 0xff ∷ 0xff ∷ 0xff ∷ 0xff ∷ 0xff ∷ 0xff ∷ 0xff ∷ 0xff ∷ []
+
+-- the frame arrives, and the batch is answered
+abbrev pub first_commit : List Event
+first_commit = commit_and_push ++ Deliver 0 (Replica 0) ∷ open_and_fetch ++ Run 0 ∷ Show 0 ∷ []
+
+abbrev pub first_commit_outputs : List Output
+first_commit_outputs =
+    commit_and_push_outputs ++ outputs.Stored ∷ open_and_fetch_outputs ++ outputs.Report report ∷ outputs.Shown frame_bytes ∷ []
+
+-- the frame is late: the batch waits for it and asks for it, and is answered once it came
+abbrev pub lost_frame : List Event
+lost_frame = commit_and_push ++ open_and_fetch ++ Run 0 ∷ Deliver 0 (Replica 0) ∷ Run 0 ∷ []
+
+abbrev pub lost_frame_outputs : List Output
+lost_frame_outputs =
+    commit_and_push_outputs ++ open_and_fetch_outputs
+    ++ outputs.Waiting 0 0 (record { place = 3; len = 16 }) ∷ outputs.Stored ∷ outputs.Report report ∷ []
+
+abbrev pub account : RowId
+account = record { 0 = 7 }
+
+-- two clerks change one account, and the first committer wins; the other one begins anew, and a third one gives up
+abbrev pub conflict : List Event
+conflict =
+    Begin ∷ Insert 0 0 account (Int (pos 100) ∷ Int (pos 50) ∷ []) ∷ Commit 0 0 ∷ Flush 1
+    ∷ Begin ∷ Begin ∷ Get 1 0 account 0 ∷ Get 2 0 account 0 ∷ Set 1 0 account 0 (Int (pos 120)) ∷ Set 2 0 account 0 (Int (pos 130))
+    ∷ Get 1 0 account 0 ∷ Get 2 0 account 0 ∷ Commit 1 0 ∷ Commit 2 0 ∷ Get 2 0 account 0
+    ∷ Flush 1 ∷ Begin ∷ Get 3 0 account 0 ∷ Set 3 0 account 0 (Int (pos 150)) ∷ Commit 3 0 ∷ Flush 1
+    ∷ Begin ∷ Get 4 0 account 0 ∷ Set 4 0 account 1 (Int (pos 0)) ∷ Abort 4 ∷ Commit 4 0 ∷ []
+
+abbrev pub conflict_outputs : List Output
+conflict_outputs =
+    outputs.Tx 0 0 ∷ outputs.Accepted ∷ outputs.Ticket 1 ∷ outputs.Durable 1
+    ∷ outputs.Tx 1 1 ∷ outputs.Tx 2 1 ∷ outputs.Value (Int (pos 100)) ∷ outputs.Value (Int (pos 100)) ∷ outputs.Accepted ∷ outputs.Accepted
+    ∷ outputs.Value (Int (pos 120)) ∷ outputs.Value (Int (pos 130)) ∷ outputs.Ticket 2 ∷ outputs.Conflict 2 ∷ outputs.NoTx
+    ∷ outputs.Durable 2 ∷ outputs.Tx 3 2 ∷ outputs.Value (Int (pos 120)) ∷ outputs.Accepted ∷ outputs.Ticket 3 ∷ outputs.Durable 3
+    ∷ outputs.Tx 4 3 ∷ outputs.Value (Int (pos 150)) ∷ outputs.Accepted ∷ outputs.Accepted ∷ outputs.NoTx ∷ []
+
+abbrev pub other_account : RowId
+other_account = record { 0 = 8 }
+
+-- each of two transactions sets the row that the other one looked at, and both are committed: write skew
+abbrev pub write_skew : List Event
+write_skew =
+    Begin ∷ Insert 0 0 account (Int (pos 5) ∷ Int (negsuc 0) ∷ []) ∷ Insert 0 0 other_account (Int (pos 9) ∷ Int (pos 0) ∷ []) ∷ Commit 0 0 ∷ Flush 1
+    ∷ Begin ∷ Begin ∷ Get 1 0 other_account 0 ∷ Get 2 0 account 0 ∷ Set 1 0 account 0 (Int (pos 0)) ∷ Set 2 0 other_account 0 (Int (pos 0))
+    ∷ Commit 1 0 ∷ Commit 2 0 ∷ []
+
+abbrev pub write_skew_outputs : List Output
+write_skew_outputs =
+    outputs.Tx 0 0 ∷ outputs.Accepted ∷ outputs.Accepted ∷ outputs.Ticket 1 ∷ outputs.Durable 1
+    ∷ outputs.Tx 1 1 ∷ outputs.Tx 2 1 ∷ outputs.Value (Int (pos 9)) ∷ outputs.Value (Int (pos 5)) ∷ outputs.Accepted ∷ outputs.Accepted
+    ∷ outputs.Ticket 2 ∷ outputs.Ticket 3 ∷ []
+
+-- what does not fit is refused first, then what is there or missing, then a third entry; a commit without entries takes no
+-- number, and a pending commit is one to conflict with
+abbrev pub refusals : List Event
+refusals =
+    Begin ∷ Commit 0 0 ∷ Commit 0 0
+    ∷ Begin ∷ Set 1 0 account 2 (Int (pos 6)) ∷ Set 1 0 account 0 (Int (pos 6)) ∷ Get 1 0 account 2 ∷ Get 1 0 account 0
+    ∷ Delete 1 1 account ∷ Delete 1 0 account ∷ Insert 1 0 account (Int (pos 5) ∷ []) ∷ Insert 1 0 account (Int (pos 5) ∷ Int (negsuc 0) ∷ [])
+    ∷ Insert 1 0 account (Int (pos 5) ∷ []) ∷ Insert 1 0 account (Int (pos 5) ∷ Int (negsuc 0) ∷ []) ∷ Delete 1 0 account ∷ Get 1 0 account 0
+    ∷ Set 1 0 account 0 (Int (pos 6)) ∷ Insert 1 0 account (Int (pos 5) ∷ []) ∷ Insert 1 0 account (Int (pos 5) ∷ Int (negsuc 0) ∷ [])
+    ∷ Begin ∷ Insert 2 0 account (Int (pos 5) ∷ Int (negsuc 0) ∷ []) ∷ Commit 1 0 ∷ Commit 2 0 ∷ Abort 2 ∷ []
+
+abbrev pub refusals_outputs : List Output
+refusals_outputs =
+    outputs.Tx 0 0 ∷ outputs.ReadOnly ∷ outputs.NoTx
+    ∷ outputs.Tx 1 0 ∷ outputs.Unfit ∷ outputs.Missing ∷ outputs.Unfit ∷ outputs.Missing
+    ∷ outputs.Unfit ∷ outputs.Missing ∷ outputs.Unfit ∷ outputs.Accepted
+    ∷ outputs.Unfit ∷ outputs.Exists ∷ outputs.Accepted ∷ outputs.Missing
+    ∷ outputs.Missing ∷ outputs.Unfit ∷ outputs.TooManyEntries
+    ∷ outputs.Tx 2 0 ∷ outputs.Accepted ∷ outputs.Ticket 1 ∷ outputs.Conflict 1 ∷ outputs.NoTx ∷ []

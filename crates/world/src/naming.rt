@@ -1,0 +1,85 @@
+//! What the refusals of the cores are called among the outputs.
+
+ghost use Rattle.std.specs.Prelude.{◌≡◌};
+ghost use Rattle.world.specs.Outputs.{of_change, of_look, of_commit, of_open, of_ask, of_got};
+
+use dispatcher::{AskFault, Got, OpenFault};
+use mvcc::TxFault;
+use primary::CommitFault;
+use rows::Value;
+use script::Output;
+
+/// A refused call of a transaction.
+pub fn change_output(fault: TxFault) -> Output
+    ensures { result ≡ of_change fault }
+{
+    match fault {
+        TxFault::Exists => Output::Exists,
+        TxFault::Missing => Output::Missing,
+        TxFault::Unfit => Output::Unfit,
+        TxFault::TooManyEntries => Output::TooManyEntries,
+        TxFault::Memory => Output::Memory,
+    }
+}
+
+/// A look at a column.
+pub fn look_output(looked: Result<Value, TxFault>) -> Output
+    ensures { result ≡ of_look looked }
+{
+    match looked {
+        Ok(value) => Output::Value(value),
+        Err(fault) => change_output(fault),
+    }
+}
+
+/// A refused commit.
+pub fn commit_output(fault: CommitFault) -> Output
+    ensures { result ≡ of_commit fault }
+{
+    match fault {
+        CommitFault::Conflict(number) => Output::Conflict(number),
+        CommitFault::ReadOnly => Output::ReadOnly,
+        CommitFault::Failed => Output::Failed,
+        CommitFault::NumbersUsedUp => Output::NumbersUsedUp,
+        CommitFault::Memory => Output::Memory,
+        CommitFault::Foreign => Output::Foreign,
+    }
+}
+
+/// A refused query.
+pub fn open_output(fault: OpenFault) -> Output
+    ensures { result ≡ of_open fault }
+{
+    match fault {
+        OpenFault::BatchFull => Output::BatchFull,
+        OpenFault::BadPlan(fault) => Output::BadPlan(fault),
+        OpenFault::Broken => Output::Broken,
+        OpenFault::Memory => Output::Memory,
+    }
+}
+
+/// A refused ask.
+pub fn ask_output(fault: AskFault) -> Output
+    ensures { result ≡ of_ask fault }
+{
+    match fault {
+        AskFault::Busy => Output::Busy,
+        AskFault::Empty => Output::Empty,
+        AskFault::Broken => Output::Broken,
+    }
+}
+
+/// What a replica made of bytes.
+pub fn got_output(got: Got) -> Output
+    ensures { result ≡ of_got got }
+{
+    match got {
+        Got::Stored => Output::Stored,
+        Got::Repeat => Output::Repeat,
+        Got::Ahead => Output::Ahead,
+        Got::Head(version) => Output::Head(version),
+        Got::Ignored => Output::Ignored,
+        Got::Memory => Output::Memory,
+        Got::Broken => Output::Broken,
+    }
+}

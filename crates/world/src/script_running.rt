@@ -1,0 +1,55 @@
+//! A script from a reader to a writer.
+
+use crate::simulator::run;
+use script::{Reason, ScriptFault, read_script, text_of};
+use std::alloc::{AllocError, Global};
+use std::io::{ErrorKind, Read, Write};
+use thiserror::Error;
+
+/// Why a script was not run to its end.
+#[derive(Clone, Copy, Debug, PartialEq, Eq, Error)]
+pub enum RunFault {
+    /// The reader failed; nothing was written.
+    #[error("the script could not be read")]
+    Read,
+    /// The script does not read, at that line; nothing was written.
+    #[error("line {line}: {reason}")]
+    Script { line: u64, reason: Reason },
+    /// The writer failed; a beginning of the text was written.
+    #[error("the output could not be written")]
+    Write,
+    /// Want of memory; nothing was written.
+    #[error("out of memory")]
+    Memory,
+}
+
+/// Reads a script to its end, runs all its events, and then writes the text of what they answer.
+pub fn run_script<R: Read, W: Write>(
+    alloc: Global,
+    reader: &mut R,
+    writer: &mut W,
+) -> Result<(), RunFault> {
+    let mut script = Vec::new(alloc);
+    if let Err(fault) = reader.read_to_end(&mut script) {
+        return Err(match fault.kind() {
+            ErrorKind::OutOfMemory => RunFault::Memory,
+            _ => RunFault::Read,
+        });
+    }
+    let text = match output_of(alloc, script.as_slice()) {
+        Ok(text) => text,
+        Err(ScriptFault::At { line, reason }) => return Err(RunFault::Script { line, reason }),
+        Err(ScriptFault::Memory) => return Err(RunFault::Memory),
+    };
+    if writer.write_all(text.as_slice()).is_err() || writer.flush().is_err() {
+        return Err(RunFault::Write);
+    }
+    Ok(())
+}
+
+/// The text of what a script's events answer.
+fn output_of(alloc: Global, script: &[u8]) -> Result<Vec<u8>, ScriptFault> {
+    let (setup, events) = read_script(alloc, script)?;
+    let outputs = run(alloc, &setup, events.as_slice())?;
+    Ok(text_of(alloc, outputs.as_slice())?)
+}

@@ -1,0 +1,271 @@
+//! One step of the cores: each event is one call on one of them. `transacting.rt` has those of
+//! transactions.
+
+ghost use Rattle.std.specs.Prelude.{◌≡◌, ◌<◌, ◌++◌, ◌⊎◌, length, IfOk, OnErr};
+ghost use Rattle.world.specs.Outputs.{sent_from, packets_of};
+ghost use Rattle.world.specs.Parts.{IsReady};
+ghost use Rattle.script.specs.Events.{IsPossible, IsThere};
+ghost use Rattle.world.specs.Steps.{MayStep, sent_one, with_sent};
+
+use crate::cores::Cores;
+use crate::naming::{ask_output, got_output, open_output};
+use dispatcher::{Plan, Run};
+use primary::FlushFault;
+use rows::ByteList;
+use script::{Event, Node, Output, Sent, SentList};
+use std::alloc::{AllocError, Global};
+use wire::{Out, Packet};
+
+impl Cores {
+    /// Lets an event happen, and answers what it gave.
+    pub fn step(&mut self, event: &Event) -> Output
+        requires ready { IsReady self.old }
+        requires possible { IsPossible self.old.primary.workers (length self.old.replicas) event.now }
+        ensures may_step { MayStep self.old event.now result self.new }
+        ensures ready { IsReady self.new }
+        ensures workers { self.new.primary.workers ≡ self.old.primary.workers }
+        ensures replicas { length self.new.replicas ≡ length self.old.replicas }
+    {
+        self.happen(event)
+    }
+
+    /// The call that an event is.
+    fn happen(&mut self, event: &Event) -> Output
+        requires ready { IsReady self.old }
+        requires possible { IsPossible self.old.primary.workers (length self.old.replicas) event.now }
+        ensures { MayStep self.old event.now result self.new }
+    {
+        match event {
+            Event::Begin => self.begin(),
+            Event::Insert {
+                transaction,
+                table,
+                row,
+                values,
+            } => self.insert(*transaction, *table, *row, values),
+            Event::Set {
+                transaction,
+                table,
+                row,
+                column,
+                value,
+            } => self.set(*transaction, *table, *row, *column, *value),
+            Event::Delete {
+                transaction,
+                table,
+                row,
+            } => self.delete(*transaction, *table, *row),
+            Event::Get {
+                transaction,
+                table,
+                row,
+                column,
+            } => self.get(*transaction, *table, *row, *column),
+            Event::Commit {
+                transaction,
+                worker,
+            } => self.commit(*transaction, *worker),
+            Event::Abort { transaction } => self.abort(*transaction),
+            Event::Flush { count } => self.flush(*count),
+            Event::Push { worker, seq } => self.push(*worker, *seq),
+            Event::Deliver { place, node } => self.deliver(*place, *node),
+            Event::Show { place } => self.show(*place),
+            Event::Open { replica, plan } => self.open(*replica, *plan),
+            Event::Ask { replica } => self.ask(*replica),
+            Event::Run { replica } => self.run(*replica),
+        }
+    }
+
+    fn flush(&mut self, count: u32) -> Output
+        ensures { MayStep self.old (Event.Flush count) result self.new }
+    {
+        match self.primary.flush(count as usize) {
+            Ok(durable) => Output::Durable(durable),
+            Err(FlushFault::Failed) => Output::Failed,
+            Err(FlushFault::Memory) => Output::Memory,
+        }
+    }
+
+    fn push(&mut self, worker: u8, seq: u64) -> Output
+        requires { worker < self.old.primary.workers }
+        ensures { MayStep self.old (Event.Push worker seq) result self.new }
+    {
+        match self.primary.push(worker, seq) {
+            None => Output::NoFrame,
+            Some(packet) => self.send(packet),
+        }
+    }
+
+    /// Sends a datagram; for want of memory nothing is sent.
+    fn send(&mut self, packet: Packet) -> Output
+        ensures { ((result ≡ sent_one self.old packet) × (self.new ≡ with_sent self.old packet))
+            ⊎ ((result ≡ Output.Memory) × (self.new ≡ self.old)) }
+    {
+        let sent = Sent {
+            place: self.sent.len() as u64,
+            len: packet.bytes().len(),
+        };
+        let Ok(list) = SentList::of_one(self.alloc, sent) else {
+            return Output::Memory;
+        };
+        match self.sent.push(packet) {
+            Ok(()) => Output::Sent(list),
+            Err(_) => Output::Memory,
+        }
+    }
+
+    fn deliver(&mut self, place: u64, node: Node) -> Output
+        requires { IsThere (length self.old.replicas) node }
+        ensures { MayStep self.old (Event.Deliver place node) result self.new }
+    {
+        if place >= self.sent.len() as u64 {
+            return Output::NeverSent;
+        }
+        match node {
+            Node::Primary => self.deliver_to_primary(place as usize),
+            Node::Replica(number) => {
+                let bytes = self.sent[place as usize].bytes();
+                let replica = &mut self.replicas[number as usize];
+                got_output(replica.on_bytes(bytes))
+            }
+        }
+    }
+
+    fn deliver_to_primary(&mut self, place: usize) -> Output
+        requires { place < length self.old.sent }
+        ensures { MayStep self.old (Event.Deliver place Node.Primary) result self.new }
+    {
+        let Ok(outs) = self.primary.on_bytes(self.sent[place].bytes()) else {
+            return Output::Memory;
+        };
+        if outs.is_empty() {
+            return Output::Ignored;
+        }
+        match send_all(self.alloc, &mut self.sent, outs) {
+            Ok(list) => Output::Sent(list),
+            Err(_) => Output::Memory,
+        }
+    }
+
+    fn show(&self, place: u64) -> Output
+        ensures { MayStep self.now (Event.Show place) result self.now }
+    {
+        if place >= self.sent.len() as u64 {
+            return Output::NeverSent;
+        }
+        match Vec::from_slice(self.alloc, self.sent[place as usize].bytes()) {
+            Ok(bytes) => Output::Shown(ByteList::from_vec(bytes)),
+            Err(_) => Output::Memory,
+        }
+    }
+
+    fn open(&mut self, number: u8, plan: Plan) -> Output
+        requires { number < length self.old.replicas }
+        ensures { MayStep self.old (Event.Open number plan) result self.new }
+    {
+        let replica = &mut self.replicas[number as usize];
+        match replica.open(plan) {
+            Ok(count) => Output::Opened(count),
+            Err(fault) => open_output(fault),
+        }
+    }
+
+    fn ask(&mut self, number: u8) -> Output
+        requires ready { IsReady self.old }
+        requires there { number < length self.old.replicas }
+        ensures { MayStep self.old (Event.Ask number) result self.new }
+    {
+        let Ok(mut list) = Vec::with_capacity(self.alloc, 1) else {
+            return Output::Memory;
+        };
+        if self.sent.reserve(1).is_err() {
+            return Output::Memory;
+        }
+        let durable = self.primary.durable();
+        let replica = &mut self.replicas[number as usize];
+        let before = replica.request();
+        match replica.ask() {
+            Ok(out) => {
+                if replica.request() != before {
+                    self.asked_at[number as usize] = durable;
+                }
+                list.push_reserved(Sent {
+                    place: self.sent.len() as u64,
+                    len: out.packet.bytes().len(),
+                });
+                self.sent.push_reserved(out.packet);
+                Output::Sent(SentList::from_vec(list))
+            }
+            Err(fault) => ask_output(fault),
+        }
+    }
+
+    /// Runs a batch. A place for the datagram that it may send is taken first, since the run
+    /// cannot be taken back.
+    fn run(&mut self, number: u8) -> Output
+        requires { number < length self.old.replicas }
+        ensures { MayStep self.old (Event.Run number) result self.new }
+    {
+        if self.sent.reserve(1).is_err() {
+            return Output::Memory;
+        }
+        let replica = &mut self.replicas[number as usize];
+        match replica.run() {
+            Run::NoBatch => Output::NoBatch,
+            Run::WaitingHead => Output::WaitingHead,
+            Run::Waiting { worker, seq, want } => {
+                let sent = Sent {
+                    place: self.sent.len() as u64,
+                    len: want.packet.bytes().len(),
+                };
+                self.sent.push_reserved(want.packet);
+                Output::Waiting {
+                    worker,
+                    seq,
+                    want: sent,
+                }
+            }
+            Run::Answered(report) => Output::Report(report),
+            Run::Inconsistent => Output::Inconsistent,
+            Run::Broken => Output::Broken,
+            Run::Memory => Output::Memory,
+        }
+    }
+}
+
+/// Sends datagrams one after the other, and answers where they are found. Fails for want of
+/// memory alone, and then nothing is sent.
+fn send_all(alloc: Global, sent: &mut Vec<Packet>, outs: Vec<Out>) -> Result<SentList, AllocError>
+    ensures ok { IfOk result (λ list. (list ≡ sent_from (length sent.old.items) outs.items) × (sent.new.items ≡ sent.old.items ++ packets_of outs.items)) }
+    ensures err { OnErr result (sent.new.items ≡ sent.old.items) }
+{
+    let list = places_of(alloc, sent.as_slice(), outs.as_slice())?;
+    let mut packets = packets_in(alloc, outs)?;
+    sent.append(&mut packets)?;
+    Ok(SentList::from_vec(list))
+}
+
+/// Where datagrams are found that are sent behind these.
+fn places_of(alloc: Global, sent: &[Packet], outs: &[Out]) -> Result<Vec<Sent>, AllocError>
+    ensures { IfOk result (λ list. list.items ≡ sent_from (length sent.now) outs.now) }
+{
+    let mut list = Vec::new(alloc);
+    for (index, out) in outs.iter().enumerate() {
+        list.push(Sent {
+            place: (sent.len() + index) as u64,
+            len: out.packet.bytes().len(),
+        })?;
+    }
+    Ok(list)
+}
+
+/// The datagrams without where they go.
+fn packets_in(alloc: Global, outs: Vec<Out>) -> Result<Vec<Packet>, AllocError>
+    ensures { IfOk result (λ packets. packets.items ≡ packets_of outs.items) }
+{
+    let mut packets = Vec::new(alloc);
+    for out in outs {
+        packets.push(out.packet)?;
+    }
+    Ok(packets)
+}

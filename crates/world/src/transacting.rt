@@ -1,0 +1,151 @@
+//! The steps of transactions: each event is one call on one of them, or on the primary.
+
+ghost use Rattle.std.specs.Prelude.{◌≡◌, ◌<◌, None, Some, IfSome, slice_set, vec_len};
+ghost use Rattle.std.specs.Option.{option_map};
+ghost use Rattle.script.specs.declared.event.Event.{Event};
+ghost use Rattle.world.specs.Parts.{IsReady};
+ghost use Rattle.world.specs.Steps.{MayStep};
+ghost use Rattle.world.specs.World.{open_draft};
+
+use crate::cores::Cores;
+use crate::naming::{change_output, commit_output, look_output};
+use mvcc::Transaction;
+use primary::CommitFault;
+use rows::{Row, RowId, Value};
+use script::Output;
+
+impl Cores {
+    /// Begins a transaction on what is durable.
+    pub fn begin(&mut self) -> Output
+        ensures { MayStep self.old Event.Begin result self.new }
+    {
+        let number = self.transactions.len() as u64;
+        let snapshot = self.primary.durable();
+        let transaction = Transaction::begin(self.alloc, snapshot);
+        match self.transactions.push(Some(transaction)) {
+            Ok(()) => Output::Tx { number, snapshot },
+            Err(_) => Output::Memory,
+        }
+    }
+
+    /// Puts a row in.
+    pub fn insert(&mut self, number: u64, table: u8, row: RowId, values: &Row) -> Output
+        requires { IsReady self.old }
+        ensures { MayStep self.old (Event.Insert number table row values.now) result self.new }
+    {
+        let Some(mut transaction) = take_open(&mut self.transactions, number) else {
+            return Output::NoTx;
+        };
+        let values = values.as_slice();
+        let inserted = transaction.insert(self.primary.versions(), table, row, values);
+        put_back(&mut self.transactions, number, transaction);
+        match inserted {
+            Ok(()) => Output::Accepted,
+            Err(fault) => change_output(fault),
+        }
+    }
+
+    /// Gives one column of a row another value.
+    pub fn set(&mut self, number: u64, table: u8, row: RowId, column: u8, value: Value) -> Output
+        requires { IsReady self.old }
+        ensures { MayStep self.old (Event.Set number table row column value) result self.new }
+    {
+        let Some(mut transaction) = take_open(&mut self.transactions, number) else {
+            return Output::NoTx;
+        };
+        let column = column as usize;
+        let set = transaction.set(self.primary.versions(), table, row, column, value);
+        put_back(&mut self.transactions, number, transaction);
+        match set {
+            Ok(()) => Output::Accepted,
+            Err(fault) => change_output(fault),
+        }
+    }
+
+    /// Takes a row out.
+    pub fn delete(&mut self, number: u64, table: u8, row: RowId) -> Output
+        requires { IsReady self.old }
+        ensures { MayStep self.old (Event.Delete number table row) result self.new }
+    {
+        let Some(mut transaction) = take_open(&mut self.transactions, number) else {
+            return Output::NoTx;
+        };
+        let deleted = transaction.delete(self.primary.versions(), table, row);
+        put_back(&mut self.transactions, number, transaction);
+        match deleted {
+            Ok(()) => Output::Accepted,
+            Err(fault) => change_output(fault),
+        }
+    }
+
+    /// Looks at one column of a row, as the transaction sees it.
+    pub fn get(&self, number: u64, table: u8, row: RowId, column: u8) -> Output
+        requires { IsReady self.now }
+        ensures { MayStep self.now (Event.Get number table row column) result self.now }
+    {
+        match find_open(self.transactions.as_slice(), number) {
+            None => Output::NoTx,
+            Some(transaction) => {
+                look_output(transaction.get(self.primary.versions(), table, row, column as usize))
+            }
+        }
+    }
+
+    /// Commits a transaction for a worker.
+    pub fn commit(&mut self, number: u64, worker: u8) -> Output
+        requires { worker < self.old.primary.workers }
+        ensures { MayStep self.old (Event.Commit number worker) result self.new }
+    {
+        let Some(transaction) = take_open(&mut self.transactions, number) else {
+            return Output::NoTx;
+        };
+        match self.primary.commit(transaction, worker) {
+            Ok(ticket) => Output::Ticket(ticket.number),
+            Err((transaction, CommitFault::Memory)) => {
+                put_back(&mut self.transactions, number, transaction);
+                Output::Memory
+            }
+            Err((_, fault)) => commit_output(fault),
+        }
+    }
+
+    /// Gives a transaction up.
+    pub fn abort(&mut self, number: u64) -> Output
+        ensures { MayStep self.old (Event.Abort number) result self.new }
+    {
+        match take_open(&mut self.transactions, number) {
+            None => Output::NoTx,
+            Some(_) => Output::Accepted,
+        }
+    }
+}
+
+/// The open transaction of that number, lent, where there is one.
+fn find_open(transactions: &[Option<Transaction>], number: u64) -> Option<&Transaction>
+    ensures { option_map (λ t. t.now) result ≡ open_draft transactions.now number }
+{
+    match transactions.get(number as usize) {
+        Some(Some(transaction)) => Some(transaction),
+        Some(None) | None => None,
+    }
+}
+
+/// Takes the open transaction of that number out of its place, where there is one.
+fn take_open(transactions: &mut Vec<Option<Transaction>>, number: u64) -> Option<Transaction>
+    ensures taken { result ≡ open_draft transactions.old.items number }
+    ensures left { transactions.new.items ≡ slice_set transactions.old.items number None }
+    ensures within { IfSome result (λ _. number < vec_len transactions.new) }
+{
+    if number >= transactions.len() as u64 {
+        return None;
+    }
+    std::mem::replace(&mut transactions[number as usize], None)
+}
+
+/// Puts a transaction back into its place.
+fn put_back(transactions: &mut Vec<Option<Transaction>>, number: u64, transaction: Transaction)
+    requires { number < vec_len transactions.old }
+    ensures { transactions.new.items ≡ slice_set transactions.old.items number (Some transaction) }
+{
+    transactions[number as usize] = Some(transaction);
+}

@@ -1,0 +1,18 @@
+//! Events that are worked on the definitions alone.
+
+ghost use Rattle.std.specs.Prelude.{◌≡◌};
+ghost use Rattle.world.specs.Worked.{first_commit, first_commit_outputs, lost_frame, lost_frame_outputs, conflict, conflict_outputs};
+ghost use Rattle.world.specs.Worked.{write_skew, write_skew_outputs, refusals, refusals_outputs, worked_world};
+ghost use Rattle.world.specs.World.{outputs_of};
+
+/// What the definitions of the world say of five lists of events: a first commit that is reported,
+/// the same where its frame is lost at first, two transactions that change one row, two that each
+/// set the row that the other one looked at, and the refusals of a transaction's calls in their
+/// order. No code takes part.
+pub fn worked_scripts()
+    ensures first_commit { outputs_of worked_world first_commit ≡ first_commit_outputs }
+    ensures lost_frame { outputs_of worked_world lost_frame ≡ lost_frame_outputs }
+    ensures conflict { outputs_of worked_world conflict ≡ conflict_outputs }
+    ensures write_skew { outputs_of worked_world write_skew ≡ write_skew_outputs }
+    ensures refusals { outputs_of worked_world refusals ≡ refusals_outputs }
+{}
