@@ -46,8 +46,3 @@ pub use schema::{Schema, column_at, width_of_row};
 pub use schema_fault::SchemaFault;
 pub use value::Value;
 pub use writing::{entry_len, write_entry};
-
-#[cfg(test)]
-mod schema_tests;
-#[cfg(test)]
-mod tests;

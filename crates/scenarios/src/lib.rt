@@ -4,8 +4,20 @@
 #![tactic(auto)]
 
 #[cfg(test)]
+
+#[cfg(test)]
+mod datagrams;
+#[cfg(test)]
+mod entries;
+#[cfg(test)]
+mod row_values;
+#[cfg(test)]
+mod schemas;
+#[cfg(test)]
 mod script_faults;
 #[cfg(test)]
 mod script_transactions;
 #[cfg(test)]
 mod scripts;
+#[cfg(test)]
+mod stores;

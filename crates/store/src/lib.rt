@@ -25,6 +25,3 @@ pub use plain_store::PlainStore;
 pub use running::run;
 pub use store::Store;
 pub use store_fault::StoreFault;
-
-#[cfg(test)]
-mod tests;

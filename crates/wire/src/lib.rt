@@ -34,6 +34,3 @@ pub use out::{Out, To};
 pub use packet::Packet;
 pub use reading::read;
 pub use writing::{write, write_frame};
-
-#[cfg(test)]
-mod tests;

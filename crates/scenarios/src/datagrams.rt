@@ -1,19 +1,16 @@
-//! The datagrams byte by byte, each fault, and each public call once.
+//! The datagrams byte by byte, and each fault.
 
-ghost use Rattle.std.specs.Prelude.{◌≤◌, length};
+ghost use Rattle.std.specs.Prelude.{◌≡◌, ◌≤◌, length, IfOk};
+ghost use Rattle.rows.specs.Spelling.{HasSpelling as EntryHasSpelling, entry_spelling};
+ghost use Rattle.wire.specs.Spelling.{HasSpelling, FrameHasSpelling};
 
-use crate::counts::Counts;
-use crate::datagram::Datagram;
-use crate::fault::{TooSmall, WireFault};
-use crate::frame::Frame;
-use crate::laws::one_spelling;
-use crate::lent_entries::LentEntries;
-use crate::packet::Packet;
-use crate::reading::read;
-use crate::writing::{write, write_frame};
-use byteorder::{BigEndian, ByteOrder};
 use rows::{Commit, Entry, EntryList, Kind, RowId, Schema, Value, entry_len, fits, row_bytes};
+use std::alloc::{AllocError, Global};
 use std::test::Fail;
+use wire::{
+    Counts, Datagram, Frame, LentEntries, Packet, TooSmall, WireFault, one_spelling, read, write,
+    write_frame,
+};
 
 /// The last frame of commit 1, the first of worker 0: it inserts row 7 with the values 5 and -1
 /// into table 0.
@@ -60,28 +57,88 @@ const WANT: [u8; 16] = [
     0x42, 0x44, 0x01, 0x04, 0x00, 0x10, 0x00, 0x00, 0x00, 0x00, 0x00, 0x00, 0x00, 0x00, 0x00, 0x00,
 ];
 
-#[test]
-fn a_frame_is_written(rt: HostRuntime) -> Result<(), Fail> {
-    let alloc = rt.alloc();
+/// The table of accounts, of two numbers.
+fn accounts(alloc: Global) -> Result<Schema, Fail> {
     let kinds = [Kind::Int, Kind::Int];
-    let schema = Schema::new(alloc, &[("accounts", kinds.as_slice())])?;
+    Ok(Schema::new(alloc, &[("accounts", kinds.as_slice())])?)
+}
+
+/// The insert of row 7 with the values 5 and -1 into table 0.
+fn insert(alloc: Global) -> Result<Entry, AllocError> {
+    let (table, row) = (0, RowId(7));
     let bytes = row_bytes(alloc, &[Value::Int(5), Value::Int(-1)])?;
-    let entry = Entry::Insert {
+    Ok(Entry::Insert { table, row, bytes })
+}
+
+/// The patch of the second column of row 7 of table 0 to 6.
+fn patch(alloc: Global) -> Result<Entry, AllocError> {
+    let (table, row, offset) = (0, RowId(7), 8);
+    let bytes = row_bytes(alloc, &[Value::Int(6)])?;
+    Ok(Entry::Patch {
+        table,
+        row,
+        offset,
+        bytes,
+    })
+}
+
+/// The delete of row 7 of table 0.
+fn delete() -> Entry {
+    Entry::Delete {
         table: 0,
         row: RowId(7),
-        bytes,
-    };
-    fits(&schema, &entry)?;
-    assert_eq!(rt; entry_len(&entry), 28);
+    }
+}
+
+/// The entry, which fits the accounts and is spelled in so many bytes.
+fn fitting(schema: &Schema, entry: Entry, len: usize) -> Result<Entry, Fail>
+    ensures spelled { IfOk result (λ entry. EntryHasSpelling entry) }
+    ensures len { IfOk result (λ entry. length (entry_spelling entry) ≡ len) }
+{
+    fits(schema, &entry)?;
+    if entry_len(&entry) != len {
+        return Err("another length".into());
+    }
+    Ok(entry)
+}
+
+/// The frame of `FRAME`.
+fn frame_of_one(alloc: Global) -> Result<Frame, Fail>
+    ensures { IfOk result FrameHasSpelling }
+{
+    let schema = accounts(alloc)?;
     let mut entries = EntryList::new(alloc);
-    entries.push(entry)?;
-    let frame = Frame {
+    entries.push(fitting(&schema, insert(alloc)?, 28)?)?;
+    Ok(Frame {
         worker: 0,
         seq: 0,
         commit: 1,
         last: true,
         entries,
-    };
+    })
+}
+
+/// The frame of `THREE`.
+fn frame_of_three(alloc: Global) -> Result<Frame, Fail>
+    ensures { IfOk result FrameHasSpelling }
+{
+    let schema = accounts(alloc)?;
+    let mut entries = EntryList::new(alloc);
+    entries.push(fitting(&schema, insert(alloc)?, 28)?)?;
+    entries.push(fitting(&schema, patch(alloc)?, 22)?)?;
+    entries.push(fitting(&schema, delete(), 10)?)?;
+    Ok(Frame {
+        worker: 0,
+        seq: 0,
+        commit: 1,
+        last: true,
+        entries,
+    })
+}
+
+#[test]
+fn a_frame_is_written(rt: HostRuntime) -> Result<(), Fail> {
+    let frame = frame_of_one(rt.alloc())?;
     let mut buffer = [0xee; 60];
     let mut expected = [0xee; 60];
     expected[..54].copy_from_slice(&FRAME);
@@ -90,6 +147,12 @@ fn a_frame_is_written(rt: HostRuntime) -> Result<(), Fail> {
     let mut short = [0xee; 53];
     assert_eq!(rt; write_frame(&frame, &mut short), Err(TooSmall));
     assert_eq!(rt; short, [0xee; 53]);
+    Ok(())
+}
+
+#[test]
+fn a_frame_is_a_packet(rt: HostRuntime) -> Result<(), Fail> {
+    let frame = frame_of_one(rt.alloc())?;
     assert_eq!(rt; Packet::of_frame(&frame).bytes(), FRAME.as_slice());
     let Frame { entries, .. } = frame;
     let commit = Commit { worker: 0, entries };
@@ -98,8 +161,14 @@ fn a_frame_is_written(rt: HostRuntime) -> Result<(), Fail> {
 }
 
 #[test]
+fn a_frame_of_each_form_is_written(rt: HostRuntime) -> Result<(), Fail> {
+    let frame = frame_of_three(rt.alloc())?;
+    assert_eq!(rt; Packet::of_frame(&frame).bytes(), THREE.as_slice());
+    Ok(())
+}
+
+#[test]
 fn a_frame_is_read(rt: HostRuntime) -> Result<(), Fail> {
-    let alloc = rt.alloc();
     let datagram = read(&FRAME)?;
     assert_eq!(rt; Packet::of(&datagram).bytes(), FRAME.as_slice());
     let Datagram::Frame {
@@ -115,58 +184,35 @@ fn a_frame_is_read(rt: HostRuntime) -> Result<(), Fail> {
     assert_eq!(rt; (worker, seq, commit, last), (0, 0, 1, true));
     assert_eq!(rt; entries.len(), 1);
     assert_eq!(rt; entries.as_bytes(), &FRAME[26..]);
-    let list = entries.to_list(alloc)?;
+    Ok(())
+}
+
+/// The entries of the frame that these bytes spell.
+fn entries_in(alloc: Global, bytes: &[u8]) -> Result<EntryList, Fail> {
+    let Datagram::Frame { entries, .. } = read(bytes)? else {
+        return Err("another kind".into());
+    };
+    if entries.as_bytes() != &bytes[26..] {
+        return Err("other bytes".into());
+    }
+    Ok(entries.to_list(alloc)?)
+}
+
+#[test]
+fn an_entry_is_read(rt: HostRuntime) -> Result<(), Fail> {
+    let list = entries_in(rt.alloc(), &FRAME)?;
     assert_eq!(rt; list.len(), 1);
     let Entry::Insert { table, row, bytes } = &list.as_slice()[0] else {
         return Err("another entry".into());
     };
-    assert_eq!(rt; *table, 0);
-    assert_eq!(rt; *row, RowId(7));
+    assert_eq!(rt; (*table, *row), (0, RowId(7)));
     assert_eq!(rt; bytes.as_slice(), &FRAME[38..]);
     Ok(())
 }
 
 #[test]
-fn a_frame_of_each_form_is_written(rt: HostRuntime) -> Result<(), Fail> {
-    let alloc = rt.alloc();
-    let (table, row) = (0, RowId(7));
-    let kinds = [Kind::Int, Kind::Int];
-    let schema = Schema::new(alloc, &[("accounts", kinds.as_slice())])?;
-    let bytes = row_bytes(alloc, &[Value::Int(5), Value::Int(-1)])?;
-    let insert = Entry::Insert { table, row, bytes };
-    fits(&schema, &insert)?;
-    let bytes = row_bytes(alloc, &[Value::Int(6)])?;
-    let patch = Entry::Patch {
-        table,
-        row,
-        offset: 8,
-        bytes,
-    };
-    fits(&schema, &patch)?;
-    let delete = Entry::Delete { table, row };
-    fits(&schema, &delete)?;
-    let mut entries = EntryList::new(alloc);
-    entries.push(insert)?;
-    entries.push(patch)?;
-    entries.push(delete)?;
-    let frame = Frame {
-        worker: 0,
-        seq: 0,
-        commit: 1,
-        last: true,
-        entries,
-    };
-    assert_eq!(rt; Packet::of_frame(&frame).bytes(), THREE.as_slice());
-    Ok(())
-}
-
-#[test]
-fn a_frame_of_each_form_is_read(rt: HostRuntime) -> Result<(), Fail> {
-    let Datagram::Frame { entries, .. } = read(&THREE)? else {
-        return Err("another kind".into());
-    };
-    assert_eq!(rt; entries.as_bytes(), &THREE[26..]);
-    let list = entries.to_list(rt.alloc())?;
+fn entries_of_each_form_are_read(rt: HostRuntime) -> Result<(), Fail> {
+    let list = entries_in(rt.alloc(), &THREE)?;
     let [
         Entry::Insert { .. },
         Entry::Patch {
@@ -189,66 +235,48 @@ fn a_frame_of_each_form_is_read(rt: HostRuntime) -> Result<(), Fail> {
     Ok(())
 }
 
-/// The fault of a frame whose one entry begins with these bytes and goes on with zeros, so many
-/// bytes in all.
-fn fault_of(head: &[u8], len: usize) -> Option<WireFault>
-    requires { (length head.now ≤ len) × (len ≤ 1174) }
-{
+/// The fault of a frame whose one entry is of this form, for row 7 of this table, and goes on with
+/// these four bytes and then with zeros, so many bytes in all.
+fn fault_of(form: u8, table: u8, next: [u8; 4], len: u16) -> Option<WireFault> {
     let mut bytes = [0u8; 1200];
-    let total = 26 + len;
+    let total = (26 + usize::from(len)).min(1200);
     bytes[..26].copy_from_slice(&FRAME[..26]);
-    BigEndian::write_u16(&mut bytes[4..], total as u16);
-    bytes[26..26 + head.len()].copy_from_slice(head);
+    bytes[4..6].copy_from_slice(&(total as u16).to_be_bytes());
+    bytes[26] = form;
+    bytes[27] = table;
+    bytes[35] = 7;
+    bytes[36..40].copy_from_slice(&next);
     read(&bytes[..total]).err()
 }
 
 #[test]
-fn an_insert_holds_1_to_512_bytes(rt: HostRuntime) {
-    let none = [1, 0, 0, 0, 0, 0, 0, 0, 0, 7, 0, 0];
-    assert_eq!(rt; fault_of(&none, 12), Some(WireFault::Body));
-    let most = [1, 0, 0, 0, 0, 0, 0, 0, 0, 7, 2, 0];
-    assert_eq!(rt; fault_of(&most, 524), None);
-    let more = [1, 0, 0, 0, 0, 0, 0, 0, 0, 7, 2, 1];
-    assert_eq!(rt; fault_of(&more, 525), Some(WireFault::Body));
-}
-
-#[test]
-fn a_patch_holds_1_to_64_bytes(rt: HostRuntime) {
-    let none = [2, 0, 0, 0, 0, 0, 0, 0, 0, 7, 0, 8, 0, 0];
-    assert_eq!(rt; fault_of(&none, 14), Some(WireFault::Body));
-    let most = [2, 0, 0, 0, 0, 0, 0, 0, 0, 7, 0, 8, 0, 64];
-    assert_eq!(rt; fault_of(&most, 78), None);
-    let more = [2, 0, 0, 0, 0, 0, 0, 0, 0, 7, 0, 8, 0, 65];
-    assert_eq!(rt; fault_of(&more, 79), Some(WireFault::Body));
-}
-
-#[test]
-fn a_patch_ends_within_512_bytes(rt: HostRuntime) {
-    let within = [2, 0, 0, 0, 0, 0, 0, 0, 0, 7, 1, 0xf8, 0, 8];
-    assert_eq!(rt; fault_of(&within, 22), None);
-    let past = [2, 0, 0, 0, 0, 0, 0, 0, 0, 7, 1, 0xf9, 0, 8];
-    assert_eq!(rt; fault_of(&past, 22), Some(WireFault::Body));
-}
-
-#[test]
-fn an_entry_is_of_three_forms_and_16_tables(rt: HostRuntime) {
-    for (form, table, fault) in [
-        (3, 0, None),
-        (3, 15, None),
-        (3, 16, Some(WireFault::Body)),
-        (0, 0, Some(WireFault::Body)),
-        (4, 0, Some(WireFault::Body)),
+fn a_frame_holds_whole_entries(rt: HostRuntime) {
+    let body = Some(WireFault::Body);
+    for (form, table, next, len, fault) in [
+        // An insert: its size, and 1 to 512 bytes.
+        (1, 0, [0, 0, 0, 0], 12, body),
+        (1, 0, [2, 0, 0, 0], 524, None),
+        (1, 0, [2, 1, 0, 0], 525, body),
+        // A patch: its offset, its size, and 1 to 64 bytes.
+        (2, 0, [0, 8, 0, 0], 14, body),
+        (2, 0, [0, 8, 0, 64], 78, None),
+        (2, 0, [0, 8, 0, 65], 79, body),
+        // It ends within 512 bytes.
+        (2, 0, [1, 0xf8, 0, 8], 22, None),
+        (2, 0, [1, 0xf9, 0, 8], 22, body),
+        // A delete, of one of 16 tables; and two forms that are none.
+        (3, 0, [0; 4], 10, None),
+        (3, 15, [0; 4], 10, None),
+        (3, 16, [0; 4], 10, body),
+        (0, 0, [0; 4], 10, body),
+        (4, 0, [0; 4], 10, body),
+        // A byte behind it, and one too few.
+        (3, 0, [0; 4], 11, body),
+        (3, 0, [0; 4], 9, body),
     ] {
-        let entry = [form, table, 0, 0, 0, 0, 0, 0, 0, 7];
-        assert_eq!(rt; fault_of(&entry, 10), fault, "form {form}, table {table}");
+        let found = fault_of(form, table, next, len);
+        assert_eq!(rt; found, fault, "form {form}, table {table}, {len} bytes");
     }
-}
-
-#[test]
-fn entries_fill_their_frame(rt: HostRuntime) {
-    let delete = [3, 0, 0, 0, 0, 0, 0, 0, 0, 7];
-    assert_eq!(rt; fault_of(&delete, 11), Some(WireFault::Body));
-    assert_eq!(rt; fault_of(&delete[..9], 9), Some(WireFault::Body));
 }
 
 #[test]
@@ -273,31 +301,32 @@ fn an_ask_is_written_and_read(rt: HostRuntime) -> Result<(), Fail> {
     Ok(())
 }
 
+/// The Head of replica 0, its boot 1 and request 1, at version 1: the first worker has one frame,
+/// and so many others have none.
+fn head_of(others: u8) -> Datagram<'static>
+    requires { others ≤ 1 }
+    ensures { HasSpelling result }
+{
+    let mut counts = Counts::new();
+    counts.push(1);
+    if others == 1 {
+        counts.push(0);
+    }
+    Datagram::Head {
+        replica: 0,
+        boot: 1,
+        request: 1,
+        version: 1,
+        counts,
+    }
+}
+
 #[test]
 fn a_head_is_written(rt: HostRuntime) {
-    let mut counts = Counts::new();
-    counts.push(1);
-    let of_one = Datagram::Head {
-        replica: 0,
-        boot: 1,
-        request: 1,
-        version: 1,
-        counts,
-    };
     let mut buffer = [0xee; 40];
-    assert_eq!(rt; write(&of_one, &mut buffer), Ok(40));
+    assert_eq!(rt; write(&head_of(0), &mut buffer), Ok(40));
     assert_eq!(rt; buffer, HEAD);
-    let mut counts = Counts::new();
-    counts.push(1);
-    counts.push(0);
-    let of_two = Datagram::Head {
-        replica: 0,
-        boot: 1,
-        request: 1,
-        version: 1,
-        counts,
-    };
-    assert_eq!(rt; Packet::of(&of_two).bytes(), HEAD_OF_TWO.as_slice());
+    assert_eq!(rt; Packet::of(&head_of(1)).bytes(), HEAD_OF_TWO.as_slice());
 }
 
 #[test]
@@ -341,7 +370,7 @@ fn spellings_tell_datagrams_apart() {
 }
 
 #[test]
-fn the_first_fault_is_named(rt: HostRuntime) {
+fn the_length_is_that_of_the_bytes(rt: HostRuntime) {
     assert_eq!(rt; read(&FRAME[..5]).err(), Some(WireFault::Short));
     assert_eq!(rt; read(&FRAME[..53]).err(), Some(WireFault::Length));
     let mut longer = [0; 55];
@@ -352,6 +381,10 @@ fn the_first_fault_is_named(rt: HostRuntime) {
     above[4] = 0x04;
     above[5] = 0xb1;
     assert_eq!(rt; read(&above).err(), Some(WireFault::Length));
+}
+
+#[test]
+fn the_first_fault_is_named(rt: HostRuntime) {
     for (place, byte, fault) in [
         (1, 0x45, WireFault::Magic),
         (2, 2, WireFault::Version),
