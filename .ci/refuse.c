@@ -1,0 +1,60 @@
+/*
+ * Refuses one request for memory of a program, to show what the program makes of that.
+ *
+ *     LD_PRELOAD=./refuse.so REFUSED=7 PROGRAM       its seventh request is refused
+ *     LD_PRELOAD=./refuse.so COUNTED=FILE PROGRAM    none is, and FILE has their number once it has ended
+ *
+ * A request is a call of malloc, calloc, realloc, aligned_alloc or posix_memalign. What is not refused goes to the
+ * functions of the C library under their other names. No header is read, since the toolchain's compiler has none.
+ */
+typedef __SIZE_TYPE__ size;
+
+void *__libc_malloc(size bytes);
+void *__libc_calloc(size count, size bytes);
+void *__libc_realloc(void *old, size bytes);
+void *__libc_memalign(size alignment, size bytes);
+char *getenv(const char *name);
+unsigned long strtoul(const char *digits, char **end, int base);
+int creat(const char *path, unsigned mode);
+int dprintf(int file, const char *form, ...);
+int *__errno_location(void);
+
+enum { ENOMEM = 12 };
+
+static unsigned long requests, refused;
+
+/* Reads which request is to be refused, before the program begins; they are numbered from 1. */
+__attribute__((constructor)) static void begin(void) {
+    const char *number = getenv("REFUSED");
+    refused = number ? strtoul(number, 0, 10) : 0;
+    requests = 0;
+}
+
+__attribute__((destructor)) static void end(void) {
+    const char *file = getenv("COUNTED");
+    if (file)
+        dprintf(creat(file, 0600), "%lu\n", requests);
+}
+
+/* Counts a request, and tells whether it is refused. */
+static int refuses(void) {
+    if (__atomic_add_fetch(&requests, 1, __ATOMIC_RELAXED) != refused)
+        return 0;
+    *__errno_location() = ENOMEM;
+    return 1;
+}
+
+void *malloc(size bytes) { return refuses() ? 0 : __libc_malloc(bytes); }
+
+void *calloc(size count, size bytes) { return refuses() ? 0 : __libc_calloc(count, bytes); }
+
+void *realloc(void *old, size bytes) { return refuses() ? 0 : __libc_realloc(old, bytes); }
+
+void *aligned_alloc(size alignment, size bytes) { return refuses() ? 0 : __libc_memalign(alignment, bytes); }
+
+int posix_memalign(void **made, size alignment, size bytes) {
+    void *memory = refuses() ? 0 : __libc_memalign(alignment, bytes);
+    if (memory)
+        *made = memory;
+    return memory ? 0 : ENOMEM;
+}
