@@ -29,6 +29,3 @@ pub use laws::fed_replicas_stay_fed;
 pub use outcome::{Got, Run};
 pub use plan::{Plan, PlanFault};
 pub use replica_core::ReplicaCore;
-
-#[cfg(test)]
-mod tests;

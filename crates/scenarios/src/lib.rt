@@ -4,11 +4,15 @@
 #![tactic(auto)]
 
 #[cfg(test)]
-
+mod batches;
 #[cfg(test)]
 mod datagrams;
 #[cfg(test)]
 mod entries;
+#[cfg(test)]
+mod frames;
+#[cfg(test)]
+mod replica;
 #[cfg(test)]
 mod row_values;
 #[cfg(test)]
@@ -21,3 +25,5 @@ mod script_transactions;
 mod scripts;
 #[cfg(test)]
 mod stores;
+#[cfg(test)]
+mod worker_datagrams;

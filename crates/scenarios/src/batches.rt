@@ -1,0 +1,190 @@
+//! Batches of a replica, from the first query to the report.
+
+use crate::worker_datagrams::{
+    FRAME, HEAD, HEAD_AT_2, HEAD_OF_TWO, HEAD_WITHOUT_FRAMES, PATCH_AND_DELETE, TWO_ROWS,
+};
+use crate::replica::{Answer, NUMBERS, Step, fresh, other_answer, other_answer_of, ran};
+use dispatcher::{AskFault, Got, OpenFault, Plan, PlanFault, ReplicaCore, fed_replicas_stay_fed};
+use rows::{Kind, Schema};
+use std::alloc::Global;
+use std::test::Fail;
+use store::PlainStore;
+
+/// The report on one row at version 1.
+const ONE_ROW: &[u8] = b"version 1 queries 1\nquery 0 rows 1\n1\n";
+
+#[test]
+fn an_ask_is_repeated_until_its_head(rt: HostRuntime) -> Result<(), Fail> {
+    let story = [
+        (Step::Open(0), Answer::Opened(1)),
+        (Step::Run, Answer::NoBatch),
+        (Step::Request, Answer::Number(0)),
+        (Step::Ask, Answer::FirstAsk),
+        (Step::Request, Answer::Number(1)),
+        (Step::Ask, Answer::FirstAsk),
+        (Step::Request, Answer::Number(1)),
+        (Step::Run, Answer::WaitingHead),
+    ];
+    assert_eq!(rt; other_answer(rt.alloc(), &NUMBERS, &story)?, None);
+    Ok(())
+}
+
+/// A Head of another replica, boot, request or number of workers is not its own.
+#[test]
+fn a_batch_takes_its_own_head_alone(rt: HostRuntime) -> Result<(), Fail> {
+    let story = [
+        (Step::Open(0), Answer::Opened(1)),
+        (Step::Ask, Answer::FirstAsk),
+        (Step::GetHeadWith(6, 1), Answer::Got(Got::Ignored)),
+        (Step::GetHeadWith(14, 2), Answer::Got(Got::Ignored)),
+        (Step::GetHeadWith(22, 2), Answer::Got(Got::Ignored)),
+        (Step::Get(&HEAD_OF_TWO), Answer::Got(Got::Ignored)),
+        (Step::Get(&HEAD), Answer::Got(Got::Head(1))),
+        (Step::Get(&HEAD), Answer::Got(Got::Ignored)),
+        (Step::Request, Answer::Number(1)),
+        (Step::Ask, Answer::NotAsked(AskFault::Busy)),
+    ];
+    assert_eq!(rt; other_answer(rt.alloc(), &NUMBERS, &story)?, None);
+    Ok(())
+}
+
+#[test]
+fn a_batch_is_answered_at_its_version(rt: HostRuntime) -> Result<(), Fail> {
+    let story = [
+        (Step::Open(0), Answer::Opened(1)),
+        (Step::Request, Answer::Number(0)),
+        (Step::Ask, Answer::FirstAsk),
+        (Step::Get(&HEAD), Answer::Got(Got::Head(1))),
+        (Step::Run, Answer::Waiting(0, 0)),
+        (Step::Get(&FRAME), Answer::Got(Got::Stored)),
+        (Step::Get(&FRAME), Answer::Got(Got::Repeat)),
+        (Step::Version, Answer::Number(0)),
+        (Step::Report(ONE_ROW), Answer::Told),
+        (Step::Version, Answer::Number(1)),
+        (Step::Request, Answer::Number(1)),
+        (Step::Ask, Answer::NotAsked(AskFault::Empty)),
+    ];
+    assert_eq!(rt; other_answer(rt.alloc(), &NUMBERS, &story)?, None);
+    Ok(())
+}
+
+#[test]
+fn the_rows_that_are_left_are_counted(rt: HostRuntime) -> Result<(), Fail> {
+    let story = [
+        (Step::Open(0), Answer::Opened(1)),
+        (Step::Ask, Answer::FirstAsk),
+        (Step::Get(&HEAD_AT_2), Answer::Got(Got::Head(2))),
+        (Step::Get(&TWO_ROWS), Answer::Got(Got::Stored)),
+        (Step::Get(&PATCH_AND_DELETE), Answer::Got(Got::Stored)),
+        (
+            Step::Report(b"version 2 queries 1\nquery 0 rows 1\n1\n"),
+            Answer::Told,
+        ),
+    ];
+    let kinds = [Kind::Int, Kind::Octets(3)];
+    assert_eq!(rt; other_answer(rt.alloc(), &kinds, &story)?, None);
+    Ok(())
+}
+
+/// Its frame holds commit 2 where commit 1 is the next.
+#[test]
+fn frames_of_no_list_of_commits_break_it(rt: HostRuntime) -> Result<(), Fail> {
+    let story = [
+        (Step::Open(0), Answer::Opened(1)),
+        (Step::Ask, Answer::FirstAsk),
+        (Step::Get(&HEAD), Answer::Got(Got::Head(1))),
+        (Step::GetFrameWith(22, 2), Answer::Got(Got::Stored)),
+        (Step::Run, Answer::Inconsistent),
+        (Step::Open(0), Answer::NotOpened(OpenFault::Broken)),
+        (Step::Request, Answer::Number(1)),
+        (Step::Ask, Answer::NotAsked(AskFault::Broken)),
+        (Step::Run, Answer::Broken),
+        (Step::Get(&FRAME), Answer::Got(Got::Broken)),
+    ];
+    assert_eq!(rt; other_answer(rt.alloc(), &NUMBERS, &story)?, None);
+    Ok(())
+}
+
+#[test]
+fn a_version_without_its_frames_breaks_it(rt: HostRuntime) -> Result<(), Fail> {
+    let story = [
+        (Step::Open(0), Answer::Opened(1)),
+        (Step::Ask, Answer::FirstAsk),
+        (Step::Get(&HEAD_WITHOUT_FRAMES), Answer::Got(Got::Head(5))),
+        (Step::Run, Answer::Inconsistent),
+        (Step::Version, Answer::Number(0)),
+    ];
+    assert_eq!(rt; other_answer(rt.alloc(), &NUMBERS, &story)?, None);
+    Ok(())
+}
+
+/// What a fresh replica answers to the run of a batch with all its frames, what when it is run
+/// again, and its version then; `None` where memory is refused before the first run.
+fn runs_of(replica: &mut ReplicaCore<PlainStore>) -> Option<(Answer, Answer, u64)> {
+    let story = [
+        (Step::Open(0), Answer::Opened(1)),
+        (Step::Ask, Answer::FirstAsk),
+        (Step::Get(&HEAD), Answer::Got(Got::Head(1))),
+        (Step::Get(&FRAME), Answer::Got(Got::Stored)),
+    ];
+    if other_answer_of(replica, &story).is_some() {
+        return None;
+    }
+    let first = ran(replica, ONE_ROW);
+    let second = ran(replica, ONE_ROW);
+    Some((first, second, replica.version()))
+}
+
+/// The same of a replica of its own, which is not the test's, so that nothing that asserts owns.
+fn runs(alloc: Global) -> Result<Option<(Answer, Answer, u64)>, Fail> {
+    let mut replica = fresh(alloc, &NUMBERS)?;
+    Ok(runs_of(&mut replica))
+}
+
+/// Whichever allocation is refused: a run that lacks memory can be run again, or breaks the replica.
+#[test]
+fn a_run_without_memory_stands_or_breaks(rt: HostRuntime) -> Result<(), Fail> {
+    let allowed = [
+        (Answer::Told, Answer::NoBatch, 1),
+        (Answer::Memory, Answer::Told, 1),
+        (Answer::Broken, Answer::Broken, 0),
+    ];
+    let Some(found) = runs(rt.alloc())? else {
+        return Err(Fail::from("out of memory"));
+    };
+    assert!(rt; allowed.contains(&found), "{found:?}");
+    Ok(())
+}
+
+#[test]
+fn at_most_64_queries_wait(rt: HostRuntime) -> Result<(), Fail> {
+    let mut story = [(Step::Open(0), Answer::NotOpened(OpenFault::BatchFull)); 65];
+    for count in 0..64 {
+        story[count] = (Step::Open(0), Answer::Opened(count + 1));
+    }
+    assert_eq!(rt; other_answer(rt.alloc(), &NUMBERS, &story)?, None);
+    Ok(())
+}
+
+#[test]
+fn a_query_of_no_table_does_not_wait(rt: HostRuntime) -> Result<(), Fail> {
+    let refused = Answer::NotOpened(OpenFault::BadPlan(PlanFault::NoTable));
+    let story = [(Step::Open(1), refused)];
+    assert_eq!(rt; other_answer(rt.alloc(), &NUMBERS, &story)?, None);
+    Ok(())
+}
+
+#[test]
+fn a_plan_fits_where_its_table_is_there(rt: HostRuntime) -> Result<(), Fail> {
+    let kinds = [Kind::Int];
+    let tables = [("acct", kinds.as_slice()), ("site", kinds.as_slice())];
+    let schema = Schema::new(rt.alloc(), &tables)?;
+    assert_eq!(rt; Plan { table: 1 }.check(&schema), Ok(()));
+    assert_eq!(rt; Plan { table: 2 }.check(&schema), Err(PlanFault::NoTable));
+    Ok(())
+}
+
+#[test]
+fn the_laws_of_replicas_can_be_called() {
+    fed_replicas_stay_fed();
+}
