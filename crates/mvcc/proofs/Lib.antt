@@ -6,4 +6,3 @@ pub mod Effects
 pub mod OwnRows
 pub mod CellLaws
 pub mod Columns
-pub mod Defined

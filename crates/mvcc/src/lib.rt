@@ -28,8 +28,3 @@ mod versions;
 pub use faults::TxFault;
 pub use transaction::{TRANSACTION_ENTRIES_MAX, Transaction};
 pub use versions::Versions;
-
-#[cfg(test)]
-mod transaction_tests;
-#[cfg(test)]
-mod versions_tests;

@@ -6,3 +6,4 @@ pub mod RowsTold
 pub mod Places
 pub mod Sending
 pub mod Core
+pub mod Worked

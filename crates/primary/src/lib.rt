@@ -21,12 +21,9 @@ mod primary_core;
 mod rows_told;
 mod sending;
 mod ticket;
+mod worked;
 
 pub use faults::{CommitFault, FlushFault};
 pub use primary_core::PrimaryCore;
 pub use ticket::Ticket;
-
-#[cfg(test)]
-mod memory_tests;
-#[cfg(test)]
-mod tests;
+pub use worked::worked_journal;

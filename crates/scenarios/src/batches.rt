@@ -1,9 +1,9 @@
 //! Batches of a replica, from the first query to the report.
 
+use crate::replica::{Answer, NUMBERS, Step, fresh, other_answer, other_answer_of, ran};
 use crate::worker_datagrams::{
     FRAME, HEAD, HEAD_AT_2, HEAD_OF_TWO, HEAD_WITHOUT_FRAMES, PATCH_AND_DELETE, TWO_ROWS,
 };
-use crate::replica::{Answer, NUMBERS, Step, fresh, other_answer, other_answer_of, ran};
 use dispatcher::{AskFault, Got, OpenFault, Plan, PlanFault, ReplicaCore, fed_replicas_stay_fed};
 use rows::{Kind, Schema};
 use std::alloc::Global;

@@ -1,7 +1,7 @@
 //! Frames that come to a replica, in any order.
 
-use crate::worker_datagrams::{FRAME, HEAD_AT_2, PATCH_AND_DELETE, changed};
 use crate::replica::{Answer, NUMBERS, Step, other_answer};
+use crate::worker_datagrams::{FRAME, HEAD_AT_2, PATCH_AND_DELETE, changed};
 use dispatcher::Got;
 use std::test::Fail;
 

@@ -4,13 +4,19 @@
 #![tactic(auto)]
 
 #[cfg(test)]
+mod accounts;
+#[cfg(test)]
 mod batches;
+#[cfg(test)]
+mod commits;
 #[cfg(test)]
 mod datagrams;
 #[cfg(test)]
 mod entries;
 #[cfg(test)]
 mod frames;
+#[cfg(test)]
+mod primary_steps;
 #[cfg(test)]
 mod replica;
 #[cfg(test)]
@@ -25,5 +31,11 @@ mod script_transactions;
 mod scripts;
 #[cfg(test)]
 mod stores;
+#[cfg(test)]
+mod streams;
+#[cfg(test)]
+mod transactions;
+#[cfg(test)]
+mod versions;
 #[cfg(test)]
 mod worker_datagrams;

@@ -7,6 +7,9 @@ use Rattle.rows.specs.Presence.{stands_for, is_there_after}
 use Rattle.rows.proofs.TableLaws.{defined_behind}
 use Rattle.mvcc.specs.History.{History, defined_at, is_row_there}
 
-pub defined_at_push : (versions : History) (version : ℕ) (before : List Entry) (entry : Entry) → defined_at versions version before ≡ true
-    → defined_at versions version (before ++ entry ∷ []) ≡ (is_ok (fitting versions.shape entry) && stands_for entry (is_there_after (table_of entry) (row_of entry) before (is_row_there versions version entry)))
+pub defined_at_push : (versions : History) (version : ℕ) (before : List Entry) (entry : Entry)
+    → defined_at versions version before ≡ true
+    → defined_at versions version (before ++ entry ∷ [])
+    ≡ (is_ok (fitting versions.shape entry)
+    && stands_for entry (is_there_after (table_of entry) (row_of entry) before (is_row_there versions version entry)))
 defined_at_push versions version before entry h = defined_behind versions.shape versions.commits version before entry h
