@@ -1,5 +1,6 @@
 -- A replica that is fed from a legal list and lacks no frame catches up with the version that was fetched for its batch.
-use Rattle.std.proofs.Common.{◌≡◌, ℕ, ◌+◌, ◌-◌, ◌≤◌, Bool, true, false, cond, ◌==◌, List, Option, Some, None, slice_index, refl, sym, ap, ◌∙◌, arith}
+use Rattle.std.proofs.Common.{◌≡◌, ℕ, ◌+◌, ◌-◌, ◌≤◌, Bool, true, false, cond, ◌==◌, List, Option, Some, None, slice_index, refl, sym, ap}
+use Rattle.std.proofs.Common.{◌∙◌, arith}
 use Rattle.std.specs.Option.{option_map}
 use Rattle.std.proofs.lemmas.Bool.{eq-eqb, ltb-false}
 use Rattle.std.proofs.lemmas.Option.{none-some, same_Some}
@@ -29,14 +30,19 @@ unless : {A : Type 0} (b : Bool) (o : Option A) (x : A) → cond b None o ≡ So
 unless true o x e = absurd (none-some x e)
 unless false o x e = (refl, e)
 
-ready-fetched : (r : Replica) (plans : List Plan) (found : Option Fetched) (fetched : Fetched) → ready_by r (Some (record { plans = plans; fetched = found })) ≡ Some fetched
+ready-fetched : (r : Replica) (plans : List Plan) (found : Option Fetched) (fetched : Fetched)
+    → ready_by r (Some (record { plans = plans; fetched = found })) ≡ Some fetched
     → (found ≡ Some fetched) × (slice_index fetched.counts 0 ≤ first_missing (known r))
 ready-fetched r plans None fetched e = absurd (none-some fetched e)
 ready-fetched r plans (Some found) fetched e =
-    let parts = unless (is_waiting r found) (Some found) fetched e in
-    (parts.1, ltb-false (first_missing (known r)) (slice_index fetched.counts 0) (ap (is_waiting r) (sym (same_Some found fetched parts.1)) ∙ parts.0))
+    let parts = unless (is_waiting r found) (Some found) fetched e in (
+      parts.1,
+      ltb-false (first_missing (known r)) (slice_index fetched.counts 0)
+          (ap (is_waiting r) (sym (same_Some found fetched parts.1)) ∙ parts.0),
+    )
 
-ready-batch : (r : Replica) (batch : Option Queries) (fetched : Fetched) → r.broken ≡ false → r.batch ≡ batch → ready_by r batch ≡ Some fetched → (queries : Queries) × CanAnswer r queries fetched
+ready-batch : (r : Replica) (batch : Option Queries) (fetched : Fetched) → r.broken ≡ false → r.batch ≡ batch
+    → ready_by r batch ≡ Some fetched → (queries : Queries) × CanAnswer r queries fetched
 ready-batch r None fetched whole there e = absurd (none-some fetched e)
 ready-batch r (Some batch) fetched whole there e =
     let parts = ready-fetched r batch.plans batch.fetched fetched e in
@@ -51,34 +57,43 @@ ready-parts r fetched e =
 
 -- the replica at the version that was fetched
 abbrev pub caught : Shape → List Commit → Fetched → Replica → Replica
-caught shape commits fetched r = record r { tables = tables_after shape commits fetched.version; version = fetched.version; applied = fetched.version }
+caught shape commits fetched r =
+    record r { tables = tables_after shape commits fetched.version; version = fetched.version; applied = fetched.version }
 
 -- catching up, by what it looks at
 abbrev caught_by : Replica → ℕ → ℕ → ℕ → Shape → Tables → Option Replica
 caught_by r version count applied shape tables =
     cond (r.version + (count - applied) == version)
-    (option_map (λ tables. record r { tables = tables; version = version; applied = count }) (replayed shape tables r.version (frames_at r.frames applied (count - applied))))
+    (option_map (λ tables. record r { tables = tables; version = version; applied = count })
+    (replayed shape tables r.version (frames_at r.frames applied (count - applied))))
     None
 
 caught-known : (shape : Shape) (commits : List Commit) (r : Replica) (version : ℕ) → IsLegal shape 1 commits → IsFedFrom shape commits r
     → r.version ≤ version → version ≤ first_missing (known r)
-    → caught_by r version version r.version shape (tables_after shape commits r.version) ≡ Some (record r { tables = tables_after shape commits version; version = version; applied = version })
+    → caught_by r version version r.version shape (tables_after shape commits r.version) ≡ Some
+    (record r { tables = tables_after shape commits version; version = version; applied = version })
 caught-known shape commits r version legal fed above all =
     let end : r.version + (version - r.version) ≡ version = omega arith in
     let made = λ (tables : Tables). record r { tables = tables; version = version; applied = version } in
     let replay = replayed-known shape commits r.frames r.version (version - r.version) legal fed.frames_are (omega arith) in
-    ap (λ (b : Bool). cond b (option_map made (replayed shape (tables_after shape commits r.version) r.version (frames_at r.frames r.version (version - r.version)))) None) (eq-eqb (r.version + (version - r.version)) version end)
+    ap (λ (b : Bool). cond b (option_map made
+    (replayed shape (tables_after shape commits r.version) r.version (frames_at r.frames r.version (version - r.version)))) None)
+    (eq-eqb (r.version + (version - r.version)) version end)
     ∙ ap (option_map made) (replay ∙ ap (λ (v : ℕ). Some (tables_after shape commits v)) end)
 
 -- its frame count is its version
-pub applied-version : (shape : Shape) (commits : List Commit) (r : Replica) → IsLegal shape 1 commits → IsFedFrom shape commits r → r.applied ≡ r.version
+pub applied-version : (shape : Shape) (commits : List Commit) (r : Replica) → IsLegal shape 1 commits → IsFedFrom shape commits r
+    → r.applied ≡ r.version
 applied-version shape commits r legal fed = fed.applied_is ∙ count-is commits r.version legal.each fed.below
 
 -- and so is the count that was fetched
-pub count-fetched : (shape : Shape) (commits : List Commit) (version : ℕ) (fetched : Fetched) → IsLegal shape 1 commits → IsFetchedFrom commits version fetched → slice_index fetched.counts 0 ≡ fetched.version
-count-fetched shape commits version fetched legal is = ap (λ (l : List ℕ). slice_index l 0) is.counts_are ∙ count-is commits fetched.version legal.each is.below
+pub count-fetched : (shape : Shape) (commits : List Commit) (version : ℕ) (fetched : Fetched) → IsLegal shape 1 commits
+    → IsFetchedFrom commits version fetched → slice_index fetched.counts 0 ≡ fetched.version
+count-fetched shape commits version fetched legal is =
+    ap (λ (l : List ℕ). slice_index l 0) is.counts_are ∙ count-is commits fetched.version legal.each is.below
 
-pub catches-up : (shape : Shape) (commits : List Commit) (r : Replica) (batch : Queries) (fetched : Fetched) → IsLegal shape 1 commits → IsFedFrom shape commits r → CanAnswer r batch fetched
+pub catches-up : (shape : Shape) (commits : List Commit) (r : Replica) (batch : Queries) (fetched : Fetched) → IsLegal shape 1 commits
+    → IsFedFrom shape commits r → CanAnswer r batch fetched
     → caught_up r fetched ≡ Some (caught shape commits fetched r)
 catches-up shape commits r batch fetched legal fed can =
     let is = fed.fetched_is batch fetched can.there can.has in

@@ -1,5 +1,6 @@
 -- What keeps a replica fed.
-use Rattle.std.proofs.Common.{◌≡◌, ℕ, ◌+◌, ◌<◌, ◌≤◌, Bool, true, false, cond, not, ◌||◌, ◌&&◌, ◌==◌, List, [], ◌∷◌, ◌++◌, length, Option, Some, None, Result, Ok, Err, nat_lt, nat_le, slice_index, refl, sym, ap, subst, ◌∙◌, arith}
+use Rattle.std.proofs.Common.{◌≡◌, ℕ, ◌+◌, ◌<◌, ◌≤◌, Bool, true, false, cond, not, ◌||◌, ◌&&◌, ◌==◌, List, [], ◌∷◌, ◌++◌, length, Option}
+use Rattle.std.proofs.Common.{Some, None, Result, Ok, Err, nat_lt, nat_le, slice_index, refl, sym, ap, subst, ◌∙◌, arith}
 use Rattle.std.specs.List.{slice_get, list_all}
 use Rattle.std.specs.Ordering.{nat_cmp}
 use Rattle.std.specs.BTreeMap.{insert_entry}
@@ -27,7 +28,8 @@ use Rattle.dispatcher.specs.declared.faults.OpenFault.{OpenFault}
 use Rattle.dispatcher.specs.declared.faults.OpenFault.TheVariants as opens
 use Rattle.dispatcher.specs.declared.plan.Plan.{Plan}
 use Rattle.dispatcher.specs.declared.plan.PlanFault.{PlanFault}
-use Rattle.dispatcher.specs.Feeding.{IsFetchedFrom, IsFedFrom, Tells, FreshIsFed, CommitsKeepFed, BytesKeepFed, OpenKeepsFed, AskKeepsFed, VersionTellsTables}
+use Rattle.dispatcher.specs.Feeding.{IsFetchedFrom, IsFedFrom, Tells, FreshIsFed, CommitsKeepFed, BytesKeepFed, OpenKeepsFed, AskKeepsFed}
+use Rattle.dispatcher.specs.Feeding.{VersionTellsTables}
 use Rattle.dispatcher.specs.Known.{is_known, is_ahead}
 use Rattle.dispatcher.specs.Plans.{checked}
 use Rattle.dispatcher.specs.Replica.{Replica, Queries, Fetched}
@@ -55,7 +57,8 @@ fresh-fed shape commits number boot = record {
 
 -- ---- commits
 
-fetched-stays : (commits more : List Commit) (version : ℕ) (fetched : Fetched) → IsFetchedFrom commits version fetched → IsFetchedFrom (commits ++ more) version fetched
+fetched-stays : (commits more : List Commit) (version : ℕ) (fetched : Fetched) → IsFetchedFrom commits version fetched
+    → IsFetchedFrom (commits ++ more) version fetched
 fetched-stays commits more version fetched is =
     let below = is.below in
     record {
@@ -70,7 +73,9 @@ commits-feed shape commits more r fed =
     record {
       shape_is = fed.shape_is;
       workers_are = fed.workers_are;
-      frames_are = All-map (λ (entry : ℕ × Frame). slice_get (stream_of commits 0) entry.0 ≡ Some entry.1) (λ (entry : ℕ × Frame). slice_get (stream_of (commits ++ more) 0) entry.0 ≡ Some entry.1)
+      frames_are =
+          All-map (λ (entry : ℕ × Frame). slice_get (stream_of commits 0) entry.0 ≡ Some entry.1)
+          (λ (entry : ℕ × Frame). slice_get (stream_of (commits ++ more) 0) entry.0 ≡ Some entry.1)
           (λ entry is. stream-stays commits more 0 entry.0 entry.1 is) r.frames fed.frames_are;
       applied_is = fed.applied_is ∙ sym (count-stays commits more 0 r.version fed.below);
       applied_known = fed.applied_known;
@@ -80,7 +85,8 @@ commits-feed shape commits more r fed =
     }
 
 -- what is true of a list is true of each that goes on from it
-pub tells-stay : (commits more : List Commit) (datagram : Result Datagram WireFault) → Tells commits datagram → Tells (commits ++ more) datagram
+pub tells-stay : (commits more : List Commit) (datagram : Result Datagram WireFault) → Tells commits datagram
+    → Tells (commits ++ more) datagram
 tells-stay commits more (Err fault) h = tt
 tells-stay commits more (Ok (datagrams.Frame worker seq commit last entries)) h = stream-stays commits more worker seq _ h
 tells-stay commits more (Ok (datagrams.Ask replica boot request)) h = tt
@@ -91,12 +97,15 @@ tells-stay commits more (Ok (datagrams.Want replica worker from)) h = tt
 
 -- ---- a frame
 
-stored-fed : (shape : Shape) (commits : List Commit) (r : Replica) (frame : Frame) → IsFedFrom shape commits r → slice_get (stream_of commits 0) frame.seq ≡ Some frame
+stored-fed : (shape : Shape) (commits : List Commit) (r : Replica) (frame : Frame) → IsFedFrom shape commits r
+    → slice_get (stream_of commits 0) frame.seq ≡ Some frame
     → IsFedFrom shape commits (record r { frames = insert_entry nat_cmp r.frames frame.seq frame })
 stored-fed shape commits r frame fed is = record {
   shape_is = fed.shape_is;
   workers_are = fed.workers_are;
-  frames_are = frames-insert (λ (entry : ℕ × Frame). slice_get (stream_of commits 0) entry.0 ≡ Some entry.1) r.frames frame.seq frame fed.frames_are is;
+  frames_are =
+      frames-insert (λ (entry : ℕ × Frame). slice_get (stream_of commits 0) entry.0 ≡ Some entry.1) r.frames frame.seq frame fed.frames_are
+      is;
   applied_is = fed.applied_is;
   applied_known = λ seq below. known-insert r.frames frame.seq frame seq (fed.applied_known seq below);
   below = fed.below;
@@ -105,7 +114,8 @@ stored-fed shape commits r frame fed is = record {
 }
 
 -- a frame of a worker that is there is one of the only worker
-only-stream : (shape : Shape) (commits : List Commit) (r : Replica) (frame : Frame) → IsFedFrom shape commits r → nat_lt frame.worker r.workers ≡ true
+only-stream : (shape : Shape) (commits : List Commit) (r : Replica) (frame : Frame) → IsFedFrom shape commits r
+    → nat_lt frame.worker r.workers ≡ true
     → slice_get (stream_of commits frame.worker) frame.seq ≡ Some frame → slice_get (stream_of commits 0) frame.seq ≡ Some frame
 only-stream shape commits r frame fed there is =
     let one = fed.workers_are in
@@ -113,32 +123,38 @@ only-stream shape commits r frame fed there is =
     let only : 0 ≡ frame.worker = omega arith in
     ap (λ (w : ℕ). slice_get (stream_of commits w) frame.seq) only ∙ is
 
-frame-feeds : (shape : Shape) (commits : List Commit) (r : Replica) (frame : Frame) → IsFedFrom shape commits r → slice_get (stream_of commits frame.worker) frame.seq ≡ Some frame
+frame-feeds : (shape : Shape) (commits : List Commit) (r : Replica) (frame : Frame) → IsFedFrom shape commits r
+    → slice_get (stream_of commits frame.worker) frame.seq ≡ Some frame
     → IsFedFrom shape commits (frame_comes r frame).1
 frame-feeds shape commits r frame fed is =
-    by (not (nat_lt frame.worker r.workers)) (not (list_all (λ entry. is_ok (fitting r.shape entry)) frame.entries)) (is_known (known r) frame.seq) (is_ahead (known r) frame.seq) refl
+    by (not (nat_lt frame.worker r.workers)) (not (list_all (λ entry. is_ok (fitting r.shape entry)) frame.entries))
+    (is_known (known r) frame.seq) (is_ahead (known r) frame.seq) refl
   where
     with : Replica
     with = record r { frames = insert_entry nat_cmp r.frames frame.seq frame }
 
     by : (a b c d : Bool) → not (nat_lt frame.worker r.workers) ≡ a
-        → IsFedFrom shape commits (cond {A = Got × Replica} (a || b) (got.Ignored, r) (cond c (got.Repeat, r) (cond d (got.Ahead, r) (got.Stored, with)))).1
+        → IsFedFrom shape commits (cond {A = Got × Replica} (a || b) (got.Ignored, r)
+        (cond c (got.Repeat, r) (cond d (got.Ahead, r) (got.Stored, with)))).1
     by true b c d e = fed
     by false true c d e = fed
     by false false true d e = fed
     by false false false true e = fed
-    by false false false false e = stored-fed shape commits r frame fed (only-stream shape commits r frame fed (not-false (nat_lt frame.worker r.workers) e) is)
+    by false false false false e =
+        stored-fed shape commits r frame fed (only-stream shape commits r frame fed (not-false (nat_lt frame.worker r.workers) e) is)
 
 -- ---- a Head
 
 -- one thing is fetched for a batch
-same-fetched : (batch : Option Queries) (queries other : Queries) (fetched found : Fetched) → batch ≡ Some queries → queries.fetched ≡ Some fetched → batch ≡ Some other → other.fetched ≡ Some found → fetched ≡ found
+same-fetched : (batch : Option Queries) (queries other : Queries) (fetched found : Fetched) → batch ≡ Some queries
+    → queries.fetched ≡ Some fetched → batch ≡ Some other → other.fetched ≡ Some found → fetched ≡ found
 same-fetched batch queries other fetched found e f g h =
     let same : queries ≡ other = same_Some queries other (sym e ∙ g) in
     same_Some fetched found (sym f ∙ ap (λ (queries : Queries). queries.fetched) same ∙ h)
 
 -- the same replica, for whose batch this was fetched
-fetched-fed : (shape : Shape) (commits : List Commit) (r : Replica) (plans : List Plan) (found : Fetched) → IsFedFrom shape commits r → IsFetchedFrom commits r.version found
+fetched-fed : (shape : Shape) (commits : List Commit) (r : Replica) (plans : List Plan) (found : Fetched) → IsFedFrom shape commits r
+    → IsFetchedFrom commits r.version found
     → IsFedFrom shape commits (record r { batch = Some (record { plans = plans; fetched = Some found }) })
 fetched-fed shape commits r plans found fed is = record {
   shape_is = fed.shape_is;
@@ -159,19 +175,23 @@ head-feeds shape commits r version counts fed below are =
     by (not (length counts == r.workers)) (nat_lt version r.version) (nat_lt (slice_index counts 0) r.applied) r.batch refl
   where
     taken : Queries → Option Fetched → Got × Replica
-    taken batch None = (got.Head version, record r { batch = Some (record batch { fetched = Some (record { version = version; counts = counts }) }) })
+    taken batch None =
+        (got.Head version, record r { batch = Some (record batch { fetched = Some (record { version = version; counts = counts }) }) })
     taken batch (Some fetched) = (got.Ignored, r)
 
     by_batch : Option Queries → Got × Replica
     by_batch None = (got.Ignored, r)
     by_batch (Some batch) = taken batch batch.fetched
 
-    by_fetched : (plans : List Plan) (fetched : Option Fetched) → r.version ≤ version → IsFedFrom shape commits (taken (record { plans = plans; fetched = fetched }) fetched).1
+    by_fetched : (plans : List Plan) (fetched : Option Fetched) → r.version ≤ version
+        → IsFedFrom shape commits (taken (record { plans = plans; fetched = fetched }) fetched).1
     by_fetched plans (Some fetched) fresh = fed
     by_fetched plans None fresh =
-        fetched-fed shape commits r plans (record { version = version; counts = counts }) fed (record { above = fresh; below = below; counts_are = are })
+        fetched-fed shape commits r plans (record { version = version; counts = counts }) fed
+        (record { above = fresh; below = below; counts_are = are })
 
-    by : (a b c : Bool) (batch : Option Queries) → nat_lt version r.version ≡ b → IsFedFrom shape commits (cond {A = Got × Replica} (a || b || c) (got.Ignored, r) (by_batch batch)).1
+    by : (a b c : Bool) (batch : Option Queries) → nat_lt version r.version ≡ b
+        → IsFedFrom shape commits (cond {A = Got × Replica} (a || b || c) (got.Ignored, r) (by_batch batch)).1
     by true b c batch e = fed
     by false true c batch e = fed
     by false false true batch e = fed
@@ -180,14 +200,16 @@ head-feeds shape commits r version counts fed below are =
 
 -- ---- bytes
 
-pub datagram-feeds : (shape : Shape) (commits : List Commit) (r : Replica) (datagram : Result Datagram WireFault) → IsFedFrom shape commits r → Tells commits datagram
+pub datagram-feeds : (shape : Shape) (commits : List Commit) (r : Replica) (datagram : Result Datagram WireFault)
+    → IsFedFrom shape commits r → Tells commits datagram
     → IsFedFrom shape commits (datagram_comes r datagram).1
 datagram-feeds shape commits r (Err fault) fed tells = fed
 datagram-feeds shape commits r (Ok (datagrams.Frame worker seq commit last entries)) fed tells =
     frame-feeds shape commits r (record { worker = worker; seq = seq; commit = commit; last = last; entries = entries }) fed tells
 datagram-feeds shape commits r (Ok (datagrams.Ask replica boot request)) fed tells = fed
 datagram-feeds shape commits r (Ok (datagrams.Head replica boot request version counts)) fed tells =
-    cond_both ((replica == r.number) && (boot == r.boot) && (request == r.request)) (own_head_comes r version counts) (got.Ignored, r) (λ (answer : Got × Replica). IsFedFrom shape commits answer.1)
+    cond_both ((replica == r.number) && (boot == r.boot) && (request == r.request)) (own_head_comes r version counts) (got.Ignored, r)
+    (λ (answer : Got × Replica). IsFedFrom shape commits answer.1)
     (λ own. head-feeds shape commits r version counts fed tells.0 tells.1) (λ other. fed)
 datagram-feeds shape commits r (Ok (datagrams.Want replica worker from)) fed tells = fed
 
@@ -205,7 +227,8 @@ left {A = A} a b r new h =
     ap (λ (x : A × Replica). x.1) same
 
 -- the replica with one more query that waits
-pub plan-fed : (shape : Shape) (commits : List Commit) (r : Replica) (plan : Plan) → IsFedFrom shape commits r → IsFedFrom shape commits (record r { waiting = r.waiting ++ plan ∷ [] })
+pub plan-fed : (shape : Shape) (commits : List Commit) (r : Replica) (plan : Plan) → IsFedFrom shape commits r
+    → IsFedFrom shape commits (record r { waiting = r.waiting ++ plan ∷ [] })
 plan-fed shape commits r plan fed = record {
   shape_is = fed.shape_is;
   workers_are = fed.workers_are;
@@ -227,11 +250,13 @@ open-feeds shape commits r plan count new fed h = by r.broken (nat_le WAITING_QU
     by_check (Err fault) = Err (opens.BadPlan fault)
     by_check (Ok fits) = Ok (length r.waiting + 1, with)
 
-    by : (a b : Bool) (check : Result (Unit {0}) PlanFault) → cond a (Err opens.Broken) (cond b (Err opens.BatchFull) (by_check check)) ≡ Ok (count, new) → IsFedFrom shape commits new
+    by : (a b : Bool) (check : Result (Unit {0}) PlanFault)
+        → cond a (Err opens.Broken) (cond b (Err opens.BatchFull) (by_check check)) ≡ Ok (count, new) → IsFedFrom shape commits new
     by true b check h = absurd (cc)
     by false true check h = absurd (cc)
     by false false (Err fault) h = absurd (cc)
-    by false false (Ok fits) h = subst (IsFedFrom shape commits) (left (length r.waiting + 1) count with new h) (plan-fed shape commits r plan fed)
+    by false false (Ok fits) h =
+        subst (IsFedFrom shape commits) (left (length r.waiting + 1) count with new h) (plan-fed shape commits r plan fed)
 
 -- a batch is made, for which nothing was fetched
 pub batch-fed : (shape : Shape) (commits : List Commit) (r : Replica) → IsFedFrom shape commits r → IsFedFrom shape commits (with_batch r)
@@ -246,22 +271,28 @@ batch-fed shape commits r fed = record {
   fetched_is = λ batch fetched there has. absurd (none-fetched r.waiting batch fetched there has);
 }
   where
-    none-fetched : (plans : List Plan) (batch : Queries) (fetched : Fetched) → ◌≡◌ {A = Option Queries} (Some (record { plans = plans; fetched = None })) (Some batch) → batch.fetched ≡ Some fetched → ⊥
+    none-fetched : (plans : List Plan) (batch : Queries) (fetched : Fetched)
+        → ◌≡◌ {A = Option Queries} (Some (record { plans = plans; fetched = None })) (Some batch) → batch.fetched ≡ Some fetched → ⊥
     none-fetched plans batch fetched e f =
         none-some fetched (ap (λ (batch : Queries). batch.fetched) (same_Some (record { plans = plans; fetched = None }) batch e) ∙ f)
 
 pub ask-feeds : AskKeepsFed
 ask-feeds shape commits r out new fed h = by r.broken r.batch h
   where
-    again : (plans : List Plan) (fetched : Option Fetched) → asked_by r (Some (record { plans = plans; fetched = fetched })) ≡ Ok (out, new) → IsFedFrom shape commits new
+    again : (plans : List Plan) (fetched : Option Fetched) → asked_by r (Some (record { plans = plans; fetched = fetched })) ≡ Ok (out, new)
+        → IsFedFrom shape commits new
     again plans None h = subst (IsFedFrom shape commits) (left (ask_for r.number r.boot r.request) out r new h) fed
     again plans (Some fetched) h = absurd (cc)
 
-    first : (empty : Bool) → cond {A = Result (Out × Replica) AskFault} empty (Err asks.Empty) (Ok (ask_for r.number r.boot (r.request + 1), with_batch r)) ≡ Ok (out, new) → IsFedFrom shape commits new
+    first : (empty : Bool) → cond {A = Result (Out × Replica) AskFault} empty (Err asks.Empty)
+        (Ok (ask_for r.number r.boot (r.request + 1), with_batch r)) ≡ Ok (out, new) → IsFedFrom shape commits new
     first true h = absurd (cc)
-    first false h = subst (IsFedFrom shape commits) (left (ask_for r.number r.boot (r.request + 1)) out (with_batch r) new h) (batch-fed shape commits r fed)
+    first false h =
+        subst (IsFedFrom shape commits) (left (ask_for r.number r.boot (r.request + 1)) out (with_batch r) new h)
+        (batch-fed shape commits r fed)
 
-    by : (broken : Bool) (batch : Option Queries) → cond broken (Err asks.Broken) (asked_by r batch) ≡ Ok (out, new) → IsFedFrom shape commits new
+    by : (broken : Bool) (batch : Option Queries) → cond broken (Err asks.Broken) (asked_by r batch) ≡ Ok (out, new)
+        → IsFedFrom shape commits new
     by true batch h = absurd (cc)
     by false None h = first (length r.waiting == 0) h
     by false (Some batch) h = again batch.plans batch.fetched h
@@ -281,7 +312,8 @@ broken-fed shape commits r fed = record {
   fetched_is = fed.fetched_is;
 }
 
-module _ (shape : Shape) (commits : List Commit) (r : Replica) (batch : Queries) (fetched : Fetched) (legal : IsLegal shape 1 commits) (fed : IsFedFrom shape commits r)
+module _ (shape : Shape) (commits : List Commit) (r : Replica) (batch : Queries) (fetched : Fetched) (legal : IsLegal shape 1 commits)
+    (fed : IsFedFrom shape commits r)
     (can : CanAnswer r batch fetched) where
   is-fetched : IsFetchedFrom commits r.version fetched
   is-fetched = fed.fetched_is batch fetched can.there can.has
@@ -304,7 +336,9 @@ module _ (shape : Shape) (commits : List Commit) (r : Replica) (batch : Queries)
         applied_known = caught-known;
         below = is.below;
         tables_are = λ whole. refl;
-        fetched_is = λ other found e f. subst (IsFetchedFrom commits fetched.version) (same-fetched r.batch batch other fetched found can.there can.has e f)
+        fetched_is =
+            λ other found e f. subst (IsFetchedFrom commits fetched.version)
+            (same-fetched r.batch batch other fetched found can.there can.has e f)
             (record { above = omega arith; below = is.below; counts_are = is.counts_are });
       }
 

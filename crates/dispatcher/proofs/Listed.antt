@@ -1,5 +1,6 @@
 -- What catching up comes to, by the commits that the frames hold.
-use Rattle.std.proofs.Common.{◌≡◌, ℕ, ◌+◌, ◌-◌, Bool, true, cond, ◌==◌, List, [], ◌∷◌, Option, None, Some, Result, Ok, Err, IsErr, IsOkAnd, sym, ap, ◌∙◌}
+use Rattle.std.proofs.Common.{◌≡◌, ℕ, ◌+◌, ◌-◌, Bool, true, cond, ◌==◌, List, [], ◌∷◌, Option, None, Some, Result, Ok, Err, IsErr, IsOkAnd}
+use Rattle.std.proofs.Common.{sym, ap, ◌∙◌}
 use Rattle.std.specs.Option.{option_map}
 use Rattle.rows.specs.declared.commit.Commit.{Commit}
 use Rattle.rows.specs.Tables.{Tables, Refusal}
@@ -19,8 +20,10 @@ module _ (r : Replica) (version count : ℕ) (reached : (r.version + (count - r.
   caught_up-listed : (listed : Option (List Commit)) → listed ≡ commits_in r.version (frames_at r.frames r.applied (count - r.applied))
       → caught_up r (record { version = version; counts = count ∷ [] }) ≡ option_map at (made r.shape r.tables listed)
   caught_up-listed listed is =
-      ap (λ (b : Bool). cond b (option_map at (replayed r.shape r.tables r.version (frames_at r.frames r.applied (count - r.applied)))) None) reached
-      ∙ ap (option_map at) (replayed-commits r.shape r.tables r.version (frames_at r.frames r.applied (count - r.applied)) ∙ ap (made r.shape r.tables) (sym is))
+      ap (λ (b : Bool). cond b (option_map at (replayed r.shape r.tables r.version (frames_at r.frames r.applied (count - r.applied))))
+      None) reached
+      ∙ ap (option_map at) (replayed-commits r.shape r.tables r.version (frames_at r.frames r.applied (count - r.applied))
+      ∙ ap (made r.shape r.tables) (sym is))
 
   -- the frames hold no commits in order
   pub caught_up-unlisted : None ≡ commits_in r.version (frames_at r.frames r.applied (count - r.applied))
@@ -41,7 +44,8 @@ module _ (r : Replica) (version count : ℕ) (reached : (r.version + (count - r.
       refused (Ok tables) h = absurd (cc)
       refused (Err refusal) h = cc
 
-      by : (result : Result (Unit {0}) CatchUpFault) → Applies r commits version count result new → CatchesUp r (record { version = version; counts = count ∷ [] }) result new
+      by : (result : Result (Unit {0}) CatchUpFault) → Applies r commits version count result new
+          → CatchesUp r (record { version = version; counts = count ∷ [] }) result new
       by (Ok done) h = caught_up-listed (Some commits) is ∙ ok (commits_of r.shape r.tables commits) h
       by (Err Inconsistent) h = (caught_up-listed (Some commits) is ∙ refused (commits_of r.shape r.tables commits) h.0, h.1)
       by (Err Memory) h = absurd h

@@ -1,5 +1,6 @@
 -- What the known places say: whether a look-up finds a frame, and which is the first that is missing.
-use Rattle.std.proofs.Common.{◌≡◌, ℕ, zero, suc, ◌+◌, ◌-◌, ◌<◌, ◌≤◌, true, false, List, [], ◌∷◌, length, is_some, refl, sym, ap, ◌∙◌, subst, inl, inr, arith, add-one}
+use Rattle.std.proofs.Common.{◌≡◌, ℕ, zero, suc, ◌+◌, ◌-◌, ◌<◌, ◌≤◌, true, false, List, [], ◌∷◌, length, is_some, refl, sym, ap, ◌∙◌, subst}
+use Rattle.std.proofs.Common.{inl, inr, arith, add-one}
 use Rattle.std.specs.Ordering.{nat_cmp}
 use Rattle.std.specs.Map.{lookup, keys_of}
 use Rattle.std.specs.BTreeMap.{insert_entry, is_at}
@@ -8,7 +9,8 @@ use Rattle.std.proofs.lemmas.Bool.Decides.{nat_tests}
 use Rattle.dispatcher.specs.Known.{is_known, missing_from, first_missing}
 
 -- a look-up finds a frame where its place is known
-pub is_known-lookup : {X : Type 0} (seq : ℕ) (entries : List (ℕ × X)) → is_some (lookup (is_at (nat_cmp seq)) entries) ≡ is_known (keys_of entries) seq
+pub is_known-lookup : {X : Type 0} (seq : ℕ) (entries : List (ℕ × X))
+    → is_some (lookup (is_at (nat_cmp seq)) entries) ≡ is_known (keys_of entries) seq
 is_known-lookup seq [] = refl
 is_known-lookup seq (e ∷ es) = grind (arith, nat_tests, is_known-lookup seq es)
 
@@ -30,7 +32,8 @@ missing_from-known end seq known below h =
     ap (λ count. missing_from count seq known) more ∙ cond-true (is_known known seq) _ seq h
 
 -- a place that is known, where the first is and each behind it up to this one
-known_or_past : (from seq : ℕ) (known : List ℕ) → from ≤ seq → is_known known from ≡ true → (from < seq → is_known known seq ≡ true) → is_known known seq ≡ true
+known_or_past : (from seq : ℕ) (known : List ℕ) → from ≤ seq → is_known known from ≡ true → (from < seq → is_known known seq ≡ true)
+    → is_known known seq ≡ true
 known_or_past from seq known low here past =
     elim (cases_lt from seq) [
       | inl later ↦ past later
@@ -43,7 +46,8 @@ is_known-below zero from seq known low high = absurd (omega arith)
 is_known-below (suc count) from seq known low high =
     elim (cases_Bool (is_known known from)) [
       | inl here ↦ known_or_past from seq known low here
-          (λ later. is_known-below count (from + 1) seq known (omega arith) (subst (λ n. seq < n) (cond-true (is_known known from) (missing_from count (from + 1) known) from here) high))
+          (λ later. is_known-below count (from + 1) seq known (omega arith)
+          (subst (λ n. seq < n) (cond-true (is_known known from) (missing_from count (from + 1) known) from here) high))
       | inr none ↦ absurd (omega (arith, subst (λ n. seq < n) (missing_from-unknown (suc count) from known none) high))
     ]
 
@@ -52,7 +56,8 @@ pub missing_from-most : (count seq : ℕ) (known : List ℕ) → missing_from co
 missing_from-most zero seq known = omega arith
 missing_from-most (suc count) seq known =
     elim (cases_Bool (is_known known seq)) [
-      | inl here ↦ rw (cond-true (is_known known seq) (missing_from count (seq + 1) known) seq here) (omega (arith, missing_from-most count (seq + 1) known))
+      | inl here ↦ rw (cond-true (is_known known seq) (missing_from count (seq + 1) known) seq here)
+          (omega (arith, missing_from-most count (seq + 1) known))
       | inr none ↦ rw (cond-false (is_known known seq) (missing_from count (seq + 1) known) seq none) (omega arith)
     ]
 
@@ -69,14 +74,17 @@ missing_from-passed end (suc from) known within below =
     ∙ missing_from-known end from known (omega arith) (below from (omega arith)))
 
 -- where no known place is lost, the walk goes on from the place that was the first missing one
-pub first_missing-on : (before after : List ℕ) → length before ≤ length after → ((seq : ℕ) → is_known before seq ≡ true → is_known after seq ≡ true)
+pub first_missing-on : (before after : List ℕ) → length before ≤ length after
+    → ((seq : ℕ) → is_known before seq ≡ true → is_known after seq ≡ true)
     → missing_from (length after - first_missing before) (first_missing before) after ≡ first_missing after
 first_missing-on before after more kept =
     let within : first_missing before ≤ length after = omega (arith, first_missing-most before) in
-    let past : (seq : ℕ) → seq < first_missing before → is_known after seq ≡ true = λ seq h. kept seq (is_known-below (length before) 0 seq before (omega arith) h) in
+    let past : (seq : ℕ) → seq < first_missing before → is_known after seq ≡ true =
+    λ seq h. kept seq (is_known-below (length before) 0 seq before (omega arith) h) in
     sym (missing_from-passed (length after) (first_missing before) after within past)
 
 -- one more frame leaves no fewer known places
-pub length-insert_entry : {X : Type 0} (entries : List (ℕ × X)) (seq : ℕ) (frame : X) → length entries ≤ length (insert_entry nat_cmp entries seq frame)
+pub length-insert_entry : {X : Type 0} (entries : List (ℕ × X)) (seq : ℕ) (frame : X)
+    → length entries ≤ length (insert_entry nat_cmp entries seq frame)
 length-insert_entry [] seq frame = omega arith
 length-insert_entry (e ∷ entries) seq frame = grind (arith, nat_tests, length-insert_entry entries seq frame)

@@ -1,5 +1,6 @@
 -- What a run of a replica that is fed from a legal list answers, and that it stays fed by it.
-use Rattle.std.proofs.Common.{◌≡◌, ℕ, Bool, true, false, cond, List, Option, Some, None, slice_index, refl, sym, ap, subst, ◌∙◌, ◌⊎◌, inl, inr}
+use Rattle.std.proofs.Common.{◌≡◌, ℕ, Bool, true, false, cond, List, Option, Some, None, slice_index, refl, sym, ap, subst, ◌∙◌, ◌⊎◌, inl}
+use Rattle.std.proofs.Common.{inr}
 use Rattle.std.proofs.lemmas.Bool.{ltb-false}
 use Rattle.std.proofs.lemmas.Option.{same_Some}
 use Rattle.rows.specs.declared.commit.Commit.{Commit}
@@ -26,7 +27,8 @@ record IsIdle (r : Replica) (answer : Run × Replica) : Type 0 where
 
 -- the end of a batch
 abbrev reported : Shape → List Commit → Replica → Queries → Fetched → Run × Replica
-reported shape commits r batch fetched = (runs.Answered (report_at shape commits fetched.version batch.plans), record (caught shape commits fetched r) { batch = None })
+reported shape commits r batch fetched =
+    (runs.Answered (report_at shape commits fetched.version batch.plans), record (caught shape commits fetched r) { batch = None })
 
 -- a run that answers one
 record IsReport (shape : Shape) (commits : List Commit) (r : Replica) (answer : Run × Replica) : Type 0 where
@@ -39,7 +41,8 @@ abbrev Ran : Shape → List Commit → Replica → Run × Replica → Type 0
 Ran shape commits r answer = IsIdle r answer ⊎ IsReport shape commits r answer
 
 module _ (shape : Shape) (commits : List Commit) (r : Replica) (legal : IsLegal shape 1 commits) (fed : IsFedFrom shape commits r) where
-  finished-reports : (batch : Queries) (fetched : Fetched) → CanAnswer r batch fetched → finished r batch.plans (caught_up r fetched) ≡ reported shape commits r batch fetched
+  finished-reports : (batch : Queries) (fetched : Fetched) → CanAnswer r batch fetched
+      → finished r batch.plans (caught_up r fetched) ≡ reported shape commits r batch fetched
   finished-reports batch fetched is = ap (finished r batch.plans) (catches-up shape commits r batch fetched legal fed is)
 
   ran-fetched : (plans : List Plan) (found : Option Fetched) → r.broken ≡ false → r.batch ≡ Some (record { plans = plans; fetched = found })
@@ -51,10 +54,17 @@ module _ (shape : Shape) (commits : List Commit) (r : Replica) (legal : IsLegal 
       batch = record { plans = plans; fetched = Some fetched }
 
       by : (waits : Bool) → is_waiting r fetched ≡ waits
-          → Ran shape commits r (cond waits (runs.Waiting 0 (first_missing (known r)) (want_for r.number 0 (first_missing (known r))), r) (finished r plans (caught_up r fetched)))
+          → Ran shape commits r (cond waits (runs.Waiting 0 (first_missing (known r)) (want_for r.number 0 (first_missing (known r))), r)
+          (finished r plans (caught_up r fetched)))
       by true e = inl (record { same = refl; consistent = λ e. cc; no_report = λ text e. cc })
       by false e =
-          let is : CanAnswer r batch fetched = record { whole = whole; there = there; has = refl; complete = ltb-false (first_missing (known r)) (slice_index fetched.counts 0) e } in
+          let is : CanAnswer r batch fetched =
+          record {
+            whole = whole;
+            there = there;
+            has = refl;
+            complete = ltb-false (first_missing (known r)) (slice_index fetched.counts 0) e;
+          } in
           inr (record { batch = batch; fetched = fetched; can = is; is = finished-reports batch fetched is })
 
   ran-batch : (batch : Option Queries) → r.broken ≡ false → r.batch ≡ batch → Ran shape commits r (ran_by r batch)
@@ -70,12 +80,15 @@ module _ (shape : Shape) (commits : List Commit) (r : Replica) (legal : IsLegal 
 
   -- ---- it stays fed
 
-  reported-fed : (batch : Queries) (fetched : Fetched) → CanAnswer r batch fetched → IsFedFrom shape commits (reported shape commits r batch fetched).1
+  reported-fed : (batch : Queries) (fetched : Fetched) → CanAnswer r batch fetched
+      → IsFedFrom shape commits (reported shape commits r batch fetched).1
   reported-fed batch fetched is = finished-fed shape commits r batch fetched legal fed is
 
   ran-fed : (answer : Run × Replica) → Ran shape commits r answer → IsFedFrom shape commits answer.1
   ran-fed answer (inl idle) = subst (IsFedFrom shape commits) (sym idle.same) fed
-  ran-fed answer (inr report) = subst (λ (answer : Run × Replica). IsFedFrom shape commits answer.1) (sym report.is) (reported-fed report.batch report.fetched report.can)
+  ran-fed answer (inr report) =
+      subst (λ (answer : Run × Replica). IsFedFrom shape commits answer.1) (sym report.is)
+      (reported-fed report.batch report.fetched report.can)
 
   cut-fed : (answer : Run) (new : Replica) → WantsMemory r answer new → IsFedFrom shape commits new
   cut-fed answer new wants =
@@ -85,22 +98,27 @@ module _ (shape : Shape) (commits : List Commit) (r : Replica) (legal : IsLegal 
       elim wants.2 [
         | inl memory ↦ elim memory.1 [
           | inl same ↦ subst (IsFedFrom shape commits) (sym same) fed
-          | inr reached ↦ subst (IsFedFrom shape commits) (same_Some (caught shape commits fetched r) new (sym (catches-up shape commits r parts.0 fetched legal fed is) ∙ reached))
+          | inr reached ↦ subst (IsFedFrom shape commits)
+              (same_Some (caught shape commits fetched r) new (sym (catches-up shape commits r parts.0 fetched legal fed is) ∙ reached))
               (caught-fed shape commits r parts.0 fetched legal fed is)
         ]
         | inr broken ↦ subst (IsFedFrom shape commits) (sym broken.1) (broken-fed shape commits r fed)
       ]
 
 pub run-feeds : RunKeepsFed
-run-feeds shape commits r answer new legal fed (inl is) = subst (λ (answer : Run × Replica). IsFedFrom shape commits answer.1) is (ran-fed shape commits r legal fed (ran r) (ran-parts shape commits r legal fed))
+run-feeds shape commits r answer new legal fed (inl is) =
+    subst (λ (answer : Run × Replica). IsFedFrom shape commits answer.1) is
+    (ran-fed shape commits r legal fed (ran r) (ran-parts shape commits r legal fed))
 run-feeds shape commits r answer new legal fed (inr wants) = cut-fed shape commits r legal fed answer new wants
 
 -- ---- what it answers
 
-ran-consistent : (shape : Shape) (commits : List Commit) (r : Replica) (answer : Run × Replica) → Ran shape commits r answer → answer.0 ≡ runs.Inconsistent → ⊥
+ran-consistent : (shape : Shape) (commits : List Commit) (r : Replica) (answer : Run × Replica) → Ran shape commits r answer
+    → answer.0 ≡ runs.Inconsistent → ⊥
 ran-consistent shape commits r answer (inl idle) e = idle.consistent e
 ran-consistent shape commits r answer (inr report) e =
-    let is : answer.0 ≡ runs.Answered (report_at shape commits report.fetched.version report.batch.plans) = ap (λ (answer : Run × Replica). answer.0) report.is in
+    let is : answer.0 ≡ runs.Answered (report_at shape commits report.fetched.version report.batch.plans) =
+    ap (λ (answer : Run × Replica). answer.0) report.is in
     cc
 
 cut-consistent : (r : Replica) (answer : Run) (new : Replica) → WantsMemory r answer new → answer ≡ runs.Inconsistent → ⊥
@@ -119,17 +137,21 @@ Answers shape commits r text new =
     (batch : Queries) × (fetched : Fetched) × (r.batch ≡ Some batch) × (batch.fetched ≡ Some fetched)
     × (text ≡ report_at shape commits fetched.version batch.plans) × (new.version ≡ fetched.version)
 
-ran-answers : (shape : Shape) (commits : List Commit) (r : Replica) (answer : Run × Replica) (text : List ℕ) (new : Replica) → Ran shape commits r answer → answer ≡ (runs.Answered text, new)
+ran-answers : (shape : Shape) (commits : List Commit) (r : Replica) (answer : Run × Replica) (text : List ℕ) (new : Replica)
+    → Ran shape commits r answer → answer ≡ (runs.Answered text, new)
     → Answers shape commits r text new
 ran-answers shape commits r answer text new (inl idle) e = absurd (idle.no_report text (ap (λ (answer : Run × Replica). answer.0) e))
 ran-answers shape commits r answer text new (inr report) e =
     let is = report.can in
-    let same : ◌≡◌ {A = Run × Replica} (runs.Answered text, new) (reported shape commits r report.batch report.fetched) = sym e ∙ report.is in
-    let answered : runs.Answered text ≡ runs.Answered (report_at shape commits report.fetched.version report.batch.plans) = ap (λ (answer : Run × Replica). answer.0) same in
+    let same : ◌≡◌ {A = Run × Replica} (runs.Answered text, new) (reported shape commits r report.batch report.fetched) =
+    sym e ∙ report.is in
+    let answered : runs.Answered text ≡ runs.Answered (report_at shape commits report.fetched.version report.batch.plans) =
+    ap (λ (answer : Run × Replica). answer.0) same in
     (report.batch, report.fetched, is.there, is.has, cc answered, ap (λ (answer : Run × Replica). answer.1.version) same)
 
 pub answer-reports : AnswerIsReport
-answer-reports shape commits r text new legal fed (inl is) = ran-answers shape commits r (ran r) text new (ran-parts shape commits r legal fed) is
+answer-reports shape commits r text new legal fed (inl is) =
+    ran-answers shape commits r (ran r) text new (ran-parts shape commits r legal fed) is
 answer-reports shape commits r text new legal fed (inr wants) = elim wants.2 [
   | inl memory ↦ (let is = memory.0 in absurd (cc))
   | inr broken ↦ (let is = broken.0 in absurd (cc))
@@ -140,5 +162,7 @@ ready-answers shape commits r batch fetched legal fed there e =
     let parts = ready-parts r fetched e in
     let same : parts.0 ≡ batch = same_Some parts.0 batch (sym parts.1.there ∙ there) in
     let is : CanAnswer r batch fetched = subst (λ (batch : Queries). CanAnswer r batch fetched) same parts.1 in
-    let run = ran-ready r batch.plans fetched is.whole (there ∙ ap (λ (found : Option Fetched). Some (record { plans = batch.plans; fetched = found })) is.has) is.complete in
+    let run =
+    ran-ready r batch.plans fetched is.whole
+    (there ∙ ap (λ (found : Option Fetched). Some (record { plans = batch.plans; fetched = found })) is.has) is.complete in
     ap (λ (answer : Run × Replica). answer.0) (run ∙ finished-reports shape commits r legal fed batch fetched is)

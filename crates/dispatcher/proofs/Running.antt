@@ -1,5 +1,6 @@
 -- What a run answers where a version was fetched, no frame is missing, and the tables have caught up.
-use Rattle.std.proofs.Common.{◌≡◌, ℕ, ◌≤◌, ◌⊎◌, inl, inr, true, false, cond, List, [], ◌∷◌, slice_index, Option, None, Some, Bool, sym, ap, subst, ◌∙◌, le-ltb}
+use Rattle.std.proofs.Common.{◌≡◌, ℕ, ◌≤◌, ◌⊎◌, inl, inr, true, false, cond, List, [], ◌∷◌, slice_index, Option, None, Some, Bool, sym, ap}
+use Rattle.std.proofs.Common.{subst, ◌∙◌, le-ltb}
 use Rattle.std.specs.Option.{option_map}
 use Rattle.std.proofs.lemmas.Bool.{cond-false}
 use Rattle.std.proofs.lemmas.Option.{same_Some}
@@ -13,18 +14,21 @@ use Rattle.dispatcher.specs.Steps.{known, ready, ready_by, ran, ran_by, is_waiti
 
 -- catching up leaves the batch
 same_batch : (r after : Replica) (version applied : ℕ) (reached : Bool) (tables : Option Tables)
-    → cond reached (option_map (λ tables. record r { tables = tables; version = version; applied = applied }) tables) None ≡ Some after → after.batch ≡ r.batch
+    → cond reached (option_map (λ tables. record r { tables = tables; version = version; applied = applied }) tables) None ≡ Some after
+    → after.batch ≡ r.batch
 same_batch r after version applied false tables h = cc
 same_batch r after version applied true None h = cc
 same_batch r after version applied true (Some tables) h = sym (ap (λ (x : Replica). x.batch) (same_Some _ after h))
 
 module _ (r : Replica) (plans : List Plan) (fetched : Fetched) (whole : r.broken ≡ false)
-    (there : r.batch ≡ Some (record { plans = plans; fetched = Some fetched })) (complete : slice_index fetched.counts 0 ≤ first_missing (known r)) where
+    (there : r.batch ≡ Some (record { plans = plans; fetched = Some fetched }))
+    (complete : slice_index fetched.counts 0 ≤ first_missing (known r)) where
   pub ran-ready : ran r ≡ finished r plans (caught_up r fetched)
   ran-ready =
       cond-false r.broken (runs.Broken, r) (ran_by r r.batch) whole
       ∙ ap (ran_by r) there
-      ∙ cond-false (is_waiting r fetched) _ (finished r plans (caught_up r fetched)) (le-ltb (first_missing (known r)) (slice_index fetched.counts 0) complete)
+      ∙ cond-false (is_waiting r fetched) _ (finished r plans (caught_up r fetched))
+      (le-ltb (first_missing (known r)) (slice_index fetched.counts 0) complete)
 
   ready-there : ready r ≡ Some fetched
   ready-there =

@@ -1,5 +1,6 @@
 -- What is known once one more frame is stored, and that what is known is found.
-use Rattle.std.proofs.Common.{◌≡◌, ℕ, Bool, true, false, cond, ◌||◌, ◌==◌, List, [], ◌∷◌, Option, Some, refl, sym, ap, subst, ◌∙◌, inl, inr, arith}
+use Rattle.std.proofs.Common.{◌≡◌, ℕ, Bool, true, false, cond, ◌||◌, ◌==◌, List, [], ◌∷◌, Option, Some, refl, sym, ap, subst, ◌∙◌, inl, inr}
+use Rattle.std.proofs.Common.{arith}
 use Rattle.std.specs.List.{AllByRecursion}
 use Rattle.std.specs.Ordering.{nat_cmp, match_ordering}
 use Rattle.std.specs.declared.cmp.Ordering.{Ordering}
@@ -12,22 +13,29 @@ use Rattle.std.proofs.lemmas.Bool.Decides.{nat_tests}
 use Rattle.wire.specs.declared.frame.Frame.{Frame}
 use Rattle.dispatcher.specs.Known.{is_known}
 
-pub keys-insert : (frames : List (ℕ × Frame)) (k : ℕ) (frame : Frame) → keys_of (insert_entry nat_cmp frames k frame) ≡ insert_key nat_cmp (keys_of frames) k
+pub keys-insert : (frames : List (ℕ × Frame)) (k : ℕ) (frame : Frame)
+    → keys_of (insert_entry nat_cmp frames k frame) ≡ insert_key nat_cmp (keys_of frames) k
 keys-insert [] k frame = refl
-keys-insert (e ∷ frames) k frame = by (nat_cmp k e.0) ∙ ap (λ l. match_ordering (nat_cmp k e.0) (k ∷ e.0 ∷ keys_of frames) (e.0 ∷ keys_of frames) (e.0 ∷ l)) (keys-insert frames k frame)
+keys-insert (e ∷ frames) k frame =
+    by (nat_cmp k e.0) ∙ ap (λ l. match_ordering (nat_cmp k e.0) (k ∷ e.0 ∷ keys_of frames) (e.0 ∷ keys_of frames) (e.0 ∷ l))
+    (keys-insert frames k frame)
   where
-    by : (o : Ordering) → keys_of (match_ordering o ((k, frame) ∷ e ∷ frames) ((e.0, frame) ∷ frames) (e ∷ insert_entry nat_cmp frames k frame)) ≡ match_ordering o (k ∷ e.0 ∷ keys_of frames) (e.0 ∷ keys_of frames) (e.0 ∷ keys_of (insert_entry nat_cmp frames k frame))
+    by : (o : Ordering) → keys_of (match_ordering o ((k, frame) ∷ e ∷ frames) ((e.0, frame) ∷ frames)
+        (e ∷ insert_entry nat_cmp frames k frame)) ≡ match_ordering o (k ∷ e.0 ∷ keys_of frames) (e.0 ∷ keys_of frames)
+        (e.0 ∷ keys_of (insert_entry nat_cmp frames k frame))
     by Less = refl
     by Equal = refl
     by Greater = refl
 
 -- what is known stays known
-pub known-insert : (frames : List (ℕ × Frame)) (k : ℕ) (frame : Frame) (seq : ℕ) → is_known (keys_of frames) seq ≡ true → is_known (keys_of (insert_entry nat_cmp frames k frame)) seq ≡ true
+pub known-insert : (frames : List (ℕ × Frame)) (k : ℕ) (frame : Frame) (seq : ℕ) → is_known (keys_of frames) seq ≡ true
+    → is_known (keys_of (insert_entry nat_cmp frames k frame)) seq ≡ true
 known-insert [] k frame seq h = absurd (false≢true h)
 known-insert (e ∷ frames) k frame seq h = by (known-insert frames k frame seq) (nat_cmp k e.0)
   where
     by : (is_known (keys_of frames) seq ≡ true → is_known (keys_of (insert_entry nat_cmp frames k frame)) seq ≡ true)
-        → (o : Ordering) → is_known (keys_of (match_ordering o ((k, frame) ∷ e ∷ frames) ((e.0, frame) ∷ frames) (e ∷ insert_entry nat_cmp frames k frame))) seq ≡ true
+        → (o : Ordering) → is_known (keys_of
+        (match_ordering o ((k, frame) ∷ e ∷ frames) ((e.0, frame) ∷ frames) (e ∷ insert_entry nat_cmp frames k frame))) seq ≡ true
     by rest Less = or_right (k == seq) (is_known (keys_of (e ∷ frames)) seq) h
     by rest Equal = h
     by rest Greater = elim (or_cases (e.0 == seq) (is_known (keys_of frames) seq) h) [
@@ -38,11 +46,13 @@ known-insert (e ∷ frames) k frame seq h = by (known-insert frames k frame seq)
 equal-keys : (k l : ℕ) → nat_cmp k l ≡ Equal → k ≡ l
 equal-keys k l h = grind (arith, nat_tests)
 
-pub frames-insert : (P : ℕ × Frame → Type 0) (frames : List (ℕ × Frame)) (k : ℕ) (frame : Frame) → AllByRecursion P frames → P (k, frame) → AllByRecursion P (insert_entry nat_cmp frames k frame)
+pub frames-insert : (P : ℕ × Frame → Type 0) (frames : List (ℕ × Frame)) (k : ℕ) (frame : Frame) → AllByRecursion P frames → P (k, frame)
+    → AllByRecursion P (insert_entry nat_cmp frames k frame)
 frames-insert P [] k frame h p = (p, tt)
 frames-insert P (e ∷ frames) k frame h p = by (frames-insert P frames k frame h.1 p) (nat_cmp k e.0) refl
   where
-    by : AllByRecursion P (insert_entry nat_cmp frames k frame) → (o : Ordering) → nat_cmp k e.0 ≡ o → AllByRecursion P (match_ordering o ((k, frame) ∷ e ∷ frames) ((e.0, frame) ∷ frames) (e ∷ insert_entry nat_cmp frames k frame))
+    by : AllByRecursion P (insert_entry nat_cmp frames k frame) → (o : Ordering) → nat_cmp k e.0 ≡ o
+        → AllByRecursion P (match_ordering o ((k, frame) ∷ e ∷ frames) ((e.0, frame) ∷ frames) (e ∷ insert_entry nat_cmp frames k frame))
     by rest Less q = (p, (h.0, h.1))
     by rest Equal q = (subst (λ (x : ℕ). P (x, frame)) (equal-keys k e.0 q) p, h.1)
     by rest Greater q = (h.0, rest)
@@ -57,7 +67,8 @@ any-tail : (a b : Bool) → a ≡ false → (a || b) ≡ true → b ≡ true
 any-tail a b e h = cc
 
 -- a frame that is known is found, and is the one of its place
-pub lookup-known : (placed : ℕ → Option Frame) (frames : List (ℕ × Frame)) (k : ℕ) → AllByRecursion (λ entry. placed entry.0 ≡ Some entry.1) frames → is_known (keys_of frames) k ≡ true
+pub lookup-known : (placed : ℕ → Option Frame) (frames : List (ℕ × Frame)) (k : ℕ)
+    → AllByRecursion (λ entry. placed entry.0 ≡ Some entry.1) frames → is_known (keys_of frames) k ≡ true
     → (frame : Frame) × (lookup (is_at (nat_cmp k)) frames ≡ Some frame) × (placed k ≡ Some frame)
 lookup-known placed [] k are h = absurd (false≢true h)
 lookup-known placed (e ∷ frames) k are h = elim (cases_eq e.0 k) [

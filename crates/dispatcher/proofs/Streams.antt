@@ -1,5 +1,6 @@
 -- A worker's stream goes on as commits come, and the stream of the only worker has one frame for each commit.
-use Rattle.std.proofs.Common.{◌≡◌, ℕ, zero, suc, ◌+◌, ◌≤◌, true, cond, ◌==◌, List, [], ◌∷◌, ◌++◌, length, take, Option, Some, None, refl, sym, ap, ◌∙◌, arith}
+use Rattle.std.proofs.Common.{◌≡◌, ℕ, zero, suc, ◌+◌, ◌≤◌, true, cond, ◌==◌, List, [], ◌∷◌, ◌++◌, length, take, Option, Some, None, refl}
+use Rattle.std.proofs.Common.{sym, ap, ◌∙◌, arith}
 use Rattle.std.specs.List.{slice_get, AllByRecursion}
 use Rattle.std.specs.Option.{option_map}
 use Rattle.std.proofs.lemmas.Bool.{eq-eqb}
@@ -12,21 +13,27 @@ use Rattle.dispatcher.proofs.Lists.{get-append_left, All-take}
 
 -- ---- as commits come
 
-stream_from-more : (worker before first : ℕ) (commits more : List Commit) → (rest : List Frame) × (stream_from worker before first (commits ++ more) ≡ stream_from worker before first commits ++ rest)
+stream_from-more : (worker before first : ℕ) (commits more : List Commit) → (rest : List Frame)
+    × (stream_from worker before first (commits ++ more) ≡ stream_from worker before first commits ++ rest)
 stream_from-more worker before first [] more = (stream_from worker before first more, refl)
 stream_from-more worker before first (commit ∷ commits) more =
     let frames : List Frame = cond (commit.worker == worker) (frames_of commit (before + 1) first) [] in
-    let behind = stream_from-more worker (before + 1) (first + length frames) commits more in
-    (behind.0, ap (λ (l : List Frame). frames ++ l) behind.1 ∙ sym (append_assoc frames (stream_from worker (before + 1) (first + length frames) commits) behind.0))
+    let behind = stream_from-more worker (before + 1) (first + length frames) commits more in (
+      behind.0,
+      ap (λ (l : List Frame). frames ++ l) behind.1
+          ∙ sym (append_assoc frames (stream_from worker (before + 1) (first + length frames) commits) behind.0),
+    )
 
 -- a frame that is there stays
-pub stream-stays : (commits more : List Commit) (worker place : ℕ) (frame : Frame) → slice_get (stream_of commits worker) place ≡ Some frame → slice_get (stream_of (commits ++ more) worker) place ≡ Some frame
+pub stream-stays : (commits more : List Commit) (worker place : ℕ) (frame : Frame) → slice_get (stream_of commits worker) place ≡ Some frame
+    → slice_get (stream_of (commits ++ more) worker) place ≡ Some frame
 stream-stays commits more worker place frame h =
     let rest = stream_from-more worker 0 0 commits more in
     ap (λ (l : List Frame). slice_get l place) rest.1 ∙ get-append_left (stream_of commits worker) rest.0 place frame h
 
 -- and so does the count at a version that is there
-pub count-stays : (commits more : List Commit) (worker version : ℕ) → version ≤ length commits → frame_count (commits ++ more) worker version ≡ frame_count commits worker version
+pub count-stays : (commits more : List Commit) (worker version : ℕ) → version ≤ length commits
+    → frame_count (commits ++ more) worker version ≡ frame_count commits worker version
 count-stays commits more worker version h = rw take-append-le refl
 
 -- ---- of the only worker
@@ -40,9 +47,11 @@ frame_of_place commits place = option_map (whole_frame place) (slice_get commits
 
 -- the frame at a place of the rest of a stream
 abbrev frame_behind : ℕ → ℕ → ℕ → Commit → Frame
-frame_behind before first place commit = record { worker = commit.worker; seq = first + place; commit = before + place + 1; last = true; entries = commit.entries }
+frame_behind before first place commit =
+    record { worker = commit.worker; seq = first + place; commit = before + place + 1; last = true; entries = commit.entries }
 
-frame_behind-next : (before first place : ℕ) (found : Option Commit) → option_map (frame_behind (before + 1) (first + 1) place) found ≡ option_map (frame_behind before first (suc place)) found
+frame_behind-next : (before first place : ℕ) (found : Option Commit)
+    → option_map (frame_behind (before + 1) (first + 1) place) found ≡ option_map (frame_behind before first (suc place)) found
 frame_behind-next before first place None = refl
 frame_behind-next before first place (Some commit) =
     let seq : first + 1 + place ≡ first + suc place = omega arith in
@@ -67,17 +76,22 @@ stream_from-place before first (commit ∷ commits) zero each =
     let number : before + 1 ≡ before + 0 + 1 = omega arith in
     rw (only-worker commit each.0) (cc)
 stream_from-place before first (commit ∷ commits) (suc place) each =
-    rw (only-worker commit each.0) (stream_from-place (before + 1) (first + 1) commits place each.1 ∙ frame_behind-next before first place (slice_get commits place))
+    rw (only-worker commit each.0)
+    (stream_from-place (before + 1) (first + 1) commits place each.1 ∙ frame_behind-next before first place (slice_get commits place))
 
-pub stream-place : (commits : List Commit) (place : ℕ) → AllByRecursion (IsCommit 1) commits → slice_get (stream_of commits 0) place ≡ frame_of_place commits place
+pub stream-place : (commits : List Commit) (place : ℕ) → AllByRecursion (IsCommit 1) commits
+    → slice_get (stream_of commits 0) place ≡ frame_of_place commits place
 stream-place commits place each = stream_from-place 0 0 commits place each ∙ frame_behind-first place (slice_get commits place)
 
-stream_from-length : (before first : ℕ) (commits : List Commit) → AllByRecursion (IsCommit 1) commits → length (stream_from 0 before first commits) ≡ length commits
+stream_from-length : (before first : ℕ) (commits : List Commit) → AllByRecursion (IsCommit 1) commits
+    → length (stream_from 0 before first commits) ≡ length commits
 stream_from-length before first [] each = refl
-stream_from-length before first (commit ∷ commits) each = rw (only-worker commit each.0) (ap suc (stream_from-length (before + 1) (first + 1) commits each.1))
+stream_from-length before first (commit ∷ commits) each =
+    rw (only-worker commit each.0) (ap suc (stream_from-length (before + 1) (first + 1) commits each.1))
 
 -- as many frames belong to the first commits as there are of these
-pub count-is : (commits : List Commit) (version : ℕ) → AllByRecursion (IsCommit 1) commits → version ≤ length commits → frame_count commits 0 version ≡ version
+pub count-is : (commits : List Commit) (version : ℕ) → AllByRecursion (IsCommit 1) commits → version ≤ length commits
+    → frame_count commits 0 version ≡ version
 count-is commits version each below =
     stream_from-length 0 0 (take version commits) (All-take (IsCommit 1) version commits each) ∙ length-take-le version commits below
 
@@ -87,6 +101,8 @@ mapped f None y h = absurd cc
 mapped f (Some x) y h = (x, refl, cc)
 
 -- the commit that a frame of the stream is the whole of
-pub frame-commit : (commits : List Commit) (place : ℕ) (frame : Frame) → AllByRecursion (IsCommit 1) commits → slice_get (stream_of commits 0) place ≡ Some frame
+pub frame-commit : (commits : List Commit) (place : ℕ) (frame : Frame) → AllByRecursion (IsCommit 1) commits
+    → slice_get (stream_of commits 0) place ≡ Some frame
     → (commit : Commit) × (slice_get commits place ≡ Some commit) × (whole_frame place commit ≡ frame)
-frame-commit commits place frame each h = mapped (whole_frame place) (slice_get commits place) frame (sym (stream-place commits place each) ∙ h)
+frame-commit commits place frame each h =
+    mapped (whole_frame place) (slice_get commits place) frame (sym (stream-place commits place each) ∙ h)

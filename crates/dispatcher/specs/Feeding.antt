@@ -36,7 +36,8 @@ pub record IsFedFrom (shape : Shape) (commits : List Commit) (r : Replica) : Typ
   pub applied_known : (seq : ℕ) → seq < r.applied → is_known (known r) seq ≡ true
   pub below : r.version ≤ length commits
   pub tables_are : r.broken ≡ false → r.tables ≡ tables_after shape commits r.version
-  pub fetched_is : (batch : Queries) (fetched : Fetched) → r.batch ≡ Some batch → batch.fetched ≡ Some fetched → IsFetchedFrom commits r.version fetched
+  pub fetched_is : (batch : Queries) (fetched : Fetched) → r.batch ≡ Some batch → batch.fetched ≡ Some fetched
+      → IsFetchedFrom commits r.version fetched
 
 -- what a datagram says is true of the list; an Ask, a Want and bytes that are no datagram say nothing of it
 abbrev pub Tells : List Commit → Result Datagram WireFault → Type 0
@@ -44,7 +45,8 @@ Tells commits (Err fault) = Unit {0}
 Tells commits (Ok (datagrams.Frame worker seq commit last entries)) =
     slice_get (stream_of commits worker) seq ≡ Some (record { worker = worker; seq = seq; commit = commit; last = last; entries = entries })
 Tells commits (Ok (datagrams.Ask replica boot request)) = Unit {0}
-Tells commits (Ok (datagrams.Head replica boot request version counts)) = (version ≤ length commits) × (counts ≡ frame_count commits 0 version ∷ [])
+Tells commits (Ok (datagrams.Head replica boot request version counts)) =
+    (version ≤ length commits) × (counts ≡ frame_count commits 0 version ∷ [])
 Tells commits (Ok (datagrams.Want replica worker from)) = Unit {0}
 
 -- ---- what keeps it fed
@@ -55,7 +57,8 @@ FreshIsFed = (shape : Shape) (commits : List Commit) (number boot : ℕ) → IsF
 
 -- fed from a list, it is fed from each list that goes on from it
 abbrev pub CommitsKeepFed : Type 0
-CommitsKeepFed = (shape : Shape) (commits more : List Commit) (r : Replica) → IsFedFrom shape commits r → IsFedFrom shape (commits ++ more) r
+CommitsKeepFed =
+    (shape : Shape) (commits more : List Commit) (r : Replica) → IsFedFrom shape commits r → IsFedFrom shape (commits ++ more) r
 
 -- it stays fed by bytes that tell the truth of the list
 abbrev pub BytesKeepFed : Type 0
@@ -78,7 +81,8 @@ AskKeepsFed =
 -- fed from a legal list, it stays fed by a run, also where memory is wanted
 abbrev pub RunKeepsFed : Type 0
 RunKeepsFed =
-    (shape : Shape) (commits : List Commit) (r : Replica) (answer : Run) (new : Replica) → IsLegal shape 1 commits → IsFedFrom shape commits r
+    (shape : Shape) (commits : List Commit) (r : Replica) (answer : Run) (new : Replica) → IsLegal shape 1 commits
+    → IsFedFrom shape commits r
     → MayRun r answer new → IsFedFrom shape commits new
 
 -- ---- what its runs answer
@@ -90,14 +94,16 @@ report_at shape commits version plans = report_text version (map (plain_answer (
 -- a run of a replica that is fed from a legal list never finds that its frames are not those of one list
 abbrev pub RunIsConsistent : Type 0
 RunIsConsistent =
-    (shape : Shape) (commits : List Commit) (r : Replica) (answer : Run) (new : Replica) → IsLegal shape 1 commits → IsFedFrom shape commits r
+    (shape : Shape) (commits : List Commit) (r : Replica) (answer : Run) (new : Replica) → IsLegal shape 1 commits
+    → IsFedFrom shape commits r
     → MayRun r answer new → answer ≡ runs.Inconsistent → ⊥
 
 -- where it answers its batch, the answer is the report on the tables after exactly the commits up to the version that was
 -- fetched for it, which is its version from then on
 abbrev pub AnswerIsReport : Type 0
 AnswerIsReport =
-    (shape : Shape) (commits : List Commit) (r : Replica) (text : List ℕ) (new : Replica) → IsLegal shape 1 commits → IsFedFrom shape commits r
+    (shape : Shape) (commits : List Commit) (r : Replica) (text : List ℕ) (new : Replica) → IsLegal shape 1 commits
+    → IsFedFrom shape commits r
     → MayRun r (runs.Answered text) new
     → (batch : Queries) × (fetched : Fetched) × (r.batch ≡ Some batch) × (batch.fetched ≡ Some fetched)
     × (text ≡ report_at shape commits fetched.version batch.plans) × (new.version ≡ fetched.version)
@@ -105,7 +111,8 @@ AnswerIsReport =
 -- and where a version was fetched and no frame is missing, its run is that report
 abbrev pub ReadyIsAnswered : Type 0
 ReadyIsAnswered =
-    (shape : Shape) (commits : List Commit) (r : Replica) (batch : Queries) (fetched : Fetched) → IsLegal shape 1 commits → IsFedFrom shape commits r
+    (shape : Shape) (commits : List Commit) (r : Replica) (batch : Queries) (fetched : Fetched) → IsLegal shape 1 commits
+    → IsFedFrom shape commits r
     → r.batch ≡ Some batch → ready r ≡ Some fetched → (ran r).0 ≡ runs.Answered (report_at shape commits fetched.version batch.plans)
 
 -- ---- what two of them hold

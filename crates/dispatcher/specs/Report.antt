@@ -9,7 +9,8 @@ line_of words = join_with_byte 32 words ++ 10 ∷ []
 -- a query's part: its number and how many groups it has, and a line for each group
 abbrev pub query_text : ℕ → List (List ℕ) → List ℕ
 query_text index groups =
-    line_of (codes "query" ∷ decimal index ∷ codes "rows" ∷ decimal (length groups) ∷ []) ++ flat_map (λ values. line_of (map decimal values)) groups
+    line_of (codes "query" ∷ decimal index ∷ codes "rows" ∷ decimal (length groups) ∷ [])
+    ++ flat_map (λ values. line_of (map decimal values)) groups
 
 -- the parts of queries, the first of which has this number
 abbrev pub queries_text : ℕ → List (List (List ℕ)) → List ℕ

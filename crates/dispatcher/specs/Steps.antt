@@ -1,5 +1,6 @@
 -- One step of a replica: what each call answers, and what it leaves.
-use Rattle.std.specs.Prelude.{◌≡◌, ℕ, ◌+◌, ◌-◌, List, [], ◌∷◌, ◌++◌, length, map, Bool, true, false, Option, None, Some, Result, Ok, Err, ◌==◌, ◌||◌, ◌&&◌, not, nat_lt, nat_le, if◌then◌else◌, is_ok, IsErr, IsOkAnd, slice_index, ◌⊎◌}
+use Rattle.std.specs.Prelude.{◌≡◌, ℕ, ◌+◌, ◌-◌, List, [], ◌∷◌, ◌++◌, length, map, Bool, true, false, Option, None, Some, Result, Ok, Err}
+use Rattle.std.specs.Prelude.{◌==◌, ◌||◌, ◌&&◌, not, nat_lt, nat_le, if◌then◌else◌, is_ok, IsErr, IsOkAnd, slice_index, ◌⊎◌}
 use Rattle.std.specs.List.{list_all}
 use Rattle.std.specs.Option.{option_map}
 use Rattle.std.specs.Ordering.{nat_cmp}
@@ -97,7 +98,8 @@ known r = keys_of r.frames
 -- a frame that comes
 abbrev pub frame_comes : Replica → Frame → Got × Replica
 frame_comes r frame =
-    if not (nat_lt frame.worker r.workers) || not (list_all (λ entry. is_ok (fitting r.shape entry)) frame.entries) then (got.Ignored, r) else
+    if not (nat_lt frame.worker r.workers)
+    || not (list_all (λ entry. is_ok (fitting r.shape entry)) frame.entries) then (got.Ignored, r) else
     if is_known (known r) frame.seq then (got.Repeat, r) else
     if is_ahead (known r) frame.seq then (got.Ahead, r) else
     (got.Stored, record r { frames = insert_entry nat_cmp r.frames frame.seq frame })
@@ -110,7 +112,8 @@ own_head_comes r version counts =
     by_batch r.batch
   where
     taken : Queries → Option Fetched → Got × Replica
-    taken batch None = (got.Head version, record r { batch = Some (record batch { fetched = Some (record { version = version; counts = counts }) }) })
+    taken batch None =
+        (got.Head version, record r { batch = Some (record batch { fetched = Some (record { version = version; counts = counts }) }) })
     taken batch (Some fetched) = (got.Ignored, r)
 
     by_batch : Option Queries → Got × Replica

@@ -1,6 +1,7 @@
 //! Laws of a replica's steps.
 
-ghost use Rattle.dispatcher.specs.Feeding.{FreshIsFed, CommitsKeepFed, BytesKeepFed, OpenKeepsFed, AskKeepsFed, RunKeepsFed, RunIsConsistent, AnswerIsReport, ReadyIsAnswered, VersionTellsTables};
+ghost use Rattle.dispatcher.specs.Feeding.{FreshIsFed, CommitsKeepFed, BytesKeepFed, OpenKeepsFed, AskKeepsFed, RunKeepsFed};
+ghost use Rattle.dispatcher.specs.Feeding.{RunIsConsistent, AnswerIsReport, ReadyIsAnswered, VersionTellsTables};
 
 /// A replica is fed from a list of commits where all that it knows is of that list: its frames,
 /// its tables, and the version that it fetched. A fresh one is, each step keeps it so where what

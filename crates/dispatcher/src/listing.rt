@@ -22,7 +22,8 @@ pub fn commits_at(
 ) -> Result<Option<Vec<Commit>>, AllocError>
     requires known { end ≤ first_missing (keys_of frames.now) }
     requires numbered { version + (end - first) < 2 ^ 64 }
-    ensures { IfOk result (λ commits. option_map (λ list. list.items) commits ≡ commits_in version (frames_at frames.now first (end - first))) }
+    ensures { IfOk result (λ commits. option_map (λ list. list.items) commits ≡ commits_in version
+        (frames_at frames.now first (end - first))) }
 {
     let mut commits = Vec::new(alloc);
     let mut number = version;

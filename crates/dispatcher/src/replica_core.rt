@@ -6,7 +6,8 @@ ghost use Rattle.rows.specs.Tables.{opening};
 ghost use Rattle.dispatcher.specs.Replica.{Replica};
 ghost use Rattle.std.specs.List.{list_all};
 ghost use Rattle.rows.specs.Entries.{fitting};
-ghost use Rattle.dispatcher.specs.Steps.{started, opened, asked, received, frame_comes, own_head_comes, ask_for, want_for, ready, CatchesUp, Applies, answered_by, MayRun};
+ghost use Rattle.dispatcher.specs.Steps.{started, opened, asked, received, frame_comes, own_head_comes, ask_for, want_for, ready};
+ghost use Rattle.dispatcher.specs.Steps.{CatchesUp, Applies, answered_by, MayRun};
 
 use crate::answering::report;
 use crate::batch::{Batch, TakenHead};
@@ -249,7 +250,8 @@ impl<S: ApplyStore + Sync> ReplicaCore<S> {
     ) -> Got
         requires { self.old.broken ≡ false }
         ensures { ((result ≡ Got.Memory) × (self.new ≡ self.old))
-            ⊎ (frame_comes self.old (record { worker = worker; seq = seq; commit = commit; last = last; entries = entries.now }) ≡ (result, self.new)) }
+            ⊎ (frame_comes self.old (record { worker = worker; seq = seq; commit = commit; last = last; entries = entries.now })
+            ≡ (result, self.new)) }
     {
         if worker >= self.workers {
             return Got::Ignored;

@@ -1,5 +1,6 @@
 -- One column of a row after entries: what they make of the row, and what they make of the column.
-use Rattle.std.proofs.Common.{◌≡◌, ◌≢◌, ℕ, zero, suc, ◌+◌, ◌<◌, get_or, drop, Bool, true, false, cond, ◌==◌, List, [], ◌∷◌, length, Option, None, Some, slice_get, refl, ap, ◌∙◌, inl, inr}
+use Rattle.std.proofs.Common.{◌≡◌, ◌≢◌, ℕ, zero, suc, ◌+◌, ◌<◌, get_or, drop, Bool, true, false, cond, ◌==◌, List, [], ◌∷◌, length, Option}
+use Rattle.std.proofs.Common.{None, Some, slice_get, refl, ap, ◌∙◌, inl, inr}
 use Rattle.std.specs.List.{slice_set}
 use Rattle.std.specs.Option.{option_map}
 use Rattle.std.proofs.lemmas.Bool.{cases_eq, eq-eqb, ne_eqb}
@@ -31,23 +32,29 @@ slice_get-set_other (first ∷ xs) zero (suc j) x h = refl
 slice_get-set_other (first ∷ xs) (suc i) zero x h = refl
 slice_get-set_other (first ∷ xs) (suc i) (suc j) x h = slice_get-set_other xs i j x (λ e. h (ap suc e))
 
-slice_get-set : {X : Type 0} (xs : List X) (i j : ℕ) (x : X) → slice_get (slice_set xs i x) j ≡ cond (i == j) (option_map (λ was. x) (slice_get xs j)) (slice_get xs j)
+slice_get-set : {X : Type 0} (xs : List X) (i j : ℕ) (x : X)
+    → slice_get (slice_set xs i x) j ≡ cond (i == j) (option_map (λ was. x) (slice_get xs j)) (slice_get xs j)
 slice_get-set xs i j x = elim (cases_eq i j) [
   | inl same ↦ rw (eq-eqb i j same, same) (slice_get-set_same xs j x)
   | inr apart ↦ rw (ne_eqb i j apart) (slice_get-set_other xs i j x apart)
 ]
 
-patched : (kinds : List Kind) (offset : ℕ) (bytes : List ℕ) (column : ℕ) (values : List Value) → slice_get (patched_row kinds offset bytes values) column ≡ patched_cell kinds offset bytes column (slice_get values column)
+patched : (kinds : List Kind) (offset : ℕ) (bytes : List ℕ) (column : ℕ) (values : List Value)
+    → slice_get (patched_row kinds offset bytes values) column ≡ patched_cell kinds offset bytes column (slice_get values column)
 patched kinds offset bytes column values = by (column_at kinds offset (length bytes)) refl
   where
-    by : (found : Option (ℕ × Kind)) → column_at kinds offset (length bytes) ≡ found → slice_get (patched_row kinds offset bytes values) column ≡ patched_cell kinds offset bytes column (slice_get values column)
+    by : (found : Option (ℕ × Kind)) → column_at kinds offset (length bytes) ≡ found
+        → slice_get (patched_row kinds offset bytes values) column ≡ patched_cell kinds offset bytes column (slice_get values column)
     by None e = rw e refl
     by (Some place) e = rw e (slice_get-set values place.0 column (value_of place.1 bytes))
 
-effect-cell : (kinds : List Kind) (column : ℕ) (entry : Entry) (was : Option (List Value)) → cell_of column (effect (Some kinds) entry was) ≡ cell_after_one kinds column entry (cell_of column was)
+effect-cell : (kinds : List Kind) (column : ℕ) (entry : Entry) (was : Option (List Value))
+    → cell_of column (effect (Some kinds) entry was) ≡ cell_after_one kinds column entry (cell_of column was)
 effect-cell kinds column (Insert table row bytes) was = by (length bytes == row_width kinds) was
   where
-    by : (wide : Bool) (was : Option (List Value)) → cell_of column (cond wide (inserted_row kinds bytes was) was) ≡ cond wide (inserted_cell kinds bytes column (cell_of column was)) (cell_of column was)
+    by : (wide : Bool) (was : Option (List Value))
+        → cell_of column (cond wide (inserted_row kinds bytes was) was) ≡ cond wide (inserted_cell kinds bytes column (cell_of column was))
+        (cell_of column was)
     by false was = refl
     by true None = refl
     by true (Some values) = refl
@@ -56,24 +63,36 @@ effect-cell kinds column (Patch table row offset bytes) (Some values) = ap Some 
 effect-cell kinds column (Delete table row) was = refl
 
 -- what entries make of a column is that column of what they make of the row
-pub cell-row : (shape : Shape) (kinds : List Kind) (table row column : ℕ) (entries : List Entry) (was : Option (List Value)) → slice_get shape table ≡ Some kinds
+pub cell-row : (shape : Shape) (kinds : List Kind) (table row column : ℕ) (entries : List Entry) (was : Option (List Value))
+    → slice_get shape table ≡ Some kinds
     → cell_of column (row_after_fit shape table row entries was) ≡ cell_after kinds table row column entries (cell_of column was)
 cell-row shape kinds table row column [] was h = refl
 cell-row shape kinds table row column (entry ∷ entries) was h =
     cell-row shape kinds table row column entries (step shape table row entry was) h
-    ∙ ap (cell_after kinds table row column entries) (ap (cell_of column) (step-is shape table row entry was ∙ ap (λ found. cond (is_of table row entry) (effect found entry was) was) h) ∙ by (is_of table row entry))
+    ∙ ap (cell_after kinds table row column entries)
+    (ap (cell_of column) (step-is shape table row entry was ∙ ap (λ found. cond (is_of table row entry) (effect found entry was) was) h)
+    ∙ by (is_of table row entry))
   where
-    by : (here : Bool) → cell_of column (cond here (effect (Some kinds) entry was) was) ≡ cond here (cell_after_one kinds column entry (cell_of column was)) (cell_of column was)
+    by : (here : Bool) → cell_of column (cond here (effect (Some kinds) entry was) was) ≡ cond here
+        (cell_after_one kinds column entry (cell_of column was)) (cell_of column was)
     by true = effect-cell kinds column entry was
     by false = refl
 
 -- what the entries at places make of a column, one place on: where there is an entry, and where there is none
-pub cell_after-some : (kinds : List Kind) (table row column : ℕ) (entries : List Entry) (places : List ℕ) (i : ℕ) (entry : Entry) (cell : Option (Option Value)) → i < length places → slice_get entries (get_or places i 0) ≡ Some entry
-    → cell_after kinds table row column (picked entries (drop i places)) cell ≡ cell_after kinds table row column (picked entries (drop (i + 1) places)) (cell_after_entry kinds table row column entry cell)
+pub cell_after-some : (kinds : List Kind) (table row column : ℕ) (entries : List Entry) (places : List ℕ) (i : ℕ) (entry : Entry)
+    (cell : Option (Option Value)) → i < length places → slice_get entries (get_or places i 0) ≡ Some entry
+    → cell_after kinds table row column (picked entries (drop i places)) cell ≡ cell_after kinds table row column
+    (picked entries (drop (i + 1) places)) (cell_after_entry kinds table row column entry cell)
 cell_after-some kinds table row column entries places i entry cell h e =
-    ap (λ own. cell_after kinds table row column own cell) (ap (picked entries) (drop_more places i 0 h) ∙ picked-cons entries (get_or places i 0) (drop (i + 1) places) ∙ ap (λ found. before found (picked entries (drop (i + 1) places))) e)
+    ap (λ own. cell_after kinds table row column own cell)
+    (ap (picked entries) (drop_more places i 0 h) ∙ picked-cons entries (get_or places i 0) (drop (i + 1) places)
+    ∙ ap (λ found. before found (picked entries (drop (i + 1) places))) e)
 
-pub cell_after-none : (kinds : List Kind) (table row column : ℕ) (entries : List Entry) (places : List ℕ) (i : ℕ) (cell : Option (Option Value)) → i < length places → slice_get entries (get_or places i 0) ≡ None
-    → cell_after kinds table row column (picked entries (drop i places)) cell ≡ cell_after kinds table row column (picked entries (drop (i + 1) places)) cell
+pub cell_after-none : (kinds : List Kind) (table row column : ℕ) (entries : List Entry) (places : List ℕ) (i : ℕ)
+    (cell : Option (Option Value)) → i < length places → slice_get entries (get_or places i 0) ≡ None
+    → cell_after kinds table row column (picked entries (drop i places)) cell ≡ cell_after kinds table row column
+    (picked entries (drop (i + 1) places)) cell
 cell_after-none kinds table row column entries places i cell h e =
-    ap (λ own. cell_after kinds table row column own cell) (ap (picked entries) (drop_more places i 0 h) ∙ picked-cons entries (get_or places i 0) (drop (i + 1) places) ∙ ap (λ found. before found (picked entries (drop (i + 1) places))) e)
+    ap (λ own. cell_after kinds table row column own cell)
+    (ap (picked entries) (drop_more places i 0 h) ∙ picked-cons entries (get_or places i 0) (drop (i + 1) places)
+    ∙ ap (λ found. before found (picked entries (drop (i + 1) places))) e)

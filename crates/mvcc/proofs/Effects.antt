@@ -1,5 +1,6 @@
 -- What an entry makes of a row, by the kinds of its table's columns alone, and which entries leave nothing of others.
-use Rattle.std.proofs.Common.{◌≡◌, ℕ, Bool, true, false, cond, ◌==◌, not, List, [], ◌∷◌, ◌++◌, length, Option, None, Some, Ok, Err, slice_get, refl, sym, ap, subst, ◌∙◌, inl, inr}
+use Rattle.std.proofs.Common.{◌≡◌, ℕ, Bool, true, false, cond, ◌==◌, not, List, [], ◌∷◌, ◌++◌, length, Option, None, Some, Ok, Err}
+use Rattle.std.proofs.Common.{slice_get, refl, sym, ap, subst, ◌∙◌, inl, inr}
 use Rattle.std.specs.List.{filter, slice_set}
 use Rattle.std.specs.Option.{option_map, is_some}
 use Rattle.std.specs.Result.{is_ok}
@@ -33,7 +34,8 @@ abbrev pub step : Shape → ℕ → ℕ → Entry → Option (List Value) → Op
 step shape table row entry was = cond (is_ok (fitting shape entry)) (row_after_entry shape table row entry was) was
 
 -- a test that was passed or not
-tested : {X : Type 0} {F : Type 0} (b : Bool) (fault : F) (x y : X) → cond (is_ok {T = Unit {0}} {E = F} (cond b (Ok tt) (Err fault))) x y ≡ cond b x y
+tested : {X : Type 0} {F : Type 0} (b : Bool) (fault : F) (x y : X)
+    → cond (is_ok {T = Unit {0}} {E = F} (cond b (Ok tt) (Err fault))) x y ≡ cond b x y
 tested true fault x y = refl
 tested false fault x y = refl
 
@@ -42,53 +44,73 @@ alike true x = refl
 alike false x = refl
 
 -- bytes at a place of no column change nothing
-patched-none : (kinds : List Kind) (offset : ℕ) (bytes : List ℕ) (was : Option (List Value)) → column_at kinds offset (length bytes) ≡ None → option_map (patched_row kinds offset bytes) was ≡ was
+patched-none : (kinds : List Kind) (offset : ℕ) (bytes : List ℕ) (was : Option (List Value)) → column_at kinds offset (length bytes) ≡ None
+    → option_map (patched_row kinds offset bytes) was ≡ was
 patched-none kinds offset bytes None e = refl
 patched-none kinds offset bytes (Some values) e = rw e refl
 
 fits-patch : (kinds : List Kind) (offset : ℕ) (bytes : List ℕ) (fault : EntryFault) (was : Option (List Value))
-    → cond (is_ok {T = Unit {0}} {E = EntryFault} (cond (is_some (column_at kinds offset (length bytes))) (Ok tt) (Err fault))) (option_map (patched_row kinds offset bytes) was) was ≡ option_map (patched_row kinds offset bytes) was
+    → cond (is_ok {T = Unit {0}} {E = EntryFault} (cond (is_some (column_at kinds offset (length bytes))) (Ok tt) (Err fault)))
+    (option_map (patched_row kinds offset bytes) was) was ≡ option_map (patched_row kinds offset bytes) was
 fits-patch kinds offset bytes fault was = by (column_at kinds offset (length bytes)) refl
   where
     by : (found : Option (ℕ × Kind)) → column_at kinds offset (length bytes) ≡ found
-        → cond (is_ok {T = Unit {0}} {E = EntryFault} (cond (is_some (column_at kinds offset (length bytes))) (Ok tt) (Err fault))) (option_map (patched_row kinds offset bytes) was) was ≡ option_map (patched_row kinds offset bytes) was
-    by None e = ap (λ found. cond (is_ok {T = Unit {0}} {E = EntryFault} (cond (is_some found) (Ok tt) (Err fault))) (option_map (patched_row kinds offset bytes) was) was) e ∙ sym (patched-none kinds offset bytes was e)
-    by (Some place) e = ap (λ found. cond (is_ok {T = Unit {0}} {E = EntryFault} (cond (is_some found) (Ok tt) (Err fault))) (option_map (patched_row kinds offset bytes) was) was) e
+        → cond (is_ok {T = Unit {0}} {E = EntryFault} (cond (is_some (column_at kinds offset (length bytes))) (Ok tt) (Err fault)))
+        (option_map (patched_row kinds offset bytes) was) was ≡ option_map (patched_row kinds offset bytes) was
+    by None e =
+        ap (λ found. cond (is_ok {T = Unit {0}} {E = EntryFault} (cond (is_some found) (Ok tt) (Err fault)))
+        (option_map (patched_row kinds offset bytes) was) was) e ∙ sym (patched-none kinds offset bytes was e)
+    by (Some place) e =
+        ap (λ found. cond (is_ok {T = Unit {0}} {E = EntryFault} (cond (is_some found) (Ok tt) (Err fault)))
+        (option_map (patched_row kinds offset bytes) was) was) e
 
 -- the effect of an entry is what it makes of its row where it fits
-fits-effect : (shape : Shape) (entry : Entry) (was : Option (List Value)) → cond (is_ok (fitting shape entry)) (row_after_one (kinds_of shape (table_of entry)) entry was) was ≡ effect (slice_get shape (table_of entry)) entry was
+fits-effect : (shape : Shape) (entry : Entry) (was : Option (List Value))
+    → cond (is_ok (fitting shape entry)) (row_after_one (kinds_of shape (table_of entry)) entry was) was ≡ effect
+    (slice_get shape (table_of entry)) entry was
 fits-effect shape entry was = by (slice_get shape (table_of entry)) refl
   where
-    of_kinds : (kinds : List Kind) (entry : Entry) → slice_get shape (table_of entry) ≡ Some kinds → cond (is_ok (fitting shape entry)) (row_after_one (kinds_of shape (table_of entry)) entry was) was ≡ effect (Some kinds) entry was
+    of_kinds : (kinds : List Kind) (entry : Entry) → slice_get shape (table_of entry) ≡ Some kinds
+        → cond (is_ok (fitting shape entry)) (row_after_one (kinds_of shape (table_of entry)) entry was) was ≡ effect (Some kinds) entry was
     of_kinds kinds (Insert table row bytes) e = rw e (tested (length bytes == row_width kinds) _ (inserted_row kinds bytes was) was)
     of_kinds kinds (Patch table row offset bytes) e = rw e (fits-patch kinds offset bytes _ was)
     of_kinds kinds (Delete table row) e = rw e refl
 
-    of_none : (entry : Entry) → slice_get shape (table_of entry) ≡ None → cond (is_ok (fitting shape entry)) (row_after_one (kinds_of shape (table_of entry)) entry was) was ≡ was
+    of_none : (entry : Entry) → slice_get shape (table_of entry) ≡ None
+        → cond (is_ok (fitting shape entry)) (row_after_one (kinds_of shape (table_of entry)) entry was) was ≡ was
     of_none (Insert table row bytes) e = rw e refl
     of_none (Patch table row offset bytes) e = rw e refl
     of_none (Delete table row) e = rw e refl
 
-    by : (found : Option (List Kind)) → slice_get shape (table_of entry) ≡ found → cond (is_ok (fitting shape entry)) (row_after_one (kinds_of shape (table_of entry)) entry was) was ≡ effect (slice_get shape (table_of entry)) entry was
+    by : (found : Option (List Kind)) → slice_get shape (table_of entry) ≡ found
+        → cond (is_ok (fitting shape entry)) (row_after_one (kinds_of shape (table_of entry)) entry was) was ≡ effect
+        (slice_get shape (table_of entry)) entry was
     by None e = of_none entry e ∙ ap (λ found. effect found entry was) (sym e)
     by (Some kinds) e = of_kinds kinds entry e ∙ ap (λ found. effect found entry was) (sym e)
 
 -- an entry of this row has its effect on it, and any other none
-pub step-is : (shape : Shape) (table row : ℕ) (entry : Entry) (was : Option (List Value)) → step shape table row entry was ≡ cond (is_of table row entry) (effect (slice_get shape table) entry was) was
+pub step-is : (shape : Shape) (table row : ℕ) (entry : Entry) (was : Option (List Value))
+    → step shape table row entry was ≡ cond (is_of table row entry) (effect (slice_get shape table) entry was) was
 step-is shape table row entry was = by (is_of table row entry) refl
   where
-    by : (here : Bool) → is_of table row entry ≡ here → step shape table row entry was ≡ cond (is_of table row entry) (effect (slice_get shape table) entry was) was
+    by : (here : Bool) → is_of table row entry ≡ here
+        → step shape table row entry was ≡ cond (is_of table row entry) (effect (slice_get shape table) entry was) was
     by false e = rw e (alike (is_ok (fitting shape entry)) was)
     by true e =
         let same : table_of entry ≡ table = eqb-true _ _ (and_parts (table_of entry == table) (row_of entry == row) e).0 in
-        let here = subst (λ table. cond (is_ok (fitting shape entry)) (row_after_one (kinds_of shape table) entry was) was ≡ effect (slice_get shape table) entry was) same (fits-effect shape entry was) in
+        let here =
+        subst (λ table. cond (is_ok (fitting shape entry)) (row_after_one (kinds_of shape table) entry was) was ≡ effect
+        (slice_get shape table) entry was) same (fits-effect shape entry was) in
         rw e here
 
 -- in a table that is not there no row changes
-pub unlisted : (shape : Shape) (table row : ℕ) (entries : List Entry) (was : Option (List Value)) → slice_get shape table ≡ None → row_after_fit shape table row entries was ≡ was
+pub unlisted : (shape : Shape) (table row : ℕ) (entries : List Entry) (was : Option (List Value)) → slice_get shape table ≡ None
+    → row_after_fit shape table row entries was ≡ was
 unlisted shape table row [] was h = refl
 unlisted shape table row (entry ∷ entries) was h =
-    let none : step shape table row entry was ≡ was = step-is shape table row entry was ∙ ap (λ found. cond (is_of table row entry) (effect found entry was) was) h ∙ alike (is_of table row entry) was in
+    let none : step shape table row entry was ≡ was =
+    step-is shape table row entry was ∙ ap (λ found. cond (is_of table row entry) (effect found entry was) was) h
+    ∙ alike (is_of table row entry) was in
     ap (row_after_fit shape table row entries) none ∙ unlisted shape table row entries was h
 
 -- bytes at a column of a row
@@ -96,20 +118,24 @@ abbrev put_at : Option (ℕ × Kind) → List ℕ → List Value → List Value
 put_at None bytes values = values
 put_at (Some place) bytes values = slice_set values place.0 (value_of place.1 bytes)
 
-patched-is : (kinds : List Kind) (offset : ℕ) (bytes : List ℕ) (values : List Value) → patched_row kinds offset bytes values ≡ put_at (column_at kinds offset (length bytes)) bytes values
+patched-is : (kinds : List Kind) (offset : ℕ) (bytes : List ℕ) (values : List Value)
+    → patched_row kinds offset bytes values ≡ put_at (column_at kinds offset (length bytes)) bytes values
 patched-is kinds offset bytes values = by (column_at kinds offset (length bytes)) refl
   where
-    by : (found : Option (ℕ × Kind)) → column_at kinds offset (length bytes) ≡ found → patched_row kinds offset bytes values ≡ put_at (column_at kinds offset (length bytes)) bytes values
+    by : (found : Option (ℕ × Kind)) → column_at kinds offset (length bytes) ≡ found
+        → patched_row kinds offset bytes values ≡ put_at (column_at kinds offset (length bytes)) bytes values
     by None e = rw e refl
     by (Some place) e = rw e refl
 
 -- of two values for one column the later one stays
-put_at-twice : (place : Option (ℕ × Kind)) (bytes earlier : List ℕ) (values : List Value) → put_at place bytes (put_at place earlier values) ≡ put_at place bytes values
+put_at-twice : (place : Option (ℕ × Kind)) (bytes earlier : List ℕ) (values : List Value)
+    → put_at place bytes (put_at place earlier values) ≡ put_at place bytes values
 put_at-twice None bytes earlier values = refl
 put_at-twice (Some place) bytes earlier values = set-set values place.0 (value_of place.1 earlier) (value_of place.1 bytes)
 
 -- rows that are the same but for a column stay so when another value comes
-put_at-keeps : (place other : Option (ℕ × Kind)) (bytes between : List ℕ) (values values' : List Value) → put_at place bytes values ≡ put_at place bytes values'
+put_at-keeps : (place other : Option (ℕ × Kind)) (bytes between : List ℕ) (values values' : List Value)
+    → put_at place bytes values ≡ put_at place bytes values'
     → put_at place bytes (put_at other between values) ≡ put_at place bytes (put_at other between values')
 put_at-keeps None other bytes between values values' h = ap (put_at other between) h
 put_at-keeps (Some place) None bytes between values values' h = h
@@ -120,20 +146,24 @@ put_at-keeps (Some place) (Some other) bytes between values values' h =
       | inl same ↦
           rw same (set-set values place.0 first last ∙ h ∙ sym (set-set values' place.0 first last))
       | inr apart ↦
-          set_comm values other.0 place.0 first last apart ∙ ap (λ row. slice_set row other.0 first) h ∙ sym (set_comm values' other.0 place.0 first last apart)
+          set_comm values other.0 place.0 first last apart ∙ ap (λ row. slice_set row other.0 first) h
+          ∙ sym (set_comm values' other.0 place.0 first last apart)
     ]
 
 -- an entry leaves nothing of one that it supersedes
-absorbs : (found : Option (List Kind)) (entry earlier : Entry) (was : Option (List Value)) → supersedes entry earlier ≡ true → effect found entry (effect found earlier was) ≡ effect found entry was
+absorbs : (found : Option (List Kind)) (entry earlier : Entry) (was : Option (List Value)) → supersedes entry earlier ≡ true
+    → effect found entry (effect found earlier was) ≡ effect found entry was
 absorbs None entry earlier was h = refl
 absorbs (Some kinds) (Insert table row bytes) earlier was h = cc
 absorbs (Some kinds) (Patch table row offset bytes) (Insert table' row' bytes') was h = cc
 absorbs (Some kinds) (Patch table row offset bytes) (Patch table' row' offset' bytes') None h = refl
 absorbs (Some kinds) (Patch table row offset bytes) (Patch table' row' offset' bytes') (Some values) h =
     let parts = and_parts (offset == offset') (length bytes == length bytes') h in
-    let same : column_at kinds offset' (length bytes') ≡ column_at kinds offset (length bytes) = rw (eqb-true offset offset' parts.0, eqb-true (length bytes) (length bytes') parts.1) refl in
+    let same : column_at kinds offset' (length bytes') ≡ column_at kinds offset (length bytes) =
+    rw (eqb-true offset offset' parts.0, eqb-true (length bytes) (length bytes') parts.1) refl in
     ap Some (patched-is kinds offset bytes (patched_row kinds offset' bytes' values)
-    ∙ ap (put_at (column_at kinds offset (length bytes)) bytes) (patched-is kinds offset' bytes' values ∙ ap (λ place. put_at place bytes' values) same)
+    ∙ ap (put_at (column_at kinds offset (length bytes)) bytes)
+    (patched-is kinds offset' bytes' values ∙ ap (λ place. put_at place bytes' values) same)
     ∙ put_at-twice (column_at kinds offset (length bytes)) bytes bytes' values
     ∙ sym (patched-is kinds offset bytes values))
 absorbs (Some kinds) (Patch table row offset bytes) (Delete table' row') was h = cc
@@ -141,13 +171,18 @@ absorbs (Some kinds) (Delete table row) earlier was h = refl
 
 -- where two rows are the same once an entry comes, they are so too with any other entry before it
 abbrev pub Keeps : Option (List Kind) → Entry → Type 0
-Keeps found entry = (between : Entry) (was was' : Option (List Value)) → effect found entry was ≡ effect found entry was' → effect found entry (effect found between was) ≡ effect found entry (effect found between was')
+Keeps found entry =
+    (between : Entry) (was was' : Option (List Value)) → effect found entry was ≡ effect found entry was'
+    → effect found entry (effect found between was) ≡ effect found entry (effect found between was')
 
-patch-keeps : (kinds : List Kind) (table : ℕ) (row : RowId) (offset : ℕ) (bytes : List ℕ) → Keeps (Some kinds) (Patch table row offset bytes)
+patch-keeps : (kinds : List Kind) (table : ℕ) (row : RowId) (offset : ℕ) (bytes : List ℕ)
+    → Keeps (Some kinds) (Patch table row offset bytes)
 patch-keeps kinds table row offset bytes (Insert table' row' bytes') was was' h = by (length bytes' == row_width kinds) was was' h
   where
-    by : (wide : Bool) (was was' : Option (List Value)) → option_map (patched_row kinds offset bytes) was ≡ option_map (patched_row kinds offset bytes) was'
-        → option_map (patched_row kinds offset bytes) (cond wide (inserted_row kinds bytes' was) was) ≡ option_map (patched_row kinds offset bytes) (cond wide (inserted_row kinds bytes' was') was')
+    by : (wide : Bool) (was was' : Option (List Value))
+        → option_map (patched_row kinds offset bytes) was ≡ option_map (patched_row kinds offset bytes) was'
+        → option_map (patched_row kinds offset bytes) (cond wide (inserted_row kinds bytes' was) was) ≡ option_map
+        (patched_row kinds offset bytes) (cond wide (inserted_row kinds bytes' was') was')
     by false was was' h = h
     by true None None h = refl
     by true None (Some values) h = cc
@@ -160,7 +195,9 @@ patch-keeps kinds table row offset bytes (Patch table' row' offset' bytes') (Som
     let place = column_at kinds offset (length bytes) in
     let other = column_at kinds offset' (length bytes') in
     let same = sym (patched-is kinds offset bytes values) ∙ same_Some _ _ h ∙ patched-is kinds offset bytes values' in
-    let as_put = λ (vs : List Value). patched-is kinds offset bytes (patched_row kinds offset' bytes' vs) ∙ ap (put_at place bytes) (patched-is kinds offset' bytes' vs) in
+    let as_put =
+    λ (vs : List Value). patched-is kinds offset bytes (patched_row kinds offset' bytes' vs)
+    ∙ ap (put_at place bytes) (patched-is kinds offset' bytes' vs) in
     ap Some (as_put values ∙ put_at-keeps place other bytes bytes' values values' same ∙ sym (as_put values'))
 patch-keeps kinds table row offset bytes (Delete table' row') was was' h = refl
 
@@ -171,27 +208,49 @@ delete-keeps : (kinds : List Kind) (table : ℕ) (row : RowId) → Keeps (Some k
 delete-keeps kinds table row between was was' h = refl
 
 -- a row after entries and then one more of it, and after those entries without the ones of which that leaves nothing
-still : (shape : Shape) (table row : ℕ) (entry : Entry) → Keeps (slice_get shape table) entry → (entries : List Entry) (was was' : Option (List Value))
+still : (shape : Shape) (table row : ℕ) (entry : Entry) → Keeps (slice_get shape table) entry
+    → (entries : List Entry) (was was' : Option (List Value))
     → effect (slice_get shape table) entry was ≡ effect (slice_get shape table) entry was'
-    → effect (slice_get shape table) entry (row_after_fit shape table row (filter (λ earlier. not (supersedes entry earlier)) entries) was) ≡ effect (slice_get shape table) entry (row_after_fit shape table row entries was')
+    → effect (slice_get shape table) entry
+    (row_after_fit shape table row (filter (λ earlier. not (supersedes entry earlier)) entries) was) ≡ effect
+    (slice_get shape table) entry (row_after_fit shape table row entries was')
 still shape table row entry keeps [] was was' h = h
-still shape table row entry keeps (first ∷ entries) was was' h = by (still shape table row entry keeps entries) (supersedes entry first) refl
+still shape table row entry keeps (first ∷ entries) was was' h =
+    by (still shape table row entry keeps entries) (supersedes entry first) refl
   where
-    gone : (here : Bool) → is_of table row first ≡ here → supersedes entry first ≡ true → effect (slice_get shape table) entry was ≡ effect (slice_get shape table) entry (step shape table row first was')
-    gone true e over = h ∙ sym (ap (effect (slice_get shape table) entry) (step-is shape table row first was' ∙ ap (λ here. cond here (effect (slice_get shape table) first was') was') e) ∙ absorbs (slice_get shape table) entry first was' over)
-    gone false e over = h ∙ sym (ap (effect (slice_get shape table) entry) (step-is shape table row first was' ∙ ap (λ here. cond here (effect (slice_get shape table) first was') was') e))
+    gone : (here : Bool) → is_of table row first ≡ here → supersedes entry first ≡ true
+        → effect (slice_get shape table) entry was ≡ effect (slice_get shape table) entry (step shape table row first was')
+    gone true e over =
+        h ∙ sym (ap (effect (slice_get shape table) entry)
+        (step-is shape table row first was' ∙ ap (λ here. cond here (effect (slice_get shape table) first was') was') e)
+        ∙ absorbs (slice_get shape table) entry first was' over)
+    gone false e over =
+        h ∙ sym (ap (effect (slice_get shape table) entry)
+        (step-is shape table row first was' ∙ ap (λ here. cond here (effect (slice_get shape table) first was') was') e))
 
-    stepped : (here : Bool) (values : Option (List Value)) → is_of table row first ≡ here → step shape table row first values ≡ cond here (effect (slice_get shape table) first values) values
-    stepped here values e = step-is shape table row first values ∙ ap (λ here. cond here (effect (slice_get shape table) first values) values) e
+    stepped : (here : Bool) (values : Option (List Value)) → is_of table row first ≡ here
+        → step shape table row first values ≡ cond here (effect (slice_get shape table) first values) values
+    stepped here values e =
+        step-is shape table row first values ∙ ap (λ here. cond here (effect (slice_get shape table) first values) values) e
 
-    kept : (here : Bool) → is_of table row first ≡ here → effect (slice_get shape table) entry (step shape table row first was) ≡ effect (slice_get shape table) entry (step shape table row first was')
-    kept true e = ap (effect (slice_get shape table) entry) (stepped true was e) ∙ keeps first was was' h ∙ ap (effect (slice_get shape table) entry) (sym (stepped true was' e))
-    kept false e = ap (effect (slice_get shape table) entry) (stepped false was e) ∙ h ∙ ap (effect (slice_get shape table) entry) (sym (stepped false was' e))
+    kept : (here : Bool) → is_of table row first ≡ here
+        → effect (slice_get shape table) entry (step shape table row first was) ≡ effect (slice_get shape table) entry
+        (step shape table row first was')
+    kept true e =
+        ap (effect (slice_get shape table) entry) (stepped true was e) ∙ keeps first was was' h
+        ∙ ap (effect (slice_get shape table) entry) (sym (stepped true was' e))
+    kept false e =
+        ap (effect (slice_get shape table) entry) (stepped false was e) ∙ h
+        ∙ ap (effect (slice_get shape table) entry) (sym (stepped false was' e))
 
     by : ((was was' : Option (List Value)) → effect (slice_get shape table) entry was ≡ effect (slice_get shape table) entry was'
-        → effect (slice_get shape table) entry (row_after_fit shape table row (filter (λ earlier. not (supersedes entry earlier)) entries) was) ≡ effect (slice_get shape table) entry (row_after_fit shape table row entries was'))
+        → effect (slice_get shape table) entry
+        (row_after_fit shape table row (filter (λ earlier. not (supersedes entry earlier)) entries) was) ≡ effect
+        (slice_get shape table) entry (row_after_fit shape table row entries was'))
         → (over : Bool) → supersedes entry first ≡ over
-        → effect (slice_get shape table) entry (row_after_fit shape table row (filter (λ earlier. not (supersedes entry earlier)) (first ∷ entries)) was) ≡ effect (slice_get shape table) entry (row_after_fit shape table row (first ∷ entries) was')
+        → effect (slice_get shape table) entry
+        (row_after_fit shape table row (filter (λ earlier. not (supersedes entry earlier)) (first ∷ entries)) was) ≡ effect
+        (slice_get shape table) entry (row_after_fit shape table row (first ∷ entries) was')
     by others true e = rw e (others was (step shape table row first was') (gone (is_of table row first) refl e))
     by others false e = rw e (others (step shape table row first was) (step shape table row first was') (kept (is_of table row first) refl))
 
@@ -200,30 +259,42 @@ all-kept [] = refl
 all-kept (entry ∷ entries) = ap (λ others. entry ∷ others) (all-kept entries)
 
 still-after : (shape : Shape) (table row : ℕ) (entry : Entry) (entries : List Entry) (was : Option (List Value))
-    → effect (slice_get shape table) entry (row_after_fit shape table row (filter (λ earlier. not (supersedes entry earlier)) entries) was) ≡ effect (slice_get shape table) entry (row_after_fit shape table row entries was)
-still-after shape table row (Insert table' row' bytes) entries was = ap (λ entries. effect (slice_get shape table) (Insert table' row' bytes) (row_after_fit shape table row entries was)) (all-kept entries)
-still-after shape table row (Patch table' row' offset bytes) entries was = still shape table row (Patch table' row' offset bytes) (by (slice_get shape table)) entries was was refl
+    → effect (slice_get shape table) entry
+    (row_after_fit shape table row (filter (λ earlier. not (supersedes entry earlier)) entries) was) ≡ effect
+    (slice_get shape table) entry (row_after_fit shape table row entries was)
+still-after shape table row (Insert table' row' bytes) entries was =
+    ap (λ entries. effect (slice_get shape table) (Insert table' row' bytes) (row_after_fit shape table row entries was)) (all-kept entries)
+still-after shape table row (Patch table' row' offset bytes) entries was =
+    still shape table row (Patch table' row' offset bytes) (by (slice_get shape table)) entries was was refl
   where
     by : (found : Option (List Kind)) → Keeps found (Patch table' row' offset bytes)
     by None = none-keeps (Patch table' row' offset bytes)
     by (Some kinds) = patch-keeps kinds table' row' offset bytes
-still-after shape table row (Delete table' row') entries was = still shape table row (Delete table' row') (by (slice_get shape table)) entries was was refl
+still-after shape table row (Delete table' row') entries was =
+    still shape table row (Delete table' row') (by (slice_get shape table)) entries was was refl
   where
     by : (found : Option (List Kind)) → Keeps found (Delete table' row')
     by None = none-keeps (Delete table' row')
     by (Some kinds) = delete-keeps kinds table' row'
 
 -- the entries of which one more of this row leaves nothing may be left out before it
-pub superseded : (shape : Shape) (table row : ℕ) (entry : Entry) (entries : List Entry) (was : Option (List Value)) → is_of table row entry ≡ true
-    → row_after_fit shape table row (filter (λ earlier. not (supersedes entry earlier)) entries ++ entry ∷ []) was ≡ step shape table row entry (row_after_fit shape table row entries was)
+pub superseded : (shape : Shape) (table row : ℕ) (entry : Entry) (entries : List Entry) (was : Option (List Value))
+    → is_of table row entry ≡ true
+    → row_after_fit shape table row
+    (filter (λ earlier. not (supersedes entry earlier)) entries ++ entry ∷ []) was ≡ step shape table row entry
+    (row_after_fit shape table row entries was)
 superseded shape table row entry entries was here =
     let kept = filter (λ earlier. not (supersedes entry earlier)) entries in
-    let made = λ (row' : Option (List Value)). step-is shape table row entry row' ∙ ap (λ here. cond here (effect (slice_get shape table) entry row') row') here in
+    let made =
+    λ (row' : Option (List Value)). step-is shape table row entry row'
+    ∙ ap (λ here. cond here (effect (slice_get shape table) entry row') row') here in
     row_after_fit-push shape table row kept entry was
     ∙ made (row_after_fit shape table row kept was)
     ∙ still-after shape table row entry entries was
     ∙ sym (made (row_after_fit shape table row entries was))
 
 -- an entry of another row leaves this one
-pub other_row : (shape : Shape) (table row : ℕ) (entry : Entry) (was : Option (List Value)) → is_of table row entry ≡ false → step shape table row entry was ≡ was
-other_row shape table row entry was other = step-is shape table row entry was ∙ ap (λ here. cond here (effect (slice_get shape table) entry was) was) other
+pub other_row : (shape : Shape) (table row : ℕ) (entry : Entry) (was : Option (List Value)) → is_of table row entry ≡ false
+    → step shape table row entry was ≡ was
+other_row shape table row entry was other =
+    step-is shape table row entry was ∙ ap (λ here. cond here (effect (slice_get shape table) entry was) was) other

@@ -1,5 +1,7 @@
 -- The chain of a row and the commits that it is of.
-use Rattle.std.proofs.Common.{◌≡◌, ℕ, suc, zero, ◌+◌, ◌-◌, ◌<◌, ◌≤◌, Bool, true, false, cond, ◌||◌, ◌==◌, List, [], ◌∷◌, ◌++◌, length, get_or, take, Option, None, refl, sym, ap, ◌∙◌, arith, append_assoc, length-append, zero-add, add-zero, append-nil}
+use Rattle.std.proofs.Common.{◌≡◌, ℕ, suc, zero, ◌+◌, ◌-◌, ◌<◌, ◌≤◌, Bool, true, false, cond, ◌||◌, ◌==◌, List, [], ◌∷◌, ◌++◌, length}
+use Rattle.std.proofs.Common.{get_or, take, Option, None, refl, sym, ap, ◌∙◌, arith, append_assoc, length-append, zero-add, add-zero}
+use Rattle.std.proofs.Common.{append-nil}
 use Rattle.std.specs.Prelude.{nat_le}
 use Rattle.std.specs.List.{list_any}
 use Rattle.std.specs.List.Sorted.{IsNonDecreasingBy}
@@ -17,7 +19,8 @@ use Rattle.rows.specs.RowAfter.{row_after_one, row_after, row_after_commits}
 use Rattle.rows.proofs.RowLaws.{row_after-push, row_after_commits-push, row_after-unnamed}
 use Rattle.mvcc.specs.declared.link.Link.{Link}
 use Rattle.mvcc.specs.Newest.{writes, newest_behind, newest_of}
-use Rattle.mvcc.specs.Chains.{link_of, chain_behind, chain_of, newest_from, newest_in, latest_from, latest_in, values_from, values_at, cut_at, linked, and_entries}
+use Rattle.mvcc.specs.Chains.{link_of, chain_behind, chain_of, newest_from, newest_in, latest_from, latest_in, values_from, values_at}
+use Rattle.mvcc.specs.Chains.{cut_at, linked, and_entries}
 use Rattle.mvcc.proofs.Links.{newest-push}
 
 -- a link, where there is one
@@ -27,26 +30,35 @@ link_if b number values = cond b (record { version = number; values = values } �
 -- one more commit at the end of the list
 pub chain-push : (shape : Shape) (t r before : ℕ) (was : Option (List Value)) (commits : List Commit) (commit : Commit)
     → chain_behind shape t r before was (commits ++ commit ∷ [])
-    ≡ chain_behind shape t r before was commits ++ link_of t r (before + length commits + 1) commit (row_after shape t r commit.entries (row_after_commits shape t r commits was))
+    ≡ chain_behind shape t r before was commits
+    ++ link_of t r (before + length commits + 1) commit (row_after shape t r commit.entries (row_after_commits shape t r commits was))
 chain-push shape t r before was [] commit =
     ap (λ n. link_of t r (n + 1) commit (row_after shape t r commit.entries was) ++ []) (sym (add-zero before)) ∙ append-nil _
 chain-push shape t r before was (first ∷ commits) commit =
     let now = row_after shape t r first.entries was in
     let same : before + 1 + length commits ≡ before + suc (length commits) = omega arith in
     ap (λ links. link_of t r (before + 1) first now ++ links) (chain-push shape t r (before + 1) now commits commit)
-    ∙ sym (append_assoc (link_of t r (before + 1) first now) (chain_behind shape t r (before + 1) now commits) (link_of t r (before + 1 + length commits + 1) commit (row_after shape t r commit.entries (row_after_commits shape t r commits now))))
-    ∙ ap (λ n. (link_of t r (before + 1) first now ++ chain_behind shape t r (before + 1) now commits) ++ link_of t r (n + 1) commit (row_after shape t r commit.entries (row_after_commits shape t r commits now))) same
+    ∙ sym (append_assoc (link_of t r (before + 1) first now) (chain_behind shape t r (before + 1) now commits)
+    (link_of t r (before + 1 + length commits + 1) commit
+    (row_after shape t r commit.entries (row_after_commits shape t r commits now))))
+    ∙ ap (λ n. (link_of t r (before + 1) first now ++ chain_behind shape t r (before + 1) now commits)
+    ++ link_of t r (n + 1) commit (row_after shape t r commit.entries (row_after_commits shape t r commits now))) same
 
 -- the version of the last link is the last commit that wrote the row
 pub chain-newest : (shape : Shape) (t r before : ℕ) (was : Option (List Value)) (commits : List Commit) (last : ℕ)
-    → newest_from last (chain_behind shape t r before was commits) ≡ cond (newest_behind t r before commits == 0) last (newest_behind t r before commits)
+    → newest_from last (chain_behind shape t r before was commits) ≡ cond (newest_behind t r before commits == 0) last
+    (newest_behind t r before commits)
 chain-newest shape t r before was [] last = refl
 chain-newest shape t r before was (commit ∷ commits) last =
     by (writes t r commit) (chain-newest shape t r (before + 1) (row_after shape t r commit.entries was) commits)
   where
-    by : (b : Bool) → ((last : ℕ) → newest_from last (chain_behind shape t r (before + 1) (row_after shape t r commit.entries was) commits) ≡ cond (newest_behind t r (before + 1) commits == 0) last (newest_behind t r (before + 1) commits))
-        → newest_from last (cond b (record { version = before + 1; values = row_after shape t r commit.entries was } ∷ []) [] ++ chain_behind shape t r (before + 1) (row_after shape t r commit.entries was) commits)
-        ≡ cond (cond (newest_behind t r (before + 1) commits == 0) (cond b (before + 1) 0) (newest_behind t r (before + 1) commits) == 0) last (cond (newest_behind t r (before + 1) commits == 0) (cond b (before + 1) 0) (newest_behind t r (before + 1) commits))
+    by : (b : Bool) → ((last : ℕ) → newest_from last
+        (chain_behind shape t r (before + 1) (row_after shape t r commit.entries was) commits) ≡ cond
+        (newest_behind t r (before + 1) commits == 0) last (newest_behind t r (before + 1) commits))
+        → newest_from last (cond b (record { version = before + 1; values = row_after shape t r commit.entries was } ∷ []) []
+        ++ chain_behind shape t r (before + 1) (row_after shape t r commit.entries was) commits)
+        ≡ cond (cond (newest_behind t r (before + 1) commits == 0) (cond b (before + 1) 0) (newest_behind t r (before + 1) commits) == 0)
+        last (cond (newest_behind t r (before + 1) commits == 0) (cond b (before + 1) 0) (newest_behind t r (before + 1) commits))
     by true rest = rest (before + 1) ∙ grind (arith, nat_tests)
     by false rest = rest last ∙ grind (arith, nat_tests)
 
@@ -54,7 +66,9 @@ newest-le : (t r before : ℕ) (commits : List Commit) → newest_behind t r bef
 newest-le t r before [] = omega arith
 newest-le t r before (commit ∷ commits) = by (writes t r commit) (newest-le t r (before + 1) commits)
   where
-    by : (b : Bool) → newest_behind t r (before + 1) commits ≤ before + 1 + length commits → cond (newest_behind t r (before + 1) commits == 0) (cond b (before + 1) 0) (newest_behind t r (before + 1) commits) ≤ before + suc (length commits)
+    by : (b : Bool) → newest_behind t r (before + 1) commits ≤ before + 1 + length commits
+        → cond (newest_behind t r (before + 1) commits == 0) (cond b (before + 1) 0) (newest_behind t r (before + 1) commits) ≤ before + suc
+        (length commits)
     by true h = grind (arith, nat_tests)
     by false h = grind (arith, nat_tests)
 
@@ -66,8 +80,11 @@ chain-latest shape t r before was (commit ∷ commits) =
     by (writes t r commit) refl (chain-latest shape t r (before + 1) (row_after shape t r commit.entries was) commits)
   where
     by : (b : Bool) → writes t r commit ≡ b
-        → latest_from (row_after shape t r commit.entries was) (chain_behind shape t r (before + 1) (row_after shape t r commit.entries was) commits) ≡ row_after_commits shape t r commits (row_after shape t r commit.entries was)
-        → latest_from was (cond b (record { version = before + 1; values = row_after shape t r commit.entries was } ∷ []) [] ++ chain_behind shape t r (before + 1) (row_after shape t r commit.entries was) commits)
+        → latest_from (row_after shape t r commit.entries was)
+        (chain_behind shape t r (before + 1) (row_after shape t r commit.entries was) commits) ≡ row_after_commits shape t r commits
+        (row_after shape t r commit.entries was)
+        → latest_from was (cond b (record { version = before + 1; values = row_after shape t r commit.entries was } ∷ []) []
+        ++ chain_behind shape t r (before + 1) (row_after shape t r commit.entries was) commits)
         ≡ row_after_commits shape t r commits (row_after shape t r commit.entries was)
     by true e rest = rest
     by false e rest =
@@ -76,43 +93,56 @@ chain-latest shape t r before was (commit ∷ commits) =
         ∙ rest
 
 -- the versions of the links are later than the commits before the list
-chain-above : (shape : Shape) (t r before : ℕ) (was : Option (List Value)) (commits : List Commit) (i : ℕ) (d : Link) → i < length (chain_behind shape t r before was commits)
+chain-above : (shape : Shape) (t r before : ℕ) (was : Option (List Value)) (commits : List Commit) (i : ℕ) (d : Link)
+    → i < length (chain_behind shape t r before was commits)
     → before < (get_or (chain_behind shape t r before was commits) i d).version
 chain-above shape t r before was [] i d h = absurd (omega arith)
 chain-above shape t r before was (commit ∷ commits) i d h =
     by (writes t r commit) i (chain-above shape t r (before + 1) (row_after shape t r commit.entries was) commits) h
   where
     by : (b : Bool) (i : ℕ)
-        → ((i : ℕ) (d : Link) → i < length (chain_behind shape t r (before + 1) (row_after shape t r commit.entries was) commits) → before + 1 < (get_or (chain_behind shape t r (before + 1) (row_after shape t r commit.entries was) commits) i d).version)
-        → i < length (link_if b (before + 1) (row_after shape t r commit.entries was) ++ chain_behind shape t r (before + 1) (row_after shape t r commit.entries was) commits)
-        → before < (get_or (link_if b (before + 1) (row_after shape t r commit.entries was) ++ chain_behind shape t r (before + 1) (row_after shape t r commit.entries was) commits) i d).version
+        → ((i : ℕ) (d : Link) → i < length (chain_behind shape t r (before + 1) (row_after shape t r commit.entries was) commits)
+        → before + 1 < (get_or (chain_behind shape t r (before + 1) (row_after shape t r commit.entries was) commits) i d).version)
+        → i < length (link_if b (before + 1) (row_after shape t r commit.entries was)
+        ++ chain_behind shape t r (before + 1) (row_after shape t r commit.entries was) commits)
+        → before < (get_or (link_if b (before + 1) (row_after shape t r commit.entries was)
+        ++ chain_behind shape t r (before + 1) (row_after shape t r commit.entries was) commits) i d).version
     by true zero rest h = omega arith
     by true (suc i) rest h = omega (arith, rest i d (omega arith))
     by false i rest h = omega (arith, rest i d h)
 
 -- they do not fall
-chain-ascends : (shape : Shape) (t r before : ℕ) (was : Option (List Value)) (commits : List Commit) → IsNonDecreasingBy (λ (link : Link). link.version) (chain_behind shape t r before was commits)
+chain-ascends : (shape : Shape) (t r before : ℕ) (was : Option (List Value)) (commits : List Commit)
+    → IsNonDecreasingBy (λ (link : Link). link.version) (chain_behind shape t r before was commits)
 chain-ascends shape t r before was [] i j d h k = absurd (omega arith)
 chain-ascends shape t r before was (commit ∷ commits) i j d h k =
-    by (writes t r commit) i j (chain-above shape t r (before + 1) (row_after shape t r commit.entries was) commits) (chain-ascends shape t r (before + 1) (row_after shape t r commit.entries was) commits) h k
+    by (writes t r commit) i j (chain-above shape t r (before + 1) (row_after shape t r commit.entries was) commits)
+    (chain-ascends shape t r (before + 1) (row_after shape t r commit.entries was) commits) h k
   where
     by : (b : Bool) (i j : ℕ)
-        → ((i : ℕ) (d : Link) → i < length (chain_behind shape t r (before + 1) (row_after shape t r commit.entries was) commits) → before + 1 < (get_or (chain_behind shape t r (before + 1) (row_after shape t r commit.entries was) commits) i d).version)
-        → IsNonDecreasingBy (λ (link : Link). link.version) (chain_behind shape t r (before + 1) (row_after shape t r commit.entries was) commits)
-        → i ≤ j → j < length (link_if b (before + 1) (row_after shape t r commit.entries was) ++ chain_behind shape t r (before + 1) (row_after shape t r commit.entries was) commits)
-        → (get_or (link_if b (before + 1) (row_after shape t r commit.entries was) ++ chain_behind shape t r (before + 1) (row_after shape t r commit.entries was) commits) i d).version
-        ≤ (get_or (link_if b (before + 1) (row_after shape t r commit.entries was) ++ chain_behind shape t r (before + 1) (row_after shape t r commit.entries was) commits) j d).version
+        → ((i : ℕ) (d : Link) → i < length (chain_behind shape t r (before + 1) (row_after shape t r commit.entries was) commits)
+        → before + 1 < (get_or (chain_behind shape t r (before + 1) (row_after shape t r commit.entries was) commits) i d).version)
+        → IsNonDecreasingBy (λ (link : Link). link.version)
+        (chain_behind shape t r (before + 1) (row_after shape t r commit.entries was) commits)
+        → i ≤ j → j < length (link_if b (before + 1) (row_after shape t r commit.entries was)
+        ++ chain_behind shape t r (before + 1) (row_after shape t r commit.entries was) commits)
+        → (get_or (link_if b (before + 1) (row_after shape t r commit.entries was)
+        ++ chain_behind shape t r (before + 1) (row_after shape t r commit.entries was) commits) i d).version
+        ≤ (get_or (link_if b (before + 1) (row_after shape t r commit.entries was)
+        ++ chain_behind shape t r (before + 1) (row_after shape t r commit.entries was) commits) j d).version
     by true zero zero above rest h k = omega arith
     by true zero (suc j) above rest h k = omega (arith, above j d (omega arith))
     by true (suc i) zero above rest h k = absurd (omega arith)
     by true (suc i) (suc j) above rest h k = rest i j d (omega arith) (omega arith)
     by false i j above rest h k = rest i j d h k
 
-pub chain-sorted : (shape : Shape) (t r : ℕ) (commits : List Commit) → IsNonDecreasingBy (λ (link : Link). link.version) (chain_of shape t r commits)
+pub chain-sorted : (shape : Shape) (t r : ℕ) (commits : List Commit)
+    → IsNonDecreasingBy (λ (link : Link). link.version) (chain_of shape t r commits)
 chain-sorted shape t r commits = chain-ascends shape t r 0 None commits
 
 -- before the first commit of the list nothing was linked
-values-none : (version : ℕ) (links : List Link) (was : Option (List Value)) → ((i : ℕ) (d : Link) → i < length links → version < (get_or links i d).version) → values_from version was links ≡ was
+values-none : (version : ℕ) (links : List Link) (was : Option (List Value))
+    → ((i : ℕ) (d : Link) → i < length links → version < (get_or links i d).version) → values_from version was links ≡ was
 values-none version [] was above = refl
 values-none version (link ∷ links) was above =
     let later : nat_le link.version version ≡ false = lt-leb _ _ (above 0 link (omega arith)) in
@@ -120,29 +150,42 @@ values-none version (link ∷ links) was above =
 
 -- the values at a version are the row's after the commits up to it
 chain-values : (shape : Shape) (t r before version : ℕ) (was : Option (List Value)) (commits : List Commit)
-    → values_from (before + version) was (chain_behind shape t r before was commits) ≡ row_after_commits shape t r (take version commits) was
+    → values_from (before + version) was (chain_behind shape t r before was commits) ≡ row_after_commits shape t r
+    (take version commits) was
 chain-values shape t r before zero was commits =
-    values-none (before + 0) (chain_behind shape t r before was commits) was (λ i d h. omega (arith, chain-above shape t r before was commits i d h))
+    values-none (before + 0) (chain_behind shape t r before was commits) was
+    (λ i d h. omega (arith, chain-above shape t r before was commits i d h))
 chain-values shape t r before (suc version) was [] = refl
 chain-values shape t r before (suc version) was (commit ∷ commits) =
-    by (writes t r commit) refl (ap (λ n. values_from n (row_after shape t r commit.entries was) (chain_behind shape t r (before + 1) (row_after shape t r commit.entries was) commits)) same ∙ chain-values shape t r (before + 1) version (row_after shape t r commit.entries was) commits)
+    by (writes t r commit) refl (ap
+    (λ n. values_from n (row_after shape t r commit.entries was)
+    (chain_behind shape t r (before + 1) (row_after shape t r commit.entries was) commits)) same
+    ∙ chain-values shape t r (before + 1) version (row_after shape t r commit.entries was) commits)
   where
     same : before + suc version ≡ before + 1 + version
     same = omega arith
 
     by : (b : Bool) → writes t r commit ≡ b
-        → values_from (before + suc version) (row_after shape t r commit.entries was) (chain_behind shape t r (before + 1) (row_after shape t r commit.entries was) commits) ≡ row_after_commits shape t r (take version commits) (row_after shape t r commit.entries was)
-        → values_from (before + suc version) was (link_if b (before + 1) (row_after shape t r commit.entries was) ++ chain_behind shape t r (before + 1) (row_after shape t r commit.entries was) commits)
+        → values_from (before + suc version) (row_after shape t r commit.entries was)
+        (chain_behind shape t r (before + 1) (row_after shape t r commit.entries was) commits) ≡ row_after_commits shape t r
+        (take version commits) (row_after shape t r commit.entries was)
+        → values_from (before + suc version) was
+        (link_if b (before + 1) (row_after shape t r commit.entries was)
+        ++ chain_behind shape t r (before + 1) (row_after shape t r commit.entries was) commits)
         ≡ row_after_commits shape t r (take version commits) (row_after shape t r commit.entries was)
     by true e rest =
         let early : nat_le (before + 1) (before + suc version) ≡ true = le-leb _ _ (omega arith) in
-        ap (λ b. cond b (values_from (before + suc version) (row_after shape t r commit.entries was) (chain_behind shape t r (before + 1) (row_after shape t r commit.entries was) commits)) was) early ∙ rest
+        ap (λ b. cond b (values_from (before + suc version) (row_after shape t r commit.entries was)
+        (chain_behind shape t r (before + 1) (row_after shape t r commit.entries was) commits)) was) early ∙ rest
     by false e rest =
         let same_row = row_after-unnamed shape t r commit.entries was e in
-        ap (λ last. values_from (before + suc version) last (chain_behind shape t r (before + 1) (row_after shape t r commit.entries was) commits)) (sym same_row) ∙ rest
+        ap (λ last. values_from (before + suc version) last
+        (chain_behind shape t r (before + 1) (row_after shape t r commit.entries was) commits)) (sym same_row) ∙ rest
 
-pub chain-at : (shape : Shape) (t r version : ℕ) (commits : List Commit) → values_at version (chain_of shape t r commits) ≡ row_after_commits shape t r (take version commits) None
-chain-at shape t r version commits = ap (λ n. values_at n (chain_of shape t r commits)) (sym (zero-add version)) ∙ chain-values shape t r 0 version None commits
+pub chain-at : (shape : Shape) (t r version : ℕ) (commits : List Commit)
+    → values_at version (chain_of shape t r commits) ≡ row_after_commits shape t r (take version commits) None
+chain-at shape t r version commits =
+    ap (λ n. values_at n (chain_of shape t r commits)) (sym (zero-add version)) ∙ chain-values shape t r 0 version None commits
 
 pub chain-newest_of : (shape : Shape) (t r : ℕ) (commits : List Commit) → newest_in (chain_of shape t r commits) ≡ newest_of t r commits
 chain-newest_of shape t r commits = chain-newest shape t r 0 None commits 0 ∙ alike (newest_of t r commits)
@@ -153,32 +196,40 @@ chain-newest_of shape t r commits = chain-newest shape t r 0 None commits 0 ∙ 
 -- the chain of a row once one more commit has these entries
 and_entries-chain : (shape : Shape) (t r : ℕ) (commits : List Commit) (entries : List Entry)
     → chain_of shape t r (and_entries commits entries)
-    ≡ chain_of shape t r commits ++ link_if (list_any (is_of t r) entries) (length commits + 1) (row_after shape t r entries (row_after_commits shape t r commits None))
+    ≡ chain_of shape t r commits ++ link_if (list_any (is_of t r) entries) (length commits + 1)
+    (row_after shape t r entries (row_after_commits shape t r commits None))
 and_entries-chain shape t r commits entries =
     chain-push shape t r 0 None commits (record { worker = 0; entries = entries })
-    ∙ ap (λ n. chain_of shape t r commits ++ link_if (list_any (is_of t r) entries) (n + 1) (row_after shape t r entries (row_after_commits shape t r commits None))) (zero-add (length commits))
+    ∙ ap (λ n. chain_of shape t r commits
+    ++ link_if (list_any (is_of t r) entries) (n + 1) (row_after shape t r entries (row_after_commits shape t r commits None)))
+    (zero-add (length commits))
 
 -- which worker commits is nothing to the chains
-pub and_entries-commit : (shape : Shape) (t r : ℕ) (commits : List Commit) (commit : Commit) → chain_of shape t r (commits ++ commit ∷ []) ≡ chain_of shape t r (and_entries commits commit.entries)
+pub and_entries-commit : (shape : Shape) (t r : ℕ) (commits : List Commit) (commit : Commit)
+    → chain_of shape t r (commits ++ commit ∷ []) ≡ chain_of shape t r (and_entries commits commit.entries)
 and_entries-commit shape t r commits commit =
     chain-push shape t r 0 None commits commit ∙ sym (chain-push shape t r 0 None commits (record { worker = 0; entries = commit.entries }))
 
 -- a commit without entries links nothing, and neither do entries of other rows
-pub and_entries-other : (shape : Shape) (t r : ℕ) (commits : List Commit) (entries : List Entry) → list_any (is_of t r) entries ≡ false → chain_of shape t r (and_entries commits entries) ≡ chain_of shape t r commits
+pub and_entries-other : (shape : Shape) (t r : ℕ) (commits : List Commit) (entries : List Entry) → list_any (is_of t r) entries ≡ false
+    → chain_of shape t r (and_entries commits entries) ≡ chain_of shape t r commits
 and_entries-other shape t r commits entries h =
     and_entries-chain shape t r commits entries
-    ∙ ap (λ b. chain_of shape t r commits ++ link_if b (length commits + 1) (row_after shape t r entries (row_after_commits shape t r commits None))) h
+    ∙ ap (λ b. chain_of shape t r commits
+    ++ link_if b (length commits + 1) (row_after shape t r entries (row_after_commits shape t r commits None))) h
     ∙ append-nil (chain_of shape t r commits)
 
 -- the chain of a row is as it was once the link of the next commit is cut off, where there is one
-pub cut-chain : (shape : Shape) (t r : ℕ) (commits : List Commit) → cut_at (length commits + 1) (chain_of shape t r commits) ≡ chain_of shape t r commits
+pub cut-chain : (shape : Shape) (t r : ℕ) (commits : List Commit)
+    → cut_at (length commits + 1) (chain_of shape t r commits) ≡ chain_of shape t r commits
 cut-chain shape t r commits =
     let newest = chain-newest_of shape t r commits in
     let below = newest-le t r 0 commits in
     let other : (newest_in (chain_of shape t r commits) == length commits + 1) ≡ false = ne_eqb _ _ (λ e. omega arith) in
     ap (λ b. cond b (take (length (chain_of shape t r commits) - 1) (chain_of shape t r commits)) (chain_of shape t r commits)) other
 
-cut-push : (links : List Link) (number : ℕ) (values : Option (List Value)) → cut_at number (links ++ record { version = number; values = values } ∷ []) ≡ links
+cut-push : (links : List Link) (number : ℕ) (values : Option (List Value))
+    → cut_at number (links ++ record { version = number; values = values } ∷ []) ≡ links
 cut-push links number values =
     let link : Link = record { version = number; values = values } in
     let same : (newest_in (links ++ link ∷ []) == number) ≡ true = eq-eqb _ _ (newest-push links link 0) in
@@ -187,13 +238,17 @@ cut-push links number values =
     ∙ ap (λ n. take n (links ++ link ∷ [])) count
     ∙ take-append_seam links (link ∷ [])
 
-pub cut-and_entries : (shape : Shape) (t r : ℕ) (commits : List Commit) (entries : List Entry) → cut_at (length commits + 1) (chain_of shape t r (and_entries commits entries)) ≡ chain_of shape t r commits
+pub cut-and_entries : (shape : Shape) (t r : ℕ) (commits : List Commit) (entries : List Entry)
+    → cut_at (length commits + 1) (chain_of shape t r (and_entries commits entries)) ≡ chain_of shape t r commits
 cut-and_entries shape t r commits entries =
     ap (cut_at (length commits + 1)) (and_entries-chain shape t r commits entries)
     ∙ by (list_any (is_of t r) entries)
   where
-    by : (b : Bool) → cut_at (length commits + 1) (chain_of shape t r commits ++ link_if b (length commits + 1) (row_after shape t r entries (row_after_commits shape t r commits None))) ≡ chain_of shape t r commits
-    by true = cut-push (chain_of shape t r commits) (length commits + 1) (row_after shape t r entries (row_after_commits shape t r commits None))
+    by : (b : Bool) → cut_at (length commits + 1)
+        (chain_of shape t r commits ++ link_if b (length commits + 1)
+        (row_after shape t r entries (row_after_commits shape t r commits None))) ≡ chain_of shape t r commits
+    by true =
+        cut-push (chain_of shape t r commits) (length commits + 1) (row_after shape t r entries (row_after_commits shape t r commits None))
     by false = ap (cut_at (length commits + 1)) (append-nil (chain_of shape t r commits)) ∙ cut-chain shape t r commits
 
 any-push : {X : Type 0} (p : X → Bool) (xs : List X) (x : X) → list_any p (xs ++ x ∷ []) ≡ (list_any p xs || p x)
@@ -211,20 +266,32 @@ latest-and_entries shape t r commits entries =
     ∙ row_after_commits-push shape t r commits (record { worker = 0; entries = entries }) None
 
 -- what an entry of the row, or of another, makes of its link
-entry-linked : (shape : Shape) (t r : ℕ) (commits : List Commit) (entries : List Entry) (entry : Entry) (named here : Bool) → list_any (is_of t r) entries ≡ named
+entry-linked : (shape : Shape) (t r : ℕ) (commits : List Commit) (entries : List Entry) (entry : Entry) (named here : Bool)
+    → list_any (is_of t r) entries ≡ named
     → chain_of shape t r commits ++ link_if (named || here) (length commits + 1)
-    (cond here (row_after_one (kinds_of shape t) entry (row_after shape t r entries (row_after_commits shape t r commits None))) (row_after shape t r entries (row_after_commits shape t r commits None)))
-    ≡ cond here (linked (kinds_of shape t) (length commits + 1) entry (chain_of shape t r (and_entries commits entries))) (chain_of shape t r (and_entries commits entries))
+    (cond here (row_after_one (kinds_of shape t) entry (row_after shape t r entries (row_after_commits shape t r commits None)))
+    (row_after shape t r entries (row_after_commits shape t r commits None)))
+    ≡ cond here (linked (kinds_of shape t) (length commits + 1) entry (chain_of shape t r (and_entries commits entries)))
+    (chain_of shape t r (and_entries commits entries))
 entry-linked shape t r commits entries entry named true e =
-    ap (λ b. chain_of shape t r commits ++ link_if b (length commits + 1) (row_after_one (kinds_of shape t) entry (row_after shape t r entries (row_after_commits shape t r commits None)))) (surely named)
-    ∙ ap (λ values. chain_of shape t r commits ++ record { version = length commits + 1; values = row_after_one (kinds_of shape t) entry values } ∷ []) (sym (latest-and_entries shape t r commits entries))
-    ∙ ap (λ links. links ++ record { version = length commits + 1; values = row_after_one (kinds_of shape t) entry (latest_in (chain_of shape t r (and_entries commits entries))) } ∷ []) (sym (cut-and_entries shape t r commits entries))
+    ap (λ b. chain_of shape t r commits
+    ++ link_if b (length commits + 1)
+    (row_after_one (kinds_of shape t) entry (row_after shape t r entries (row_after_commits shape t r commits None)))) (surely named)
+    ∙ ap (λ values. chain_of shape t r commits
+    ++ record { version = length commits + 1; values = row_after_one (kinds_of shape t) entry values } ∷ [])
+    (sym (latest-and_entries shape t r commits entries))
+    ∙ ap (λ links. links ++ record {
+      version = length commits + 1;
+      values = row_after_one (kinds_of shape t) entry (latest_in (chain_of shape t r (and_entries commits entries)));
+    } ∷ [])
+    (sym (cut-and_entries shape t r commits entries))
   where
     surely : (b : Bool) → (b || true) ≡ true
     surely true = refl
     surely false = refl
 entry-linked shape t r commits entries entry named false e =
-    ap (λ b. chain_of shape t r commits ++ link_if b (length commits + 1) (row_after shape t r entries (row_after_commits shape t r commits None))) (alone named ∙ sym e)
+    ap (λ b. chain_of shape t r commits
+    ++ link_if b (length commits + 1) (row_after shape t r entries (row_after_commits shape t r commits None))) (alone named ∙ sym e)
     ∙ sym (and_entries-chain shape t r commits entries)
   where
     alone : (b : Bool) → (b || false) ≡ b
@@ -234,11 +301,14 @@ entry-linked shape t r commits entries entry named false e =
 -- one more entry of that commit
 pub and_entries-push : (shape : Shape) (t r : ℕ) (commits : List Commit) (entries : List Entry) (entry : Entry)
     → chain_of shape t r (and_entries commits (entries ++ entry ∷ []))
-    ≡ cond (is_of t r entry) (linked (kinds_of shape t) (length commits + 1) entry (chain_of shape t r (and_entries commits entries))) (chain_of shape t r (and_entries commits entries))
+    ≡ cond (is_of t r entry) (linked (kinds_of shape t) (length commits + 1) entry (chain_of shape t r (and_entries commits entries)))
+    (chain_of shape t r (and_entries commits entries))
 and_entries-push shape t r commits entries entry =
     let number = length commits + 1 in
     let was = row_after_commits shape t r commits None in
     and_entries-chain shape t r commits (entries ++ entry ∷ [])
-    ∙ ap (λ b. chain_of shape t r commits ++ link_if b number (row_after shape t r (entries ++ entry ∷ []) was)) (any-push (is_of t r) entries entry)
-    ∙ ap (λ values. chain_of shape t r commits ++ link_if (list_any (is_of t r) entries || is_of t r entry) number values) (row_after-push shape t r entries entry was)
+    ∙ ap (λ b. chain_of shape t r commits ++ link_if b number (row_after shape t r (entries ++ entry ∷ []) was))
+    (any-push (is_of t r) entries entry)
+    ∙ ap (λ values. chain_of shape t r commits ++ link_if (list_any (is_of t r) entries || is_of t r entry) number values)
+    (row_after-push shape t r entries entry was)
     ∙ entry-linked shape t r commits entries entry (list_any (is_of t r) entries) (is_of t r entry) refl

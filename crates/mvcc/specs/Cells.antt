@@ -29,7 +29,8 @@ patched_cell kinds offset bytes column value = put (column_at kinds offset (leng
 
 -- what an entry of a row with columns of these kinds makes of a column
 abbrev pub cell_after_one : List Kind → ℕ → Entry → Option (Option Value) → Option (Option Value)
-cell_after_one kinds column (Insert table row bytes) cell = if length bytes == row_width kinds then inserted_cell kinds bytes column cell else cell
+cell_after_one kinds column (Insert table row bytes) cell =
+    if length bytes == row_width kinds then inserted_cell kinds bytes column cell else cell
 cell_after_one kinds column (Patch table row offset bytes) cell = option_map (patched_cell kinds offset bytes column) cell
 cell_after_one kinds column (Delete table row) cell = None
 

@@ -1,5 +1,6 @@
 -- For each row the chain of the versions that wrote it, each with the row's values after it.
-use Rattle.std.specs.Prelude.{◌≡◌, ℕ, ◌+◌, ◌-◌, ◌≤◌, List, [], ◌∷◌, ◌++◌, length, take, true, false, Option, None, Some, ◌==◌, nat_le, if◌then◌else◌, slice_get, slice_set, is_ok}
+use Rattle.std.specs.Prelude.{◌≡◌, ℕ, ◌+◌, ◌-◌, ◌≤◌, List, [], ◌∷◌, ◌++◌, length, take, true, false, Option, None, Some, ◌==◌, nat_le}
+use Rattle.std.specs.Prelude.{if◌then◌else◌, slice_get, slice_set, is_ok}
 use Rattle.std.specs.Map.{lookup, set_value}
 use Rattle.std.specs.Ordering.{nat_cmp}
 use Rattle.std.specs.BTreeMap.{is_at, insert_entry}
@@ -62,7 +63,8 @@ cut_at number links = if newest_in links == number then take (length links - 1) 
 
 -- the chain with what an entry of the commit of this number makes of the last values
 abbrev pub linked : List Kind → ℕ → Entry → List Link → List Link
-linked kinds number entry links = cut_at number links ++ record { version = number; values = row_after_one kinds entry (latest_in links) } ∷ []
+linked kinds number entry links =
+    cut_at number links ++ record { version = number; values = row_after_one kinds entry (latest_in links) } ∷ []
 
 -- the chains of a table's rows, by row
 abbrev pub Chains : Type 0

@@ -17,4 +17,5 @@ defined_at versions version entries = is_ok (changes_of versions.shape (tables_a
 
 -- whether the row of an entry is there at that version
 abbrev pub is_row_there : History → ℕ → Entry → Bool
-is_row_there versions version entry = is_present (rows_of (tables_after versions.shape versions.commits version) (table_of entry)) (row_of entry)
+is_row_there versions version entry =
+    is_present (rows_of (tables_after versions.shape versions.commits version) (table_of entry)) (row_of entry)

@@ -61,4 +61,5 @@ kept_places entries entry places = filter (λ place. not (is_superseded entries 
 -- an index of these entries: the entries at a row's places make of the row what all make of it
 pub record IsIndexOf (entries : List Entry) (index : Index) : Type 0 where
   pub within : (table row : ℕ) → AllByRecursion (λ place. place < length entries) (places_at index table row)
-  pub told : (table row : ℕ) (shape : Shape) (was : Option (List Value)) → row_after_fit shape table row (picked entries (places_at index table row)) was ≡ row_after_fit shape table row entries was
+  pub told : (table row : ℕ) (shape : Shape) (was : Option (List Value))
+      → row_after_fit shape table row (picked entries (places_at index table row)) was ≡ row_after_fit shape table row entries was

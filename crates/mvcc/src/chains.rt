@@ -6,7 +6,8 @@ ghost use Rattle.std.specs.List.Sorted.{IsNonDecreasingBy};
 ghost use Rattle.std.specs.Option.{option_map};
 ghost use Rattle.rows.specs.Shape.{shape_of};
 ghost use Rattle.rows.specs.Entries.{fitting};
-ghost use Rattle.mvcc.specs.Chains.{newest_in, values_at, links_at, tables_linked, tables_cut, tables_cut_all, and_entries, AreChains, AreChainsCut};
+ghost use Rattle.mvcc.specs.Chains.{newest_in, values_at, links_at, tables_linked, tables_cut, tables_cut_all, and_entries, AreChains};
+ghost use Rattle.mvcc.specs.Chains.{AreChainsCut};
 
 use crate::chain_map::ChainMap;
 use rows::{Commit, Entry, Row, RowId, Schema};

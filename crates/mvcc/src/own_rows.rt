@@ -70,7 +70,8 @@ impl OwnRows {
     /// Gives a row these places in place of those that it had. Fails for want of memory alone,
     /// and then nothing has changed.
     pub fn put(&mut self, table: u8, row: RowId, places: Places) -> Result<(), AllocError>
-        ensures ok { OnOk result ((t r : ℕ) → places_at self.new t r ≡ (if (table == t) && (row.0 == r) then places else places_at self.old t r)) }
+        ensures ok { OnOk result ((t r : ℕ)
+            → places_at self.new t r ≡ (if (table == t) && (row.0 == r) then places else places_at self.old t r)) }
         ensures err { OnErr result (self.new ≡ self.old) }
     {
         self.rows.insert((table, row.0), places)?;

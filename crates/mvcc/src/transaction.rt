@@ -1,6 +1,7 @@
 //! Transactions before their commit.
 
-ghost use Rattle.std.specs.Prelude.{◌≡◌, ◌<◌, ◌≤◌, [], ◌∷◌, ◌++◌, length, IfErr, Ok, Err, Some, None, OnOk, OnErr, ◌⊎◌, IsOk, is_some, if◌then◌else◌};
+ghost use Rattle.std.specs.Prelude.{◌≡◌, ◌<◌, ◌≤◌, [], ◌∷◌, ◌++◌, length, IfErr, Ok, Err, Some, None, OnOk, OnErr, ◌⊎◌, IsOk, is_some};
+ghost use Rattle.std.specs.Prelude.{if◌then◌else◌};
 ghost use Rattle.rows.specs.declared.entry.Entry.TheVariants.{Insert, Patch, Delete};
 ghost use Rattle.rows.specs.Shape.{shape_of};
 ghost use Rattle.rows.specs.Values.{bytes_of, value_bytes};
@@ -8,7 +9,8 @@ ghost use Rattle.rows.specs.Tables.{rows_of, row_at};
 ghost use Rattle.rows.specs.Commits.{tables_after};
 ghost use Rattle.mvcc.specs.Draft.{Draft};
 ghost use Rattle.mvcc.specs.Cells.{cell_of};
-ghost use Rattle.mvcc.specs.Transactions.{insert_answer, set_answer, delete_answer, get_answer, match_column, column_kind, column_offset, seen_by, sees};
+ghost use Rattle.mvcc.specs.Transactions.{insert_answer, set_answer, delete_answer, get_answer, match_column, column_kind, column_offset};
+ghost use Rattle.mvcc.specs.Transactions.{seen_by, sees};
 
 use crate::cells::cell_after;
 use crate::faults::TxFault;
@@ -247,7 +249,8 @@ impl Transaction {
     /// Adds an insert at the end. Fails for want of memory alone, and then nothing has changed.
     fn add_insert(&mut self, table: u8, row: RowId, values: &[Value]) -> Result<(), AllocError>
         requires { length self.old.entries < TRANSACTION_ENTRIES_MAX }
-        ensures ok { OnOk result (self.new ≡ record self.old { entries = self.old.entries ++ Insert table row (bytes_of values.now) ∷ [] }) }
+        ensures ok { OnOk result
+            (self.new ≡ record self.old { entries = self.old.entries ++ Insert table row (bytes_of values.now) ∷ [] }) }
         ensures err { OnErr result (self.new ≡ self.old) }
     {
         let bytes = row_bytes(self.alloc, values)?;
@@ -263,7 +266,8 @@ impl Transaction {
         value: Value,
     ) -> Result<(), AllocError>
         requires { length self.old.entries < TRANSACTION_ENTRIES_MAX }
-        ensures ok { OnOk result (self.new ≡ record self.old { entries = self.old.entries ++ Patch table row offset (value_bytes value) ∷ [] }) }
+        ensures ok { OnOk result
+            (self.new ≡ record self.old { entries = self.old.entries ++ Patch table row offset (value_bytes value) ∷ [] }) }
         ensures err { OnErr result (self.new ≡ self.old) }
     {
         let bytes = row_bytes(self.alloc, &[value])?;

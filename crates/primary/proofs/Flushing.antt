@@ -10,8 +10,10 @@ use Rattle.primary.specs.Primary.{primary_of, flushed}
 use Rattle.primary.proofs.Text.{records_from_append}
 
 -- the text with the records of the commits that are moved
-pub moved_text : (workers : ℕ) (shape : Shape) (commits lent : List Commit) (durable moved : ℕ) (journal after : List ℕ) → lent ≡ commits → durable ≤ length commits
-    → journal ≡ journal_text workers shape (take durable commits) → after ≡ journal ++ records_from durable (take (durable + moved - durable) (drop durable lent))
+pub moved_text : (workers : ℕ) (shape : Shape) (commits lent : List Commit) (durable moved : ℕ) (journal after : List ℕ) → lent ≡ commits
+    → durable ≤ length commits
+    → journal ≡ journal_text workers shape (take durable commits)
+    → after ≡ journal ++ records_from durable (take (durable + moved - durable) (drop durable lent))
     → after ≡ journal_text workers shape (take (durable + moved) commits)
 moved_text workers shape commits lent durable moved journal after same within text appended =
     let first = take durable commits in
@@ -28,13 +30,18 @@ moved_text workers shape commits lent durable moved journal after same within te
     ∙ ap (journal_text workers shape) (sym (take-add durable moved commits))
 
 -- how many are moved
-moved_many : (commits : List Commit) (durable count moved : ℕ) → moved ≡ min count (length (drop durable commits)) → (take moved (drop durable commits) ≡ take count (drop durable commits)) × (drop (durable + moved) commits ≡ drop count (drop durable commits))
+moved_many : (commits : List Commit) (durable count moved : ℕ) → moved ≡ min count (length (drop durable commits))
+    → (take moved (drop durable commits) ≡ take count (drop durable commits))
+    × (drop (durable + moved) commits ≡ drop count (drop durable commits))
 moved_many commits durable count moved h =
-    let pending = drop durable commits in
-    (ap (λ n. take n pending) h ∙ take_min count pending, sym (drop-drop moved durable commits) ∙ ap (λ n. drop n pending) h ∙ drop_min count pending)
+    let pending = drop durable commits in (
+      ap (λ n. take n pending) h ∙ take_min count pending,
+      sym (drop-drop moved durable commits) ∙ ap (λ n. drop n pending) h ∙ drop_min count pending,
+    )
 
 -- the primary after the move
-pub flushed_is : (versions : History) (durable count moved workers : ℕ) (failed : Bool) → moved ≡ min count (length (drop durable versions.commits))
+pub flushed_is : (versions : History) (durable count moved workers : ℕ) (failed : Bool)
+    → moved ≡ min count (length (drop durable versions.commits))
     → primary_of versions (durable + moved) workers failed ≡ flushed (primary_of versions durable workers failed) count
 flushed_is versions durable count moved workers failed h =
     let parts = moved_many versions.commits durable count moved h in

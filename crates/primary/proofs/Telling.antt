@@ -1,5 +1,6 @@
 -- Which rows are there after entries, one entry on.
-use Rattle.std.proofs.Common.{◌≡◌, ℕ, ◌+◌, ◌<◌, Bool, true, false, cond, ◌&&◌, ◌==◌, List, [], ◌∷◌, length, take, get_or, Some, refl, sym, ap, ◌∙◌, arith}
+use Rattle.std.proofs.Common.{◌≡◌, ℕ, ◌+◌, ◌<◌, Bool, true, false, cond, ◌&&◌, ◌==◌, List, [], ◌∷◌, length, take, get_or, Some, refl, sym}
+use Rattle.std.proofs.Common.{ap, ◌∙◌, arith}
 use Rattle.std.specs.Map.{lookup}
 use Rattle.std.specs.Option.{unwrap_or}
 use Rattle.std.specs.BTreeMap.{is_at}
@@ -35,7 +36,8 @@ told-get told table row = lookup-alike (is_at (key_cmp (table, row))) (is_key_of
 
 -- what is told of a row, and of any other, once one row's was put into the map
 pub told-put : (told after : Told) (table row : ℕ) (there : Bool)
-    → ((key : ℕ × ℕ) → lookup (is_at (key_cmp key)) after ≡ cond (is_at (key_cmp (table, row)) key) (Some there) (lookup (is_at (key_cmp key)) told))
+    → ((key : ℕ × ℕ) → lookup (is_at (key_cmp key)) after ≡ cond (is_at (key_cmp (table, row)) key) (Some there)
+    (lookup (is_at (key_cmp key)) told))
     → (t r : ℕ) → told_of after t r ≡ cond ((table == t) && (row == r)) (Some there) (told_of told t r)
 told-put told after table row there h t r =
     sym (told-get after t r)
@@ -48,28 +50,42 @@ pub told-none : (versions : History) (version : ℕ) → IsToldAfter versions ve
 told-none versions version = record { each = λ t r. refl }
 
 -- one entry more
-pub told-more : (versions : History) (version : ℕ) (entries : List Entry) (i : ℕ) (entry : Entry) (there : Bool) (before after : Told) → i < length entries → entry ≡ get_or entries i entry
-    → IsToldAfter versions version (take i entries) before → there ≡ there_in before (table_of entry) (row_of entry) (is_row_there versions version entry)
-    → ((t r : ℕ) → told_of after t r ≡ cond ((table_of entry == t) && (row_of entry == r)) (Some (left_by entry there)) (told_of before t r))
+pub told-more : (versions : History) (version : ℕ) (entries : List Entry) (i : ℕ) (entry : Entry) (there : Bool) (before after : Told)
+    → i < length entries → entry ≡ get_or entries i entry
+    → IsToldAfter versions version (take i entries) before
+    → there ≡ there_in before (table_of entry) (row_of entry) (is_row_there versions version entry)
+    → ((t r : ℕ) → told_of after t r ≡ cond ((table_of entry == t) && (row_of entry == r)) (Some (left_by entry there))
+    (told_of before t r))
     → IsToldAfter versions version (take (i + 1) entries) after
 told-more versions version entries i entry there before after h e told was_there put = record { each = each }
   where
-    found : (here : Bool) (t r : ℕ) → ((table_of entry == t) && (row_of entry == r)) ≡ here → there_in after t r (is_there_at versions version t r) ≡ cond here (left_by entry there) (there_in before t r (is_there_at versions version t r))
-    found true t r e = ap (λ f. unwrap_or f (is_there_at versions version t r)) (put t r ∙ ap (λ b. cond b (Some (left_by entry there)) (told_of before t r)) e)
-    found false t r e = ap (λ f. unwrap_or f (is_there_at versions version t r)) (put t r ∙ ap (λ b. cond b (Some (left_by entry there)) (told_of before t r)) e)
+    found : (here : Bool) (t r : ℕ) → ((table_of entry == t) && (row_of entry == r)) ≡ here
+        → there_in after t r (is_there_at versions version t r) ≡ cond here (left_by entry there)
+        (there_in before t r (is_there_at versions version t r))
+    found true t r e =
+        ap (λ f. unwrap_or f (is_there_at versions version t r))
+        (put t r ∙ ap (λ b. cond b (Some (left_by entry there)) (told_of before t r)) e)
+    found false t r e =
+        ap (λ f. unwrap_or f (is_there_at versions version t r))
+        (put t r ∙ ap (λ b. cond b (Some (left_by entry there)) (told_of before t r)) e)
 
     left : (here : Bool) (t r : ℕ) → ((table_of entry == t) && (row_of entry == r)) ≡ here
-        → cond here (left_by entry there) (there_in before t r (is_there_at versions version t r)) ≡ cond here (left_by entry (there_in before t r (is_there_at versions version t r))) (there_in before t r (is_there_at versions version t r))
+        → cond here (left_by entry there) (there_in before t r (is_there_at versions version t r)) ≡ cond here
+        (left_by entry (there_in before t r (is_there_at versions version t r)))
+        (there_in before t r (is_there_at versions version t r))
     left false t r e = refl
     left true t r e =
         let parts = and_parts (table_of entry == t) (row_of entry == r) e in
         let table : table_of entry ≡ t = eqb-true (table_of entry) t parts.0 in
         let row : row_of entry ≡ r = eqb-true (row_of entry) r parts.1 in
-        let same : there_in before (table_of entry) (row_of entry) (is_there_at versions version (table_of entry) (row_of entry)) ≡ there_in before t r (is_there_at versions version t r) =
-        ap (λ t. there_in before t (row_of entry) (is_there_at versions version t (row_of entry))) table ∙ ap (λ r. there_in before t r (is_there_at versions version t r)) row in
+        let same : there_in before (table_of entry) (row_of entry)
+        (is_there_at versions version (table_of entry) (row_of entry)) ≡ there_in before t r (is_there_at versions version t r) =
+        ap (λ t. there_in before t (row_of entry) (is_there_at versions version t (row_of entry))) table
+        ∙ ap (λ r. there_in before t r (is_there_at versions version t r)) row in
         ap (left_by entry) (was_there ∙ same)
 
-    each : (t r : ℕ) → there_in after t r (is_there_at versions version t r) ≡ is_there_after t r (take (i + 1) entries) (is_there_at versions version t r)
+    each : (t r : ℕ) → there_in after t r (is_there_at versions version t r) ≡ is_there_after t r (take (i + 1) entries)
+        (is_there_at versions version t r)
     each t r =
         found ((table_of entry == t) && (row_of entry == r)) t r refl
         ∙ left ((table_of entry == t) && (row_of entry == r)) t r refl

@@ -1,5 +1,6 @@
 -- The journal's text, table by table and commit by commit.
-use Rattle.std.proofs.Common.{◌≡◌, ◌+◌, ◌<◌, ◌≤◌, ℕ, suc, zero, List, [], ◌∷◌, ◌++◌, length, take, get_or, slice_get, None, Some, sym, ap, ◌∙◌, arith}
+use Rattle.std.proofs.Common.{◌≡◌, ◌+◌, ◌<◌, ◌≤◌, ℕ, suc, zero, List, [], ◌∷◌, ◌++◌, length, take, get_or, slice_get, None, Some, sym, ap}
+use Rattle.std.proofs.Common.{◌∙◌, arith}
 use Rattle.std.specs.List.{flat_map}
 use Rattle.std.proofs.lemmas.List.{take_all, flat_map_more, length-map, append_assoc, append-nil, take_more, length-take-le}
 use Rattle.std.proofs.lemmas.Option.{slice_get_within, get_or_from_slice_get}
@@ -16,15 +17,18 @@ abbrev pub header_so_far : ℕ → Shape → ℕ → List ℕ
 header_so_far workers shape n = (0x42 ∷ 0x44 ∷ 0x4a ∷ 0x31 ∷ workers ∷ length shape ∷ []) ++ flat_map table_header (take n shape)
 
 -- records behind others
-pub records_from_append : (before : ℕ) (xs ys : List Commit) → records_from before (xs ++ ys) ≡ records_from before xs ++ records_from (before + length xs) ys
+pub records_from_append : (before : ℕ) (xs ys : List Commit)
+    → records_from before (xs ++ ys) ≡ records_from before xs ++ records_from (before + length xs) ys
 records_from_append before [] ys = ap (λ n. records_from n ys) (omega arith)
 records_from_append before (x ∷ xs) ys =
     let same : before + 1 + length xs ≡ before + suc (length xs) = omega arith in
-    ap (λ rest. record_of (before + 1) x ++ rest) (records_from_append (before + 1) xs ys ∙ ap (λ n. records_from (before + 1) xs ++ records_from n ys) same)
+    ap (λ rest. record_of (before + 1) x ++ rest)
+    (records_from_append (before + 1) xs ys ∙ ap (λ n. records_from (before + 1) xs ++ records_from n ys) same)
     ∙ sym (append_assoc (record_of (before + 1) x) (records_from (before + 1) xs) (records_from (before + suc (length xs)) ys))
 
 -- the record of one commit more
-pub records_from_more : (before : ℕ) (commits : List Commit) (i : ℕ) (commit : Commit) → i < length commits → commit ≡ get_or commits i commit
+pub records_from_more : (before : ℕ) (commits : List Commit) (i : ℕ) (commit : Commit) → i < length commits
+    → commit ≡ get_or commits i commit
     → records_from before (take (i + 1) commits) ≡ records_from before (take i commits) ++ record_of (before + i + 1) commit
 records_from_more before commits i commit h e =
     let same : before + length (take i commits) ≡ before + i = omega (arith, length-take-le i commits (omega arith)) in
@@ -42,7 +46,8 @@ record_of_parts front len number commit counted e =
     ap (λ front. front ++ flat_map entry_spelling commit.entries) e ∙ ap (λ n. big_bytes 4 n ++ record_body number commit) same
 
 -- and they have been written one behind the other
-pub record_written : (old front fronted written : List ℕ) (len number : ℕ) (commit : Commit) (entries : List Entry) (i : ℕ) → entries ≡ commit.entries
+pub record_written : (old front fronted written : List ℕ) (len number : ℕ) (commit : Commit) (entries : List Entry) (i : ℕ)
+    → entries ≡ commit.entries
     → len ≡ 11 + length (flat_map entry_spelling entries)
     → front ≡ big_bytes 4 len ++ (commit.worker ∷ []) ++ big_bytes 8 number ++ big_bytes 2 (length entries)
     → fronted ≡ old ++ front → written ≡ fronted ++ flat_map entry_spelling (take i entries) → length entries ≤ i
@@ -69,7 +74,9 @@ header_more workers shape table kinds h =
     let within = slice_get_within shape table kinds h in
     let front = 0x42 ∷ 0x44 ∷ 0x4a ∷ 0x31 ∷ workers ∷ length shape ∷ [] in
     flat_map_more table_header front (take table shape) kinds
-    ∙ ap (λ tables. front ++ flat_map table_header tables) (ap (λ k. take table shape ++ k ∷ []) (sym (get_or_from_slice_get shape table kinds kinds h)) ∙ sym (take_more shape table kinds within))
+    ∙ ap (λ tables. front ++ flat_map table_header tables)
+    (ap (λ k. take table shape ++ k ∷ []) (sym (get_or_from_slice_get shape table kinds kinds h))
+    ∙ sym (take_more shape table kinds within))
 
 -- there is no place without kinds before the end
 pub no_gap : (schema : List (List ℕ × List Kind)) (table : ℕ) → table < length schema → None ≡ slice_get (shape_of schema) table → ⊥

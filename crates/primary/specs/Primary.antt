@@ -1,5 +1,6 @@
 -- One step of a primary: what a commit and a flush answer, and what they leave.
-use Rattle.std.specs.Prelude.{ℕ, ◌+◌, ◌^◌, List, [], ◌∷◌, ◌++◌, length, take, drop, Bool, false, Result, Ok, Err, ◌||◌, not, nat_lt, ◌==◌, if◌then◌else◌, is_ok}
+use Rattle.std.specs.Prelude.{ℕ, ◌+◌, ◌^◌, List, [], ◌∷◌, ◌++◌, length, take, drop, Bool, false, Result, Ok, Err, ◌||◌, not, nat_lt, ◌==◌}
+use Rattle.std.specs.Prelude.{if◌then◌else◌, is_ok}
 use Rattle.rows.specs.declared.entry.Entry.{Entry}
 use Rattle.rows.specs.Shape.{Shape}
 use Rattle.rows.specs.Tables.{changes_of}

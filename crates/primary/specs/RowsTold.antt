@@ -30,4 +30,5 @@ is_there_at versions version table row = is_present (rows_of (tables_after versi
 
 -- each row is told as the entries leave it, on the rows at that version
 pub record IsToldAfter (versions : History) (version : ℕ) (entries : List Entry) (told : Told) : Type 0 where
-  pub each : (table row : ℕ) → there_in told table row (is_there_at versions version table row) ≡ is_there_after table row entries (is_there_at versions version table row)
+  pub each : (table row : ℕ) → there_in told table row (is_there_at versions version table row) ≡ is_there_after table row entries
+      (is_there_at versions version table row)

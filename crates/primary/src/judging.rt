@@ -1,8 +1,9 @@
 //! Whether a transaction may be committed.
 
-ghost use Rattle.std.specs.Prelude.{◌≡◌, ◌<◌, ◌≤◌, ◌∷◌, [], ◌++◌, ◌&&◌, length, true, is_ok, OnOk};
+ghost use Rattle.std.specs.Prelude.{◌≡◌, ◌<◌, ◌≤◌, ◌∷◌, [], ◌++◌, ◌&&◌, length, true, is_ok, nat_lt, IfNone, OnOk, if◌then◌else◌};
 ghost use Rattle.std.specs.Bool.{OnTrue};
 ghost use Rattle.std.specs.List.{AllByRecursion};
+ghost use Rattle.rows.specs.Commits.{last_touching};
 ghost use Rattle.rows.specs.Entries.{table_of, row_of, fitting};
 ghost use Rattle.rows.specs.Presence.{stands_for, is_there_after};
 ghost use Rattle.rows.specs.Spelling.{HasSpelling};
@@ -48,14 +49,25 @@ pub fn judge(
     {
         return Err(CommitFault::Foreign);
     }
-    let last = versions.last_touching(transaction.entries());
-    if last > transaction.snapshot() {
-        return Err(CommitFault::Conflict(last));
+    if let Some(number) = conflict(versions, transaction.snapshot(), transaction.entries()) {
+        return Err(CommitFault::Conflict(number));
     }
     versions
         .len()
         .checked_add(1)
         .ok_or(CommitFault::NumbersUsedUp)
+}
+
+/// The last commit, durable or pending, that writes a row of the entries, where it stands behind
+/// that snapshot.
+fn conflict(versions: &Versions, snapshot: u64, entries: &[Entry]) -> Option<u64>
+    ensures last { result ≡ (if nat_lt snapshot (last_touching entries.now 0 versions.now.commits)
+        then Some (last_touching entries.now 0 versions.now.commits) else None) }
+    ensures stay_defined { IfNone result (defined_at versions.now snapshot entries.now ≡ true
+        → defined_at versions.now (length versions.now.commits) entries.now ≡ true) }
+{
+    let last = versions.last_touching(entries);
+    if last > snapshot { Some(last) } else { None }
 }
 
 /// Whether each of the entries is defined in its place on the rows at that version. A look-up or

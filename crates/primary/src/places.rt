@@ -43,7 +43,8 @@ impl Places {
     /// stream has that place.
     pub fn number_at(&self, worker: u8, seq: u64) -> Option<u64>
         requires { worker < length self.now }
-        ensures { (commits : List Commit) → ArePlaces self.now commits → result ≡ option_map (λ frame. frame.commit) (slice_get (stream_of commits worker) seq) }
+        ensures { (commits : List Commit) → ArePlaces self.now commits
+            → result ≡ option_map (λ frame. frame.commit) (slice_get (stream_of commits worker) seq) }
     {
         let numbers = self.workers[worker as usize].as_slice();
         numbers.get(seq as usize).copied()

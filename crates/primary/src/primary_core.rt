@@ -1,6 +1,7 @@
 //! The primary's core: bytes and values in, bytes and values out.
 
-ghost use Rattle.std.specs.Prelude.{◌≡◌, ◌<◌, ◌≤◌, length, true, false, Ok, Err, IfOk, IfErr, IsOk, OnOk, OnErr, ◌⊎◌, ◌∷◌, [], ◌++◌, ◌+◌, ◌^◌};
+ghost use Rattle.std.specs.Prelude.{◌≡◌, ◌<◌, ◌≤◌, length, true, false, Ok, Err, IfOk, IfErr, IsOk, OnOk, OnErr, ◌⊎◌, ◌∷◌, [], ◌++◌, ◌+◌};
+ghost use Rattle.std.specs.Prelude.{◌^◌};
 ghost use Rattle.std.specs.List.{AllByRecursion};
 ghost use Rattle.rows.specs.Shape.{shape_of};
 ghost use Rattle.mvcc.specs.History.{defined_at};
@@ -144,7 +145,8 @@ impl PrimaryCore {
     ///
     /// Fails with `Failed`, or with `Memory`; the primary is then as it was.
     pub fn flush(&mut self, count: usize) -> Result<u64, FlushFault>
-        ensures ok { IfOk result (λ durable. (self.old.failed ≡ false) × (self.new ≡ flushed self.old count) × (durable ≡ length self.new.durable)) }
+        ensures ok { IfOk result (λ durable. (self.old.failed ≡ false) × (self.new ≡ flushed self.old count)
+            × (durable ≡ length self.new.durable)) }
         ensures refused { IfErr result (λ fault. (self.new ≡ self.old)
             × (((fault ≡ FlushFault.Failed) × (self.old.failed ≡ true)) ⊎ ((fault ≡ FlushFault.Memory) × (self.old.failed ≡ false)))) }
     {
@@ -231,7 +233,8 @@ fn keep(
     requires placed { ArePlaces places.old versions.old.commits }
     ensures workers { length places.new ≡ length places.old }
     ensures placed { ArePlaces places.new versions.new.commits }
-    ensures ok { OnOk result (versions.new ≡ record versions.old { commits = versions.old.commits ++ record { worker = worker; entries = entries.now } ∷ [] }) }
+    ensures ok { OnOk result
+        (versions.new ≡ record versions.old { commits = versions.old.commits ++ record { worker = worker; entries = entries.now } ∷ [] }) }
     ensures err { OnErr result (versions.new ≡ versions.old) }
 {
     let commit = Commit {

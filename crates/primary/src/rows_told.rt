@@ -42,7 +42,8 @@ impl RowsTold {
 
     /// Tells whether the row is there. Fails for want of memory alone.
     pub fn tell(&mut self, table: u8, row: RowId, there: bool) -> Result<(), AllocError>
-        ensures { OnOk result ((t r : ℕ) → told_of self.new t r ≡ (if (table == t) && (row.0 == r) then Some there else told_of self.old t r)) }
+        ensures { OnOk result ((t r : ℕ)
+            → told_of self.new t r ≡ (if (table == t) && (row.0 == r) then Some there else told_of self.old t r)) }
     {
         self.rows.insert((table, row.0), there)?;
         Ok(())

@@ -6,7 +6,8 @@ use Rattle.rows.specs.declared.kind.Kind.{Kind}
 use Rattle.rows.specs.Shape.{width_of, is_good, column_from, column_at}
 
 -- a column that was found is good, and has the size that was asked for
-column_from-found : (before : ℕ) (kinds : List Kind) (offset size column : ℕ) (kind : Kind) → column_from before kinds offset size ≡ Some (column, kind)
+column_from-found : (before : ℕ) (kinds : List Kind) (offset size column : ℕ) (kind : Kind)
+    → column_from before kinds offset size ≡ Some (column, kind)
     → list_all is_good kinds ≡ true → (is_good kind ≡ true) × (size ≡ width_of kind)
 column_from-found before [] offset size column kind h good = cc
 column_from-found before (first ∷ kinds) offset size column kind h good =

@@ -1,5 +1,6 @@
 -- Which rows are there after entries and commits: each entry turns whether its row is there, and no other.
-use Rattle.std.proofs.Common.{◌≡◌, ◌≢◌, ℕ, suc, zero, ◌+◌, ◌<◌, Bool, true, false, cond, ◌&&◌, ◌==◌, List, [], ◌∷◌, ◌++◌, length, get_or, take, Option, None, Some, Result, Ok, Err, slice_get, refl, sym, ap, subst, ◌∙◌, inl, inr, arith}
+use Rattle.std.proofs.Common.{◌≡◌, ◌≢◌, ℕ, suc, zero, ◌+◌, ◌<◌, Bool, true, false, cond, ◌&&◌, ◌==◌, List, [], ◌∷◌, ◌++◌, length, get_or}
+use Rattle.std.proofs.Common.{take, Option, None, Some, Result, Ok, Err, slice_get, refl, sym, ap, subst, ◌∙◌, inl, inr, arith}
 use Rattle.std.specs.List.{list_any, slice_set}
 use Rattle.std.specs.Result.{is_ok, result_unwrap_or}
 use Rattle.std.proofs.lemmas.Bool.{false≢true, and_parts, or_parts, eqb-true, eq-eqb, ne_eqb, cases_eq}
@@ -11,18 +12,21 @@ use Rattle.rows.specs.declared.kind.Kind.{Kind}
 use Rattle.rows.specs.Shape.{Shape}
 use Rattle.rows.specs.Entries.{table_of, row_of, fitting, sized, placed, listed}
 use Rattle.rows.specs.Values.{values_of}
-use Rattle.rows.specs.Tables.{Table, Tables, Refusal, Exists, Missing, opening, rows_of, kinds_of, is_present, inserted, patched, deleted, change_where, change_of, changes_of, applied, and_then}
+use Rattle.rows.specs.Tables.{Table, Tables, Refusal, Exists, Missing, opening, rows_of, kinds_of, is_present, inserted, patched, deleted}
+use Rattle.rows.specs.Tables.{change_where, change_of, changes_of, applied, and_then}
 use Rattle.rows.specs.Commits.{commits_of, is_of}
 use Rattle.rows.specs.Presence.{stands_for, left_by, is_there_after_one, is_there_after, is_there_after_commits, is_there_after_fit}
 use Rattle.rows.proofs.Rows.{is_present-with_row, is_present-with_patch, is_present-without_row}
 
 -- the rows of a table that was replaced, and of any other
-pub rows_of-set_same : (tables : Tables) (table : ℕ) (rows : Table) → table < length tables → rows_of (slice_set tables table rows) table ≡ rows
+pub rows_of-set_same : (tables : Tables) (table : ℕ) (rows : Table) → table < length tables
+    → rows_of (slice_set tables table rows) table ≡ rows
 rows_of-set_same [] table rows h = absurd (omega arith)
 rows_of-set_same (first ∷ tables) zero rows h = refl
 rows_of-set_same (first ∷ tables) (suc table) rows h = rows_of-set_same tables table rows (omega arith)
 
-pub rows_of-set_other : (tables : Tables) (table other : ℕ) (rows : Table) → other ≢ table → rows_of (slice_set tables table rows) other ≡ rows_of tables other
+pub rows_of-set_other : (tables : Tables) (table other : ℕ) (rows : Table) → other ≢ table
+    → rows_of (slice_set tables table rows) other ≡ rows_of tables other
 rows_of-set_other [] table other rows h = refl
 rows_of-set_other (first ∷ tables) zero zero rows h = absurd (h refl)
 rows_of-set_other (first ∷ tables) zero (suc other) rows h = refl
@@ -48,14 +52,16 @@ Turns-none : (tables : Tables) → Turns tables tables (λ t r was. was)
 Turns-none tables = record { tables = refl; rows = λ t r. refl }
 
 -- one change after another
-Turns-both : (before between after : Tables) (f g : ℕ → ℕ → Bool → Bool) → Turns before between f → Turns between after g → Turns before after (λ t r was. g t r (f t r was))
+Turns-both : (before between after : Tables) (f g : ℕ → ℕ → Bool → Bool) → Turns before between f → Turns between after g
+    → Turns before after (λ t r was. g t r (f t r was))
 Turns-both before between after f g x y = record {
   tables = y.tables ∙ x.tables;
   rows = λ t r. y.rows t r ∙ ap (g t r) (x.rows t r);
 }
 
 -- whether a row is there once a table was replaced by one that turns one row
-there-set : (tables : Tables) (table row : ℕ) (rows : Table) (left : Bool → Bool) (t r : ℕ) → table < length tables → is_present rows r ≡ cond (row == r) (left (there tables table r)) (there tables table r)
+there-set : (tables : Tables) (table row : ℕ) (rows : Table) (left : Bool → Bool) (t r : ℕ) → table < length tables
+    → is_present rows r ≡ cond (row == r) (left (there tables table r)) (there tables table r)
     → there (slice_set tables table rows) t r ≡ cond ((table == t) && (row == r)) (left (there tables t r)) (there tables t r)
 there-set tables table row rows left t r h turns = elim (cases_eq t table) [
   | inl same ↦ rw same (
@@ -67,7 +73,8 @@ there-set tables table row rows left t r h turns = elim (cases_eq t table) [
       ∙ ap (λ b. cond (b && (row == r)) (left (there tables t r)) (there tables t r)) (sym (ne_eqb table t (λ e. other (sym e))))
 ]
 
-Turns-set : (tables : Tables) (table row : ℕ) (rows : Table) (left : Bool → Bool) → table < length tables → ((r : ℕ) → is_present rows r ≡ cond (row == r) (left (there tables table r)) (there tables table r))
+Turns-set : (tables : Tables) (table row : ℕ) (rows : Table) (left : Bool → Bool) → table < length tables
+    → ((r : ℕ) → is_present rows r ≡ cond (row == r) (left (there tables table r)) (there tables table r))
     → Turns tables (slice_set tables table rows) (λ t r was. cond ((table == t) && (row == r)) (left was) was)
 Turns-set tables table row rows left h turns = record {
   tables = length-set tables table rows;
@@ -90,7 +97,8 @@ placed-listed (Some kinds) offset size h = refl
 
 pub fitting-within : (shape : Shape) (entry : Entry) → is_ok (fitting shape entry) ≡ true → table_of entry < length shape
 fitting-within shape (Insert table row bytes) h = listed-within shape table (sized-listed (slice_get shape table) (length bytes) h)
-fitting-within shape (Patch table row offset bytes) h = listed-within shape table (placed-listed (slice_get shape table) offset (length bytes) h)
+fitting-within shape (Patch table row offset bytes) h =
+    listed-within shape table (placed-listed (slice_get shape table) offset (length bytes) h)
 fitting-within shape (Delete table row) h = listed-within shape table h
 
 -- the tables that an entry makes
@@ -110,29 +118,37 @@ abbrev pub stands : Tables → Entry → Bool
 stands tables entry = stands_for entry (there tables (table_of entry) (row_of entry))
 
 -- a change is made where the entry fits and its row stands as it needs it
-pub change_of-is : (shape : Shape) (tables : Tables) (entry : Entry) → change_of shape tables entry ≡ change_where (is_ok (fitting shape entry)) (stands tables entry) (refusal_of entry) (made shape tables entry)
+pub change_of-is : (shape : Shape) (tables : Tables) (entry : Entry)
+    → change_of shape tables entry ≡ change_where (is_ok (fitting shape entry)) (stands tables entry) (refusal_of entry)
+    (made shape tables entry)
 change_of-is shape tables (Insert table row bytes) = refl
 change_of-is shape tables (Patch table row offset bytes) = refl
 change_of-is shape tables (Delete table row) = refl
 
 -- what a change needs, and what it makes
-pub change_of-parts : (shape : Shape) (tables after : Tables) (entry : Entry) → change_of shape tables entry ≡ Ok after → (is_ok (fitting shape entry) ≡ true) × (stands tables entry ≡ true) × (made shape tables entry ≡ after)
-change_of-parts shape tables after entry h = passed (is_ok (fitting shape entry)) (stands tables entry) (sym (change_of-is shape tables entry) ∙ h)
+pub change_of-parts : (shape : Shape) (tables after : Tables) (entry : Entry) → change_of shape tables entry ≡ Ok after
+    → (is_ok (fitting shape entry) ≡ true) × (stands tables entry ≡ true) × (made shape tables entry ≡ after)
+change_of-parts shape tables after entry h =
+    passed (is_ok (fitting shape entry)) (stands tables entry) (sym (change_of-is shape tables entry) ∙ h)
   where
-    passed : (fits right : Bool) → change_where fits right (refusal_of entry) (made shape tables entry) ≡ Ok after → (fits ≡ true) × (right ≡ true) × (made shape tables entry ≡ after)
+    passed : (fits right : Bool) → change_where fits right (refusal_of entry) (made shape tables entry) ≡ Ok after → (fits ≡ true)
+        × (right ≡ true) × (made shape tables entry ≡ after)
     passed true true h = (refl, refl, cc)
     passed true false h = absurd (cc)
     passed false right h = absurd (cc)
 
 -- an entry that fits turns its row
-Turns-made : (shape : Shape) (tables : Tables) (entry : Entry) → length tables ≡ length shape → is_ok (fitting shape entry) ≡ true → Turns tables (made shape tables entry) (λ t r. is_there_after_one t r entry)
+Turns-made : (shape : Shape) (tables : Tables) (entry : Entry) → length tables ≡ length shape → is_ok (fitting shape entry) ≡ true
+    → Turns tables (made shape tables entry) (λ t r. is_there_after_one t r entry)
 Turns-made shape tables (Insert table row bytes) same h =
     let within : table < length tables = omega (arith, fitting-within shape (Insert table row bytes) h) in
-    Turns-set tables table row.0 _ (λ was. true) within (is_present-with_row (rows_of tables table) row.0 (values_of (kinds_of shape table) bytes))
+    Turns-set tables table row.0 _ (λ was. true) within
+    (is_present-with_row (rows_of tables table) row.0 (values_of (kinds_of shape table) bytes))
 Turns-made shape tables (Patch table row offset bytes) same h =
     let within : table < length tables = omega (arith, fitting-within shape (Patch table row offset bytes) h) in
     Turns-set tables table row.0 _ (λ was. was) within
-    (λ r. is_present-with_patch (kinds_of shape table) (rows_of tables table) row.0 offset bytes r ∙ alike (row.0 == r) (there tables table r))
+    (λ r. is_present-with_patch (kinds_of shape table) (rows_of tables table) row.0 offset bytes r
+    ∙ alike (row.0 == r) (there tables table r))
   where
     alike : (b was : Bool) → was ≡ cond b was was
     alike true was = refl
@@ -141,17 +157,20 @@ Turns-made shape tables (Delete table row) same h =
     let within : table < length tables = omega (arith, fitting-within shape (Delete table row) h) in
     Turns-set tables table row.0 _ (λ was. false) within (is_present-without_row (rows_of tables table) row.0)
 
-pub Turns-change : (shape : Shape) (tables after : Tables) (entry : Entry) → length tables ≡ length shape → change_of shape tables entry ≡ Ok after → Turns tables after (λ t r. is_there_after_one t r entry)
+pub Turns-change : (shape : Shape) (tables after : Tables) (entry : Entry) → length tables ≡ length shape
+    → change_of shape tables entry ≡ Ok after → Turns tables after (λ t r. is_there_after_one t r entry)
 Turns-change shape tables after entry same h =
     let parts = change_of-parts shape tables after entry h in
     subst (λ after. Turns tables after (λ t r. is_there_after_one t r entry)) parts.2 (Turns-made shape tables entry same parts.0)
 
 -- what comes after a change that was not refused
-pub and_then-parts : (next : Tables → Result Tables Refusal) (first : Result Tables Refusal) (after : Tables) → and_then next first ≡ Ok after → (between : Tables) × (first ≡ Ok between) × (next between ≡ Ok after)
+pub and_then-parts : (next : Tables → Result Tables Refusal) (first : Result Tables Refusal) (after : Tables)
+    → and_then next first ≡ Ok after → (between : Tables) × (first ≡ Ok between) × (next between ≡ Ok after)
 and_then-parts next (Ok between) after h = (between, refl, h)
 and_then-parts next (Err refusal) after h = cc
 
-pub Turns-changes : (shape : Shape) (tables after : Tables) (entries : List Entry) → length tables ≡ length shape → changes_of shape tables entries ≡ Ok after → Turns tables after (λ t r. is_there_after t r entries)
+pub Turns-changes : (shape : Shape) (tables after : Tables) (entries : List Entry) → length tables ≡ length shape
+    → changes_of shape tables entries ≡ Ok after → Turns tables after (λ t r. is_there_after t r entries)
 Turns-changes shape tables after [] same h =
     let e : tables ≡ after = cc in
     subst (λ after. Turns tables after (λ t r. is_there_after t r [])) e (Turns-none tables)
@@ -161,7 +180,8 @@ Turns-changes shape tables after (entry ∷ entries) same h =
     let others = Turns-changes shape parts.0 after entries (first.tables ∙ same) parts.2 in
     Turns-both tables parts.0 after (λ t r. is_there_after_one t r entry) (λ t r. is_there_after t r entries) first others
 
-pub Turns-commits : (shape : Shape) (tables after : Tables) (commits : List Commit) → length tables ≡ length shape → commits_of shape tables commits ≡ Ok after → Turns tables after (λ t r. is_there_after_commits t r commits)
+pub Turns-commits : (shape : Shape) (tables after : Tables) (commits : List Commit) → length tables ≡ length shape
+    → commits_of shape tables commits ≡ Ok after → Turns tables after (λ t r. is_there_after_commits t r commits)
 Turns-commits shape tables after [] same h =
     let e : tables ≡ after = cc in
     subst (λ after. Turns tables after (λ t r. is_there_after_commits t r [])) e (Turns-none tables)
@@ -179,68 +199,95 @@ left_by-refused (Patch table row offset bytes) was h = refl
 left_by-refused (Delete table row) true h = absurd (false≢true (sym h))
 left_by-refused (Delete table row) false h = refl
 
-there-refused : (tables : Tables) (entry : Entry) (t r : ℕ) → stands tables entry ≡ false → there tables t r ≡ is_there_after_one t r entry (there tables t r)
+there-refused : (tables : Tables) (entry : Entry) (t r : ℕ) → stands tables entry ≡ false
+    → there tables t r ≡ is_there_after_one t r entry (there tables t r)
 there-refused tables entry t r h = by (is_of t r entry) refl
   where
     by : (here : Bool) → is_of t r entry ≡ here → there tables t r ≡ cond here (left_by entry (there tables t r)) (there tables t r)
     by false e = refl
     by true e =
         let parts = and_parts (table_of entry == t) (row_of entry == r) e in
-        let same : there tables (table_of entry) (row_of entry) ≡ there tables t r = ap (λ t. there tables t (row_of entry)) (eqb-true (table_of entry) t parts.0) ∙ ap (there tables t) (eqb-true (row_of entry) r parts.1) in
+        let same : there tables (table_of entry) (row_of entry) ≡ there tables t r =
+        ap (λ t. there tables t (row_of entry)) (eqb-true (table_of entry) t parts.0)
+        ∙ ap (there tables t) (eqb-true (row_of entry) r parts.1) in
         sym (left_by-refused entry (there tables t r) (ap (stands_for entry) (sym same) ∙ h))
 
 -- the tables after an entry, which stay where it is refused
 abbrev pub step : Shape → Tables → Entry → Tables
 step shape tables entry = result_unwrap_or (change_of shape tables entry) tables
 
-Turns-step : (shape : Shape) (tables : Tables) (entry : Entry) → length tables ≡ length shape → Turns tables (step shape tables entry) (λ t r was. cond (is_ok (fitting shape entry)) (is_there_after_one t r entry was) was)
+Turns-step : (shape : Shape) (tables : Tables) (entry : Entry) → length tables ≡ length shape
+    → Turns tables (step shape tables entry) (λ t r was. cond (is_ok (fitting shape entry)) (is_there_after_one t r entry was) was)
 Turns-step shape tables entry same =
-    subst (λ change. Turns tables (result_unwrap_or change tables) (λ t r was. cond (is_ok (fitting shape entry)) (is_there_after_one t r entry was) was)) (sym (change_of-is shape tables entry))
+    subst (λ change. Turns tables (result_unwrap_or change tables)
+    (λ t r was. cond (is_ok (fitting shape entry)) (is_there_after_one t r entry was) was)) (sym (change_of-is shape tables entry))
     (by (is_ok (fitting shape entry)) (stands tables entry) refl refl)
   where
     by : (fits right : Bool) → is_ok (fitting shape entry) ≡ fits → stands tables entry ≡ right
-        → Turns tables (result_unwrap_or (change_where fits right (refusal_of entry) (made shape tables entry)) tables) (λ t r was. cond fits (is_there_after_one t r entry was) was)
+        → Turns tables (result_unwrap_or (change_where fits right (refusal_of entry) (made shape tables entry)) tables)
+        (λ t r was. cond fits (is_there_after_one t r entry was) was)
     by true true e f = Turns-made shape tables entry same e
     by true false e f = record { tables = refl; rows = λ t r. there-refused tables entry t r f }
     by false right e f = Turns-none tables
 
-pub Turns-applied : (shape : Shape) (tables : Tables) (entries : List Entry) → length tables ≡ length shape → Turns tables (applied shape tables entries) (λ t r. is_there_after_fit shape t r entries)
+pub Turns-applied : (shape : Shape) (tables : Tables) (entries : List Entry) → length tables ≡ length shape
+    → Turns tables (applied shape tables entries) (λ t r. is_there_after_fit shape t r entries)
 Turns-applied shape tables [] same = Turns-none tables
 Turns-applied shape tables (entry ∷ entries) same =
     let first = Turns-step shape tables entry same in
     let others = Turns-applied shape (step shape tables entry) entries (first.tables ∙ same) in
-    Turns-both tables (step shape tables entry) (applied shape tables (entry ∷ entries)) (λ t r was. cond (is_ok (fitting shape entry)) (is_there_after_one t r entry was) was) (λ t r. is_there_after_fit shape t r entries) first others
+    Turns-both tables (step shape tables entry) (applied shape tables (entry ∷ entries))
+    (λ t r was. cond (is_ok (fitting shape entry)) (is_there_after_one t r entry was) was)
+    (λ t r. is_there_after_fit shape t r entries) first others
 
 -- one more entry at the end, or one more commit
-pub is_there_after-push : (table row : ℕ) (entries : List Entry) (entry : Entry) (was : Bool) → is_there_after table row (entries ++ entry ∷ []) was ≡ is_there_after_one table row entry (is_there_after table row entries was)
+pub is_there_after-push : (table row : ℕ) (entries : List Entry) (entry : Entry) (was : Bool)
+    → is_there_after table row (entries ++ entry ∷ []) was ≡ is_there_after_one table row entry (is_there_after table row entries was)
 is_there_after-push table row [] entry was = refl
-is_there_after-push table row (first ∷ entries) entry was = is_there_after-push table row entries entry (is_there_after_one table row first was)
+is_there_after-push table row (first ∷ entries) entry was =
+    is_there_after-push table row entries entry (is_there_after_one table row first was)
 
-pub is_there_after_commits-push : (table row : ℕ) (commits : List Commit) (commit : Commit) (was : Bool) → is_there_after_commits table row (commits ++ commit ∷ []) was ≡ is_there_after table row commit.entries (is_there_after_commits table row commits was)
+pub is_there_after_commits-push : (table row : ℕ) (commits : List Commit) (commit : Commit) (was : Bool)
+    → is_there_after_commits table row (commits ++ commit ∷ []) was ≡ is_there_after table row commit.entries
+    (is_there_after_commits table row commits was)
 is_there_after_commits-push table row [] commit was = refl
-is_there_after_commits-push table row (first ∷ commits) commit was = is_there_after_commits-push table row commits commit (is_there_after table row first.entries was)
+is_there_after_commits-push table row (first ∷ commits) commit was =
+    is_there_after_commits-push table row commits commit (is_there_after table row first.entries was)
 
 pub is_there_after_fit-push : (shape : Shape) (table row : ℕ) (entries : List Entry) (entry : Entry) (was : Bool)
-    → is_there_after_fit shape table row (entries ++ entry ∷ []) was ≡ cond (is_ok (fitting shape entry)) (is_there_after_one table row entry (is_there_after_fit shape table row entries was)) (is_there_after_fit shape table row entries was)
+    → is_there_after_fit shape table row (entries ++ entry ∷ []) was ≡ cond (is_ok (fitting shape entry))
+    (is_there_after_one table row entry (is_there_after_fit shape table row entries was))
+    (is_there_after_fit shape table row entries was)
 is_there_after_fit-push shape table row [] entry was = refl
-is_there_after_fit-push shape table row (first ∷ entries) entry was = is_there_after_fit-push shape table row entries entry (cond (is_ok (fitting shape first)) (is_there_after_one table row first was) was)
+is_there_after_fit-push shape table row (first ∷ entries) entry was =
+    is_there_after_fit-push shape table row entries entry (cond (is_ok (fitting shape first)) (is_there_after_one table row first was) was)
 
 -- a walk over the entries, or over the commits, one step on
-pub is_there_after-more : (table row : ℕ) (entries : List Entry) (i : ℕ) (entry : Entry) (was : Bool) → i < length entries → entry ≡ get_or entries i entry
-    → is_there_after table row (take (i + 1) entries) was ≡ is_there_after_one table row entry (is_there_after table row (take i entries) was)
+pub is_there_after-more : (table row : ℕ) (entries : List Entry) (i : ℕ) (entry : Entry) (was : Bool) → i < length entries
+    → entry ≡ get_or entries i entry
+    → is_there_after table row (take (i + 1) entries) was ≡ is_there_after_one table row entry
+    (is_there_after table row (take i entries) was)
 is_there_after-more table row entries i entry was h e =
-    ap (λ entries. is_there_after table row entries was) (take_more entries i entry h ∙ ap (λ x. take i entries ++ x ∷ []) (sym e)) ∙ is_there_after-push table row (take i entries) entry was
+    ap (λ entries. is_there_after table row entries was) (take_more entries i entry h ∙ ap (λ x. take i entries ++ x ∷ []) (sym e))
+    ∙ is_there_after-push table row (take i entries) entry was
 
-pub is_there_after_commits-more : (table row : ℕ) (commits : List Commit) (i : ℕ) (commit : Commit) (was : Bool) → i < length commits → commit ≡ get_or commits i commit
-    → is_there_after_commits table row (take (i + 1) commits) was ≡ is_there_after table row commit.entries (is_there_after_commits table row (take i commits) was)
+pub is_there_after_commits-more : (table row : ℕ) (commits : List Commit) (i : ℕ) (commit : Commit) (was : Bool) → i < length commits
+    → commit ≡ get_or commits i commit
+    → is_there_after_commits table row (take (i + 1) commits) was ≡ is_there_after table row commit.entries
+    (is_there_after_commits table row (take i commits) was)
 is_there_after_commits-more table row commits i commit was h e =
-    ap (λ commits. is_there_after_commits table row commits was) (take_more commits i commit h ∙ ap (λ x. take i commits ++ x ∷ []) (sym e)) ∙ is_there_after_commits-push table row (take i commits) commit was
+    ap (λ commits. is_there_after_commits table row commits was) (take_more commits i commit h ∙ ap (λ x. take i commits ++ x ∷ []) (sym e))
+    ∙ is_there_after_commits-push table row (take i commits) commit was
 
-pub is_there_after_fit-more : (shape : Shape) (table row : ℕ) (entries : List Entry) (i : ℕ) (entry : Entry) (was : Bool) → i < length entries → entry ≡ get_or entries i entry
+pub is_there_after_fit-more : (shape : Shape) (table row : ℕ) (entries : List Entry) (i : ℕ) (entry : Entry) (was : Bool)
+    → i < length entries → entry ≡ get_or entries i entry
     → is_there_after_fit shape table row (take (i + 1) entries) was
-    ≡ cond (is_ok (fitting shape entry)) (is_there_after_one table row entry (is_there_after_fit shape table row (take i entries) was)) (is_there_after_fit shape table row (take i entries) was)
+    ≡ cond (is_ok (fitting shape entry)) (is_there_after_one table row entry (is_there_after_fit shape table row (take i entries) was))
+    (is_there_after_fit shape table row (take i entries) was)
 is_there_after_fit-more shape table row entries i entry was h e =
-    ap (λ entries. is_there_after_fit shape table row entries was) (take_more entries i entry h ∙ ap (λ x. take i entries ++ x ∷ []) (sym e)) ∙ is_there_after_fit-push shape table row (take i entries) entry was
+    ap (λ entries. is_there_after_fit shape table row entries was)
+    (take_more entries i entry h ∙ ap (λ x. take i entries ++ x ∷ []) (sym e))
+    ∙ is_there_after_fit-push shape table row (take i entries) entry was
 
 -- whether one of the entries is of that row
 abbrev pub named : List Entry → ℕ → ℕ → Bool
@@ -251,13 +298,15 @@ abbrev pub written : List Commit → ℕ → ℕ → Bool
 written commits table row = list_any (λ commit. named commit.entries table row) commits
 
 -- entries that are not of a row leave it as it was, and so do commits
-pub unnamed : (table row : ℕ) (entries : List Entry) (was : Bool) → named entries table row ≡ false → is_there_after table row entries was ≡ was
+pub unnamed : (table row : ℕ) (entries : List Entry) (was : Bool) → named entries table row ≡ false
+    → is_there_after table row entries was ≡ was
 unnamed table row [] was h = refl
 unnamed table row (entry ∷ entries) was h =
     let parts = or_parts (is_of table row entry) (named entries table row) h in
     ap (λ here. is_there_after table row entries (cond here (left_by entry was) was)) parts.0 ∙ unnamed table row entries was parts.1
 
-pub unwritten : (table row : ℕ) (commits : List Commit) (was : Bool) → written commits table row ≡ false → is_there_after_commits table row commits was ≡ was
+pub unwritten : (table row : ℕ) (commits : List Commit) (was : Bool) → written commits table row ≡ false
+    → is_there_after_commits table row commits was ≡ was
 unwritten table row [] was h = refl
 unwritten table row (commit ∷ commits) was h =
     let parts = or_parts (named commit.entries table row) (written commits table row) h in

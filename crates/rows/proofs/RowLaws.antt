@@ -1,5 +1,6 @@
 -- Each row's values after entries and commits: an entry changes the values of its row, and of no other.
-use Rattle.std.proofs.Common.{◌≡◌, ℕ, suc, zero, ◌+◌, ◌<◌, Bool, true, false, cond, not, ◌&&◌, ◌==◌, List, [], ◌∷◌, ◌++◌, length, get_or, take, Option, None, Some, Ok, refl, sym, ap, subst, ◌∙◌, inl, inr, arith}
+use Rattle.std.proofs.Common.{◌≡◌, ℕ, suc, zero, ◌+◌, ◌<◌, Bool, true, false, cond, not, ◌&&◌, ◌==◌, List, [], ◌∷◌, ◌++◌, length, get_or}
+use Rattle.std.proofs.Common.{take, Option, None, Some, Ok, refl, sym, ap, subst, ◌∙◌, inl, inr, arith}
 use Rattle.std.specs.List.{filter, slice_set}
 use Rattle.std.specs.Map.{lookup, set_value}
 use Rattle.std.specs.Option.{is_some, option_map}
@@ -17,20 +18,24 @@ use Rattle.rows.specs.declared.value.Value.{Value}
 use Rattle.rows.specs.Shape.{Shape}
 use Rattle.rows.specs.Entries.{table_of, row_of, fitting}
 use Rattle.rows.specs.Values.{values_of}
-use Rattle.rows.specs.Tables.{Table, Tables, opening, rows_of, kinds_of, row_at, is_present, with_row, with_patch, without_row, patched_row, change_where, change_of, changes_of, applied}
+use Rattle.rows.specs.Tables.{Table, Tables, opening, rows_of, kinds_of, row_at, is_present, with_row, with_patch, without_row, patched_row}
+use Rattle.rows.specs.Tables.{change_where, change_of, changes_of, applied}
 use Rattle.rows.specs.Commits.{commits_of, tables_after, is_of}
 use Rattle.rows.specs.Presence.{stands_for}
 use Rattle.rows.specs.RowAfter.{inserted_row, row_after_one, row_after_entry, row_after, row_after_commits, row_after_fit}
-use Rattle.rows.proofs.Presence.{rows_of-set_same, rows_of-set_other, fitting-within, made, refusal_of, stands, step, change_of-is, change_of-parts, and_then-parts, named, written}
+use Rattle.rows.proofs.Presence.{rows_of-set_same, rows_of-set_other, fitting-within, made, refusal_of, stands, step, change_of-is}
+use Rattle.rows.proofs.Presence.{change_of-parts, and_then-parts, named, written}
 use Rattle.rows.proofs.TableLaws.{from_is_ok, commits_of-split, tables-at}
 
 -- a look-up after an insert: the new key has its value, and any other as before
-pub lookup-insert_entry : {X : Type 0} (q k : ℕ) (v : X) (es : List (ℕ × X)) → lookup (is_at (nat_cmp q)) (insert_entry nat_cmp es k v) ≡ cond (k == q) (Some v) (lookup (is_at (nat_cmp q)) es)
+pub lookup-insert_entry : {X : Type 0} (q k : ℕ) (v : X) (es : List (ℕ × X))
+    → lookup (is_at (nat_cmp q)) (insert_entry nat_cmp es k v) ≡ cond (k == q) (Some v) (lookup (is_at (nat_cmp q)) es)
 lookup-insert_entry q k v [] = grind (arith, nat_tests)
 lookup-insert_entry q k v (e ∷ es) = grind (arith, nat_tests, lookup-insert_entry q k v es)
 
 -- a look-up after a new value of a key that is there
-pub lookup-set_value : {X : Type 0} (q k : ℕ) (v w : X) (es : List (ℕ × X)) → lookup (is_at (nat_cmp k)) es ≡ Some v → lookup (is_at (nat_cmp q)) (set_value (is_at (nat_cmp k)) es w) ≡ cond (k == q) (Some w) (lookup (is_at (nat_cmp q)) es)
+pub lookup-set_value : {X : Type 0} (q k : ℕ) (v w : X) (es : List (ℕ × X)) → lookup (is_at (nat_cmp k)) es ≡ Some v
+    → lookup (is_at (nat_cmp q)) (set_value (is_at (nat_cmp k)) es w) ≡ cond (k == q) (Some w) (lookup (is_at (nat_cmp q)) es)
 lookup-set_value q k v w [] h = cc
 lookup-set_value q k v w (e ∷ es) h = elim (cases_eq e.0 k) [
   | inl same ↦ grind (arith, nat_tests)
@@ -38,15 +43,19 @@ lookup-set_value q k v w (e ∷ es) h = elim (cases_eq e.0 k) [
 ]
 
 -- a look-up after a key was taken out: that key is not found, and any other as before
-lookup-filter : {X : Type 0} (q k : ℕ) (es : List (ℕ × X)) → lookup (is_at (nat_cmp q)) (filter (λ e. not (e.0 == k)) es) ≡ cond (k == q) None (lookup (is_at (nat_cmp q)) es)
+lookup-filter : {X : Type 0} (q k : ℕ) (es : List (ℕ × X))
+    → lookup (is_at (nat_cmp q)) (filter (λ e. not (e.0 == k)) es) ≡ cond (k == q) None (lookup (is_at (nat_cmp q)) es)
 lookup-filter q k [] = grind (arith, nat_tests)
 lookup-filter q k (e ∷ es) = grind (arith, nat_tests, lookup-filter q k es)
 
 -- a row of a table once one was put in, changed or taken out
 row_at-with_row : (kinds : List Kind) (rows : Table) (row : ℕ) (bytes : List ℕ) (other : ℕ) → is_present rows row ≡ false
-    → row_at (with_row rows row (values_of kinds bytes)) other ≡ cond (row == other) (inserted_row kinds bytes (row_at rows other)) (row_at rows other)
+    → row_at (with_row rows row (values_of kinds bytes)) other ≡ cond (row == other) (inserted_row kinds bytes (row_at rows other))
+    (row_at rows other)
 row_at-with_row kinds rows row bytes other absent = lookup-insert_entry other row (values_of kinds bytes) rows ∙ elim (cases_eq row other) [
-  | inl same ↦ ap (cond (row == other) (Some (values_of kinds bytes))) refl ∙ ap (λ was. cond (row == other) was (row_at rows other)) (sym (ap (inserted_row kinds bytes) (missing (row_at rows other) (ap (is_present rows) (sym same) ∙ absent))))
+  | inl same ↦ ap (cond (row == other) (Some (values_of kinds bytes))) refl
+      ∙ ap (λ was. cond (row == other) was (row_at rows other))
+      (sym (ap (inserted_row kinds bytes) (missing (row_at rows other) (ap (is_present rows) (sym same) ∙ absent))))
   | inr other_row ↦ rw (ne_eqb row other other_row) refl
 ]
   where
@@ -55,18 +64,22 @@ row_at-with_row kinds rows row bytes other absent = lookup-insert_entry other ro
     missing (Some values) h = cc
 
 row_at-with_patch : (kinds : List Kind) (rows : Table) (row offset : ℕ) (bytes : List ℕ) (other : ℕ)
-    → row_at (with_patch kinds rows row offset bytes) other ≡ cond (row == other) (option_map (patched_row kinds offset bytes) (row_at rows other)) (row_at rows other)
+    → row_at (with_patch kinds rows row offset bytes) other ≡ cond (row == other)
+    (option_map (patched_row kinds offset bytes) (row_at rows other)) (row_at rows other)
 row_at-with_patch kinds rows row offset bytes other = by (row_at rows row) refl
   where
-    by : (found : Option (List Value)) → row_at rows row ≡ found → row_at (with_patch kinds rows row offset bytes) other ≡ cond (row == other) (option_map (patched_row kinds offset bytes) (row_at rows other)) (row_at rows other)
+    by : (found : Option (List Value)) → row_at rows row ≡ found
+        → row_at (with_patch kinds rows row offset bytes) other ≡ cond (row == other)
+        (option_map (patched_row kinds offset bytes) (row_at rows other)) (row_at rows other)
     by None e = rw e (elim (cases_eq row other) [
       | inl same ↦ grind (arith, nat_tests)
       | inr apart ↦ grind (arith, nat_tests)
     ])
-    by (Some values) e = rw e (lookup-set_value other row values (patched_row kinds offset bytes values) rows e ∙ elim (cases_eq row other) [
-      | inl same ↦ grind (arith, nat_tests)
-      | inr apart ↦ grind (arith, nat_tests)
-    ])
+    by (Some values) e =
+        rw e (lookup-set_value other row values (patched_row kinds offset bytes values) rows e ∙ elim (cases_eq row other) [
+          | inl same ↦ grind (arith, nat_tests)
+          | inr apart ↦ grind (arith, nat_tests)
+        ])
 
 row_at-without_row : (rows : Table) (row other : ℕ) → row_at (without_row rows row) other ≡ cond (row == other) None (row_at rows other)
 row_at-without_row rows row other = lookup-filter other row rows
@@ -90,14 +103,16 @@ Leaves-none : (tables : Tables) → Leaves tables tables (λ t r was. was)
 Leaves-none tables = record { tables = refl; rows = λ t r. refl }
 
 -- one change after another
-Leaves-both : (before between after : Tables) (f g : ℕ → ℕ → Option (List Value) → Option (List Value)) → Leaves before between f → Leaves between after g → Leaves before after (λ t r was. g t r (f t r was))
+Leaves-both : (before between after : Tables) (f g : ℕ → ℕ → Option (List Value) → Option (List Value)) → Leaves before between f
+    → Leaves between after g → Leaves before after (λ t r was. g t r (f t r was))
 Leaves-both before between after f g x y = record {
   tables = y.tables ∙ x.tables;
   rows = λ t r. y.rows t r ∙ ap (g t r) (x.rows t r);
 }
 
 -- a row's values once a table was replaced by one that changes one row
-row_in-set : (tables : Tables) (table row : ℕ) (rows : Table) (left : ℕ → Option (List Value) → Option (List Value)) (t r : ℕ) → table < length tables
+row_in-set : (tables : Tables) (table row : ℕ) (rows : Table) (left : ℕ → Option (List Value) → Option (List Value)) (t r : ℕ)
+    → table < length tables
     → row_at rows r ≡ cond (row == r) (left table (row_in tables table r)) (row_in tables table r)
     → row_in (slice_set tables table rows) t r ≡ cond ((table == t) && (row == r)) (left t (row_in tables t r)) (row_in tables t r)
 row_in-set tables table row rows left t r h made = elim (cases_eq t table) [
@@ -119,28 +134,34 @@ Leaves-set tables table row rows left h made = record {
 }
 
 -- an entry that fits, and whose row stands as it needs it, changes its row
-Leaves-made : (shape : Shape) (tables : Tables) (entry : Entry) → length tables ≡ length shape → is_ok (fitting shape entry) ≡ true → stands tables entry ≡ true → Leaves tables (made shape tables entry) (λ t r. row_after_entry shape t r entry)
+Leaves-made : (shape : Shape) (tables : Tables) (entry : Entry) → length tables ≡ length shape → is_ok (fitting shape entry) ≡ true
+    → stands tables entry ≡ true → Leaves tables (made shape tables entry) (λ t r. row_after_entry shape t r entry)
 Leaves-made shape tables (Insert table row bytes) same h right =
     let within : table < length tables = omega (arith, fitting-within shape (Insert table row bytes) h) in
     let kinds = kinds_of shape table in
-    Leaves-set tables table row.0 _ (λ t. inserted_row (kinds_of shape t) bytes) within (λ r. row_at-with_row kinds (rows_of tables table) row.0 bytes r (negated (is_present (rows_of tables table) row.0) right))
+    Leaves-set tables table row.0 _ (λ t. inserted_row (kinds_of shape t) bytes) within
+    (λ r. row_at-with_row kinds (rows_of tables table) row.0 bytes r (negated (is_present (rows_of tables table) row.0) right))
   where
     negated : (b : Bool) → not b ≡ true → b ≡ false
     negated true e = sym e
     negated false e = refl
 Leaves-made shape tables (Patch table row offset bytes) same h right =
     let within : table < length tables = omega (arith, fitting-within shape (Patch table row offset bytes) h) in
-    Leaves-set tables table row.0 _ (λ t. option_map (patched_row (kinds_of shape t) offset bytes)) within (row_at-with_patch (kinds_of shape table) (rows_of tables table) row.0 offset bytes)
+    Leaves-set tables table row.0 _ (λ t. option_map (patched_row (kinds_of shape t) offset bytes)) within
+    (row_at-with_patch (kinds_of shape table) (rows_of tables table) row.0 offset bytes)
 Leaves-made shape tables (Delete table row) same h right =
     let within : table < length tables = omega (arith, fitting-within shape (Delete table row) h) in
     Leaves-set tables table row.0 _ (λ t was. None) within (row_at-without_row (rows_of tables table) row.0)
 
-pub Leaves-change : (shape : Shape) (tables after : Tables) (entry : Entry) → length tables ≡ length shape → change_of shape tables entry ≡ Ok after → Leaves tables after (λ t r. row_after_entry shape t r entry)
+pub Leaves-change : (shape : Shape) (tables after : Tables) (entry : Entry) → length tables ≡ length shape
+    → change_of shape tables entry ≡ Ok after → Leaves tables after (λ t r. row_after_entry shape t r entry)
 Leaves-change shape tables after entry same h =
     let parts = change_of-parts shape tables after entry h in
-    subst (λ after. Leaves tables after (λ t r. row_after_entry shape t r entry)) parts.2 (Leaves-made shape tables entry same parts.0 parts.1)
+    subst (λ after. Leaves tables after (λ t r. row_after_entry shape t r entry)) parts.2
+    (Leaves-made shape tables entry same parts.0 parts.1)
 
-pub Leaves-changes : (shape : Shape) (tables after : Tables) (entries : List Entry) → length tables ≡ length shape → changes_of shape tables entries ≡ Ok after → Leaves tables after (λ t r. row_after shape t r entries)
+pub Leaves-changes : (shape : Shape) (tables after : Tables) (entries : List Entry) → length tables ≡ length shape
+    → changes_of shape tables entries ≡ Ok after → Leaves tables after (λ t r. row_after shape t r entries)
 Leaves-changes shape tables after [] same h =
     let e : tables ≡ after = cc in
     subst (λ after. Leaves tables after (λ t r. row_after shape t r [])) e (Leaves-none tables)
@@ -150,7 +171,8 @@ Leaves-changes shape tables after (entry ∷ entries) same h =
     let others = Leaves-changes shape parts.0 after entries (first.tables ∙ same) parts.2 in
     Leaves-both tables parts.0 after (λ t r. row_after_entry shape t r entry) (λ t r. row_after shape t r entries) first others
 
-pub Leaves-commits : (shape : Shape) (tables after : Tables) (commits : List Commit) → length tables ≡ length shape → commits_of shape tables commits ≡ Ok after → Leaves tables after (λ t r. row_after_commits shape t r commits)
+pub Leaves-commits : (shape : Shape) (tables after : Tables) (commits : List Commit) → length tables ≡ length shape
+    → commits_of shape tables commits ≡ Ok after → Leaves tables after (λ t r. row_after_commits shape t r commits)
 Leaves-commits shape tables after [] same h =
     let e : tables ≡ after = cc in
     subst (λ after. Leaves tables after (λ t r. row_after_commits shape t r [])) e (Leaves-none tables)
@@ -161,7 +183,8 @@ Leaves-commits shape tables after (commit ∷ commits) same h =
     Leaves-both tables parts.0 after (λ t r. row_after shape t r commit.entries) (λ t r. row_after_commits shape t r commits) first others
 
 -- where a row does not stand as the entry needs it, the entry would leave its values as they are
-row_after_one-refused : (kinds : List Kind) (entry : Entry) (was : Option (List Value)) → stands_for entry (is_some was) ≡ false → row_after_one kinds entry was ≡ was
+row_after_one-refused : (kinds : List Kind) (entry : Entry) (was : Option (List Value)) → stands_for entry (is_some was) ≡ false
+    → row_after_one kinds entry was ≡ was
 row_after_one-refused kinds (Insert table row bytes) None h = cc
 row_after_one-refused kinds (Insert table row bytes) (Some values) h = refl
 row_after_one-refused kinds (Patch table row offset bytes) None h = refl
@@ -169,34 +192,44 @@ row_after_one-refused kinds (Patch table row offset bytes) (Some values) h = cc
 row_after_one-refused kinds (Delete table row) None h = refl
 row_after_one-refused kinds (Delete table row) (Some values) h = cc
 
-row_in-refused : (shape : Shape) (tables : Tables) (entry : Entry) (t r : ℕ) → stands tables entry ≡ false → row_in tables t r ≡ row_after_entry shape t r entry (row_in tables t r)
+row_in-refused : (shape : Shape) (tables : Tables) (entry : Entry) (t r : ℕ) → stands tables entry ≡ false
+    → row_in tables t r ≡ row_after_entry shape t r entry (row_in tables t r)
 row_in-refused shape tables entry t r h = by (is_of t r entry) refl
   where
-    by : (here : Bool) → is_of t r entry ≡ here → row_in tables t r ≡ cond here (row_after_one (kinds_of shape t) entry (row_in tables t r)) (row_in tables t r)
+    by : (here : Bool) → is_of t r entry ≡ here
+        → row_in tables t r ≡ cond here (row_after_one (kinds_of shape t) entry (row_in tables t r)) (row_in tables t r)
     by false e = refl
     by true e =
         let parts = and_parts (table_of entry == t) (row_of entry == r) e in
-        let same : row_in tables (table_of entry) (row_of entry) ≡ row_in tables t r = ap (λ t. row_in tables t (row_of entry)) (eqb-true (table_of entry) t parts.0) ∙ ap (row_in tables t) (eqb-true (row_of entry) r parts.1) in
+        let same : row_in tables (table_of entry) (row_of entry) ≡ row_in tables t r =
+        ap (λ t. row_in tables t (row_of entry)) (eqb-true (table_of entry) t parts.0)
+        ∙ ap (row_in tables t) (eqb-true (row_of entry) r parts.1) in
         sym (row_after_one-refused (kinds_of shape t) entry (row_in tables t r) (ap (λ was. stands_for entry (is_some was)) (sym same) ∙ h))
 
 -- the tables after an entry, which stay where it is refused
-Leaves-step : (shape : Shape) (tables : Tables) (entry : Entry) → length tables ≡ length shape → Leaves tables (step shape tables entry) (λ t r was. cond (is_ok (fitting shape entry)) (row_after_entry shape t r entry was) was)
+Leaves-step : (shape : Shape) (tables : Tables) (entry : Entry) → length tables ≡ length shape
+    → Leaves tables (step shape tables entry) (λ t r was. cond (is_ok (fitting shape entry)) (row_after_entry shape t r entry was) was)
 Leaves-step shape tables entry same =
-    subst (λ change. Leaves tables (result_unwrap_or change tables) (λ t r was. cond (is_ok (fitting shape entry)) (row_after_entry shape t r entry was) was)) (sym (change_of-is shape tables entry))
+    subst (λ change. Leaves tables (result_unwrap_or change tables)
+    (λ t r was. cond (is_ok (fitting shape entry)) (row_after_entry shape t r entry was) was)) (sym (change_of-is shape tables entry))
     (by (is_ok (fitting shape entry)) (stands tables entry) refl refl)
   where
     by : (fits right : Bool) → is_ok (fitting shape entry) ≡ fits → stands tables entry ≡ right
-        → Leaves tables (result_unwrap_or (change_where fits right (refusal_of entry) (made shape tables entry)) tables) (λ t r was. cond fits (row_after_entry shape t r entry was) was)
+        → Leaves tables (result_unwrap_or (change_where fits right (refusal_of entry) (made shape tables entry)) tables)
+        (λ t r was. cond fits (row_after_entry shape t r entry was) was)
     by true true e f = Leaves-made shape tables entry same e f
     by true false e f = record { tables = refl; rows = λ t r. row_in-refused shape tables entry t r f }
     by false right e f = Leaves-none tables
 
-pub Leaves-applied : (shape : Shape) (tables : Tables) (entries : List Entry) → length tables ≡ length shape → Leaves tables (applied shape tables entries) (λ t r. row_after_fit shape t r entries)
+pub Leaves-applied : (shape : Shape) (tables : Tables) (entries : List Entry) → length tables ≡ length shape
+    → Leaves tables (applied shape tables entries) (λ t r. row_after_fit shape t r entries)
 Leaves-applied shape tables [] same = Leaves-none tables
 Leaves-applied shape tables (entry ∷ entries) same =
     let first = Leaves-step shape tables entry same in
     let others = Leaves-applied shape (step shape tables entry) entries (first.tables ∙ same) in
-    Leaves-both tables (step shape tables entry) (applied shape tables (entry ∷ entries)) (λ t r was. cond (is_ok (fitting shape entry)) (row_after_entry shape t r entry was) was) (λ t r. row_after_fit shape t r entries) first others
+    Leaves-both tables (step shape tables entry) (applied shape tables (entry ∷ entries))
+    (λ t r was. cond (is_ok (fitting shape entry)) (row_after_entry shape t r entry was) was)
+    (λ t r. row_after_fit shape t r entries) first others
 
 -- a row at a version is what the commits up to it leave of it
 pub row-at : (shape : Shape) (commits : List Commit) (version table row : ℕ) → is_ok (commits_of shape (opening shape) commits) ≡ true
@@ -204,55 +237,79 @@ pub row-at : (shape : Shape) (commits : List Commit) (version table row : ℕ) �
 row-at shape commits version table row h =
     let all = from_is_ok _ h in
     let split = commits_of-split shape commits version all.0 all.1 in
-    let leaves = Leaves-commits shape (opening shape) (tables_after shape commits version) (take version commits) (length-map shape (λ kinds. [])) split.0 in
+    let leaves =
+    Leaves-commits shape (opening shape) (tables_after shape commits version) (take version commits)
+    (length-map shape (λ kinds. [])) split.0 in
     leaves.rows table row ∙ ap (row_after_commits shape table row (take version commits)) (opening-none shape table row)
 
 -- a row that a transaction sees: that at the version, as its own entries that fit change it
 pub row-seen : (shape : Shape) (commits : List Commit) (version : ℕ) (entries : List Entry) (table row : ℕ)
-    → row_at (rows_of (applied shape (tables_after shape commits version) entries) table) row ≡ row_after_fit shape table row entries (row_at (rows_of (tables_after shape commits version) table) row)
+    → row_at (rows_of (applied shape (tables_after shape commits version) entries) table) row ≡ row_after_fit shape table row entries
+    (row_at (rows_of (tables_after shape commits version) table) row)
 row-seen shape commits version entries table row =
     (Leaves-applied shape (tables_after shape commits version) entries (tables-at shape commits version)).rows table row
 
 -- one more entry at the end, or one more commit
-pub row_after-push : (shape : Shape) (table row : ℕ) (entries : List Entry) (entry : Entry) (was : Option (List Value)) → row_after shape table row (entries ++ entry ∷ []) was ≡ row_after_entry shape table row entry (row_after shape table row entries was)
+pub row_after-push : (shape : Shape) (table row : ℕ) (entries : List Entry) (entry : Entry) (was : Option (List Value))
+    → row_after shape table row (entries ++ entry ∷ []) was ≡ row_after_entry shape table row entry (row_after shape table row entries was)
 row_after-push shape table row [] entry was = refl
-row_after-push shape table row (first ∷ entries) entry was = row_after-push shape table row entries entry (row_after_entry shape table row first was)
+row_after-push shape table row (first ∷ entries) entry was =
+    row_after-push shape table row entries entry (row_after_entry shape table row first was)
 
-pub row_after_commits-push : (shape : Shape) (table row : ℕ) (commits : List Commit) (commit : Commit) (was : Option (List Value)) → row_after_commits shape table row (commits ++ commit ∷ []) was ≡ row_after shape table row commit.entries (row_after_commits shape table row commits was)
+pub row_after_commits-push : (shape : Shape) (table row : ℕ) (commits : List Commit) (commit : Commit) (was : Option (List Value))
+    → row_after_commits shape table row (commits ++ commit ∷ []) was ≡ row_after shape table row commit.entries
+    (row_after_commits shape table row commits was)
 row_after_commits-push shape table row [] commit was = refl
-row_after_commits-push shape table row (first ∷ commits) commit was = row_after_commits-push shape table row commits commit (row_after shape table row first.entries was)
+row_after_commits-push shape table row (first ∷ commits) commit was =
+    row_after_commits-push shape table row commits commit (row_after shape table row first.entries was)
 
 pub row_after_fit-push : (shape : Shape) (table row : ℕ) (entries : List Entry) (entry : Entry) (was : Option (List Value))
-    → row_after_fit shape table row (entries ++ entry ∷ []) was ≡ cond (is_ok (fitting shape entry)) (row_after_entry shape table row entry (row_after_fit shape table row entries was)) (row_after_fit shape table row entries was)
+    → row_after_fit shape table row (entries ++ entry ∷ []) was ≡ cond (is_ok (fitting shape entry))
+    (row_after_entry shape table row entry (row_after_fit shape table row entries was)) (row_after_fit shape table row entries was)
 row_after_fit-push shape table row [] entry was = refl
-row_after_fit-push shape table row (first ∷ entries) entry was = row_after_fit-push shape table row entries entry (cond (is_ok (fitting shape first)) (row_after_entry shape table row first was) was)
+row_after_fit-push shape table row (first ∷ entries) entry was =
+    row_after_fit-push shape table row entries entry (cond (is_ok (fitting shape first)) (row_after_entry shape table row first was) was)
 
 -- a walk over the entries, or over the commits, one step on
-pub row_after-more : (shape : Shape) (table row : ℕ) (entries : List Entry) (i : ℕ) (entry : Entry) (was : Option (List Value)) → i < length entries → entry ≡ get_or entries i entry
-    → row_after shape table row (take (i + 1) entries) was ≡ row_after_entry shape table row entry (row_after shape table row (take i entries) was)
+pub row_after-more : (shape : Shape) (table row : ℕ) (entries : List Entry) (i : ℕ) (entry : Entry) (was : Option (List Value))
+    → i < length entries → entry ≡ get_or entries i entry
+    → row_after shape table row (take (i + 1) entries) was ≡ row_after_entry shape table row entry
+    (row_after shape table row (take i entries) was)
 row_after-more shape table row entries i entry was h e =
-    ap (λ entries. row_after shape table row entries was) (take_more entries i entry h ∙ ap (λ x. take i entries ++ x ∷ []) (sym e)) ∙ row_after-push shape table row (take i entries) entry was
+    ap (λ entries. row_after shape table row entries was) (take_more entries i entry h ∙ ap (λ x. take i entries ++ x ∷ []) (sym e))
+    ∙ row_after-push shape table row (take i entries) entry was
 
-pub row_after_commits-more : (shape : Shape) (table row : ℕ) (commits : List Commit) (i : ℕ) (commit : Commit) (was : Option (List Value)) → i < length commits → commit ≡ get_or commits i commit
-    → row_after_commits shape table row (take (i + 1) commits) was ≡ row_after shape table row commit.entries (row_after_commits shape table row (take i commits) was)
+pub row_after_commits-more : (shape : Shape) (table row : ℕ) (commits : List Commit) (i : ℕ) (commit : Commit) (was : Option (List Value))
+    → i < length commits → commit ≡ get_or commits i commit
+    → row_after_commits shape table row (take (i + 1) commits) was ≡ row_after shape table row commit.entries
+    (row_after_commits shape table row (take i commits) was)
 row_after_commits-more shape table row commits i commit was h e =
-    ap (λ commits. row_after_commits shape table row commits was) (take_more commits i commit h ∙ ap (λ x. take i commits ++ x ∷ []) (sym e)) ∙ row_after_commits-push shape table row (take i commits) commit was
+    ap (λ commits. row_after_commits shape table row commits was)
+    (take_more commits i commit h ∙ ap (λ x. take i commits ++ x ∷ []) (sym e))
+    ∙ row_after_commits-push shape table row (take i commits) commit was
 
-pub row_after_fit-more : (shape : Shape) (table row : ℕ) (entries : List Entry) (i : ℕ) (entry : Entry) (was : Option (List Value)) → i < length entries → entry ≡ get_or entries i entry
+pub row_after_fit-more : (shape : Shape) (table row : ℕ) (entries : List Entry) (i : ℕ) (entry : Entry) (was : Option (List Value))
+    → i < length entries → entry ≡ get_or entries i entry
     → row_after_fit shape table row (take (i + 1) entries) was
-    ≡ cond (is_ok (fitting shape entry)) (row_after_entry shape table row entry (row_after_fit shape table row (take i entries) was)) (row_after_fit shape table row (take i entries) was)
+    ≡ cond (is_ok (fitting shape entry)) (row_after_entry shape table row entry (row_after_fit shape table row (take i entries) was))
+    (row_after_fit shape table row (take i entries) was)
 row_after_fit-more shape table row entries i entry was h e =
-    ap (λ entries. row_after_fit shape table row entries was) (take_more entries i entry h ∙ ap (λ x. take i entries ++ x ∷ []) (sym e)) ∙ row_after_fit-push shape table row (take i entries) entry was
+    ap (λ entries. row_after_fit shape table row entries was) (take_more entries i entry h ∙ ap (λ x. take i entries ++ x ∷ []) (sym e))
+    ∙ row_after_fit-push shape table row (take i entries) entry was
 
 -- entries that are not of a row leave its values, and so do commits
-pub row_after-unnamed : (shape : Shape) (table row : ℕ) (entries : List Entry) (was : Option (List Value)) → named entries table row ≡ false → row_after shape table row entries was ≡ was
+pub row_after-unnamed : (shape : Shape) (table row : ℕ) (entries : List Entry) (was : Option (List Value)) → named entries table row ≡ false
+    → row_after shape table row entries was ≡ was
 row_after-unnamed shape table row [] was h = refl
 row_after-unnamed shape table row (entry ∷ entries) was h =
     let parts = or_parts (is_of table row entry) (named entries table row) h in
-    ap (λ here. row_after shape table row entries (cond here (row_after_one (kinds_of shape table) entry was) was)) parts.0 ∙ row_after-unnamed shape table row entries was parts.1
+    ap (λ here. row_after shape table row entries (cond here (row_after_one (kinds_of shape table) entry was) was)) parts.0
+    ∙ row_after-unnamed shape table row entries was parts.1
 
-pub row_after_commits-unwritten : (shape : Shape) (table row : ℕ) (commits : List Commit) (was : Option (List Value)) → written commits table row ≡ false → row_after_commits shape table row commits was ≡ was
+pub row_after_commits-unwritten : (shape : Shape) (table row : ℕ) (commits : List Commit) (was : Option (List Value))
+    → written commits table row ≡ false → row_after_commits shape table row commits was ≡ was
 row_after_commits-unwritten shape table row [] was h = refl
 row_after_commits-unwritten shape table row (commit ∷ commits) was h =
     let parts = or_parts (named commit.entries table row) (written commits table row) h in
-    ap (row_after_commits shape table row commits) (row_after-unnamed shape table row commit.entries was parts.0) ∙ row_after_commits-unwritten shape table row commits was parts.1
+    ap (row_after_commits shape table row commits) (row_after-unnamed shape table row commit.entries was parts.0)
+    ∙ row_after_commits-unwritten shape table row commits was parts.1

@@ -3,7 +3,8 @@
 -- A table is the list of its rows in rising identifier, each with its values: equal tables are
 -- equal lists. An entry that fits and finds what it needs changes one row, and any other is
 -- refused.
-use Rattle.std.specs.Prelude.{ℕ, List, [], ◌∷◌, map, length, Bool, Option, None, Some, Result, Ok, Err, ◌==◌, not, if◌then◌else◌, slice_get, slice_set, is_some, is_ok}
+use Rattle.std.specs.Prelude.{ℕ, List, [], ◌∷◌, map, length, Bool, Option, None, Some, Result, Ok, Err, ◌==◌, not, if◌then◌else◌, slice_get}
+use Rattle.std.specs.Prelude.{slice_set, is_some, is_ok}
 use Rattle.std.specs.List.{filter}
 use Rattle.std.specs.Result.{result_unwrap_or}
 use Rattle.std.specs.Ordering.{nat_cmp}
@@ -107,9 +108,11 @@ change_where fits stands refusal after = if fits then (if stands then Ok after e
 -- the tables after one entry, or why it is refused
 abbrev pub change_of : Shape → Tables → Entry → Result Tables Refusal
 change_of shape tables (Insert table row bytes) =
-    change_where (is_ok (fitting shape (Insert table row bytes))) (not (is_present (rows_of tables table) row.0)) Exists (inserted shape tables table row.0 bytes)
+    change_where (is_ok (fitting shape (Insert table row bytes))) (not (is_present (rows_of tables table) row.0)) Exists
+    (inserted shape tables table row.0 bytes)
 change_of shape tables (Patch table row offset bytes) =
-    change_where (is_ok (fitting shape (Patch table row offset bytes))) (is_present (rows_of tables table) row.0) Missing (patched shape tables table row.0 offset bytes)
+    change_where (is_ok (fitting shape (Patch table row offset bytes))) (is_present (rows_of tables table) row.0) Missing
+    (patched shape tables table row.0 offset bytes)
 change_of shape tables (Delete table row) =
     change_where (is_ok (fitting shape (Delete table row))) (is_present (rows_of tables table) row.0) Missing (deleted tables table row.0)
 

@@ -211,7 +211,7 @@ fn a_commit_without_memory_changes_nothing(rt: HostRuntime) -> Result<(), Fail> 
 }
 
 /// Whichever request for memory is refused: a flush that was refused for memory has moved
-/// nothing, and is done when it is asked for again.
+/// nothing, and is done where it is asked for again.
 #[test]
 fn a_flush_without_memory_moves_nothing(rt: HostRuntime) -> Result<(), Fail> {
     let mut primary = with_row(rt.alloc(), 7)?;

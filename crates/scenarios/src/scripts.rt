@@ -120,8 +120,8 @@ fn a_frame_is_shown_to_the_byte(rt: HostRuntime) -> Result<(), Fail> {
 
 #[test]
 fn values_are_of_their_columns_kinds(rt: HostRuntime) -> Result<(), Fail> {
-    let events =
-        "begin\ninsert 0 item 7 5 xab\ninsert 0 item 7 5 xabcdef\ninsert 0 item 7 xabcd 5\ninsert 0 item 7 5 5\ninsert 0 acct 7 5 xabcd\ninsert 0 item 7 5 xabcd\n";
+    let events = "begin\ninsert 0 item 7 5 xab\ninsert 0 item 7 5 xabcdef\n\
+        insert 0 item 7 xabcd 5\ninsert 0 item 7 5 5\ninsert 0 acct 7 5 xabcd\ninsert 0 item 7 5 xabcd\n";
     let script = format!(in rt.alloc(); "{TWO_TABLES}{events}")?;
     let text = printed(rt.alloc(), script.as_bytes())?;
     let answers = "tx 0 at 0\nunfit\nunfit\nunfit\nunfit\nunfit\nok\n";

@@ -1,13 +1,16 @@
 //! A plain store through its bound: changes, runs, lists of commits, and what refused memory
 //! leaves.
 
-ghost use Rattle.std.specs.Prelude.{◌≡◌, [], ◌∷◌, length, true, IfOk, IsOkAnd, IsSome};
-ghost use Rattle.rows.specs.declared.kind.Kind.TheVariants.{Int};
-ghost use Rattle.rows.specs.Tables.{opening, rows_of, row_at};
+ghost use Rattle.std.specs.Prelude.{◌≡◌, [], ◌∷◌, length, true, Ok, IfOk, OnOk, IsOkAnd, IsSome};
+ghost use Rattle.rows.specs.declared.kind.Kind.TheVariants.{Int, Octets as OctetsOf};
+ghost use Rattle.rows.specs.Reading.{entry_of};
+ghost use Rattle.rows.specs.Tables.{opening, rows_of, row_at, change_of};
 ghost use Rattle.rows.specs.Commits.{commits_of};
 ghost use Rattle.store.specs.Changes.{column_of};
 
-use rows::{ByteList, Commit, Entry, EntryList, Kind, Octets, RowId, Schema, Value, row_bytes};
+use rows::{
+    ByteList, Commit, Entry, EntryList, EntryRef, Kind, Octets, RowId, Schema, Value, row_bytes,
+};
 use std::alloc::{AllocError, Global};
 use std::process::Abort;
 use std::test::Fail;
@@ -41,7 +44,7 @@ fn bank(alloc: Global) -> Result<PlainStore, Fail>
 }
 
 /// The entry of a step.
-fn entry_of(alloc: Global, step: Step) -> Result<Entry, AllocError> {
+fn entry_at(alloc: Global, step: Step) -> Result<Entry, AllocError> {
     let table = 0;
     Ok(match step {
         Step::Insert(row) => Entry::Insert {
@@ -66,7 +69,7 @@ fn entry_of(alloc: Global, step: Step) -> Result<Entry, AllocError> {
 fn entries_of(alloc: Global, steps: &[Step]) -> Result<EntryList, AllocError> {
     let mut entries = EntryList::new(alloc);
     for step in steps {
-        entries.push(entry_of(alloc, *step)?)?;
+        entries.push(entry_at(alloc, *step)?)?;
     }
     Ok(entries)
 }
@@ -94,7 +97,7 @@ fn kinds_of_changes<S: Store>(
 ) -> Result<Vec<u8>, AllocError> {
     let mut kinds = Vec::new(alloc);
     for step in steps {
-        kinds.push(kind_of_change(store, &entry_of(alloc, *step)?))?;
+        kinds.push(kind_of_change(store, &entry_at(alloc, *step)?))?;
     }
     Ok(kinds)
 }
@@ -146,7 +149,8 @@ fn fault_of_apply<S: ApplyStore + Sync>(store: &mut S, commits: &[Commit]) -> Op
 /// of the bound alone say that it is what the commits make.
 fn count_after<S: ApplyStore + Sync>(store: &mut S, commits: &[Commit]) -> Result<usize, ApplyFault>
     requires { S.tables store.old ≡ opening (S.shape store.old) }
-    ensures { IfOk result (λ count. IsOkAnd (commits_of (S.shape store.old) (opening (S.shape store.old)) commits.now) (λ after. count ≡ length (rows_of after 0))) }
+    ensures { IfOk result (λ count. IsOkAnd (commits_of (S.shape store.old) (opening (S.shape store.old)) commits.now)
+        (λ after. count ≡ length (rows_of after 0))) }
 {
     store.apply_all(commits)?;
     Ok(store.len(0))
@@ -176,6 +180,50 @@ fn columns_are_read(rt: HostRuntime) -> Result<(), Fail> {
     Ok(())
 }
 
+/// The entry, owned.
+fn owned(alloc: Global, lent: EntryRef<'_>) -> Result<Entry, AllocError>
+    ensures { IfOk result (λ owned. owned ≡ entry_of lent.entry) }
+{
+    Ok(match lent {
+        EntryRef::Insert { table, row, bytes } => Entry::Insert {
+            table,
+            row,
+            bytes: ByteList::from_vec(Vec::from_slice(alloc, bytes)?),
+        },
+        EntryRef::Patch {
+            table,
+            row,
+            offset,
+            bytes,
+        } => Entry::Patch {
+            table,
+            row,
+            offset,
+            bytes: ByteList::from_vec(Vec::from_slice(alloc, bytes)?),
+        },
+        EntryRef::Delete { table, row } => Entry::Delete { table, row },
+    })
+}
+
+/// The store makes the change of an entry.
+fn make(alloc: Global, store: &mut PlainStore, lent: EntryRef<'_>) -> Result<(), Fail>
+    ensures made { OnOk result (change_of store.old.shape store.old.tables (entry_of lent.entry) ≡ Ok store.new.tables) }
+    ensures shape { store.new.shape ≡ store.old.shape }
+    ensures whole { store.new.whole ≡ store.old.whole }
+{
+    store.change(&owned(alloc, lent)?)?;
+    Ok(())
+}
+
+/// A store of accounts, each a number and three octets.
+fn accounts_with_octets(alloc: Global) -> Result<PlainStore, Fail>
+    ensures { IfOk result (λ store. store ≡ record { shape = (Int ∷ OctetsOf 3 ∷ []) ∷ []; tables = [] ∷ []; whole = true }) }
+{
+    let kinds = [Kind::Int, Kind::Octets(3)];
+    let schema = Schema::new(alloc, &[("accounts", kinds.as_slice())])?;
+    Ok(PlainStore::new(alloc, &schema)?)
+}
+
 /// A store whose accounts 7 and 8 were put in with the number 5 and the octets `abc`. Then the
 /// octets of account 7 were patched to `xyz`.
 fn with_patched_account(alloc: Global) -> Result<PlainStore, Fail>
@@ -185,26 +233,20 @@ fn with_patched_account(alloc: Global) -> Result<PlainStore, Fail>
     ensures other_first { IfOk result (λ store. IsSome (column_of (row_at (rows_of store.tables 0) 8) 0)) }
     ensures other_second { IfOk result (λ store. IsSome (column_of (row_at (rows_of store.tables 0) 8) 1)) }
 {
-    let kinds = [Kind::Int, Kind::Octets(3)];
-    let schema = Schema::new(alloc, &[("accounts", kinds.as_slice())])?;
-    let mut store = PlainStore::new(alloc, &schema)?;
+    let mut store = accounts_with_octets(alloc)?;
     let table = 0;
-    store.change(&Entry::Insert {
-        table,
-        row: RowId(7),
-        bytes: ByteList::from_vec(Vec::from_slice(alloc, b"\0\0\0\0\0\0\0\x05abc")?),
-    })?;
-    store.change(&Entry::Insert {
-        table,
-        row: RowId(8),
-        bytes: ByteList::from_vec(Vec::from_slice(alloc, b"\0\0\0\0\0\0\0\x05abc")?),
-    })?;
-    store.change(&Entry::Patch {
+    let bytes = b"\0\0\0\0\0\0\0\x05abc";
+    let row = RowId(7);
+    make(alloc, &mut store, EntryRef::Insert { table, row, bytes })?;
+    let row = RowId(8);
+    make(alloc, &mut store, EntryRef::Insert { table, row, bytes })?;
+    let patch = EntryRef::Patch {
         table,
         row: RowId(7),
         offset: 8,
-        bytes: ByteList::from_vec(Vec::from_slice(alloc, b"xyz")?),
-    })?;
+        bytes: b"xyz",
+    };
+    make(alloc, &mut store, patch)?;
     Ok(store)
 }
 
@@ -355,7 +397,7 @@ fn makes_when_asked_again<S: Store>(rt: &impl Abort, store: &mut S, insert: &Ent
 fn a_change_without_memory_changes_nothing(rt: HostRuntime) -> Result<(), Fail> {
     let alloc = rt.alloc();
     let mut store = bank(alloc)?;
-    let insert = entry_of(alloc, Step::Insert(7))?;
+    let insert = entry_at(alloc, Step::Insert(7))?;
     makes_when_asked_again(&rt, &mut store, &insert);
     Ok(())
 }

@@ -22,14 +22,17 @@ remove_entry-only [] row h = refl
 remove_entry-only (first ∷ rows) row h = grind (arith, nat_tests, without_row-absent rows row, remove_entry-only rows row)
 
 -- where all rows come behind an identifier, it is below each
-below_each : (rows : Table) (first i id : ℕ) → AllByRecursion (λ other. nat_cmp first other ≡ Less) (keys_of rows) → id_in rows i ≡ Some id → first < id
+below_each : (rows : Table) (first i id : ℕ) → AllByRecursion (λ other. nat_cmp first other ≡ Less) (keys_of rows) → id_in rows i ≡ Some id
+    → first < id
 below_each [] first i id h e = cc
 below_each (row ∷ rows) first zero id h e = grind (arith, nat_tests, h.0)
 below_each (row ∷ rows) first (suc i) id h e = below_each rows first i id h.1 e
 
 -- in a table whose identifiers ascend, each row before a place is below the one at it
-pub IsAboveAllBefore-sorted : (rows : Table) (i id : ℕ) → IsStrictlySortedBy nat_cmp (keys_of rows) → id_in rows i ≡ Some id → IsAboveAllBefore rows i id
+pub IsAboveAllBefore-sorted : (rows : Table) (i id : ℕ) → IsStrictlySortedBy nat_cmp (keys_of rows) → id_in rows i ≡ Some id
+    → IsAboveAllBefore rows i id
 IsAboveAllBefore-sorted [] i id h e j lt = cc
 IsAboveAllBefore-sorted (row ∷ rows) zero id h e j lt = absurd (omega arith)
 IsAboveAllBefore-sorted (row ∷ rows) (suc i) id h e zero lt = below_each rows row.0 i id (sorted_head nat_cmp row.0 (keys_of rows) h) e
-IsAboveAllBefore-sorted (row ∷ rows) (suc i) id h e (suc j) lt = IsAboveAllBefore-sorted rows i id (sorted_tail nat_cmp row.0 (keys_of rows) h) e j (omega arith)
+IsAboveAllBefore-sorted (row ∷ rows) (suc i) id h e (suc j) lt =
+    IsAboveAllBefore-sorted rows i id (sorted_tail nat_cmp row.0 (keys_of rows) h) e j (omega arith)

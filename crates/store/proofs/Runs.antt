@@ -14,7 +14,8 @@ and_then-step shape entries entry (Err refusal) between after more h = cc
 
 -- one more entry behind those that were made
 pub changes_of-push : (shape : Shape) (tables between after : Tables) (entries : List Entry) (entry : Entry)
-    → changes_of shape tables entries ≡ Ok between → change_of shape between entry ≡ Ok after → changes_of shape tables (entries ++ entry ∷ []) ≡ Ok after
+    → changes_of shape tables entries ≡ Ok between → change_of shape between entry ≡ Ok after
+    → changes_of shape tables (entries ++ entry ∷ []) ≡ Ok after
 changes_of-push shape tables between after [] entry before made =
     let same : tables ≡ between = cc in
     let start : change_of shape tables entry ≡ Ok after = rw same made in

@@ -31,7 +31,8 @@ pub trait ApplyStore: Store {
         ensures ok { OnOk result (commits_of (Self.shape self.old) (Self.tables self.old) commits.now ≡ Ok (Self.tables self.new)) }
         ensures only_whole { OnOk result (Self.is_whole self.old ≡ true) }
         ensures stays_whole { OnOk result (Self.is_whole self.new ≡ true) }
-        ensures err { IfErr result (FailsAs (Self.is_whole self.old) (commits_of (Self.shape self.old) (Self.tables self.old) commits.now)) }
+        ensures err { IfErr result
+            (FailsAs (Self.is_whole self.old) (commits_of (Self.shape self.old) (Self.tables self.old) commits.now)) }
         ensures broken { OnErr result (Self.is_whole self.new ≡ false) }
         ensures shape { Self.shape self.new ≡ Self.shape self.old };
 }

@@ -41,7 +41,8 @@ impl PlainStore {
     /// A store for the tables of a schema, each without rows. It is whole. Fails for want of
     /// memory alone.
     pub fn new(alloc: Global, schema: &Schema) -> Result<PlainStore, AllocError>
-        ensures { IfOk result (λ store. store ≡ record { shape = shape_of schema.now; tables = opening (shape_of schema.now); whole = true }) }
+        ensures { IfOk result (λ store.
+            store ≡ record { shape = shape_of schema.now; tables = opening (shape_of schema.now); whole = true }) }
     {
         Ok(PlainStore {
             alloc,

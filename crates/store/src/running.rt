@@ -14,7 +14,8 @@ use rows::Entry;
 /// refuses the first entry.
 pub fn run<S: Store>(store: &mut S, entries: &[Entry]) -> Result<(), (usize, S::Fault)>
     ensures ok { OnOk result (changes_of (S.shape store.old) (S.tables store.old) entries.now ≡ Ok (S.tables store.new)) }
-    ensures err { IfErr result (λ stop. StopsAt (S.is_whole store.old) (S.shape store.old) (S.tables store.old) (S.tables store.new) entries.now stop.0 (S.kind_of stop.1)) }
+    ensures err { IfErr result (λ stop. StopsAt (S.is_whole store.old) (S.shape store.old) (S.tables store.old)
+        (S.tables store.new) entries.now stop.0 (S.kind_of stop.1)) }
     ensures whole { S.is_whole store.new ≡ S.is_whole store.old }
     ensures shape { S.shape store.new ≡ S.shape store.old }
 {

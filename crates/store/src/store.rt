@@ -74,7 +74,8 @@ pub trait Store {
         ensures ok { OnOk result (change_of (shape self.old) (tables self.old) entry.now ≡ Ok (tables self.new)) }
         ensures only_whole { OnOk result (is_whole self.old ≡ true) }
         ensures err { OnErr result (tables self.new ≡ tables self.old) }
-        ensures refused { IfErr result (λ fault. kind_of fault ≡ fault_kind (is_whole self.old) (change_of (shape self.old) (tables self.old) entry.now)) }
+        ensures refused { IfErr result
+            (λ fault. kind_of fault ≡ fault_kind (is_whole self.old) (change_of (shape self.old) (tables self.old) entry.now)) }
         ensures whole { is_whole self.new ≡ is_whole self.old }
         ensures shape { shape self.new ≡ shape self.old };
 

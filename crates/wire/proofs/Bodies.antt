@@ -1,5 +1,6 @@
 -- What a body of each kind has to be to be read, and what it then reads as.
-use Rattle.std.proofs.Common.{◌≡◌, ℕ, ◌+◌, ◌*◌, ◌<◌, ◌≤◌, Bool, false, cond, eqb, ltb, not, ◌||◌, List, length, get_or, drop, Option, Some, None, refl, ap, ◌∙◌, arith}
+use Rattle.std.proofs.Common.{◌≡◌, ℕ, ◌+◌, ◌*◌, ◌<◌, ◌≤◌, Bool, false, cond, eqb, ltb, not, ◌||◌, List, length, get_or, drop, Option, Some}
+use Rattle.std.proofs.Common.{None, refl, ap, ◌∙◌, arith}
 use Rattle.std.specs.Option.{option_map}
 use Rattle.std.proofs.lemmas.Bool.{cond-false, le-ltb, ltb-false}
 use Rattle.std.proofs.lemmas.Bool.Decides.{nat_tests}
@@ -30,31 +31,40 @@ frames_of body = option_map (λ entries. frame_of body entries) (entries_filling
 abbrev refuses_frame : ℕ → ℕ → ℕ → ℕ → Bool
 refuses_frame worker commit flag count = not (ltb worker WORKERS_MAX) || eqb commit 0 || ltb 1 flag || eqb count 0
 
-takes_frame : (worker commit flag count : ℕ) → worker < WORKERS_MAX → 0 < commit → flag ≤ 1 → 0 < count → refuses_frame worker commit flag count ≡ false
+takes_frame : (worker commit flag count : ℕ) → worker < WORKERS_MAX → 0 < commit → flag ≤ 1 → 0 < count
+    → refuses_frame worker commit flag count ≡ false
 takes_frame worker commit flag count below numbered short some = grind (arith, nat_tests)
 
-takes_frame_only : (worker commit flag count : ℕ) → refuses_frame worker commit flag count ≡ false → (worker < WORKERS_MAX) × (0 < commit) × (flag ≤ 1) × (0 < count)
-takes_frame_only worker commit flag count e = (grind (arith, nat_tests), grind (arith, nat_tests), grind (arith, nat_tests), grind (arith, nat_tests))
+takes_frame_only : (worker commit flag count : ℕ) → refuses_frame worker commit flag count ≡ false → (worker < WORKERS_MAX) × (0 < commit)
+    × (flag ≤ 1) × (0 < count)
+takes_frame_only worker commit flag count e =
+    (grind (arith, nat_tests), grind (arith, nat_tests), grind (arith, nat_tests), grind (arith, nat_tests))
 
-pub frame_at-is : (body : List ℕ) (entries : List Entry) → IsFrameAt body → entries_filling (big_number 2 (drop 18 body)) (drop 20 body) ≡ Some entries → frame_at body ≡ Some (frame_of body entries)
+pub frame_at-is : (body : List ℕ) (entries : List Entry) → IsFrameAt body
+    → entries_filling (big_number 2 (drop 18 body)) (drop 20 body) ≡ Some entries → frame_at body ≡ Some (frame_of body entries)
 frame_at-is body entries h filled =
     let tested = refuses_frame (get_or body 0 0) (big_number 8 (drop 9 body)) (get_or body 17 0) (big_number 2 (drop 18 body)) in
     cond-false (ltb (length body) 20) None (cond tested None (frames_of body)) (le-ltb _ _ h.long)
     ∙ cond-false tested None (frames_of body) (takes_frame _ _ _ _ h.worker h.numbered h.flag h.some)
     ∙ ap (option_map (λ (entries : List Entry). frame_of body entries)) filled
 
-mapped_frame : (body : List ℕ) (filled : Option (List Entry)) (found : Datagram) → option_map (λ entries. frame_of body entries) filled ≡ Some found → (entries : List Entry) × (filled ≡ Some entries) × (found ≡ frame_of body entries)
+mapped_frame : (body : List ℕ) (filled : Option (List Entry)) (found : Datagram)
+    → option_map (λ entries. frame_of body entries) filled ≡ Some found → (entries : List Entry) × (filled ≡ Some entries)
+    × (found ≡ frame_of body entries)
 mapped_frame body None found e = absurd cc
 mapped_frame body (Some entries) found e = (entries, refl, cc)
 
 pub frame_at-only : (body : List ℕ) (found : Datagram) → frame_at body ≡ Some found
-    → IsFrameAt body × ((entries : List Entry) × (entries_filling (big_number 2 (drop 18 body)) (drop 20 body) ≡ Some entries) × (found ≡ frame_of body entries))
+    → IsFrameAt body × ((entries : List Entry) × (entries_filling (big_number 2 (drop 18 body)) (drop 20 body) ≡ Some entries)
+    × (found ≡ frame_of body entries))
 frame_at-only body found e =
     let tested = refuses_frame (get_or body 0 0) (big_number 8 (drop 9 body)) (get_or body 17 0) (big_number 2 (drop 18 body)) in
     let long = guarded (ltb (length body) 20) (cond tested None (frames_of body)) found e in
     let rest = guarded tested (frames_of body) found long.1 in
-    let facts = takes_frame_only (get_or body 0 0) (big_number 8 (drop 9 body)) (get_or body 17 0) (big_number 2 (drop 18 body)) rest.0 in
-    (record { long = ltb-false _ _ long.0; worker = facts.0; numbered = facts.1; flag = facts.2; some = facts.3 }, mapped_frame body (entries_filling (big_number 2 (drop 18 body)) (drop 20 body)) found rest.1)
+    let facts = takes_frame_only (get_or body 0 0) (big_number 8 (drop 9 body)) (get_or body 17 0) (big_number 2 (drop 18 body)) rest.0 in (
+      record { long = ltb-false _ _ long.0; worker = facts.0; numbered = facts.1; flag = facts.2; some = facts.3 },
+      mapped_frame body (entries_filling (big_number 2 (drop 18 body)) (drop 20 body)) found rest.1,
+    )
 
 -- ---- an Ask
 
@@ -93,25 +103,35 @@ pub record IsHeadAt (body : List ℕ) : Type 0 where
   pub whole : length body ≡ 26 + 8 * get_or body 25 0
 
 abbrev pub head_of : List ℕ → Datagram
-head_of body = Head (get_or body 0 0) (big_number 8 (drop 1 body)) (big_number 8 (drop 9 body)) (big_number 8 (drop 17 body)) (counts_at (get_or body 25 0) (drop 26 body))
+head_of body =
+    Head (get_or body 0 0) (big_number 8 (drop 1 body)) (big_number 8 (drop 9 body)) (big_number 8 (drop 17 body))
+    (counts_at (get_or body 25 0) (drop 26 body))
 
 abbrev refuses_head : ℕ → ℕ → ℕ → Bool
-refuses_head replica workers size = not (ltb replica REPLICAS_MAX) || eqb workers 0 || ltb WORKERS_MAX workers || not (eqb size (26 + 8 * workers))
+refuses_head replica workers size =
+    not (ltb replica REPLICAS_MAX) || eqb workers 0 || ltb WORKERS_MAX workers || not (eqb size (26 + 8 * workers))
 
-takes_head : (replica workers size : ℕ) → replica < REPLICAS_MAX → 0 < workers → workers ≤ WORKERS_MAX → size ≡ 26 + 8 * workers → refuses_head replica workers size ≡ false
+takes_head : (replica workers size : ℕ) → replica < REPLICAS_MAX → 0 < workers → workers ≤ WORKERS_MAX → size ≡ 26 + 8 * workers
+    → refuses_head replica workers size ≡ false
 takes_head replica workers size below some few whole = grind (arith, nat_tests)
 
-takes_head_only : (replica workers size : ℕ) → refuses_head replica workers size ≡ false → (replica < REPLICAS_MAX) × (0 < workers) × (workers ≤ WORKERS_MAX) × (size ≡ 26 + 8 * workers)
-takes_head_only replica workers size e = (grind (arith, nat_tests), grind (arith, nat_tests), grind (arith, nat_tests), grind (arith, nat_tests))
+takes_head_only : (replica workers size : ℕ) → refuses_head replica workers size ≡ false → (replica < REPLICAS_MAX) × (0 < workers)
+    × (workers ≤ WORKERS_MAX) × (size ≡ 26 + 8 * workers)
+takes_head_only replica workers size e =
+    (grind (arith, nat_tests), grind (arith, nat_tests), grind (arith, nat_tests), grind (arith, nat_tests))
 
 pub head_at-is : (body : List ℕ) → IsHeadAt body → head_at body ≡ Some (head_of body)
 head_at-is body h =
-    cond-false (ltb (length body) 26) None (cond (refuses_head (get_or body 0 0) (get_or body 25 0) (length body)) None (Some (head_of body))) (le-ltb _ _ h.long)
-    ∙ cond-false (refuses_head (get_or body 0 0) (get_or body 25 0) (length body)) None (Some (head_of body)) (takes_head _ _ _ h.replica h.some h.few h.whole)
+    cond-false (ltb (length body) 26) None
+    (cond (refuses_head (get_or body 0 0) (get_or body 25 0) (length body)) None (Some (head_of body))) (le-ltb _ _ h.long)
+    ∙ cond-false (refuses_head (get_or body 0 0) (get_or body 25 0) (length body)) None (Some (head_of body))
+    (takes_head _ _ _ h.replica h.some h.few h.whole)
 
 pub head_at-only : (body : List ℕ) (found : Datagram) → head_at body ≡ Some found → IsHeadAt body × (found ≡ head_of body)
 head_at-only body found e =
-    let long = guarded (ltb (length body) 26) (cond (refuses_head (get_or body 0 0) (get_or body 25 0) (length body)) None (Some (head_of body))) found e in
+    let long =
+    guarded (ltb (length body) 26) (cond (refuses_head (get_or body 0 0) (get_or body 25 0) (length body)) None (Some (head_of body)))
+    found e in
     let rest = guarded (refuses_head (get_or body 0 0) (get_or body 25 0) (length body)) (Some (head_of body)) found long.1 in
     let facts = takes_head_only (get_or body 0 0) (get_or body 25 0) (length body) rest.0 in
     (record { long = ltb-false _ _ long.0; replica = facts.0; some = facts.1; few = facts.2; whole = facts.3 }, cc)

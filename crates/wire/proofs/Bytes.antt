@@ -36,12 +36,14 @@ front_2 bytes long fits =
     (sym (big_from-take 0 2 2 bytes (omega arith)) ∙ number_2 (take 2 bytes))
 
 -- a number at place k, and what stands behind it
-pub cut_8 : (k : ℕ) (bytes : List ℕ) → k + 8 ≤ length bytes → AreBytes bytes → big_bytes 8 (big_number 8 (drop k bytes)) ++ drop (k + 8) bytes ≡ drop k bytes
+pub cut_8 : (k : ℕ) (bytes : List ℕ) → k + 8 ≤ length bytes → AreBytes bytes
+    → big_bytes 8 (big_number 8 (drop k bytes)) ++ drop (k + 8) bytes ≡ drop k bytes
 cut_8 k bytes long fits =
     ap (λ (t : List ℕ). t ++ drop (k + 8) bytes) (front_8 (drop k bytes) (omega (arith, length-drop k bytes)) (AreBytes-drop k bytes fits))
     ∙ ap (λ (t : List ℕ). take 8 (drop k bytes) ++ t) (sym (drop-drop 8 k bytes)) ∙ take-append-drop 8 (drop k bytes)
 
-pub cut_2 : (k : ℕ) (bytes : List ℕ) → k + 2 ≤ length bytes → AreBytes bytes → big_bytes 2 (big_number 2 (drop k bytes)) ++ drop (k + 2) bytes ≡ drop k bytes
+pub cut_2 : (k : ℕ) (bytes : List ℕ) → k + 2 ≤ length bytes → AreBytes bytes
+    → big_bytes 2 (big_number 2 (drop k bytes)) ++ drop (k + 2) bytes ≡ drop k bytes
 cut_2 k bytes long fits =
     ap (λ (t : List ℕ). t ++ drop (k + 2) bytes) (front_2 (drop k bytes) (omega (arith, length-drop k bytes)) (AreBytes-drop k bytes fits))
     ∙ ap (λ (t : List ℕ). take 2 (drop k bytes) ++ t) (sym (drop-drop 2 k bytes)) ∙ take-append-drop 2 (drop k bytes)

@@ -1,5 +1,6 @@
 -- Entries that fill bytes: read one after the other, what is read is spelled so, and what is spelled so is read.
-use Rattle.std.proofs.Common.{◌≡◌, ℕ, zero, suc, ◌+◌, ◌-◌, ◌<◌, Bool, false, List, [], ◌∷◌, ◌++◌, length, drop, Option, Some, None, refl, sym, ap, subst, ◌∙◌, append_assoc, arith}
+use Rattle.std.proofs.Common.{◌≡◌, ℕ, zero, suc, ◌+◌, ◌-◌, ◌<◌, Bool, false, List, [], ◌∷◌, ◌++◌, length, drop, Option, Some, None, refl}
+use Rattle.std.proofs.Common.{sym, ap, subst, ◌∙◌, append_assoc, arith}
 use Rattle.std.specs.Prelude.{is_some}
 use Rattle.std.specs.Option.{option_map}
 use Rattle.std.proofs.lemmas.List.{drop_at}
@@ -34,57 +35,73 @@ filled_more count i bytes found answer lt e so_far =
     sym (some_option_map (λ (others : List Entry). found.0 ∷ others) (entries_filling (count - (i + 1)) (drop found.1 bytes)))
     ∙ sym (ap (λ (o : Option (List Entry)). is_some o) (filling_more count i bytes found lt e)) ∙ so_far
 
-pub filled_not : (count i : ℕ) (bytes : List ℕ) (answer : Bool) → i < count → entry_at bytes ≡ None → is_some (entries_filling (count - i) bytes) ≡ answer → false ≡ answer
+pub filled_not : (count i : ℕ) (bytes : List ℕ) (answer : Bool) → i < count → entry_at bytes ≡ None
+    → is_some (entries_filling (count - i) bytes) ≡ answer → false ≡ answer
 filled_not count i bytes answer lt e so_far = sym (ap (λ (o : Option (List Entry)). is_some o) (filling_none count i bytes lt e)) ∙ so_far
 
 -- the entries that fill the bytes, as a loop gathers them
-pub gathered_more : (front : List Entry) (count i : ℕ) (bytes : List ℕ) (found : Entry × ℕ) (all : Option (List Entry)) → i < count → entry_at bytes ≡ Some found
+pub gathered_more : (front : List Entry) (count i : ℕ) (bytes : List ℕ) (found : Entry × ℕ) (all : Option (List Entry)) → i < count
+    → entry_at bytes ≡ Some found
     → all ≡ option_map (λ others. front ++ others) (entries_filling (count - i) bytes)
     → all ≡ option_map (λ others. (front ++ found.0 ∷ []) ++ others) (entries_filling (count - (i + 1)) (drop found.1 bytes))
 gathered_more front count i bytes found all lt e so_far =
-    so_far ∙ ap (option_map (λ (others : List Entry). front ++ others)) (filling_more count i bytes found lt e) ∙ regroup (entries_filling (count - (i + 1)) (drop found.1 bytes))
+    so_far ∙ ap (option_map (λ (others : List Entry). front ++ others)) (filling_more count i bytes found lt e)
+    ∙ regroup (entries_filling (count - (i + 1)) (drop found.1 bytes))
   where
-    regroup : (o : Option (List Entry)) → option_map (λ others. front ++ others) (option_map (λ others. found.0 ∷ others) o) ≡ option_map (λ others. (front ++ found.0 ∷ []) ++ others) o
+    regroup : (o : Option (List Entry))
+        → option_map (λ others. front ++ others) (option_map (λ others. found.0 ∷ others) o) ≡ option_map
+        (λ others. (front ++ found.0 ∷ []) ++ others) o
     regroup None = refl
     regroup (Some others) = ap (λ (es : List Entry). Some es) (sym (append_assoc front (found.0 ∷ []) others))
 
 pub gathered_not : (front : List Entry) (count i : ℕ) (bytes : List ℕ) (all : Option (List Entry)) → i < count → entry_at bytes ≡ None
     → all ≡ option_map (λ others. front ++ others) (entries_filling (count - i) bytes) → all ≡ None
-gathered_not front count i bytes all lt e so_far = so_far ∙ ap (option_map (λ (others : List Entry). front ++ others)) (filling_none count i bytes lt e)
+gathered_not front count i bytes all lt e so_far =
+    so_far ∙ ap (option_map (λ (others : List Entry). front ++ others)) (filling_none count i bytes lt e)
 
 -- as many entries as were asked for
 behind-length : (count : ℕ) (found : Option (Entry × ℕ)) (others : ℕ → Option (List Entry)) (entries : List Entry)
-    → ((len : ℕ) (rest : List Entry) → others len ≡ Some rest → length rest ≡ count) → behind found others ≡ Some entries → length entries ≡ suc count
+    → ((len : ℕ) (rest : List Entry) → others len ≡ Some rest → length rest ≡ count) → behind found others ≡ Some entries
+    → length entries ≡ suc count
 behind-length count None others entries h e = absurd cc
 behind-length count (Some found) others entries h e = mapped (others found.1) (h found.1) e
   where
-    mapped : (o : Option (List Entry)) → ((rest : List Entry) → o ≡ Some rest → length rest ≡ count) → option_map (λ rest. found.0 ∷ rest) o ≡ Some entries → length entries ≡ suc count
+    mapped : (o : Option (List Entry)) → ((rest : List Entry) → o ≡ Some rest → length rest ≡ count)
+        → option_map (λ rest. found.0 ∷ rest) o ≡ Some entries → length entries ≡ suc count
     mapped None h e = absurd cc
     mapped (Some rest) h e = let k : (found.0 ∷ rest) ≡ entries = cc in ap length (sym k) ∙ ap suc (h rest refl)
 
-pub filling-length : (count : ℕ) (bytes : List ℕ) (entries : List Entry) → entries_filling count bytes ≡ Some entries → length entries ≡ count
+pub filling-length : (count : ℕ) (bytes : List ℕ) (entries : List Entry) → entries_filling count bytes ≡ Some entries
+    → length entries ≡ count
 filling-length zero [] entries e = let k : [] ≡ entries = cc in ap length (sym k)
 filling-length zero (byte ∷ bytes) entries e = absurd cc
 filling-length (suc count) bytes entries e =
-    behind-length count (entry_at bytes) (λ len. entries_filling count (drop len bytes)) entries (λ len rest. filling-length count (drop len bytes) rest) e
+    behind-length count (entry_at bytes) (λ len. entries_filling count (drop len bytes)) entries
+    (λ len rest. filling-length count (drop len bytes) rest) e
 
 -- what is read is spelled so
 behind-spelled : (count : ℕ) (bytes : List ℕ) (found : Option (Entry × ℕ)) (entries : List Entry) → AreBytes bytes → entry_at bytes ≡ found
-    → ((len : ℕ) (others : List Entry) → entries_filling count (drop len bytes) ≡ Some others → AllByRecursion HasSpelling others × (drop len bytes ≡ flat_map entry_spelling others))
-    → behind found (λ len. entries_filling count (drop len bytes)) ≡ Some entries → AllByRecursion HasSpelling entries × (bytes ≡ flat_map entry_spelling entries)
+    → ((len : ℕ) (others : List Entry) → entries_filling count (drop len bytes) ≡ Some others → AllByRecursion HasSpelling others
+    × (drop len bytes ≡ flat_map entry_spelling others))
+    → behind found (λ len. entries_filling count (drop len bytes)) ≡ Some entries → AllByRecursion HasSpelling entries
+    × (bytes ≡ flat_map entry_spelling entries)
 behind-spelled count bytes None entries fits is h e = absurd cc
 behind-spelled count bytes (Some found) entries fits is h e = mapped (entries_filling count (drop found.1 bytes)) (h found.1) e
   where
     first : IsSpelledAt bytes found
     first = entry_at-spelled bytes found fits is
 
-    mapped : (o : Option (List Entry)) → ((others : List Entry) → o ≡ Some others → AllByRecursion HasSpelling others × (drop found.1 bytes ≡ flat_map entry_spelling others))
-        → option_map (λ others. found.0 ∷ others) o ≡ Some entries → AllByRecursion HasSpelling entries × (bytes ≡ flat_map entry_spelling entries)
+    mapped : (o : Option (List Entry))
+        → ((others : List Entry) → o ≡ Some others → AllByRecursion HasSpelling others
+        × (drop found.1 bytes ≡ flat_map entry_spelling others))
+        → option_map (λ others. found.0 ∷ others) o ≡ Some entries → AllByRecursion HasSpelling entries
+        × (bytes ≡ flat_map entry_spelling entries)
     mapped None h e = absurd cc
     mapped (Some others) h e =
         let same : (found.0 ∷ others) ≡ entries = cc in
         let rest = h others refl in
-        subst (λ (es : List Entry). AllByRecursion HasSpelling es × (bytes ≡ flat_map entry_spelling es)) same ((first.spelled, rest.0), first.parts ∙ ap (λ (t : List ℕ). entry_spelling found.0 ++ t) rest.1)
+        subst (λ (es : List Entry). AllByRecursion HasSpelling es × (bytes ≡ flat_map entry_spelling es)) same
+        ((first.spelled, rest.0), first.parts ∙ ap (λ (t : List ℕ). entry_spelling found.0 ++ t) rest.1)
 
 pub filling-spelled : (count : ℕ) (bytes : List ℕ) (entries : List Entry) → AreBytes bytes → entries_filling count bytes ≡ Some entries
     → AllByRecursion HasSpelling entries × (bytes ≡ flat_map entry_spelling entries)
@@ -93,13 +110,17 @@ filling-spelled zero [] entries fits e =
     subst (λ (es : List Entry). AllByRecursion HasSpelling es × ([] ≡ flat_map entry_spelling es)) same (tt, refl)
 filling-spelled zero (byte ∷ bytes) entries fits e = absurd cc
 filling-spelled (suc count) bytes entries fits e =
-    behind-spelled count bytes (entry_at bytes) entries fits refl (λ len others is. filling-spelled count (drop len bytes) others (AreBytes-drop len bytes fits) is) e
+    behind-spelled count bytes (entry_at bytes) entries fits refl
+    (λ len others is. filling-spelled count (drop len bytes) others (AreBytes-drop len bytes fits) is) e
 
 -- what is spelled so is read
-pub filling-again : (entries : List Entry) → AllByRecursion HasSpelling entries → entries_filling (length entries) (flat_map entry_spelling entries) ≡ Some entries
+pub filling-again : (entries : List Entry) → AllByRecursion HasSpelling entries
+    → entries_filling (length entries) (flat_map entry_spelling entries) ≡ Some entries
 filling-again [] fits = refl
 filling-again (entry ∷ entries) fits =
     let rest = flat_map entry_spelling entries in
-    ap (λ (o : Option (Entry × ℕ)). behind o (λ len. entries_filling (length entries) (drop len (entry_spelling entry ++ rest)))) (entry_at-again entry rest fits.0)
-    ∙ ap (λ (t : List ℕ). option_map (λ others. entry ∷ others) (entries_filling (length entries) t)) (drop_at (entry_spelling entry) rest (length (entry_spelling entry)) refl)
+    ap (λ (o : Option (Entry × ℕ)). behind o (λ len. entries_filling (length entries) (drop len (entry_spelling entry ++ rest))))
+    (entry_at-again entry rest fits.0)
+    ∙ ap (λ (t : List ℕ). option_map (λ others. entry ∷ others) (entries_filling (length entries) t))
+    (drop_at (entry_spelling entry) rest (length (entry_spelling entry)) refl)
     ∙ ap (option_map (λ (others : List Entry). entry ∷ others)) (filling-again entries fits.1)

@@ -14,17 +14,21 @@ use Rattle.wire.proofs.Lengths.{spelling_few}
 use Rattle.wire.proofs.SpelledIsRead.{reading-again}
 
 -- the total length stands in the fifth and the sixth byte
-total_in_front : (kind : ℕ) (body rest : List ℕ) → 6 + length body ≤ DATAGRAM_MAX → big_number 2 (drop 4 (datagram_of kind body ++ rest)) ≡ 6 + length body
+total_in_front : (kind : ℕ) (body rest : List ℕ) → 6 + length body ≤ DATAGRAM_MAX
+    → big_number 2 (drop 4 (datagram_of kind body ++ rest)) ≡ 6 + length body
 total_in_front kind body rest few = big_number-reads_back 2 (6 + length body) (body ++ rest) (omega arith)
 
-total_is : (datagram : Datagram) (rest : List ℕ) → HasSpelling datagram → big_number 2 (drop 4 (spelling datagram ++ rest)) ≡ length (spelling datagram)
+total_is : (datagram : Datagram) (rest : List ℕ) → HasSpelling datagram
+    → big_number 2 (drop 4 (spelling datagram ++ rest)) ≡ length (spelling datagram)
 total_is (Frame worker seq commit last entries) rest fits =
     let few = spelling_few (Frame worker seq commit last entries) fits in
-    total_in_front 1 (frame_head worker seq commit last (length entries) ++ flat_map entry_spelling entries) rest (omega arith) ∙ omega arith
+    total_in_front 1 (frame_head worker seq commit last (length entries) ++ flat_map entry_spelling entries) rest (omega arith)
+    ∙ omega arith
 total_is (Ask replica boot request) rest fits = total_in_front 2 (ask_body replica boot request) rest (omega arith)
 total_is (Head replica boot request version counts) rest fits =
     let few = spelling_few (Head replica boot request version counts) fits in
-    total_in_front 3 (head_head replica boot request version (length counts) ++ flat_map (big_bytes 8) counts) rest (omega arith) ∙ omega arith
+    total_in_front 3 (head_head replica boot request version (length counts) ++ flat_map (big_bytes 8) counts) rest (omega arith)
+    ∙ omega arith
 total_is (Want replica worker from) rest fits = total_in_front 4 (want_body replica worker from) rest (omega arith)
 
 both_read : (d e : Datagram) → HasSpelling d → HasSpelling e → IsRead d → IsRead e → spelling d ≡ spelling e → d ≡ e
@@ -63,16 +67,20 @@ pub is_one_to_one : (d e : Datagram) → HasSpelling d → HasSpelling e → spe
 is_one_to_one (Want replica worker from) (Want replica' worker' from') fits_d fits_e same =
     let one : replica ≡ replica' = ap (λ (bytes : List ℕ). get_or bytes 6 0) same in
     let two : worker ≡ worker' = ap (λ (bytes : List ℕ). get_or bytes 7 0) same in
-    let three : from ≡ from' = sym (big_number-reads_back 8 from [] fits_d.2) ∙ ap (λ (bytes : List ℕ). big_number 8 (drop 8 bytes)) same ∙ big_number-reads_back 8 from' [] fits_e.2 in
+    let three : from ≡ from' =
+    sym (big_number-reads_back 8 from [] fits_d.2) ∙ ap (λ (bytes : List ℕ). big_number 8 (drop 8 bytes)) same
+    ∙ big_number-reads_back 8 from' [] fits_e.2 in
     cc
 is_one_to_one (Want replica worker from) e fits_d fits_e same = absurd (not_want e replica worker from tt (sym same))
 is_one_to_one d (Want replica worker from) fits_d fits_e same = absurd (not_want d replica worker from tt same)
 is_one_to_one d e fits_d fits_e same = both_read d e fits_d fits_e tt tt same
 
-pub is_prefix_free : (d e : Datagram) (rest : List ℕ) → HasSpelling d → HasSpelling e → spelling d ++ rest ≡ spelling e → (d ≡ e) × (rest ≡ [])
+pub is_prefix_free : (d e : Datagram) (rest : List ℕ) → HasSpelling d → HasSpelling e → spelling d ++ rest ≡ spelling e → (d ≡ e)
+    × (rest ≡ [])
 is_prefix_free d e rest fits_d fits_e same =
     let total : length (spelling d) ≡ length (spelling e) =
-    sym (total_is d rest fits_d) ∙ ap (λ (bytes : List ℕ). big_number 2 (drop 4 bytes)) (same ∙ sym (append-nil (spelling e))) ∙ total_is e [] fits_e in
+    sym (total_is d rest fits_d) ∙ ap (λ (bytes : List ℕ). big_number 2 (drop 4 bytes)) (same ∙ sym (append-nil (spelling e)))
+    ∙ total_is e [] fits_e in
     let none : rest ≡ [] = nil_from_length rest (omega (arith, length-append (spelling d) rest, ap length same)) in
     let whole : spelling d ≡ spelling e = sym (append-nil (spelling d)) ∙ ap (λ (t : List ℕ). spelling d ++ t) (sym none) ∙ same in
     (is_one_to_one d e fits_d fits_e whole, none)

@@ -1,5 +1,6 @@
 -- A datagram that is read is spelled so.
-use Rattle.std.proofs.Common.{◌≡◌, ℕ, ◌+◌, ◌≤◌, Bool, false, cond, eqb, ltb, not, ◌||◌, ◌&&◌, List, [], ◌∷◌, ◌++◌, length, get_or, drop, Option, Some, None, Result, Ok, Err, IfOk, refl, sym, ap, subst, ◌∙◌, arith, length-drop, zero, suc}
+use Rattle.std.proofs.Common.{◌≡◌, ℕ, ◌+◌, ◌≤◌, Bool, false, cond, eqb, ltb, not, ◌||◌, ◌&&◌, List, [], ◌∷◌, ◌++◌, length, get_or, drop}
+use Rattle.std.proofs.Common.{Option, Some, None, Result, Ok, Err, IfOk, refl, sym, ap, subst, ◌∙◌, arith, length-drop, zero, suc}
 use Rattle.std.specs.Option.{ok_or}
 use Rattle.std.specs.List.{flat_map}
 use Rattle.std.proofs.lemmas.Bool.{ltb-false, eqb-true, not-false, or_parts}
@@ -29,7 +30,8 @@ flag_is zero h = refl
 flag_is (suc zero) h = refl
 flag_is (suc (suc n)) h = absurd (omega arith)
 
-frame_at-spelled : (body : List ℕ) (found : Datagram) → AreBytes body → 6 + length body ≤ DATAGRAM_MAX → frame_at body ≡ Some found → IsSpelledBody 1 body found
+frame_at-spelled : (body : List ℕ) (found : Datagram) → AreBytes body → 6 + length body ≤ DATAGRAM_MAX → frame_at body ≡ Some found
+    → IsSpelledBody 1 body found
 frame_at-spelled body found fits few e =
     let only = frame_at-only body found e in
     let tested = only.0 in
@@ -43,8 +45,11 @@ frame_at-spelled body found fits few e =
     let as_many = filling-length count (drop 20 body) entries only.1.1 in
     let rest = filling-spelled count (drop 20 body) entries (AreBytes-drop 20 body fits) only.1.1 in
     let joined = flat_map entry_spelling entries in
-    let at_18 : big_bytes 2 (length entries) ++ joined ≡ drop 18 body = ap (λ (n : ℕ). big_bytes 2 n ++ joined) as_many ∙ ap (λ (t : List ℕ). big_bytes 2 count ++ t) (sym rest.1) ∙ cut_2 18 body (omega arith) fits in
-    let at_17 : flag last ∷ drop 18 body ≡ drop 17 body = ap (λ (n : ℕ). n ∷ drop 18 body) (flag_is (get_or body 17 0) tested.flag) ∙ cut_1 17 body (omega arith) in
+    let at_18 : big_bytes 2 (length entries) ++ joined ≡ drop 18 body =
+    ap (λ (n : ℕ). big_bytes 2 n ++ joined) as_many ∙ ap (λ (t : List ℕ). big_bytes 2 count ++ t) (sym rest.1)
+    ∙ cut_2 18 body (omega arith) fits in
+    let at_17 : flag last ∷ drop 18 body ≡ drop 17 body =
+    ap (λ (n : ℕ). n ∷ drop 18 body) (flag_is (get_or body 17 0) tested.flag) ∙ cut_1 17 body (omega arith) in
     let at_9 : big_bytes 8 commit ++ drop 17 body ≡ drop 9 body = cut_8 9 body (omega arith) fits in
     let at_1 : big_bytes 8 seq ++ drop 9 body ≡ drop 1 body = cut_8 1 body (omega arith) fits in
     let at_0 : worker ∷ drop 1 body ≡ body = cut_1 0 body (omega arith) in
@@ -54,7 +59,16 @@ frame_at-spelled body found fits few e =
     ∙ ap (λ (t : List ℕ). worker ∷ (big_bytes 8 seq ++ t)) at_9 ∙ ap (λ (t : List ℕ). worker ∷ t) at_1 ∙ at_0 in
     let size = ap length parts in
     let made : IsSpelledBody 1 body (frame_of body entries) = record {
-      spelled = record { worker_below = tested.worker; seq_below = number_fits 8 1 body fits; commit_numbered = tested.numbered; commit_below = number_fits 8 9 body fits; some = omega (arith, as_many, tested.some); spelled = rest.0; few = omega arith };
+      spelled =
+          record {
+            worker_below = tested.worker;
+            seq_below = number_fits 8 1 body fits;
+            commit_numbered = tested.numbered;
+            commit_below = number_fits 8 9 body fits;
+            some = omega (arith, as_many, tested.some);
+            spelled = rest.0;
+            few = omega arith;
+          };
       whole = ap (datagram_of 1) (sym parts);
     } in
     subst (IsSpelledBody 1 body) (sym only.1.2) made
@@ -68,13 +82,15 @@ ask_at-spelled body found fits e =
     let boot = big_number 8 (drop 1 body) in
     let request = big_number 8 (drop 9 body) in
     let none : drop 17 body ≡ [] = nil_from_length (drop 17 body) (omega (arith, length-drop 17 body)) in
-    let at_9 : big_bytes 8 request ++ [] ≡ drop 9 body = ap (λ (t : List ℕ). big_bytes 8 request ++ t) (sym none) ∙ cut_8 9 body (omega arith) fits in
+    let at_9 : big_bytes 8 request ++ [] ≡ drop 9 body =
+    ap (λ (t : List ℕ). big_bytes 8 request ++ t) (sym none) ∙ cut_8 9 body (omega arith) fits in
     let at_1 : big_bytes 8 boot ++ drop 9 body ≡ drop 1 body = cut_8 1 body (omega arith) fits in
     let at_0 : replica ∷ drop 1 body ≡ body = cut_1 0 body (omega arith) in
     let parts : ask_body replica boot request ≡ body =
     ap (λ (t : List ℕ). replica ∷ (big_bytes 8 boot ++ t)) at_9 ∙ ap (λ (t : List ℕ). replica ∷ t) at_1 ∙ at_0 in
     let made : IsSpelledBody 2 body (ask_of body) = record {
-      spelled = record { replica_below = tested.replica; boot_below = number_fits 8 1 body fits; request_below = number_fits 8 9 body fits };
+      spelled =
+          record { replica_below = tested.replica; boot_below = number_fits 8 1 body fits; request_below = number_fits 8 9 body fits };
       whole = ap (datagram_of 2) (sym parts);
     } in
     subst (IsSpelledBody 2 body) (sym only.1) made
@@ -93,7 +109,8 @@ head_at-spelled body found fits e =
     let as_many = length-counts_at workers (drop 26 body) in
     let rest = counts_at-spelled workers (drop 26 body) (AreBytes-drop 26 body fits) (omega (arith, length-drop 26 body)) in
     let at_25 : length counts ∷ flat_map (big_bytes 8) counts ≡ drop 25 body =
-    ap (λ (n : ℕ). n ∷ flat_map (big_bytes 8) counts) as_many ∙ ap (λ (t : List ℕ). workers ∷ t) (sym rest.1) ∙ cut_1 25 body (omega arith) in
+    ap (λ (n : ℕ). n ∷ flat_map (big_bytes 8) counts) as_many ∙ ap (λ (t : List ℕ). workers ∷ t) (sym rest.1)
+    ∙ cut_1 25 body (omega arith) in
     let at_17 : big_bytes 8 version ++ drop 25 body ≡ drop 17 body = cut_8 17 body (omega arith) fits in
     let at_9 : big_bytes 8 request ++ drop 17 body ≡ drop 9 body = cut_8 9 body (omega arith) fits in
     let at_1 : big_bytes 8 boot ++ drop 9 body ≡ drop 1 body = cut_8 1 body (omega arith) fits in
@@ -103,7 +120,15 @@ head_at-spelled body found fits e =
     ∙ ap (λ (t : List ℕ). replica ∷ (big_bytes 8 boot ++ (big_bytes 8 request ++ t))) at_17
     ∙ ap (λ (t : List ℕ). replica ∷ (big_bytes 8 boot ++ t)) at_9 ∙ ap (λ (t : List ℕ). replica ∷ t) at_1 ∙ at_0 in
     let made : IsSpelledBody 3 body (head_of body) = record {
-      spelled = (record { replica_below = tested.replica; boot_below = number_fits 8 1 body fits; request_below = number_fits 8 9 body fits }, number_fits 8 17 body fits, record { some = omega (arith, as_many, tested.some); few = omega (arith, as_many, tested.few); below = rest.0 });
+      spelled = (
+        record { replica_below = tested.replica; boot_below = number_fits 8 1 body fits; request_below = number_fits 8 9 body fits },
+        number_fits 8 17 body fits,
+        record {
+          some = omega (arith, as_many, tested.some);
+          few = omega (arith, as_many, tested.few);
+          below = rest.0;
+        },
+      );
       whole = ap (datagram_of 3) (sym parts);
     } in
     subst (IsSpelledBody 3 body) (sym only.1) made
@@ -143,13 +168,17 @@ front_parts bytes fits front =
     let kind = get_or bytes 3 0 in
     let body = drop 6 bytes in
     let size : big_number 2 (drop 4 bytes) ≡ 6 + length body = omega (arith, front.total, length-drop 6 bytes) in
-    let at_4 : big_bytes 2 (6 + length body) ++ body ≡ drop 4 bytes = ap (λ (n : ℕ). big_bytes 2 n ++ body) (sym size) ∙ cut_2 4 bytes (omega arith) fits in
+    let at_4 : big_bytes 2 (6 + length body) ++ body ≡ drop 4 bytes =
+    ap (λ (n : ℕ). big_bytes 2 n ++ body) (sym size) ∙ cut_2 4 bytes (omega arith) fits in
     let at_3 : kind ∷ drop 4 bytes ≡ drop 3 bytes = cut_1 3 bytes (omega arith) in
     let at_2 : 1 ∷ drop 3 bytes ≡ drop 2 bytes = ap (λ (n : ℕ). n ∷ drop 3 bytes) (sym front.version) ∙ cut_1 2 bytes (omega arith) in
-    let at_0 : big_bytes 2 0x4244 ++ drop 2 bytes ≡ bytes = ap (λ (n : ℕ). big_bytes 2 n ++ drop 2 bytes) (sym front.magic) ∙ cut_2 0 bytes (omega arith) fits in
-    sym (ap (λ (t : List ℕ). 0x42 ∷ 0x44 ∷ 1 ∷ kind ∷ t) at_4 ∙ ap (λ (t : List ℕ). 0x42 ∷ 0x44 ∷ 1 ∷ t) at_3 ∙ ap (λ (t : List ℕ). 0x42 ∷ 0x44 ∷ t) at_2 ∙ at_0)
+    let at_0 : big_bytes 2 0x4244 ++ drop 2 bytes ≡ bytes =
+    ap (λ (n : ℕ). big_bytes 2 n ++ drop 2 bytes) (sym front.magic) ∙ cut_2 0 bytes (omega arith) fits in
+    sym (ap (λ (t : List ℕ). 0x42 ∷ 0x44 ∷ 1 ∷ kind ∷ t) at_4 ∙ ap (λ (t : List ℕ). 0x42 ∷ 0x44 ∷ 1 ∷ t) at_3
+    ∙ ap (λ (t : List ℕ). 0x42 ∷ 0x44 ∷ t) at_2 ∙ at_0)
 
-reading-only : (bytes : List ℕ) (found : Datagram) → reading bytes ≡ Ok found → IsFront bytes × (body_at (get_or bytes 3 0) (drop 6 bytes) ≡ Some found)
+reading-only : (bytes : List ℕ) (found : Datagram) → reading bytes ≡ Ok found → IsFront bytes
+    × (body_at (get_or bytes 3 0) (drop 6 bytes) ≡ Some found)
 reading-only bytes found e =
     let kind = get_or bytes 3 0 in
     let total = not (eqb (big_number 2 (drop 4 bytes)) (length bytes)) || ltb DATAGRAM_MAX (length bytes) in
@@ -175,15 +204,19 @@ reading-only bytes found e =
       ok_or_ok (body_at kind (drop 6 bytes)) found p4.1,
     )
 
-pub reading-spelled : (bytes : List ℕ) (found : Datagram) → AreBytes bytes → reading bytes ≡ Ok found → HasSpelling found × (bytes ≡ spelling found)
+pub reading-spelled : (bytes : List ℕ) (found : Datagram) → AreBytes bytes → reading bytes ≡ Ok found → HasSpelling found
+    × (bytes ≡ spelling found)
 reading-spelled bytes found fits e =
     let only = reading-only bytes found e in
     let front = only.0 in
     let kind = get_or bytes 3 0 in
-    let body = body_at-spelled kind (drop 6 bytes) found (AreBytes-drop 6 bytes fits) (omega (arith, front.few, front.long, length-drop 6 bytes)) front.known only.1 in
+    let body =
+    body_at-spelled kind (drop 6 bytes) found (AreBytes-drop 6 bytes fits)
+    (omega (arith, front.few, front.long, length-drop 6 bytes)) front.known only.1 in
     (body.spelled, front_parts bytes fits front ∙ body.whole)
 
 -- the same of what a reader returned
-pub is_found : (bytes : List ℕ) (result : Result Datagram WireFault) → AreBytes bytes → result ≡ reading bytes → IfOk result (λ found. HasSpelling found × (bytes ≡ spelling found))
+pub is_found : (bytes : List ℕ) (result : Result Datagram WireFault) → AreBytes bytes → result ≡ reading bytes
+    → IfOk result (λ found. HasSpelling found × (bytes ≡ spelling found))
 is_found bytes (Ok found) fits is = reading-spelled bytes found fits (sym is)
 is_found bytes (Err fault) fits is = tt

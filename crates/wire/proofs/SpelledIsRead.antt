@@ -1,5 +1,6 @@
 -- A datagram that is spelled so is read.
-use Rattle.std.proofs.Common.{◌≡◌, ℕ, ◌+◌, ◌≤◌, Bool, true, false, eqb, ltb, not, ◌||◌, ◌&&◌, List, [], ◌++◌, length, drop, Some, Ok, refl, ap, ◌∙◌, arith}
+use Rattle.std.proofs.Common.{◌≡◌, ℕ, ◌+◌, ◌≤◌, Bool, true, false, eqb, ltb, not, ◌||◌, ◌&&◌, List, [], ◌++◌, length, drop, Some, Ok, refl}
+use Rattle.std.proofs.Common.{ap, ◌∙◌, arith}
 use Rattle.std.specs.List.{flat_map}
 use Rattle.std.proofs.lemmas.Bool.{le-ltb, eq-eqb, not_from_true, or_from}
 use Rattle.byteorder.specs.Endian.{big_bytes, big_number}
@@ -26,20 +27,30 @@ flag_few false = omega arith
 flag_few true = omega arith
 
 frame_at-again : (worker seq commit : ℕ) (last : Bool) (entries : List Entry) → IsFrame worker seq commit entries
-    → frame_at (frame_head worker seq commit last (length entries) ++ flat_map entry_spelling entries) ≡ Some (Frame worker seq commit last entries)
+    → frame_at (frame_head worker seq commit last (length entries) ++ flat_map entry_spelling entries) ≡ Some
+    (Frame worker seq commit last entries)
 frame_at-again worker seq commit last entries fits =
     let joined = flat_map entry_spelling entries in
     let body : List ℕ = frame_head worker seq commit last (length entries) ++ joined in
-    let count_is : big_number 2 (drop 18 body) ≡ length entries = big_number-reads_back 2 (length entries) joined (omega (arith, fits.few, entries_few entries)) in
+    let count_is : big_number 2 (drop 18 body) ≡ length entries =
+    big_number-reads_back 2 (length entries) joined (omega (arith, fits.few, entries_few entries)) in
     let commit_is : big_number 8 (drop 9 body) ≡ commit = big_number-reads_back 8 commit (drop 17 body) fits.commit_below in
     let seq_is : big_number 8 (drop 1 body) ≡ seq = big_number-reads_back 8 seq (drop 9 body) fits.seq_below in
-    let filled : entries_filling (big_number 2 (drop 18 body)) joined ≡ Some entries = ap (λ (n : ℕ). entries_filling n joined) count_is ∙ filling-again entries fits.spelled in
-    frame_at-is body entries (record { long = omega arith; worker = fits.worker_below; numbered = omega (arith, commit_is, fits.commit_numbered); flag = flag_few last; some = omega (arith, count_is, fits.some) }) filled
+    let filled : entries_filling (big_number 2 (drop 18 body)) joined ≡ Some entries =
+    ap (λ (n : ℕ). entries_filling n joined) count_is ∙ filling-again entries fits.spelled in
+    frame_at-is body entries (record {
+      long = omega arith;
+      worker = fits.worker_below;
+      numbered = omega (arith, commit_is, fits.commit_numbered);
+      flag = flag_few last;
+      some = omega (arith, count_is, fits.some);
+    }) filled
     ∙ ap (λ (n : ℕ). Some (Frame worker n (big_number 8 (drop 9 body)) (eqb (flag last) 1) entries)) seq_is
     ∙ ap (λ (n : ℕ). Some (Frame worker seq n (eqb (flag last) 1) entries)) commit_is
     ∙ ap (λ (b : Bool). Some (Frame worker seq commit b entries)) (flag_again last)
 
-ask_at-again : (replica boot request : ℕ) → IsAsk replica boot request → ask_at (ask_body replica boot request) ≡ Some (Ask replica boot request)
+ask_at-again : (replica boot request : ℕ) → IsAsk replica boot request
+    → ask_at (ask_body replica boot request) ≡ Some (Ask replica boot request)
 ask_at-again replica boot request fits =
     let body : List ℕ = ask_body replica boot request in
     let boot_is : big_number 8 (drop 1 body) ≡ boot = big_number-reads_back 8 boot (drop 9 body) fits.boot_below in
@@ -49,7 +60,8 @@ ask_at-again replica boot request fits =
     ∙ ap (λ (n : ℕ). Some (Ask replica boot n)) request_is
 
 head_at-again : (replica boot request version : ℕ) (counts : List ℕ) → HasSpelling (Head replica boot request version counts)
-    → head_at (head_head replica boot request version (length counts) ++ flat_map (big_bytes 8) counts) ≡ Some (Head replica boot request version counts)
+    → head_at (head_head replica boot request version (length counts) ++ flat_map (big_bytes 8) counts) ≡ Some
+    (Head replica boot request version counts)
 head_at-again replica boot request version counts fits =
     let joined = flat_map (big_bytes 8) counts in
     let body : List ℕ = head_head replica boot request version (length counts) ++ joined in
@@ -57,8 +69,15 @@ head_at-again replica boot request version counts fits =
     let request_is : big_number 8 (drop 9 body) ≡ request = big_number-reads_back 8 request (drop 17 body) fits.0.request_below in
     let version_is : big_number 8 (drop 17 body) ≡ version = big_number-reads_back 8 version (drop 25 body) fits.1 in
     let counts_are : counts_at (length counts) joined ≡ counts = counts_at-again counts fits.2.below in
-    head_at-is body (record { long = omega arith; replica = fits.0.replica_below; some = fits.2.some; few = fits.2.few; whole = omega (arith, length-counts counts) })
-    ∙ ap (λ (n : ℕ). Some (Head replica n (big_number 8 (drop 9 body)) (big_number 8 (drop 17 body)) (counts_at (length counts) joined))) boot_is
+    head_at-is body (record {
+      long = omega arith;
+      replica = fits.0.replica_below;
+      some = fits.2.some;
+      few = fits.2.few;
+      whole = omega (arith, length-counts counts);
+    })
+    ∙ ap (λ (n : ℕ). Some (Head replica n (big_number 8 (drop 9 body)) (big_number 8 (drop 17 body)) (counts_at (length counts) joined)))
+    boot_is
     ∙ ap (λ (n : ℕ). Some (Head replica boot n (big_number 8 (drop 17 body)) (counts_at (length counts) joined))) request_is
     ∙ ap (λ (n : ℕ). Some (Head replica boot request n (counts_at (length counts) joined))) version_is
     ∙ ap (λ (t : List ℕ). Some (Head replica boot request version t)) counts_are
@@ -68,15 +87,19 @@ head_at-again replica boot request version counts fits =
 module _ (kind : ℕ) (body : List ℕ) where
   -- the tests of the total length
   refuses_total : Bool
-  refuses_total = not (eqb (big_number 2 (drop 4 (datagram_of kind body))) (length (datagram_of kind body))) || ltb DATAGRAM_MAX (length (datagram_of kind body))
+  refuses_total =
+      not (eqb (big_number 2 (drop 4 (datagram_of kind body))) (length (datagram_of kind body)))
+      || ltb DATAGRAM_MAX (length (datagram_of kind body))
 
   takes_total : 6 + length body ≤ DATAGRAM_MAX → refuses_total ≡ false
   unfolding refuses_total
   takes_total few =
-      let total : big_number 2 (drop 4 (datagram_of kind body)) ≡ 6 + length body = big_number-reads_back 2 (6 + length body) body (omega arith) in
+      let total : big_number 2 (drop 4 (datagram_of kind body)) ≡ 6 + length body =
+      big_number-reads_back 2 (6 + length body) body (omega arith) in
       or_from _ _ (not_from_true _ (eq-eqb _ _ (total ∙ omega arith))) (le-ltb _ _ (omega arith))
 
-  reading-front : (found : Datagram) → (not (eqb kind 1) && not (eqb kind 2) && not (eqb kind 3)) ≡ false → 6 + length body ≤ DATAGRAM_MAX → body_at kind body ≡ Some found → reading (datagram_of kind body) ≡ Ok found
+  reading-front : (found : Datagram) → (not (eqb kind 1) && not (eqb kind 2) && not (eqb kind 3)) ≡ false → 6 + length body ≤ DATAGRAM_MAX
+      → body_at kind body ≡ Some found → reading (datagram_of kind body) ≡ Ok found
   unfolding refuses_total
   reading-front found known few is =
       let long : ltb (length (datagram_of kind body)) 6 ≡ false = le-ltb _ _ (omega arith) in
@@ -86,10 +109,12 @@ module _ (kind : ℕ) (body : List ℕ) where
 pub reading-again : (datagram : Datagram) → HasSpelling datagram → IsRead datagram → reading (spelling datagram) ≡ Ok datagram
 reading-again (Frame worker seq commit last entries) fits is_read =
     let few = spelling_few (Frame worker seq commit last entries) fits in
-    reading-front 1 (frame_head worker seq commit last (length entries) ++ flat_map entry_spelling entries) (Frame worker seq commit last entries) refl (omega arith) (frame_at-again worker seq commit last entries fits)
+    reading-front 1 (frame_head worker seq commit last (length entries) ++ flat_map entry_spelling entries)
+    (Frame worker seq commit last entries) refl (omega arith) (frame_at-again worker seq commit last entries fits)
 reading-again (Ask replica boot request) fits is_read =
     reading-front 2 (ask_body replica boot request) (Ask replica boot request) refl (omega arith) (ask_at-again replica boot request fits)
 reading-again (Head replica boot request version counts) fits is_read =
     let few = spelling_few (Head replica boot request version counts) fits in
-    reading-front 3 (head_head replica boot request version (length counts) ++ flat_map (big_bytes 8) counts) (Head replica boot request version counts) refl (omega arith) (head_at-again replica boot request version counts fits)
+    reading-front 3 (head_head replica boot request version (length counts) ++ flat_map (big_bytes 8) counts)
+    (Head replica boot request version counts) refl (omega arith) (head_at-again replica boot request version counts fits)
 reading-again (Want replica worker from) fits is_read = absurd is_read

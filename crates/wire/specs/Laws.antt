@@ -9,4 +9,6 @@ IsOneToOne = (datagram other : Datagram) → HasSpelling datagram → HasSpellin
 
 -- no spelling is a proper beginning of another
 abbrev pub IsPrefixFree : Type 0
-IsPrefixFree = (datagram other : Datagram) (rest : List ℕ) → HasSpelling datagram → HasSpelling other → spelling datagram ++ rest ≡ spelling other → (datagram ≡ other) × (rest ≡ [])
+IsPrefixFree =
+    (datagram other : Datagram) (rest : List ℕ) → HasSpelling datagram → HasSpelling other → spelling datagram ++ rest ≡ spelling other
+    → (datagram ≡ other) × (rest ≡ [])

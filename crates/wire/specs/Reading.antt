@@ -1,5 +1,6 @@
 -- What bytes read as: a datagram, or the first fault. A Want is spelled and not read.
-use Rattle.std.specs.Prelude.{ℕ, zero, suc, ◌+◌, ◌*◌, List, [], ◌∷◌, length, drop, Option, None, Some, Result, Err, slice_index, nat_lt, ◌==◌, ◌||◌, ◌&&◌, not, if◌then◌else◌}
+use Rattle.std.specs.Prelude.{ℕ, zero, suc, ◌+◌, ◌*◌, List, [], ◌∷◌, length, drop, Option, None, Some, Result, Err, slice_index, nat_lt}
+use Rattle.std.specs.Prelude.{◌==◌, ◌||◌, ◌&&◌, not, if◌then◌else◌}
 use Rattle.std.specs.Option.{option_map, ok_or}
 use Rattle.byteorder.specs.Endian.{big_number}
 use Rattle.rows.specs.Limits.{datagram_max, workers_max, replicas_max}
@@ -14,8 +15,10 @@ use Rattle.wire.specs.Entries.{entries_filling}
 abbrev pub frame_at : List ℕ → Option Datagram
 frame_at body =
     if nat_lt (length body) 20 then None else
-    if not (nat_lt (slice_index body 0) workers_max) || (big_number 8 (drop 9 body) == 0) || nat_lt 1 (slice_index body 17) || (big_number 2 (drop 18 body) == 0) then None else
-    option_map (λ entries. Frame (slice_index body 0) (big_number 8 (drop 1 body)) (big_number 8 (drop 9 body)) (slice_index body 17 == 1) entries)
+    if not (nat_lt (slice_index body 0) workers_max) || (big_number 8 (drop 9 body) == 0) || nat_lt 1 (slice_index body 17)
+    || (big_number 2 (drop 18 body) == 0) then None else
+    option_map (λ entries. Frame (slice_index body 0) (big_number 8 (drop 1 body)) (big_number 8 (drop 9 body))
+    (slice_index body 17 == 1) entries)
     (entries_filling (big_number 2 (drop 18 body)) (drop 20 body))
 
 -- an Ask's body: 17 bytes, the replica below 16
@@ -33,8 +36,10 @@ counts_at (suc workers) bytes = big_number 8 bytes ∷ counts_at workers (drop 8
 abbrev pub head_at : List ℕ → Option Datagram
 head_at body =
     if nat_lt (length body) 26 then None else
-    if not (nat_lt (slice_index body 0) replicas_max) || (slice_index body 25 == 0) || nat_lt workers_max (slice_index body 25) || not (length body == 26 + 8 * slice_index body 25) then None else
-    Some (Head (slice_index body 0) (big_number 8 (drop 1 body)) (big_number 8 (drop 9 body)) (big_number 8 (drop 17 body)) (counts_at (slice_index body 25) (drop 26 body)))
+    if not (nat_lt (slice_index body 0) replicas_max) || (slice_index body 25 == 0) || nat_lt workers_max (slice_index body 25)
+    || not (length body == 26 + 8 * slice_index body 25) then None else
+    Some (Head (slice_index body 0) (big_number 8 (drop 1 body)) (big_number 8 (drop 9 body)) (big_number 8 (drop 17 body))
+    (counts_at (slice_index body 25) (drop 26 body)))
 
 -- the body of a datagram of this kind
 abbrev pub body_at : ℕ → List ℕ → Option Datagram

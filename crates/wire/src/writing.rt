@@ -3,7 +3,8 @@
 ghost use Rattle.std.specs.Prelude.{◌≡◌, ◌<◌, ◌≤◌, ◌+◌, ◌*◌, ◌++◌, ◌∷◌, [], ◌↔◌, length, drop, IfOk, OnErr, IsErr};
 ghost use Rattle.rows.specs.Spelling.{HasSpelling as EntryHasSpelling, entry_spelling};
 ghost use Rattle.std.specs.List.{flat_map, AllByRecursion};
-ghost use Rattle.wire.specs.Spelling.{spelling, frame_spelling, HasSpelling, FrameHasSpelling, IsFrame, datagram_front, frame_head, ask_body, head_head, want_body};
+ghost use Rattle.wire.specs.Spelling.{spelling, frame_spelling, HasSpelling, FrameHasSpelling, IsFrame, datagram_front, frame_head};
+ghost use Rattle.wire.specs.Spelling.{ask_body, head_head, want_body};
 
 use crate::datagram::Datagram;
 use crate::fault::TooSmall;
@@ -74,7 +75,8 @@ pub fn write(datagram: &Datagram<'_>, buffer: &mut [u8]) -> Result<usize, TooSma
 /// buffer is unchanged. Takes no memory.
 pub fn write_frame(frame: &Frame, buffer: &mut [u8]) -> Result<usize, TooSmall>
     requires { FrameHasSpelling frame.now }
-    ensures ok { IfOk result (λ len. (len ≡ length (frame_spelling frame.now)) × (buffer.new ≡ frame_spelling frame.now ++ drop len buffer.old)) }
+    ensures ok { IfOk result (λ len. (len ≡ length (frame_spelling frame.now))
+        × (buffer.new ≡ frame_spelling frame.now ++ drop len buffer.old)) }
     ensures small { IsErr result ↔ (length buffer.old < length (frame_spelling frame.now)) }
     ensures err { OnErr result (buffer.new ≡ buffer.old) }
 {
@@ -151,7 +153,8 @@ fn write_entries(entries: &[Entry], buffer: &mut [u8])
 /// enough for both.
 fn put_two(front: &[u8], back: &[u8], buffer: &mut [u8]) -> Result<usize, TooSmall>
     requires { length front.now + length back.now ≤ DATAGRAM_MAX }
-    ensures ok { IfOk result (λ len. (len ≡ length front.now + length back.now) × (buffer.new ≡ (front.now ++ back.now) ++ drop len buffer.old)) }
+    ensures ok { IfOk result (λ len. (len ≡ length front.now + length back.now)
+        × (buffer.new ≡ (front.now ++ back.now) ++ drop len buffer.old)) }
     ensures small { IsErr result ↔ (length buffer.old < length front.now + length back.now) }
     ensures err { OnErr result (buffer.new ≡ buffer.old) }
 {

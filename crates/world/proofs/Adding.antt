@@ -14,7 +14,8 @@ use Rattle.rows.specs.Values.{bytes_of, value_bytes}
 use Rattle.mvcc.specs.declared.faults.TxFault.TheVariants.{Exists, Missing, Unfit, TooManyEntries}
 use Rattle.mvcc.specs.declared.transaction.TheConstants.{TRANSACTION_ENTRIES_MAX}
 use Rattle.mvcc.specs.Draft.{Draft}
-use Rattle.mvcc.specs.Transactions.{match_table, match_column, column_kind, column_offset, sees, draft_with, insert_answer, set_answer, delete_answer}
+use Rattle.mvcc.specs.Transactions.{match_table, match_column, column_kind, column_offset, sees, draft_with, insert_answer, set_answer}
+use Rattle.mvcc.specs.Transactions.{delete_answer}
 
 -- the transaction with this entry behind its others
 pub record IsAdded (shape : Shape) (commits : List Commit) (draft : Draft) (entry : Entry) (new : Draft) : Type 0 where
@@ -22,17 +23,20 @@ pub record IsAdded (shape : Shape) (commits : List Commit) (draft : Draft) (entr
   pub few : length draft.entries < TRANSACTION_ENTRIES_MAX
   pub made : new ≡ record draft { entries = draft.entries ++ entry ∷ [] }
 
-pub reads_same : (shape : Shape) (commits : List Commit) (draft : Draft) (entry : Entry) (new : Draft) → IsAdded shape commits draft entry new → new.snapshot ≡ draft.snapshot
+pub reads_same : (shape : Shape) (commits : List Commit) (draft : Draft) (entry : Entry) (new : Draft)
+    → IsAdded shape commits draft entry new → new.snapshot ≡ draft.snapshot
 reads_same shape commits draft entry new added = ap (λ (d : Draft). d.snapshot) added.made
 
-added_to : (shape : Shape) (commits : List Commit) (draft : Draft) (entry : Entry) (new : Draft) → stands_for entry (sees shape commits draft (table_of entry) (row_of entry)) ≡ true
+added_to : (shape : Shape) (commits : List Commit) (draft : Draft) (entry : Entry) (new : Draft)
+    → stands_for entry (sees shape commits draft (table_of entry) (row_of entry)) ≡ true
     → draft_with draft entry ≡ Ok new → IsAdded shape commits draft entry new
 added_to shape commits draft entry new stands h = by (nat_lt (length draft.entries) TRANSACTION_ENTRIES_MAX) refl h
   where
     with : Draft
     with = record draft { entries = draft.entries ++ entry ∷ [] }
 
-    by : (c : Bool) → nat_lt (length draft.entries) TRANSACTION_ENTRIES_MAX ≡ c → cond c (Ok with) (Err TooManyEntries) ≡ Ok new → IsAdded shape commits draft entry new
+    by : (c : Bool) → nat_lt (length draft.entries) TRANSACTION_ENTRIES_MAX ≡ c → cond c (Ok with) (Err TooManyEntries) ≡ Ok new
+        → IsAdded shape commits draft entry new
     by false f h = absurd (cc)
     by true f h =
         let same : with ≡ new = cc in
@@ -40,38 +44,44 @@ added_to shape commits draft entry new stands h = by (nat_lt (length draft.entri
 
 module _ (shape : Shape) (commits : List Commit) (draft : Draft) (table row : ℕ) (new : Draft) where
   pub insert-added : (values : List Value) → insert_answer shape commits draft table row values ≡ Ok new
-      → (match_table values (slice_get shape table) ≡ true) × IsAdded shape commits draft (Insert table (record { 0 = row }) (bytes_of values)) new
+      → (match_table values (slice_get shape table) ≡ true)
+      × IsAdded shape commits draft (Insert table (record { 0 = row }) (bytes_of values)) new
   insert-added values h = by (match_table values (slice_get shape table)) (sees shape commits draft table row) refl refl h
     where
       entry : Entry
       entry = Insert table (record { 0 = row }) (bytes_of values)
 
-      by : (a b : Bool) → match_table values (slice_get shape table) ≡ a → sees shape commits draft table row ≡ b → cond (not a) (Err Unfit) (cond b (Err Exists) (draft_with draft entry)) ≡ Ok new
+      by : (a b : Bool) → match_table values (slice_get shape table) ≡ a → sees shape commits draft table row ≡ b
+          → cond (not a) (Err Unfit) (cond b (Err Exists) (draft_with draft entry)) ≡ Ok new
           → (match_table values (slice_get shape table) ≡ true) × IsAdded shape commits draft entry new
       by false b e f h = absurd (cc)
       by true true e f h = absurd (cc)
       by true false e f h = (e, added_to shape commits draft entry new (ap not f) h)
 
   pub set-added : (column : ℕ) (value : Value) → set_answer shape commits draft table row column value ≡ Ok new
-      → (match_column value (column_kind shape table column) ≡ true) × IsAdded shape commits draft (Patch table (record { 0 = row }) (column_offset shape table column) (value_bytes value)) new
+      → (match_column value (column_kind shape table column) ≡ true)
+      × IsAdded shape commits draft (Patch table (record { 0 = row }) (column_offset shape table column) (value_bytes value)) new
   set-added column value h = by (match_column value (column_kind shape table column)) (sees shape commits draft table row) refl refl h
     where
       entry : Entry
       entry = Patch table (record { 0 = row }) (column_offset shape table column) (value_bytes value)
 
-      by : (a b : Bool) → match_column value (column_kind shape table column) ≡ a → sees shape commits draft table row ≡ b → cond (not a) (Err Unfit) (cond (not b) (Err Missing) (draft_with draft entry)) ≡ Ok new
+      by : (a b : Bool) → match_column value (column_kind shape table column) ≡ a → sees shape commits draft table row ≡ b
+          → cond (not a) (Err Unfit) (cond (not b) (Err Missing) (draft_with draft entry)) ≡ Ok new
           → (match_column value (column_kind shape table column) ≡ true) × IsAdded shape commits draft entry new
       by false b e f h = absurd (cc)
       by true false e f h = absurd (cc)
       by true true e f h = (e, added_to shape commits draft entry new f h)
 
-  pub delete-added : delete_answer shape commits draft table row ≡ Ok new → (is_some (slice_get shape table) ≡ true) × IsAdded shape commits draft (Delete table (record { 0 = row })) new
+  pub delete-added : delete_answer shape commits draft table row ≡ Ok new → (is_some (slice_get shape table) ≡ true)
+      × IsAdded shape commits draft (Delete table (record { 0 = row })) new
   delete-added h = by (is_some (slice_get shape table)) (sees shape commits draft table row) refl refl h
     where
       entry : Entry
       entry = Delete table (record { 0 = row })
 
-      by : (a b : Bool) → is_some (slice_get shape table) ≡ a → sees shape commits draft table row ≡ b → cond (not a) (Err Unfit) (cond (not b) (Err Missing) (draft_with draft entry)) ≡ Ok new
+      by : (a b : Bool) → is_some (slice_get shape table) ≡ a → sees shape commits draft table row ≡ b
+          → cond (not a) (Err Unfit) (cond (not b) (Err Missing) (draft_with draft entry)) ≡ Ok new
           → (is_some (slice_get shape table) ≡ true) × IsAdded shape commits draft entry new
       by false b e f h = absurd (cc)
       by true false e f h = absurd (cc)

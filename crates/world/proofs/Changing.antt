@@ -1,5 +1,6 @@
 -- The entries that changes add to a transaction have spellings.
-use Rattle.std.proofs.Common.{◌≡◌, ℕ, zero, suc, ◌^◌, ◌<◌, true, List, [], ◌∷◌, ◌++◌, length, Option, Some, None, Ok, refl, sym, subst, arith}
+use Rattle.std.proofs.Common.{◌≡◌, ℕ, zero, suc, ◌^◌, ◌<◌, true, List, [], ◌∷◌, ◌++◌, length, Option, Some, None, Ok, refl, sym, subst}
+use Rattle.std.proofs.Common.{arith}
 use Rattle.std.specs.List.{slice_get, list_all, AllByRecursion}
 use Rattle.std.specs.Int.{w64, cast_unsigned}
 use Rattle.std.specs.Option.{is_some}
@@ -21,7 +22,8 @@ use Rattle.rows.specs.Spelling.{AreBytes, HasSpelling}
 use Rattle.rows.specs.Values.{value_bytes, bytes_of}
 use Rattle.rows.proofs.Presence.{fitting-within}
 use Rattle.mvcc.specs.Draft.{Draft}
-use Rattle.mvcc.specs.Transactions.{is_of_kind, are_of_kinds, match_table, match_column, column_kind, column_offset, insert_answer, set_answer, delete_answer}
+use Rattle.mvcc.specs.Transactions.{is_of_kind, are_of_kinds, match_table, match_column, column_kind, column_offset, insert_answer}
+use Rattle.mvcc.specs.Transactions.{set_answer, delete_answer}
 use Rattle.mvcc.proofs.Columns.{column-within}
 use Rattle.script.specs.Events.{IsValue}
 use Rattle.world.proofs.Lists.{All-append, All-get}
@@ -43,10 +45,12 @@ AreBytes-value (OctetsValue bytes) held i = held i
 
 AreBytes-values : (values : List Value) → AllByRecursion IsValue values → AreBytes (bytes_of values)
 AreBytes-values [] held i = omega arith
-AreBytes-values (value ∷ others) held i = AreBytes-append (value_bytes value) (bytes_of others) (AreBytes-value value held.0) (AreBytes-values others held.1) i
+AreBytes-values (value ∷ others) held i =
+    AreBytes-append (value_bytes value) (bytes_of others) (AreBytes-value value held.0) (AreBytes-values others held.1) i
 
 -- the bytes of a row are as many as its columns take
-pub length-values : (values : List Value) (kinds : List Kind) → are_of_kinds values kinds ≡ true → length (bytes_of values) ≡ row_width kinds
+pub length-values : (values : List Value) (kinds : List Kind) → are_of_kinds values kinds ≡ true
+    → length (bytes_of values) ≡ row_width kinds
 length-values [] [] h = refl
 length-values [] (kind ∷ kinds) h = absurd (false≢true h)
 length-values (value ∷ values) [] h = absurd (false≢true h)
@@ -63,12 +67,14 @@ row-some (kind ∷ kinds) h good =
     let some = width-some kind (and_parts (is_good kind) (list_all is_good kinds) good).0 in
     omega (arith, sum_by-cons width_of kind kinds)
 
-pub matched : (values : List Value) (found : Option (List Kind)) → match_table values found ≡ true → (kinds : List Kind) × (found ≡ Some kinds) × (are_of_kinds values kinds ≡ true)
+pub matched : (values : List Value) (found : Option (List Kind)) → match_table values found ≡ true → (kinds : List Kind)
+    × (found ≡ Some kinds) × (are_of_kinds values kinds ≡ true)
 matched values None h = absurd (false≢true h)
 matched values (Some kinds) h = (kinds, refl, h)
 
 -- a delete fits where its table is there
-pub delete-fits : (shape : Shape) (table : ℕ) (row : RowId) → is_some (slice_get shape table) ≡ true → is_ok (fitting shape (Delete table row)) ≡ true
+pub delete-fits : (shape : Shape) (table : ℕ) (row : RowId) → is_some (slice_get shape table) ≡ true
+    → is_ok (fitting shape (Delete table row)) ≡ true
 delete-fits shape table row h = by (slice_get shape table) h
   where
     by : (found : Option (List Kind)) → is_some found ≡ true → is_ok (listed found) ≡ true
@@ -78,7 +84,8 @@ delete-fits shape table row h = by (slice_get shape table) h
 -- ---- one entry
 
 module _ (shape : Shape) (table row : ℕ) (tables : AreTables shape) (below : row < 2 ^ 64) where
-  insert-spelled : (values : List Value) → AllByRecursion IsValue values → match_table values (slice_get shape table) ≡ true → HasSpelling (Insert table (record { 0 = row }) (bytes_of values))
+  insert-spelled : (values : List Value) → AllByRecursion IsValue values → match_table values (slice_get shape table) ≡ true
+      → HasSpelling (Insert table (record { 0 = row }) (bytes_of values))
   insert-spelled values held h =
       let found = matched values (slice_get shape table) h in
       let columns = All-get AreColumns shape tables.each table found.0 found.1 in
@@ -87,7 +94,13 @@ module _ (shape : Shape) (table row : ℕ) (tables : AreTables shape) (below : r
       let some = row-some found.0 columns.some columns.good in
       let few = tables.few in
       let narrow = columns.narrow in
-      record { table_below = omega arith; row_below = below; some = omega arith; few = omega arith; are_bytes = AreBytes-values values held }
+      record {
+        table_below = omega arith;
+        row_below = below;
+        some = omega arith;
+        few = omega arith;
+        are_bytes = AreBytes-values values held;
+      }
 
   set-spelled : (column : ℕ) (value : Value) → IsValue value → match_column value (column_kind shape table column) ≡ true
       → HasSpelling (Patch table (record { 0 = row }) (column_offset shape table column) (value_bytes value))
@@ -103,7 +116,14 @@ module _ (shape : Shape) (table row : ℕ) (tables : AreTables shape) (below : r
       let offset = at.offset_is in
       let few = tables.few in
       let narrow = columns.narrow in
-      record { table_below = omega arith; row_below = below; some = omega arith; few = omega arith; within = omega arith; are_bytes = AreBytes-value value held }
+      record {
+        table_below = omega arith;
+        row_below = below;
+        some = omega arith;
+        few = omega arith;
+        within = omega arith;
+        are_bytes = AreBytes-value value held;
+      }
 
   delete-spelled : is_some (slice_get shape table) ≡ true → HasSpelling (Delete table (record { 0 = row }))
   delete-spelled h =
@@ -113,7 +133,8 @@ module _ (shape : Shape) (table row : ℕ) (tables : AreTables shape) (below : r
 
 -- ---- a transaction with one more entry
 
-added-small : (shape : Shape) (commits : List Commit) (draft : Draft) (entry : Entry) (new : Draft) → HasSpelling entry → IsSmallDraft (length commits) draft → IsAdded shape commits draft entry new
+added-small : (shape : Shape) (commits : List Commit) (draft : Draft) (entry : Entry) (new : Draft) → HasSpelling entry
+    → IsSmallDraft (length commits) draft → IsAdded shape commits draft entry new
     → IsSmallDraft (length commits) new
 added-small shape commits draft entry new spelled small added =
     let few = added.few in
@@ -123,14 +144,17 @@ added-small shape commits draft entry new spelled small added =
       spelled = All-append HasSpelling draft.entries (entry ∷ []) small.spelled (spelled, tt);
     })
 
-module _ (shape : Shape) (commits : List Commit) (draft : Draft) (table row : ℕ) (new : Draft) (tables : AreTables shape) (below : row < 2 ^ 64)
+module _ (shape : Shape) (commits : List Commit) (draft : Draft) (table row : ℕ) (new : Draft) (tables : AreTables shape)
+    (below : row < 2 ^ 64)
     (small : IsSmallDraft (length commits) draft) where
-  pub insert-small : (values : List Value) → AllByRecursion IsValue values → insert_answer shape commits draft table row values ≡ Ok new → IsSmallDraft (length commits) new
+  pub insert-small : (values : List Value) → AllByRecursion IsValue values → insert_answer shape commits draft table row values ≡ Ok new
+      → IsSmallDraft (length commits) new
   insert-small values held h =
       let taken = insert-added shape commits draft table row new values h in
       added-small shape commits draft _ new (insert-spelled shape table row tables below values held taken.0) small taken.1
 
-  pub set-small : (column : ℕ) (value : Value) → IsValue value → set_answer shape commits draft table row column value ≡ Ok new → IsSmallDraft (length commits) new
+  pub set-small : (column : ℕ) (value : Value) → IsValue value → set_answer shape commits draft table row column value ≡ Ok new
+      → IsSmallDraft (length commits) new
   set-small column value held h =
       let taken = set-added shape commits draft table row new column value h in
       added-small shape commits draft _ new (set-spelled shape table row tables below column value held taken.0) small taken.1

@@ -1,5 +1,6 @@
 -- What the primary does with transactions, commits and bytes leaves sound parts.
-use Rattle.std.proofs.Common.{◌≡◌, ℕ, ◌^◌, ◌<◌, ◌≤◌, Bool, true, false, cond, not, ◌==◌, List, [], ◌∷◌, ◌++◌, length, Option, Some, None, Result, Ok, Err, nat_lt, refl, sym, ap, subst, ◌∙◌, inl, inr, arith}
+use Rattle.std.proofs.Common.{◌≡◌, ℕ, ◌^◌, ◌<◌, ◌≤◌, Bool, true, false, cond, not, ◌==◌, List, [], ◌∷◌, ◌++◌, length, Option, Some, None}
+use Rattle.std.proofs.Common.{Result, Ok, Err, nat_lt, refl, sym, ap, subst, ◌∙◌, inl, inr, arith}
 use Rattle.std.specs.List.{slice_get, slice_set, AllByRecursion}
 use Rattle.std.specs.Option.{option_map, option_and_then}
 use Rattle.std.specs.Result.{is_ok}
@@ -50,7 +51,8 @@ pub drafts-begun : (shape : Shape) (p : Parts) → Sound shape p
     → Sound shape (record p { transactions = p.transactions ++ Some (record { snapshot = length p.primary.durable; entries = [] }) ∷ [] })
 drafts-begun shape p sound =
     let fresh : Draft = record { snapshot = length p.primary.durable; entries = [] } in
-    Sound-drafts shape p (p.transactions ++ Some fresh ∷ []) sound (λ i draft here. elim (get-append p.transactions (Some fresh ∷ []) i (Some draft) here) [
+    Sound-drafts shape p (p.transactions ++ Some fresh ∷ []) sound
+    (λ i draft here. elim (get-append p.transactions (Some fresh ∷ []) i (Some draft) here) [
       | inl old ↦ sound.drafts_are i draft old
       | inr new ↦
           let same : draft ≡ fresh = same_Some draft fresh (get-one (Some fresh) new.0 (Some draft) new.1) in
@@ -61,45 +63,55 @@ drafts-begun shape p sound =
 drafts-changed : (shape : Shape) (p : Parts) (number : ℕ) (new : Draft) → Sound shape p → IsSmallDraft (length p.primary.durable) new
     → Sound shape (record p { transactions = slice_set p.transactions number (Some new) })
 drafts-changed shape p number new sound small =
-    Sound-drafts shape p (slice_set p.transactions number (Some new)) sound (λ i draft here. elim (get-set p.transactions number (Some new) i (Some draft) here) [
+    Sound-drafts shape p (slice_set p.transactions number (Some new)) sound
+    (λ i draft here. elim (get-set p.transactions number (Some new) i (Some draft) here) [
       | inl same ↦ subst (IsSmallDraft (length p.primary.durable)) (sym (same_Some draft new same.1)) small
       | inr old ↦ sound.drafts_are i draft old
     ])
 
 -- one transaction no longer open
-drafts-ended : (shape : Shape) (p : Parts) (number : ℕ) → Sound shape p → Sound shape (record p { transactions = slice_set p.transactions number None })
+drafts-ended : (shape : Shape) (p : Parts) (number : ℕ) → Sound shape p
+    → Sound shape (record p { transactions = slice_set p.transactions number None })
 drafts-ended shape p number sound =
-    Sound-drafts shape p (slice_set p.transactions number None) sound (λ i draft here. elim (get-set p.transactions number None i (Some draft) here) [
+    Sound-drafts shape p (slice_set p.transactions number None) sound
+    (λ i draft here. elim (get-set p.transactions number None i (Some draft) here) [
       | inl same ↦ absurd (none-some draft (sym same.1))
       | inr old ↦ sound.drafts_are i draft old
     ])
 
 -- ---- changes, looks, and giving up
 
-changed : (shape : Shape) (p : Parts) (number : ℕ) (answer : Result Draft TxFault) → Sound shape p → ((new : Draft) → answer ≡ Ok new → IsSmallDraft (length p.primary.durable) new)
+changed : (shape : Shape) (p : Parts) (number : ℕ) (answer : Result Draft TxFault) → Sound shape p
+    → ((new : Draft) → answer ≡ Ok new → IsSmallDraft (length p.primary.durable) new)
     → Follows shape (change_happens (world_of p) number answer) (changing p number answer)
 changed shape p number (Ok new) sound small = (refl, drafts-changed shape p number new sound (small new refl))
 changed shape p number (Err fault) sound small = (refl, sound)
 
 -- what a transaction's call answers in the world, where it is told what is durable, and what it answers to the program,
 -- which tells it all commits
-pub change-follows : (shape : Shape) (p : Parts) (number : ℕ) (there here : Draft → Result Draft TxFault) (found : Option Draft) → Sound shape p
+pub change-follows : (shape : Shape) (p : Parts) (number : ℕ) (there here : Draft → Result Draft TxFault) (found : Option Draft)
+    → Sound shape p
     → ((draft : Draft) → draft.snapshot ≤ length p.primary.durable → here draft ≡ there draft)
-    → ((draft new : Draft) → IsSmallDraft (length p.primary.durable) draft → there draft ≡ Ok new → IsSmallDraft (length p.primary.durable) new) → open_draft p.transactions number ≡ found
-    → Follows shape (on_draft (world_of p) found (λ draft. change_happens (world_of p) number (there draft))) (change_by p number here found)
+    → ((draft new : Draft) → IsSmallDraft (length p.primary.durable) draft → there draft ≡ Ok new
+    → IsSmallDraft (length p.primary.durable) new) → open_draft p.transactions number ≡ found
+    → Follows shape (on_draft (world_of p) found (λ draft. change_happens (world_of p) number (there draft)))
+    (change_by p number here found)
 change-follows shape p number there here None sound same small at = (refl, sound)
 change-follows shape p number there here (Some draft) sound same small at =
     let begun = sound.drafts_are number draft (opened (slice_get p.transactions number) draft at) in
-    subst (λ (answer : Result Draft TxFault). Follows shape (change_happens (world_of p) number (there draft)) (changing p number answer)) (sym (same draft begun.known))
+    subst (λ (answer : Result Draft TxFault). Follows shape (change_happens (world_of p) number (there draft)) (changing p number answer))
+    (sym (same draft begun.known))
     (changed shape p number (there draft) sound (λ new h. small draft new begun h))
 
-pub look-follows : (shape : Shape) (p : Parts) (number : ℕ) (there here : Draft → Result Value TxFault) (found : Option Draft) → Sound shape p
+pub look-follows : (shape : Shape) (p : Parts) (number : ℕ) (there here : Draft → Result Value TxFault) (found : Option Draft)
+    → Sound shape p
     → ((draft : Draft) → draft.snapshot ≤ length p.primary.durable → here draft ≡ there draft) → open_draft p.transactions number ≡ found
     → Follows shape (on_draft (world_of p) found (λ draft. (of_look (there draft), world_of p))) (look_by here found, p)
 look-follows shape p number there here None sound same at = (refl, sound)
 look-follows shape p number there here (Some draft) sound same at =
     let begun = sound.drafts_are number draft (opened (slice_get p.transactions number) draft at) in
-    subst (λ (answer : Result Value TxFault). Follows shape (of_look (there draft), world_of p) (of_look answer, p)) (sym (same draft begun.known)) (refl, sound)
+    subst (λ (answer : Result Value TxFault). Follows shape (of_look (there draft), world_of p) (of_look answer, p))
+    (sym (same draft begun.known)) (refl, sound)
 
 pub abort-follows : (shape : Shape) (p : Parts) (number : ℕ) (found : Option Draft) → Sound shape p
     → Follows shape (on_draft (world_of p) found (λ draft. abort_happens (world_of p) number)) (abort_by p number found)
@@ -118,10 +130,14 @@ pub record IsTaken (p : Primary) (draft : Draft) : Type 0 where
 
 pub commit-taken : (p : Primary) (draft : Draft) (number : ℕ) → commit_answer p draft ≡ Ok number → IsTaken p draft
 commit-taken p draft number h =
-    by p.failed (length draft.entries == 0) (is_foreign p draft) (nat_lt draft.snapshot (last_writer p draft.entries)) (nat_lt (next_number p) (2 ^ 64)) refl refl refl refl h
+    by p.failed (length draft.entries == 0) (is_foreign p draft) (nat_lt draft.snapshot (last_writer p draft.entries))
+    (nat_lt (next_number p) (2 ^ 64)) refl refl refl refl h
   where
-    by : (a b c d e : Bool) → (length draft.entries == 0) ≡ b → is_foreign p draft ≡ c → nat_lt draft.snapshot (last_writer p draft.entries) ≡ d → nat_lt (next_number p) (2 ^ 64) ≡ e
-        → cond a (Err faults.Failed) (cond b (Err faults.ReadOnly) (cond c (Err faults.Foreign) (cond d (Err (faults.Conflict (last_writer p draft.entries))) (cond e (Ok (next_number p)) (Err faults.NumbersUsedUp))))) ≡ Ok number
+    by : (a b c d e : Bool) → (length draft.entries == 0) ≡ b → is_foreign p draft ≡ c
+        → nat_lt draft.snapshot (last_writer p draft.entries) ≡ d → nat_lt (next_number p) (2 ^ 64) ≡ e
+        → cond a (Err faults.Failed) (cond b (Err faults.ReadOnly)
+        (cond c (Err faults.Foreign) (cond d (Err (faults.Conflict (last_writer p draft.entries)))
+        (cond e (Ok (next_number p)) (Err faults.NumbersUsedUp))))) ≡ Ok number
         → IsTaken p draft
     by true b c d e q r s t h = absurd (cc)
     by false true c d e q r s t h = absurd (cc)
@@ -130,7 +146,9 @@ commit-taken p draft number h =
     by false false false false false q r s t h = absurd (cc)
     by false false false false true q r s t h =
         let there = eqb-false (length draft.entries) 0 q in
-        let parts = or_parts (nat_lt (length p.durable) draft.snapshot) (not (is_ok (changes_of p.shape (tables_after p.shape p.durable draft.snapshot) draft.entries))) r in
+        let parts =
+        or_parts (nat_lt (length p.durable) draft.snapshot)
+        (not (is_ok (changes_of p.shape (tables_after p.shape p.durable draft.snapshot) draft.entries))) r in
         record {
           some = omega arith;
           known = ltb-false (length p.durable) draft.snapshot parts.0;
@@ -139,46 +157,59 @@ commit-taken p draft number h =
           numbered = ltb-true (next_number p) (2 ^ 64) t;
         }
 
-primary-committed : (shape : Shape) (p : Primary) (worker : ℕ) (draft : Draft) → IsSoundPrimary shape p → IsSmallDraft (length p.durable) draft → worker < 1 → IsTaken p draft → IsSoundPrimary shape (committed p worker draft.entries)
+primary-committed : (shape : Shape) (p : Primary) (worker : ℕ) (draft : Draft) → IsSoundPrimary shape p
+    → IsSmallDraft (length p.durable) draft → worker < 1 → IsTaken p draft → IsSoundPrimary shape (committed p worker draft.entries)
 primary-committed shape p worker draft sound small below taken =
     let commits = p.durable ++ p.pending in
     let commit : Commit = record { worker = worker; entries = draft.entries } in
     let whole : commits ++ commit ∷ [] ≡ p.durable ++ (p.pending ++ commit ∷ []) = append_assoc p.durable p.pending (commit ∷ []) in
     let defined : is_ok (changes_of shape (tables_after shape commits draft.snapshot) draft.entries) ≡ true =
     ap (λ t. is_ok (changes_of shape t draft.entries)) (tables-stay shape p.durable p.pending draft.snapshot taken.known)
-    ∙ ap (λ (s : Shape). is_ok (changes_of s (tables_after s p.durable draft.snapshot) draft.entries)) (sym sound.shape_is) ∙ taken.defined in
+    ∙ ap (λ (s : Shape). is_ok (changes_of s (tables_after s p.durable draft.snapshot) draft.entries)) (sym sound.shape_is)
+    ∙ taken.defined in
     let still = still_defined shape commits draft.snapshot draft.entries sound.legal taken.last defined in
     let numbered = taken.numbered in
     record {
       shape_is = sound.shape_is;
       workers_are = sound.workers_are;
-      legal = ap (λ (l : List Commit). is_ok (commits_of shape (opening shape) l)) (sym whole) ∙ commits_of-push shape commits commit sound.legal still;
-      small = subst (AllByRecursion IsSmall) whole (All-append IsSmall commits (commit ∷ []) sound.small (record { worker = omega arith; some = taken.some; few = small.few; spelled = small.spelled }, tt));
+      legal =
+          ap (λ (l : List Commit). is_ok (commits_of shape (opening shape) l)) (sym whole)
+          ∙ commits_of-push shape commits commit sound.legal still;
+      small =
+          subst (AllByRecursion IsSmall) whole
+          (All-append IsSmall commits (commit ∷ []) sound.small
+          (record { worker = omega arith; some = taken.some; few = small.few; spelled = small.spelled }, tt));
       numbered = omega (arith, length-append p.pending (commit ∷ []));
     }
 
-commits : (shape : Shape) (p : Parts) (number worker : ℕ) (draft : Draft) (answer : Result ℕ CommitFault) → Sound shape p → IsSmallDraft (length p.primary.durable) draft → worker < 1
+commits : (shape : Shape) (p : Parts) (number worker : ℕ) (draft : Draft) (answer : Result ℕ CommitFault) → Sound shape p
+    → IsSmallDraft (length p.primary.durable) draft → worker < 1
     → commit_answer p.primary draft ≡ answer
     → Follows shape (commit_happens (world_of p) number worker draft answer) (committing p number worker draft answer)
 commits shape p number worker draft (Ok ticket) sound small below h = (
   refl,
-  Sound-primary shape (record p { transactions = slice_set p.transactions number None }) (p.primary.pending ++ record { worker = worker; entries = draft.entries } ∷ []) (drafts-ended shape p number sound)
+  Sound-primary shape (record p { transactions = slice_set p.transactions number None })
+      (p.primary.pending ++ record { worker = worker; entries = draft.entries } ∷ []) (drafts-ended shape p number sound)
       (primary-committed shape p.primary worker draft sound.primary_is small below (commit-taken p.primary draft ticket h)),
 )
 commits shape p number worker draft (Err fault) sound small below h = (refl, drafts-ended shape p number sound)
 
-pub commit-follows : (shape : Shape) (p : Parts) (number worker : ℕ) (found : Option Draft) → Sound shape p → worker < 1 → open_draft p.transactions number ≡ found
-    → Follows shape (on_draft (world_of p) found (λ draft. commit_happens (world_of p) number worker draft (commit_answer p.primary draft))) (commit_by p number worker found)
+pub commit-follows : (shape : Shape) (p : Parts) (number worker : ℕ) (found : Option Draft) → Sound shape p → worker < 1
+    → open_draft p.transactions number ≡ found
+    → Follows shape (on_draft (world_of p) found (λ draft. commit_happens (world_of p) number worker draft (commit_answer p.primary draft)))
+    (commit_by p number worker found)
 commit-follows shape p number worker None sound below here = (refl, sound)
 commit-follows shape p number worker (Some draft) sound below here =
-    commits shape p number worker draft (commit_answer p.primary draft) sound (sound.drafts_are number draft (opened (slice_get p.transactions number) draft here)) below refl
+    commits shape p number worker draft (commit_answer p.primary draft) sound
+    (sound.drafts_are number draft (opened (slice_get p.transactions number) draft here)) below refl
 
 -- ---- what the primary sends
 
 small-durable : (shape : Shape) (p : Parts) → Sound shape p → AllByRecursion IsSmall p.primary.durable
 small-durable shape p sound = All-left IsSmall p.primary.durable p.primary.pending sound.primary_is.small
 
-frame-means : (shape : Shape) (p : Parts) (place : ℕ) (frame : Frame) → Sound shape p → slice_get (stream_of p.primary.durable 0) place ≡ Some frame → Means p.primary.durable p.replicas (reading (frame_spelling frame))
+frame-means : (shape : Shape) (p : Parts) (place : ℕ) (frame : Frame) → Sound shape p
+    → slice_get (stream_of p.primary.durable 0) place ≡ Some frame → Means p.primary.durable p.replicas (reading (frame_spelling frame))
 frame-means shape p place frame sound h =
     let durable = p.primary.durable in
     let found = frame-commit durable place frame (legal-durable shape p sound).each h in
@@ -189,44 +220,58 @@ frame-means shape p place frame sound h =
     (subst (Means durable p.replicas) (sym (frame-read place found.0 small (omega arith)))
     (record { tells = ap (λ (w : ℕ). slice_get (stream_of durable w) place) small.worker ∙ h ∙ ap Some (sym found.2); requests = tt }))
 
-pub push-follows : (shape : Shape) (p : Parts) (worker place : ℕ) (found : Option Frame) → Sound shape p → worker < 1 → slice_get (stream_of p.primary.durable worker) place ≡ found
+pub push-follows : (shape : Shape) (p : Parts) (worker place : ℕ) (found : Option Frame) → Sound shape p → worker < 1
+    → slice_get (stream_of p.primary.durable worker) place ≡ found
     → Follows shape (push_happens (world_of p) (option_map frame_spelling found)) (push_by p (option_map frame_spelling found))
 push-follows shape p worker place None sound below here = (refl, sound)
 push-follows shape p worker place (Some frame) sound below here =
     let only : 0 ≡ worker = omega arith in
-    let at : slice_get (stream_of p.primary.durable 0) place ≡ Some frame = ap (λ (w : ℕ). slice_get (stream_of p.primary.durable w) place) only ∙ here in
+    let at : slice_get (stream_of p.primary.durable 0) place ≡ Some frame =
+    ap (λ (w : ℕ). slice_get (stream_of p.primary.durable w) place) only ∙ here in
     (refl, Sound-one shape p (frame_spelling frame) sound (frame-means shape p place frame sound at))
 
 -- the count of the only worker
-counts-all : (shape : Shape) (p : Parts) → Sound shape p → frame_count p.primary.durable 0 (length p.primary.durable) ∷ [] ≡ length p.primary.durable ∷ []
-counts-all shape p sound = ap (λ (n : ℕ). n ∷ []) (count-is p.primary.durable (length p.primary.durable) (legal-durable shape p sound).each (omega arith))
+counts-all : (shape : Shape) (p : Parts) → Sound shape p
+    → frame_count p.primary.durable 0 (length p.primary.durable) ∷ [] ≡ length p.primary.durable ∷ []
+counts-all shape p sound =
+    ap (λ (n : ℕ). n ∷ []) (count-is p.primary.durable (length p.primary.durable) (legal-durable shape p sound).each (omega arith))
 
 head-is : (shape : Shape) (p : Parts) (replica boot request : ℕ) → Sound shape p
-    → head_for p.primary replica boot request ≡ datagrams.Head replica boot request (length p.primary.durable) (length p.primary.durable ∷ [])
+    → head_for p.primary replica boot request ≡ datagrams.Head replica boot request (length p.primary.durable)
+    (length p.primary.durable ∷ [])
 head-is shape p replica boot request sound =
     let durable = p.primary.durable in
     ap (λ (w : ℕ). datagrams.Head replica boot request (length durable) (counts_of durable (length durable) w)) sound.primary_is.workers_are
     ∙ ap (λ (l : List ℕ). datagrams.Head replica boot request (length durable) l) (counts-all shape p sound)
 
-head-means : (shape : Shape) (p : Parts) (replica boot request : ℕ) → Sound shape p → IsAsk replica boot request → ((r : Replica) → slice_get p.replicas replica ≡ Some r → request ≤ r.request)
+head-means : (shape : Shape) (p : Parts) (replica boot request : ℕ) → Sound shape p → IsAsk replica boot request
+    → ((r : Replica) → slice_get p.replicas replica ≡ Some r → request ≤ r.request)
     → Means p.primary.durable p.replicas (reading (spelling (head_for p.primary replica boot request)))
 head-means shape p replica boot request sound ask asked =
     let durable = p.primary.durable in
     let numbered = sound.primary_is.numbered in
-    let read = ap (λ (d : Datagram). reading (spelling d)) (head-is shape p replica boot request sound) ∙ head-read replica boot request (length durable) ask (omega arith) in
+    let read =
+    ap (λ (d : Datagram). reading (spelling d)) (head-is shape p replica boot request sound)
+    ∙ head-read replica boot request (length durable) ask (omega arith) in
     subst (Means durable p.replicas) (sym read) (record {
       tells = (omega arith, sym (counts-all shape p sound));
       requests = λ r here. record { asked = asked r here; fresh = λ waits same. (sound.fed replica r here).feeding.below };
     })
 
-answers-mean : (shape : Shape) (p : Parts) (datagram : Result Datagram WireFault) → Sound shape p → Means p.primary.durable p.replicas datagram
-    → (i : ℕ) (bytes : List ℕ) → slice_get (packets_of (answers_to p.primary datagram)) i ≡ Some bytes → Means p.primary.durable p.replicas (reading bytes)
+answers-mean : (shape : Shape) (p : Parts) (datagram : Result Datagram WireFault) → Sound shape p
+    → Means p.primary.durable p.replicas datagram
+    → (i : ℕ) (bytes : List ℕ) → slice_get (packets_of (answers_to p.primary datagram)) i ≡ Some bytes
+    → Means p.primary.durable p.replicas (reading bytes)
 answers-mean shape p (Err fault) sound means i bytes h = absurd (none-some bytes h)
 answers-mean shape p (Ok (datagrams.Frame worker seq commit last entries)) sound means i bytes h = absurd (none-some bytes h)
 answers-mean shape p (Ok (datagrams.Ask replica boot request)) sound means i bytes h =
-    subst (λ (b : List ℕ). Means p.primary.durable p.replicas (reading b)) (sym (get-one (spelling (head_for p.primary replica boot request)) i bytes h)) (head-means shape p replica boot request sound means.requests.0 means.requests.1)
+    subst (λ (b : List ℕ). Means p.primary.durable p.replicas (reading b))
+    (sym (get-one (spelling (head_for p.primary replica boot request)) i bytes h))
+    (head-means shape p replica boot request sound means.requests.0 means.requests.1)
 answers-mean shape p (Ok (datagrams.Head replica boot request version counts)) sound means i bytes h = absurd (none-some bytes h)
 answers-mean shape p (Ok (datagrams.Want replica worker from)) sound means i bytes h = absurd (none-some bytes h)
 
-pub primary-answers : (shape : Shape) (p : Parts) (bytes : List ℕ) → Sound shape p → Means p.primary.durable p.replicas (reading bytes) → Sound shape (to_primary p bytes).1
-primary-answers shape p bytes sound means = Sound-sent shape p (packets_of (answers p.primary bytes)) sound (answers-mean shape p (reading bytes) sound means)
+pub primary-answers : (shape : Shape) (p : Parts) (bytes : List ℕ) → Sound shape p → Means p.primary.durable p.replicas (reading bytes)
+    → Sound shape (to_primary p bytes).1
+primary-answers shape p bytes sound means =
+    Sound-sent shape p (packets_of (answers p.primary bytes)) sound (answers-mean shape p (reading bytes) sound means)

@@ -1,5 +1,7 @@
 -- What the datagrams that are sent read as.
-use Rattle.std.proofs.Common.{◌≡◌, ℕ, zero, suc, ◌+◌, ◌*◌, ◌^◌, ◌%◌, ◌<◌, ◌≤◌, Bool, true, false, cond, not, ◌||◌, ◌&&◌, ◌==◌, List, [], ◌∷◌, ◌++◌, length, drop, get_or, Option, Some, None, Result, Ok, Err, nat_lt, refl, sym, ap, subst, ◌∙◌, arith}
+use Rattle.std.proofs.Common.{◌≡◌, ℕ, zero, suc, ◌+◌, ◌*◌, ◌^◌, ◌%◌, ◌<◌, ◌≤◌, Bool, true, false, cond, not, ◌||◌, ◌&&◌, ◌==◌, List, []}
+use Rattle.std.proofs.Common.{◌∷◌, ◌++◌, length, drop, get_or, Option, Some, None, Result, Ok, Err, nat_lt, refl, sym, ap, subst, ◌∙◌}
+use Rattle.std.proofs.Common.{arith}
 use Rattle.std.specs.List.{AllByRecursion, flat_map, slice_index}
 use Rattle.std.specs.Option.{option_map, ok_or}
 use Rattle.std.specs.Int.{byte_at, w64, from_be_bytes}
@@ -25,7 +27,8 @@ use Rattle.dispatcher.proofs.Streams.{whole_frame}
 use Rattle.world.proofs.Sound.{IsSmall}
 
 -- entries of a small commit take few bytes
-entries_few : (entries : List Entry) → AllByRecursion EntryHasSpelling entries → length (flat_map entry_spelling entries) ≤ 524 * length entries
+entries_few : (entries : List Entry) → AllByRecursion EntryHasSpelling entries
+    → length (flat_map entry_spelling entries) ≤ 524 * length entries
 entries_few [] h = omega arith
 entries_few (Insert table row content ∷ entries) h =
     let rest = entries_few entries h.1 in
@@ -58,9 +61,11 @@ frame-read place commit small below =
 
 -- a Head of one worker reads as itself
 pub head-read : (replica boot request version : ℕ) → IsAsk replica boot request → version < 2 ^ 64
-    → reading (spelling (datagrams.Head replica boot request version (version ∷ []))) ≡ Ok (datagrams.Head replica boot request version (version ∷ []))
+    → reading (spelling (datagrams.Head replica boot request version (version ∷ []))) ≡ Ok
+    (datagrams.Head replica boot request version (version ∷ []))
 head-read replica boot request version ask below =
-    reading-again (datagrams.Head replica boot request version (version ∷ [])) (ask, below, record { some = omega arith; few = omega arith; below = (below, tt) }) tt
+    reading-again (datagrams.Head replica boot request version (version ∷ []))
+    (ask, below, record { some = omega arith; few = omega arith; below = (below, tt) }) tt
 
 byte-below : (k n : ℕ) → byte_at k n < 256
 byte-below zero n = omega arith
@@ -80,7 +85,8 @@ bytes-kept n = be_bytes_8 (big_bytes 8 n) (n % 2 ^ 64) refl (bytes-below 8 n) (s
 
 -- such an Ask has a spelling
 pub ask-kept : (replica boot request : ℕ) → replica < REPLICAS_MAX → boot < 2 ^ 64 → IsAsk replica boot (request % 2 ^ 64)
-ask-kept replica boot request replica_below boot_below = record { replica_below = replica_below; boot_below = boot_below; request_below = omega arith }
+ask-kept replica boot request replica_below boot_below =
+    record { replica_below = replica_below; boot_below = boot_below; request_below = omega arith }
 
 -- an Ask reads as itself, its request as 64 bits keep it
 pub ask-read : (replica boot request : ℕ) → replica < REPLICAS_MAX → boot < 2 ^ 64
@@ -96,12 +102,16 @@ want-read replica worker from = refl
 -- ---- whatever the numbers
 
 -- what holds of each fault, and of what the body may be, holds of what bytes read as
-tested : (P : Result Datagram WireFault → Type 0) (bytes : List ℕ) → ((fault : WireFault) → P (Err fault)) → P (ok_or (body_at (slice_index bytes 3) (drop 6 bytes)) Body) → P (reading bytes)
+tested : (P : Result Datagram WireFault → Type 0) (bytes : List ℕ) → ((fault : WireFault) → P (Err fault))
+    → P (ok_or (body_at (slice_index bytes 3) (drop 6 bytes)) Body) → P (reading bytes)
 tested P bytes faults read =
-    by (nat_lt (length bytes) 6) (not (big_number 2 bytes == 0x4244)) (not (slice_index bytes 2 == 1)) (not (slice_index bytes 3 == 1) && not (slice_index bytes 3 == 2) && not (slice_index bytes 3 == 3))
+    by (nat_lt (length bytes) 6) (not (big_number 2 bytes == 0x4244)) (not (slice_index bytes 2 == 1))
+    (not (slice_index bytes 3 == 1) && not (slice_index bytes 3 == 2) && not (slice_index bytes 3 == 3))
     (not (big_number 2 (drop 4 bytes) == length bytes) || nat_lt DATAGRAM_MAX (length bytes))
   where
-    by : (a b c d e : Bool) → P (cond a (Err Short) (cond b (Err Magic) (cond c (Err Version) (cond d (Err Kind) (cond e (Err Length) (ok_or (body_at (slice_index bytes 3) (drop 6 bytes)) Body))))))
+    by : (a b c d e : Bool) → P (cond a (Err Short)
+        (cond b (Err Magic) (cond c (Err Version)
+        (cond d (Err Kind) (cond e (Err Length) (ok_or (body_at (slice_index bytes 3) (drop 6 bytes)) Body))))))
     by true b c d e = faults Short
     by false true c d e = faults Magic
     by false false true d e = faults Version
@@ -111,28 +121,38 @@ tested P bytes faults read =
 
 -- a frame, also one of which no spelling is read, reads as no other datagram
 pub frame-reads : (P : Result Datagram WireFault → Type 0) → ((fault : WireFault) → P (Err fault))
-    → ((worker seq commit : ℕ) (last : Bool) (entries : List Entry) → P (Ok (datagrams.Frame worker seq commit last entries))) → (frame : Frame) → P (reading (frame_spelling frame))
-frame-reads P faults frames frame = tested P (frame_spelling frame) faults (by (nat_lt (length body) 20) refused (entries_filling (big_number 2 (drop 18 body)) (drop 20 body)))
+    → ((worker seq commit : ℕ) (last : Bool) (entries : List Entry) → P (Ok (datagrams.Frame worker seq commit last entries)))
+    → (frame : Frame) → P (reading (frame_spelling frame))
+frame-reads P faults frames frame =
+    tested P (frame_spelling frame) faults
+    (by (nat_lt (length body) 20) refused (entries_filling (big_number 2 (drop 18 body)) (drop 20 body)))
   where
     body : List ℕ
     body = drop 6 (frame_spelling frame)
 
     refused : Bool
-    refused = not (nat_lt (slice_index body 0) WORKERS_MAX) || (big_number 8 (drop 9 body) == 0) || nat_lt 1 (slice_index body 17) || (big_number 2 (drop 18 body) == 0)
+    refused =
+        not (nat_lt (slice_index body 0) WORKERS_MAX) || (big_number 8 (drop 9 body) == 0) || nat_lt 1 (slice_index body 17)
+        || (big_number 2 (drop 18 body) == 0)
 
     made : List Entry → Datagram
-    made entries = datagrams.Frame (slice_index body 0) (big_number 8 (drop 1 body)) (big_number 8 (drop 9 body)) (slice_index body 17 == 1) entries
+    made entries =
+        datagrams.Frame (slice_index body 0) (big_number 8 (drop 1 body)) (big_number 8 (drop 9 body)) (slice_index body 17 == 1) entries
 
     by : (a b : Bool) (filling : Option (List Entry)) → P (ok_or (cond a None (cond b None (option_map made filling))) Body)
     by true b filling = faults Body
     by false true filling = faults Body
     by false false None = faults Body
-    by false false (Some entries) = frames (slice_index body 0) (big_number 8 (drop 1 body)) (big_number 8 (drop 9 body)) (slice_index body 17 == 1) entries
+    by false false (Some entries) =
+        frames (slice_index body 0) (big_number 8 (drop 1 body)) (big_number 8 (drop 9 body)) (slice_index body 17 == 1) entries
 
 -- a Head, also one of which no spelling is read, reads as no other datagram, and its request and version as themselves
-pub head-reads : (P : Result Datagram WireFault → Type 0) → ((fault : WireFault) → P (Err fault)) → (replica boot request version : ℕ) (counts : List ℕ) → request < 2 ^ 64 → version < 2 ^ 64
-    → ((boot' : ℕ) (counts' : List ℕ) → P (Ok (datagrams.Head replica boot' request version counts'))) → P (reading (spelling (datagrams.Head replica boot request version counts)))
-head-reads P faults replica boot request version counts request_below version_below heads = tested P bytes faults (by (nat_lt (length body) 26) refused)
+pub head-reads : (P : Result Datagram WireFault → Type 0) → ((fault : WireFault) → P (Err fault))
+    → (replica boot request version : ℕ) (counts : List ℕ) → request < 2 ^ 64 → version < 2 ^ 64
+    → ((boot' : ℕ) (counts' : List ℕ) → P (Ok (datagrams.Head replica boot' request version counts')))
+    → P (reading (spelling (datagrams.Head replica boot request version counts)))
+head-reads P faults replica boot request version counts request_below version_below heads =
+    tested P bytes faults (by (nat_lt (length body) 26) refused)
   where
     bytes : List ℕ
     bytes = spelling (datagrams.Head replica boot request version counts)
@@ -141,7 +161,9 @@ head-reads P faults replica boot request version counts request_below version_be
     body = drop 6 bytes
 
     refused : Bool
-    refused = not (nat_lt (slice_index body 0) REPLICAS_MAX) || (slice_index body 25 == 0) || nat_lt WORKERS_MAX (slice_index body 25) || not (length body == 26 + 8 * slice_index body 25)
+    refused =
+        not (nat_lt (slice_index body 0) REPLICAS_MAX) || (slice_index body 25 == 0) || nat_lt WORKERS_MAX (slice_index body 25)
+        || not (length body == 26 + 8 * slice_index body 25)
 
     boot' : ℕ
     boot' = big_number 8 (drop 1 body)
@@ -151,10 +173,13 @@ head-reads P faults replica boot request version counts request_below version_be
 
     read : P (Ok (datagrams.Head replica boot' (big_number 8 (drop 9 body)) (big_number 8 (drop 17 body)) counts'))
     read =
-        subst (λ (n : ℕ). P (Ok (datagrams.Head replica boot' n (big_number 8 (drop 17 body)) counts'))) (sym (big_number-reads_back 8 request (drop 17 body) request_below))
-        (subst (λ (n : ℕ). P (Ok (datagrams.Head replica boot' request n counts'))) (sym (big_number-reads_back 8 version (drop 25 body) version_below)) (heads boot' counts'))
+        subst (λ (n : ℕ). P (Ok (datagrams.Head replica boot' n (big_number 8 (drop 17 body)) counts')))
+        (sym (big_number-reads_back 8 request (drop 17 body) request_below))
+        (subst (λ (n : ℕ). P (Ok (datagrams.Head replica boot' request n counts')))
+        (sym (big_number-reads_back 8 version (drop 25 body) version_below)) (heads boot' counts'))
 
-    by : (a b : Bool) → P (ok_or (cond a None (cond b None (Some (datagrams.Head replica boot' (big_number 8 (drop 9 body)) (big_number 8 (drop 17 body)) counts')))) Body)
+    by : (a b : Bool) → P (ok_or (cond a None
+        (cond b None (Some (datagrams.Head replica boot' (big_number 8 (drop 9 body)) (big_number 8 (drop 17 body)) counts')))) Body)
     by true b = faults Body
     by false true = faults Body
     by false false = read

@@ -23,11 +23,14 @@ use Rattle.world.proofs.Adding.{IsAdded, insert-added, set-added, delete-added}
 use Rattle.world.proofs.Placing.{column-matched, value-fits}
 use Rattle.world.proofs.Changing.{length-values, matched, delete-fits}
 
-sized-matched : (found : Option (List Kind)) (kinds : List Kind) (size : ℕ) → found ≡ Some kinds → size ≡ row_width kinds → is_ok (sized found size) ≡ true
+sized-matched : (found : Option (List Kind)) (kinds : List Kind) (size : ℕ) → found ≡ Some kinds → size ≡ row_width kinds
+    → is_ok (sized found size) ≡ true
 sized-matched found kinds size e f =
-    ap (λ (o : Option (List Kind)). is_ok (sized o size)) e ∙ ap (λ (b : Bool). is_ok (cond b (Ok tt) (Err WrongSize))) (eq-eqb size (row_width kinds) f)
+    ap (λ (o : Option (List Kind)). is_ok (sized o size)) e
+    ∙ ap (λ (b : Bool). is_ok (cond b (Ok tt) (Err WrongSize))) (eq-eqb size (row_width kinds) f)
 
-values-fit : (shape : Shape) (table : ℕ) (row : RowId) (values : List Value) → match_table values (slice_get shape table) ≡ true → is_ok (fitting shape (Insert table row (bytes_of values))) ≡ true
+values-fit : (shape : Shape) (table : ℕ) (row : RowId) (values : List Value) → match_table values (slice_get shape table) ≡ true
+    → is_ok (fitting shape (Insert table row (bytes_of values))) ≡ true
 values-fit shape table row values h =
     let found = matched values (slice_get shape table) h in
     sized-matched (slice_get shape table) found.0 (length (bytes_of values)) found.1 (length-values values found.0 found.2)
@@ -37,27 +40,33 @@ pub record IsDefined (shape : Shape) (commits : List Commit) (draft new : Draft)
   pub reads : new.snapshot ≡ draft.snapshot
   pub defined : is_ok (changes_of shape (tables_after shape commits draft.snapshot) new.entries) ≡ true
 
-module _ (shape : Shape) (commits : List Commit) (draft new : Draft) (defined : is_ok (changes_of shape (tables_after shape commits draft.snapshot) draft.entries) ≡ true) where
+module _ (shape : Shape) (commits : List Commit) (draft new : Draft)
+    (defined : is_ok (changes_of shape (tables_after shape commits draft.snapshot) draft.entries) ≡ true) where
   -- an entry that fits, and whose row stands as it needs it, is defined behind the others
-  added-defined : (entry : Entry) → is_ok (fitting shape entry) ≡ true → IsAdded shape commits draft entry new → IsDefined shape commits draft new
+  added-defined : (entry : Entry) → is_ok (fitting shape entry) ≡ true → IsAdded shape commits draft entry new
+      → IsDefined shape commits draft new
   added-defined entry fits added =
       let tables = tables_after shape commits draft.snapshot in
       let table = table_of entry in
       let row = row_of entry in
       let was = is_present (rows_of tables table) row in
       let seen : is_there_after table row draft.entries was ≡ sees shape commits draft table row =
-      sym (is_there_after_fit-defined shape tables draft.entries table row was defined) ∙ sym (there-seen shape commits draft.snapshot draft.entries table row) in
+      sym (is_there_after_fit-defined shape tables draft.entries table row was defined)
+      ∙ sym (there-seen shape commits draft.snapshot draft.entries table row) in
       let is : is_ok (changes_of shape tables (draft.entries ++ entry ∷ [])) ≡ true =
       defined_behind shape commits draft.snapshot draft.entries entry defined
-      ∙ and_from (is_ok (fitting shape entry)) (stands_for entry (is_there_after table row draft.entries was)) fits (ap (stands_for entry) seen ∙ added.stands) in
+      ∙ and_from (is_ok (fitting shape entry)) (stands_for entry (is_there_after table row draft.entries was)) fits
+      (ap (stands_for entry) seen ∙ added.stands) in
       subst (IsDefined shape commits draft) (sym added.made) (record { reads = refl; defined = is })
 
-  pub insert-defined : (table row : ℕ) (values : List Value) → insert_answer shape commits draft table row values ≡ Ok new → IsDefined shape commits draft new
+  pub insert-defined : (table row : ℕ) (values : List Value) → insert_answer shape commits draft table row values ≡ Ok new
+      → IsDefined shape commits draft new
   insert-defined table row values h =
       let taken = insert-added shape commits draft table row new values h in
       added-defined _ (values-fit shape table (record { 0 = row }) values taken.0) taken.1
 
-  pub set-defined : (table row column : ℕ) (value : Value) → set_answer shape commits draft table row column value ≡ Ok new → IsDefined shape commits draft new
+  pub set-defined : (table row column : ℕ) (value : Value) → set_answer shape commits draft table row column value ≡ Ok new
+      → IsDefined shape commits draft new
   set-defined table row column value h =
       let taken = set-added shape commits draft table row new column value h in
       let at = column-matched shape table column value taken.0 in

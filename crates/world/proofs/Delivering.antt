@@ -19,17 +19,20 @@ use Rattle.world.specs.Steps.{to_primary, to_replica, to_node, got_by, deliver_b
 use Rattle.world.proofs.Moving.{replica_same}
 
 module _ (p old : Parts) (seen : p ≡ old) (place : ℕ) (bytes : List ℕ) (at : slice_get p.sent place ≡ Some bytes) where
-  by_node : (node : Node) (output : Output) (new : Parts) → to_node p bytes node ≡ (output, new) → MayStep old (Deliver place node) output new
+  by_node : (node : Node) (output : Output) (new : Parts) → to_node p bytes node ≡ (output, new)
+      → MayStep old (Deliver place node) output new
   by_node node output new is = subst (λ x. MayStep x (Deliver place node) output new) seen (inl (ap (deliver_by p node) at ∙ is))
 
   answered : (outs : List Out) → outs ≡ answers p.primary bytes
       → to_primary p bytes ≡ (of_answers (length p.sent) outs, record p { sent = p.sent ++ packets_of outs })
   answered outs is = ap (λ outs. (of_answers (length p.sent) outs, record p { sent = p.sent ++ packets_of outs })) (sym is)
 
-  pub nothing_sent : (outs : List Out) → outs ≡ answers p.primary bytes → length outs ≡ 0 → MayStep old (Deliver place nodes.Primary) outputs.Ignored old
+  pub nothing_sent : (outs : List Out) → outs ≡ answers p.primary bytes → length outs ≡ 0
+      → MayStep old (Deliver place nodes.Primary) outputs.Ignored old
   nothing_sent [] is none =
       subst (λ x. MayStep old (Deliver place nodes.Primary) outputs.Ignored x) seen
-      (by_node nodes.Primary _ _ (answered [] is ∙ ap (λ (sent : List (List ℕ)). (outputs.Ignored, record p { sent = sent })) (append-nil p.sent)))
+      (by_node nodes.Primary _ _ (answered [] is
+      ∙ ap (λ (sent : List (List ℕ)). (outputs.Ignored, record p { sent = sent })) (append-nil p.sent)))
   nothing_sent (out ∷ outs) is none = absurd (omega arith)
 
   pub all_sent : (outs : List Out) (list : List Sent) (sent : List (List ℕ)) → outs ≡ answers p.primary bytes → 0 < length outs
@@ -43,6 +46,7 @@ module _ (p old : Parts) (seen : p ≡ old) (place : ℕ) (bytes : List ℕ) (at
   pub came_to : (number : ℕ) (before after : Replica) (got : Got) → slice_get p.replicas number ≡ Some before
       → ((got ≡ gots.Memory) × (after ≡ before)) ⊎ (received before bytes ≡ (got, after))
       → MayStep old (Deliver place (nodes.Replica number)) (of_got got) (with_replica p number after)
-  came_to number before after got there (inl memory) = inr (inl (ap of_got memory.0, sym (replica_same p old seen number before after there memory.1) ∙ seen))
+  came_to number before after got there (inl memory) =
+      inr (inl (ap of_got memory.0, sym (replica_same p old seen number before after there memory.1) ∙ seen))
   came_to number before after got there (inr came) =
       by_node (nodes.Replica number) _ _ (ap (to_replica p number bytes) there ∙ ap (got_by p number) came)

@@ -1,6 +1,7 @@
 -- What keeps reports fresh: no version that was fetched, and none of a Head that was ever sent, is older than the batch
 -- that it may serve.
-use Rattle.std.proofs.Common.{◌≡◌, ℕ, zero, suc, ◌+◌, ◌^◌, ◌<◌, ◌≤◌, List, [], ◌∷◌, ◌++◌, length, take, drop, Option, Some, Result, Ok, Err, refl, sym, ap, subst, ◌∙◌, inl, inr, arith}
+use Rattle.std.proofs.Common.{◌≡◌, ℕ, zero, suc, ◌+◌, ◌^◌, ◌<◌, ◌≤◌, List, [], ◌∷◌, ◌++◌, length, take, drop, Option, Some, Result, Ok, Err}
+use Rattle.std.proofs.Common.{refl, sym, ap, subst, ◌∙◌, inl, inr, arith}
 use Rattle.std.specs.List.{slice_get, slice_set, AllByRecursion}
 use Rattle.std.proofs.lemmas.List.{length-append, length-set, take-append-drop}
 use Rattle.std.proofs.lemmas.Option.{none-some, same_Some}
@@ -21,7 +22,8 @@ use Rattle.world.proofs.Lists.{get-set, get-append, All-get}
 -- a batch asked at a version that is durable, and what was fetched for it is at least as new
 pub record IsFreshBatch (durable : List Commit) (batch : Batch) : Type 0 where
   pub asked : batch.asked_at ≤ length durable
-  pub fetched_is : (fetched : Fetched) → batch.fetched ≡ Some fetched → (batch.asked_at ≤ fetched.version) × (fetched.version ≤ length durable)
+  pub fetched_is : (fetched : Fetched) → batch.fetched ≡ Some fetched → (batch.asked_at ≤ fetched.version)
+      × (fetched.version ≤ length durable)
 
 -- a replica at its place, with a fresh batch
 pub record IsFreshMember (durable : List Commit) (number : ℕ) (m : Member) : Type 0 where
@@ -58,7 +60,8 @@ pub Fresh-drafts : (w : World) (transactions : List (Option Draft)) → Fresh w 
 Fresh-drafts w transactions h = record { numbered = h.numbered; few = h.few; members_are = h.members_are; sent_is = h.sent_is }
 
 -- one more commit is pending, and a transaction is over
-pub Fresh-committed : (w : World) (worker : ℕ) (draft : Draft) (transactions : List (Option Draft)) → Fresh w → length w.primary.durable + length w.primary.pending + 1 < 2 ^ 64
+pub Fresh-committed : (w : World) (worker : ℕ) (draft : Draft) (transactions : List (Option Draft)) → Fresh w
+    → length w.primary.durable + length w.primary.pending + 1 < 2 ^ 64
     → Fresh (record w { primary = committed w.primary worker draft.entries; transactions = transactions })
 Fresh-committed w worker draft transactions h below = record {
   numbered = omega (arith, length-append w.primary.pending (record { worker = worker; entries = draft.entries } ∷ []));
@@ -67,7 +70,8 @@ Fresh-committed w worker draft transactions h below = record {
   sent_is = h.sent_is;
 }
 
-member-grows : (durable more : List Commit) (number : ℕ) (m : Member) → IsFreshMember durable number m → IsFreshMember (durable ++ more) number m
+member-grows : (durable more : List Commit) (number : ℕ) (m : Member) → IsFreshMember durable number m
+    → IsFreshMember (durable ++ more) number m
 member-grows durable more number m h = record {
   number_is = h.number_is;
   boot_is = h.boot_is;
@@ -75,15 +79,18 @@ member-grows durable more number m h = record {
       let asked = (h.batch_is batch has).asked in
       record {
         asked = omega (arith, length-append durable more);
-        fetched_is = λ fetched is. let found = (h.batch_is batch has).fetched_is fetched is in (found.0, omega (arith, length-append durable more));
+        fetched_is = λ fetched is. let found =
+            (h.batch_is batch has).fetched_is fetched is in (found.0, omega (arith, length-append durable more));
       };
 }
 
-reading-grows : (durable more : List Commit) (members : List Member) (read : Result Datagram WireFault) → IsFreshReading durable members read → IsFreshReading (durable ++ more) members read
+reading-grows : (durable more : List Commit) (members : List Member) (read : Result Datagram WireFault)
+    → IsFreshReading durable members read → IsFreshReading (durable ++ more) members read
 reading-grows durable more members (Err fault) h = tt
 reading-grows durable more members (Ok (datagrams.Frame worker seq commit last entries)) h = tt
 reading-grows durable more members (Ok (datagrams.Ask replica boot request)) h = h
-reading-grows durable more members (Ok (datagrams.Head replica boot request version counts)) h = let below = h.0 in (omega (arith, length-append durable more), h.1)
+reading-grows durable more members (Ok (datagrams.Head replica boot request version counts)) h = let below =
+    h.0 in (omega (arith, length-append durable more), h.1)
 reading-grows durable more members (Ok (datagrams.Want replica worker from)) h = tt
 
 -- pending commits become durable
@@ -92,7 +99,8 @@ Fresh-flushed w count h =
     let front = take count w.primary.pending in
     let back = drop count w.primary.pending in
     let numbered = h.numbered in
-    let parts : length front + length back ≡ length w.primary.pending = sym (length-append front back) ∙ ap length (take-append-drop count w.primary.pending) in
+    let parts : length front + length back ≡ length w.primary.pending =
+    sym (length-append front back) ∙ ap length (take-append-drop count w.primary.pending) in
     record {
       numbered = omega (arith, length-append w.primary.durable front);
       few = h.few;
@@ -102,7 +110,8 @@ Fresh-flushed w count h =
 
 -- ---- more datagrams
 
-pub Fresh-sent : (w : World) (more : List (List ℕ)) → Fresh w → AllByRecursion (λ bytes. IsFreshReading w.primary.durable w.members (reading bytes)) more → Fresh (record w { sent = w.sent ++ more })
+pub Fresh-sent : (w : World) (more : List (List ℕ)) → Fresh w
+    → AllByRecursion (λ bytes. IsFreshReading w.primary.durable w.members (reading bytes)) more → Fresh (record w { sent = w.sent ++ more })
 Fresh-sent w more h fresh = record {
   numbered = h.numbered;
   few = h.few;
@@ -124,17 +133,23 @@ pub record Follows (durable : List Commit) (old new : Member) : Type 0 where
   pub heads : (request version : ℕ) → IsFreshHead old request version → IsFreshHead new request version
 
 -- a replica of the same request and batch
-pub alike : (durable : List Commit) (number : ℕ) (old new : Member) → IsFreshMember durable number old → new.number ≡ old.number → new.boot ≡ old.boot → new.request ≡ old.request → new.batch ≡ old.batch
+pub alike : (durable : List Commit) (number : ℕ) (old new : Member) → IsFreshMember durable number old → new.number ≡ old.number
+    → new.boot ≡ old.boot → new.request ≡ old.request → new.batch ≡ old.batch
     → Follows durable old new
 alike durable number old new h number_is boot_is request_is batch_is = record {
   number_is = number_is;
   boot_is = boot_is;
   batch_is = λ batch has. h.batch_is batch (sym batch_is ∙ has);
   asked = omega arith;
-  heads = λ request version head. record { asked = let asked = head.asked in omega arith; above = λ batch has same. head.above batch (sym batch_is ∙ has) (same ∙ request_is) };
+  heads =
+      λ request version head. record {
+        asked = let asked = head.asked in omega arith;
+        above = λ batch has same. head.above batch (sym batch_is ∙ has) (same ∙ request_is);
+      };
 }
 
-reading-follows : (durable : List Commit) (members : List Member) (i : ℕ) (old new : Member) → slice_get members i ≡ Some old → Follows durable old new
+reading-follows : (durable : List Commit) (members : List Member) (i : ℕ) (old new : Member) → slice_get members i ≡ Some old
+    → Follows durable old new
     → (read : Result Datagram WireFault) → IsFreshReading durable members read → IsFreshReading durable (slice_set members i new) read
 reading-follows durable members i old new here follows (Err fault) h = tt
 reading-follows durable members i old new here follows (Ok (datagrams.Frame worker seq commit last entries)) h = tt
@@ -151,29 +166,38 @@ reading-follows durable members i old new here follows (Ok (datagrams.Ask replic
 reading-follows durable members i old new here follows (Ok (datagrams.Head replica boot request version counts)) h = (
   h.0,
   λ m there. elim (get-set members i new replica m there) [
-    | inl same ↦ subst (λ (other : Member). IsFreshHead other request version) (sym same.1) (follows.heads request version (h.1 old (ap (slice_get members) same.0 ∙ here)))
+    | inl same ↦ subst (λ (other : Member). IsFreshHead other request version) (sym same.1)
+        (follows.heads request version (h.1 old (ap (slice_get members) same.0 ∙ here)))
     | inr stays ↦ h.1 m stays
   ],
 )
 reading-follows durable members i old new here follows (Ok (datagrams.Want replica worker from)) h = tt
 
-changed : (w : World) (i : ℕ) (old new : Member) → Fresh w → slice_get w.members i ≡ Some old → Follows w.primary.durable old new → Fresh (record w { members = slice_set w.members i new })
+changed : (w : World) (i : ℕ) (old new : Member) → Fresh w → slice_get w.members i ≡ Some old → Follows w.primary.durable old new
+    → Fresh (record w { members = slice_set w.members i new })
 changed w i old new h here follows = record {
   numbered = h.numbered;
   few = let few = h.few in omega (arith, length-set w.members i new);
   members_are = λ j m there. elim (get-set w.members i new j m there) [
     | inl same ↦
         let is = h.members_are i old here in
-        subst (IsFreshMember w.primary.durable j) (sym same.1) (record { number_is = follows.number_is ∙ is.number_is ∙ sym same.0; boot_is = follows.boot_is ∙ is.boot_is; batch_is = follows.batch_is })
+        subst (IsFreshMember w.primary.durable j) (sym same.1)
+        (record {
+          number_is = follows.number_is ∙ is.number_is ∙ sym same.0;
+          boot_is = follows.boot_is ∙ is.boot_is;
+          batch_is = follows.batch_is;
+        })
     | inr stays ↦ h.members_are j m stays
   ];
   sent_is = λ j bytes there. reading-follows w.primary.durable w.members i old new here follows (reading bytes) (h.sent_is j bytes there);
 }
 
 -- the world with the replica as it has changed
-pub Fresh-member : (w : World) (i : ℕ) (old new : Member) → Fresh w → slice_get w.members i ≡ Some old → Follows w.primary.durable old new → Fresh (with_member w new)
+pub Fresh-member : (w : World) (i : ℕ) (old new : Member) → Fresh w → slice_get w.members i ≡ Some old → Follows w.primary.durable old new
+    → Fresh (with_member w new)
 Fresh-member w i old new h here follows =
-    subst (λ (n : ℕ). Fresh (record w { members = slice_set w.members n new })) (sym (follows.number_is ∙ (h.members_are i old here).number_is)) (changed w i old new h here follows)
+    subst (λ (n : ℕ). Fresh (record w { members = slice_set w.members n new }))
+    (sym (follows.number_is ∙ (h.members_are i old here).number_is)) (changed w i old new h here follows)
 
 -- ---- the beginning
 
@@ -182,7 +206,8 @@ started-fresh number zero i m here = absurd (none-some m here)
 started-fresh number (suc count) zero m here =
     let same : fresh number ≡ m = same_Some (fresh number) m here in
     let place : number ≡ number + 0 = omega arith in
-    subst (IsFreshMember [] (number + 0)) same (record { number_is = place; boot_is = refl; batch_is = λ batch has. absurd (none-some batch has) })
+    subst (IsFreshMember [] (number + 0)) same
+    (record { number_is = place; boot_is = refl; batch_is = λ batch has. absurd (none-some batch has) })
 started-fresh number (suc count) (suc i) m here =
     let place : suc number + i ≡ number + suc i = omega arith in
     subst (λ (n : ℕ). IsFreshMember [] n m) place (started-fresh (suc number) count i m here)
@@ -195,6 +220,7 @@ pub opening-fresh : (shape : Shape) (workers replicas : ℕ) → replicas ≤ RE
 opening-fresh shape workers replicas few = record {
   numbered = omega arith;
   few = omega (arith, length-fresh 0 replicas);
-  members_are = λ i m here. let place : 0 + i ≡ i = omega arith in subst (λ (n : ℕ). IsFreshMember [] n m) place (started-fresh 0 replicas i m here);
+  members_are = λ i m here. let place : 0 + i ≡ i =
+      omega arith in subst (λ (n : ℕ). IsFreshMember [] n m) place (started-fresh 0 replicas i m here);
   sent_is = λ i bytes here. absurd (none-some bytes here);
 }

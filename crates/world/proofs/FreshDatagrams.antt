@@ -1,5 +1,6 @@
 -- What is sent and what a replica takes keep a world fresh.
-use Rattle.std.proofs.Common.{◌≡◌, ℕ, ◌≤◌, Bool, true, false, cond, not, ◌||◌, ◌&&◌, ◌==◌, List, [], ◌∷◌, length, Option, Some, None, Result, Ok, Err, nat_lt, refl, ap, subst, ◌∙◌, arith}
+use Rattle.std.proofs.Common.{◌≡◌, ℕ, ◌≤◌, Bool, true, false, cond, not, ◌||◌, ◌&&◌, ◌==◌, List, [], ◌∷◌, length, Option, Some, None}
+use Rattle.std.proofs.Common.{Result, Ok, Err, nat_lt, refl, ap, subst, ◌∙◌, arith}
 use Rattle.std.specs.List.{slice_get, AllByRecursion, list_all}
 use Rattle.std.specs.Option.{option_map}
 use Rattle.std.specs.Result.{is_ok}
@@ -27,19 +28,23 @@ use Rattle.script.specs.declared.event.Node.TheVariants as nodes
 use Rattle.script.specs.declared.output.Output.{Output}
 use Rattle.script.specs.declared.output.Output.TheVariants as outputs
 use Rattle.world.specs.Outputs.{of_answers, packets_of}
-use Rattle.world.specs.World.{World, Member, Batch, send, push_happens, head_happens, datagram_happens, on_member, member_output, deliver_happens, shown}
+use Rattle.world.specs.World.{World, Member, Batch, send, push_happens, head_happens, datagram_happens, on_member, member_output}
+use Rattle.world.specs.World.{deliver_happens, shown}
 use Rattle.world.proofs.Datagrams.{frame-reads, head-reads}
 use Rattle.world.proofs.Fresh.{IsFreshBatch, IsFreshMember, IsFreshHead, IsFreshReading, Fresh, Fresh-sent, Follows, alike, Fresh-member}
 use Rattle.world.proofs.Serving.{IsNoReport, Serves, quiet}
 
 -- one more datagram is sent
-pub send-serves : (w old : World) (event : Event) (bytes : List ℕ) → Fresh w → IsFreshReading w.primary.durable w.members (reading bytes) → Serves old event (send w bytes)
+pub send-serves : (w old : World) (event : Event) (bytes : List ℕ) → Fresh w → IsFreshReading w.primary.durable w.members (reading bytes)
+    → Serves old event (send w bytes)
 send-serves w old event bytes h fresh = quiet old event (send w bytes) (Fresh-sent w (bytes ∷ []) h (fresh, tt)) tt
 
-pub push-serves : (w : World) (event : Event) (found : Option Frame) → Fresh w → Serves w event (push_happens w (option_map frame_spelling found))
+pub push-serves : (w : World) (event : Event) (found : Option Frame) → Fresh w
+    → Serves w event (push_happens w (option_map frame_spelling found))
 push-serves w event None h = quiet w event (outputs.NoFrame, w) h tt
 push-serves w event (Some frame) h =
-    send-serves w w event (frame_spelling frame) h (frame-reads (IsFreshReading w.primary.durable w.members) (λ fault. tt) (λ worker seq commit last entries. tt) frame)
+    send-serves w w event (frame_spelling frame) h
+    (frame-reads (IsFreshReading w.primary.durable w.members) (λ fault. tt) (λ worker seq commit last entries. tt) frame)
 
 answers-silent : (place : ℕ) (outs : List Out) → IsNoReport (of_answers place outs)
 answers-silent place [] = tt
@@ -53,8 +58,15 @@ answers-fresh w (Ok (datagrams.Frame worker seq commit last entries)) h told = t
 answers-fresh w (Ok (datagrams.Ask replica boot request)) h told =
     let version = length w.primary.durable in
     let numbered = h.numbered in (
-      head-reads (IsFreshReading w.primary.durable w.members) (λ fault. tt) replica boot request version (counts_of w.primary.durable version w.primary.workers) told.0.request_below (omega arith)
-          (λ boot' counts'. (omega arith, λ m there. record { asked = told.1 m there; above = λ batch has same. ((h.members_are replica m there).batch_is batch has).asked })),
+      head-reads (IsFreshReading w.primary.durable w.members) (λ fault. tt) replica boot request version
+          (counts_of w.primary.durable version w.primary.workers) told.0.request_below (omega arith)
+          (λ boot' counts'. (
+            omega arith,
+            λ m there. record {
+              asked = told.1 m there;
+              above = λ batch has same. ((h.members_are replica m there).batch_is batch has).asked;
+            },
+          )),
       tt,
     )
 answers-fresh w (Ok (datagrams.Head replica boot request version counts)) h told = tt
@@ -66,18 +78,22 @@ record Takes (durable : List Commit) (m : Member) (answer : Output × Member) : 
   silent : IsNoReport answer.0
 
 -- a replica that keeps its request and its batch
-keeps : (durable : List Commit) (i : ℕ) (m : Member) (output : Output) → IsFreshMember durable i m → IsNoReport output → Takes durable m (output, m)
+keeps : (durable : List Commit) (i : ℕ) (m : Member) (output : Output) → IsFreshMember durable i m → IsNoReport output
+    → Takes durable m (output, m)
 keeps durable i m output is silent = record { follows = alike durable i m m is refl refl refl refl; silent = silent }
 
 frame-takes : (durable : List Commit) (i : ℕ) (m : Member) (seq : ℕ) (a b c : Bool) → IsFreshMember durable i m
-    → Takes durable m (cond a (outputs.Ignored, m) (cond b (outputs.Repeat, m) (cond c (outputs.Ahead, m) (outputs.Stored, record m { known = insert_key nat_cmp m.known seq }))))
+    → Takes durable m (cond a (outputs.Ignored, m)
+    (cond b (outputs.Repeat, m) (cond c (outputs.Ahead, m) (outputs.Stored, record m { known = insert_key nat_cmp m.known seq }))))
 frame-takes durable i m seq true b c is = keeps durable i m outputs.Ignored is tt
 frame-takes durable i m seq false true c is = keeps durable i m outputs.Repeat is tt
 frame-takes durable i m seq false false true is = keeps durable i m outputs.Ahead is tt
-frame-takes durable i m seq false false false is = record { follows = alike durable i m (record m { known = insert_key nat_cmp m.known seq }) is refl refl refl refl; silent = tt }
+frame-takes durable i m seq false false false is =
+    record { follows = alike durable i m (record m { known = insert_key nat_cmp m.known seq }) is refl refl refl refl; silent = tt }
 
 -- a Head of the batch's own request
-fetched-takes : (durable : List Commit) (i : ℕ) (m : Member) (version : ℕ) (counts : List ℕ) (plans : List Plan) (asked_at : ℕ) (fetched : Option Fetched) → IsFreshMember durable i m
+fetched-takes : (durable : List Commit) (i : ℕ) (m : Member) (version : ℕ) (counts : List ℕ) (plans : List Plan) (asked_at : ℕ)
+    (fetched : Option Fetched) → IsFreshMember durable i m
     → m.batch ≡ Some (record { plans = plans; asked_at = asked_at; fetched = fetched }) → asked_at ≤ version → version ≤ length durable
     → Takes durable m (head_happens m version counts (Some (record { plans = plans; asked_at = asked_at; fetched = fetched })))
 fetched-takes durable i m version counts plans asked_at (Some fetched) is has above below = keeps durable i m outputs.Ignored is tt
@@ -87,7 +103,9 @@ fetched-takes durable i m version counts plans asked_at None is has above below 
     boot_is = refl;
     batch_is = λ batch now. subst (IsFreshBatch durable) (same_Some new batch now) (record {
       asked = (is.batch_is old has).asked;
-      fetched_is = λ fetched this. subst (λ (f : Fetched). (asked_at ≤ f.version) × (f.version ≤ length durable)) (same_Some came fetched this) (above, below);
+      fetched_is =
+          λ fetched this. subst (λ (f : Fetched). (asked_at ≤ f.version) × (f.version ≤ length durable)) (same_Some came fetched this)
+          (above, below);
     });
     asked = omega arith;
     heads = λ request other head. record {
@@ -107,13 +125,17 @@ fetched-takes durable i m version counts plans asked_at None is has above below 
     new : Batch
     new = record { plans = plans; asked_at = asked_at; fetched = Some came }
 
-head-takes : (durable : List Commit) (i : ℕ) (m : Member) (version : ℕ) (counts : List ℕ) (found : Option Batch) → IsFreshMember durable i m → m.batch ≡ found → ((batch : Batch) → m.batch ≡ Some batch → batch.asked_at ≤ version)
+head-takes : (durable : List Commit) (i : ℕ) (m : Member) (version : ℕ) (counts : List ℕ) (found : Option Batch) → IsFreshMember durable i m
+    → m.batch ≡ found → ((batch : Batch) → m.batch ≡ Some batch → batch.asked_at ≤ version)
     → version ≤ length durable → Takes durable m (head_happens m version counts found)
 head-takes durable i m version counts None is has above below = keeps durable i m outputs.Ignored is tt
-head-takes durable i m version counts (Some batch) is has above below = fetched-takes durable i m version counts batch.plans batch.asked_at batch.fetched is has (above batch has) below
+head-takes durable i m version counts (Some batch) is has above below =
+    fetched-takes durable i m version counts batch.plans batch.asked_at batch.fetched is has (above batch has) below
 
-own-takes : (durable : List Commit) (members : List Member) (i : ℕ) (m : Member) (replica boot request version : ℕ) (counts : List ℕ) → slice_get members i ≡ Some m → IsFreshMember durable i m
-    → version ≤ length durable → ((other : Member) → slice_get members replica ≡ Some other → IsFreshHead other request version) → (own : Bool) → ((replica == m.number) && (boot == m.boot) && (request == m.request)) ≡ own
+own-takes : (durable : List Commit) (members : List Member) (i : ℕ) (m : Member) (replica boot request version : ℕ) (counts : List ℕ)
+    → slice_get members i ≡ Some m → IsFreshMember durable i m
+    → version ≤ length durable → ((other : Member) → slice_get members replica ≡ Some other → IsFreshHead other request version)
+    → (own : Bool) → ((replica == m.number) && (boot == m.boot) && (request == m.request)) ≡ own
     → Takes durable m (cond own (head_happens m version counts m.batch) (outputs.Ignored, m))
 own-takes durable members i m replica boot request version counts here is below told false e = keeps durable i m outputs.Ignored is tt
 own-takes durable members i m replica boot request version counts here is below told true e =
@@ -123,18 +145,25 @@ own-takes durable members i m replica boot request version counts here is below 
     let head = told m (ap (slice_get members) place ∙ here) in
     head-takes durable i m version counts m.batch is refl (λ batch has. head.above batch has (eqb-true request m.request parts.1)) below
 
-datagram-takes : (durable : List Commit) (shape : Shape) (workers : ℕ) (members : List Member) (i : ℕ) (m : Member) → slice_get members i ≡ Some m → IsFreshMember durable i m → (read : Result Datagram WireFault)
+datagram-takes : (durable : List Commit) (shape : Shape) (workers : ℕ) (members : List Member) (i : ℕ) (m : Member)
+    → slice_get members i ≡ Some m → IsFreshMember durable i m → (read : Result Datagram WireFault)
     → IsFreshReading durable members read → Takes durable m (datagram_happens shape workers m read)
 datagram-takes durable shape workers members i m here is (Err fault) told = keeps durable i m outputs.Ignored is tt
 datagram-takes durable shape workers members i m here is (Ok (datagrams.Frame worker seq commit last entries)) told =
-    frame-takes durable i m seq (not (nat_lt worker workers) || not (list_all (λ entry. is_ok (fitting shape entry)) entries)) (is_known m.known seq) (is_ahead m.known seq) is
-datagram-takes durable shape workers members i m here is (Ok (datagrams.Ask replica boot request)) told = keeps durable i m outputs.Ignored is tt
+    frame-takes durable i m seq (not (nat_lt worker workers) || not (list_all (λ entry. is_ok (fitting shape entry)) entries))
+    (is_known m.known seq) (is_ahead m.known seq) is
+datagram-takes durable shape workers members i m here is (Ok (datagrams.Ask replica boot request)) told =
+    keeps durable i m outputs.Ignored is tt
 datagram-takes durable shape workers members i m here is (Ok (datagrams.Head replica boot request version counts)) told =
-    own-takes durable members i m replica boot request version counts here is told.0 told.1 ((replica == m.number) && (boot == m.boot) && (request == m.request)) refl
-datagram-takes durable shape workers members i m here is (Ok (datagrams.Want replica worker from)) told = keeps durable i m outputs.Ignored is tt
+    own-takes durable members i m replica boot request version counts here is told.0 told.1
+    ((replica == m.number) && (boot == m.boot) && (request == m.request)) refl
+datagram-takes durable shape workers members i m here is (Ok (datagrams.Want replica worker from)) told =
+    keeps durable i m outputs.Ignored is tt
 
-bytes-serve : (w : World) (event : Event) (bytes : List ℕ) (i : ℕ) (found : Option Member) → Fresh w → slice_get w.members i ≡ found → IsFreshReading w.primary.durable w.members (reading bytes)
-    → Serves w event (on_member w found (λ m. cond m.broken (outputs.Broken, w) (member_output w (datagram_happens w.primary.shape w.primary.workers m (reading bytes)))))
+bytes-serve : (w : World) (event : Event) (bytes : List ℕ) (i : ℕ) (found : Option Member) → Fresh w → slice_get w.members i ≡ found
+    → IsFreshReading w.primary.durable w.members (reading bytes)
+    → Serves w event (on_member w found
+    (λ m. cond m.broken (outputs.Broken, w) (member_output w (datagram_happens w.primary.shape w.primary.workers m (reading bytes)))))
 bytes-serve w event bytes i None h here told = quiet w event (outputs.Ignored, w) h tt
 bytes-serve w event bytes i (Some m) h here told = by m.broken
   where
@@ -144,14 +173,19 @@ bytes-serve w event bytes i (Some m) h here told = by m.broken
     by : (b : Bool) → Serves w event (cond b (outputs.Broken, w) (member_output w answer))
     by true = quiet w event (outputs.Broken, w) h tt
     by false =
-        let takes = datagram-takes w.primary.durable w.primary.shape w.primary.workers w.members i m here (h.members_are i m here) (reading bytes) told in
+        let takes =
+        datagram-takes w.primary.durable w.primary.shape w.primary.workers w.members i m here (h.members_are i m here)
+        (reading bytes) told in
         quiet w event (member_output w answer) (Fresh-member w i m answer.1 h here takes.follows) takes.silent
 
-pub deliver-serves : (w : World) (event : Event) (place : ℕ) (node : Node) (found : Option (List ℕ)) → Fresh w → slice_get w.sent place ≡ found → Serves w event (deliver_happens w node found)
+pub deliver-serves : (w : World) (event : Event) (place : ℕ) (node : Node) (found : Option (List ℕ)) → Fresh w
+    → slice_get w.sent place ≡ found → Serves w event (deliver_happens w node found)
 deliver-serves w event place node None h there = quiet w event (outputs.NeverSent, w) h tt
 deliver-serves w event place nodes.Primary (Some bytes) h there =
-    quiet w event _ (Fresh-sent w (packets_of (answers w.primary bytes)) h (answers-fresh w (reading bytes) h (h.sent_is place bytes there))) (answers-silent (length w.sent) (answers w.primary bytes))
-deliver-serves w event place (nodes.Replica number) (Some bytes) h there = bytes-serve w event bytes number (slice_get w.members number) h refl (h.sent_is place bytes there)
+    quiet w event _ (Fresh-sent w (packets_of (answers w.primary bytes)) h
+    (answers-fresh w (reading bytes) h (h.sent_is place bytes there))) (answers-silent (length w.sent) (answers w.primary bytes))
+deliver-serves w event place (nodes.Replica number) (Some bytes) h there =
+    bytes-serve w event bytes number (slice_get w.members number) h refl (h.sent_is place bytes there)
 
 pub show-serves : (w : World) (event : Event) (found : Option (List ℕ)) → Fresh w → Serves w event (shown found, w)
 show-serves w event None h = quiet w event (outputs.NeverSent, w) h tt

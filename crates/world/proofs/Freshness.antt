@@ -1,5 +1,6 @@
 -- Each step of a fresh world leaves one, and a report that it answers is that of the batch of the replica that ran.
-use Rattle.std.proofs.Common.{◌≡◌, ℕ, ◌+◌, ◌^◌, ◌<◌, ◌≤◌, Bool, true, false, cond, ◌==◌, List, [], ◌∷◌, length, Option, Some, None, Result, Ok, Err, nat_le, refl, sym, ap, subst, ◌∙◌, inl, inr, arith}
+use Rattle.std.proofs.Common.{◌≡◌, ℕ, ◌+◌, ◌^◌, ◌<◌, ◌≤◌, Bool, true, false, cond, ◌==◌, List, [], ◌∷◌, length, Option, Some, None, Result}
+use Rattle.std.proofs.Common.{Ok, Err, nat_le, refl, sym, ap, subst, ◌∙◌, inl, inr, arith}
 use Rattle.std.specs.List.{slice_get, slice_set}
 use Rattle.std.proofs.lemmas.Option.{none-some, same_Some, slice_get_within}
 use Rattle.rows.specs.declared.limits.TheConstants.{REPLICAS_MAX, WAITING_QUERIES_MAX}
@@ -15,7 +16,8 @@ use Rattle.script.specs.declared.event.Event.{Event}
 use Rattle.script.specs.declared.event.Event.TheVariants as events
 use Rattle.script.specs.declared.output.Output.{Output}
 use Rattle.script.specs.declared.output.Output.TheVariants as outputs
-use Rattle.world.specs.World.{World, Member, Batch, open_draft, happens, with_member, send, on_member, open_happens, ask_happens, new_batch, ask_bytes, run_happens, lacks_frame, wait_happens, want_bytes, batch_report}
+use Rattle.world.specs.World.{World, Member, Batch, open_draft, happens, with_member, send, on_member, open_happens, ask_happens, new_batch}
+use Rattle.world.specs.World.{ask_bytes, run_happens, lacks_frame, wait_happens, want_bytes, batch_report}
 use Rattle.world.specs.Allowed.{RunIsCut, RunIsCutAt, MayHappen}
 use Rattle.world.proofs.Lists.{get-set_same}
 use Rattle.world.proofs.Datagrams.{ask-read, ask-kept}
@@ -26,19 +28,25 @@ use Rattle.world.proofs.FreshDatagrams.{send-serves, push-serves, deliver-serves
 -- ---- batches
 
 open-serves : (w : World) (event : Event) (plan : Plan) (i : ℕ) (found : Option Member) → Fresh w → slice_get w.members i ≡ found
-    → Serves w event (on_member w found (λ m. cond m.broken (outputs.Broken, w) (cond (nat_le WAITING_QUERIES_MAX (length m.waiting)) (outputs.BatchFull, w) (open_happens w m plan (checked w.primary.shape plan)))))
+    → Serves w event (on_member w found
+    (λ m. cond m.broken (outputs.Broken, w)
+    (cond (nat_le WAITING_QUERIES_MAX (length m.waiting)) (outputs.BatchFull, w)
+    (open_happens w m plan (checked w.primary.shape plan)))))
 open-serves w event plan i None h here = quiet w event (outputs.Ignored, w) h tt
 open-serves w event plan i (Some m) h here = by m.broken (nat_le WAITING_QUERIES_MAX (length m.waiting)) (checked w.primary.shape plan)
   where
-    by : (a b : Bool) (check : Result (Unit {0}) PlanFault) → Serves w event (cond a (outputs.Broken, w) (cond b (outputs.BatchFull, w) (open_happens w m plan check)))
+    by : (a b : Bool) (check : Result (Unit {0}) PlanFault)
+        → Serves w event (cond a (outputs.Broken, w) (cond b (outputs.BatchFull, w) (open_happens w m plan check)))
     by true b check = quiet w event (outputs.Broken, w) h tt
     by false true check = quiet w event (outputs.BatchFull, w) h tt
     by false false (Err fault) = quiet w event (outputs.BadPlan fault, w) h tt
-    by false false (Ok fits) = quiet w event _ (Fresh-member w i m _ h here (alike w.primary.durable i m _ (h.members_are i m here) refl refl refl refl)) tt
+    by false false (Ok fits) =
+        quiet w event _ (Fresh-member w i m _ h here (alike w.primary.durable i m _ (h.members_are i m here) refl refl refl refl)) tt
 
 -- an Ask of a request that its replica has made
 ask-fresh : (w : World) (members : List Member) (i : ℕ) (m : Member) (request : ℕ) → Fresh w → slice_get w.members i ≡ Some m
-    → ((other : Member) → slice_get members m.number ≡ Some other → request ≤ other.request) → IsFreshReading w.primary.durable members (reading (ask_bytes m request))
+    → ((other : Member) → slice_get members m.number ≡ Some other → request ≤ other.request)
+    → IsFreshReading w.primary.durable members (reading (ask_bytes m request))
 ask-fresh w members i m request h here made =
     let is = h.members_are i m here in
     let number_is = is.number_is in
@@ -55,7 +63,9 @@ new-follows : (w : World) (m : Member) → Follows w.primary.durable m (new_batc
 new-follows w m = record {
   number_is = refl;
   boot_is = refl;
-  batch_is = λ batch has. subst (IsFreshBatch w.primary.durable) (same_Some new batch has) (record { asked = omega arith; fetched_is = λ fetched this. absurd (none-some fetched this) });
+  batch_is =
+      λ batch has. subst (IsFreshBatch w.primary.durable) (same_Some new batch has)
+      (record { asked = omega arith; fetched_is = λ fetched this. absurd (none-some fetched this) });
   asked = omega arith;
   heads = λ request version head. let asked = head.asked in record { asked = omega arith; above = λ batch has same. absurd (omega arith) };
 }
@@ -63,7 +73,8 @@ new-follows w m = record {
     new : Batch
     new = record { plans = m.waiting; asked_at = length w.primary.durable; fetched = None }
 
-again-serves : (w : World) (event : Event) (i : ℕ) (m : Member) (plans : List Plan) (asked_at : ℕ) (fetched : Option Fetched) → Fresh w → slice_get w.members i ≡ Some m
+again-serves : (w : World) (event : Event) (i : ℕ) (m : Member) (plans : List Plan) (asked_at : ℕ) (fetched : Option Fetched) → Fresh w
+    → slice_get w.members i ≡ Some m
     → Serves w event (ask_happens w m (Some (record { plans = plans; asked_at = asked_at; fetched = fetched })))
 again-serves w event i m plans asked_at (Some fetched) h here = quiet w event (outputs.Busy, w) h tt
 again-serves w event i m plans asked_at None h here =
@@ -72,19 +83,22 @@ again-serves w event i m plans asked_at None h here =
     let asked = ap (λ (x : Member). x.request) same in
     omega arith))
 
-asks : (w : World) (event : Event) (i : ℕ) (m : Member) (batch : Option Batch) → Fresh w → slice_get w.members i ≡ Some m → Serves w event (ask_happens w m batch)
+asks : (w : World) (event : Event) (i : ℕ) (m : Member) (batch : Option Batch) → Fresh w → slice_get w.members i ≡ Some m
+    → Serves w event (ask_happens w m batch)
 asks w event i m (Some batch) h here = again-serves w event i m batch.plans batch.asked_at batch.fetched h here
 asks w event i m None h here = by (length m.waiting == 0)
   where
     by : (b : Bool) → Serves w event (cond b (outputs.Empty, w) (send (with_member w (new_batch w m)) (ask_bytes m (m.request + 1))))
     by true = quiet w event (outputs.Empty, w) h tt
     by false =
-        send-serves (with_member w (new_batch w m)) w event (ask_bytes m (m.request + 1)) (Fresh-member w i m (new_batch w m) h here (new-follows w m))
+        send-serves (with_member w (new_batch w m)) w event (ask_bytes m (m.request + 1))
+        (Fresh-member w i m (new_batch w m) h here (new-follows w m))
         (ask-fresh w (slice_set w.members m.number (new_batch w m)) i m (m.request + 1) h here (λ other there.
         let asked = ap (λ (x : Member). x.request) (get-set_same w.members m.number (new_batch w m) other there) in
         omega arith))
 
-ask-serves : (w : World) (event : Event) (i : ℕ) (found : Option Member) → Fresh w → slice_get w.members i ≡ found → Serves w event (on_member w found (λ m. cond m.broken (outputs.Broken, w) (ask_happens w m m.batch)))
+ask-serves : (w : World) (event : Event) (i : ℕ) (found : Option Member) → Fresh w → slice_get w.members i ≡ found
+    → Serves w event (on_member w found (λ m. cond m.broken (outputs.Broken, w) (ask_happens w m m.batch)))
 ask-serves w event i None h here = quiet w event (outputs.Ignored, w) h tt
 ask-serves w event i (Some m) h here = by m.broken
   where
@@ -104,8 +118,10 @@ done-follows w i m version = record {
   heads = λ request other head. record { asked = head.asked; above = λ batch has same. absurd (none-some batch has) };
 }
 
-fetched-serves : (w : World) (i : ℕ) (m : Member) (plans : List Plan) (asked_at : ℕ) (fetched : Option Fetched) → Fresh w → slice_get w.members i ≡ Some m
-    → m.batch ≡ Some (record { plans = plans; asked_at = asked_at; fetched = fetched }) → Serves w (events.Run i) (run_happens w m (Some (record { plans = plans; asked_at = asked_at; fetched = fetched })))
+fetched-serves : (w : World) (i : ℕ) (m : Member) (plans : List Plan) (asked_at : ℕ) (fetched : Option Fetched) → Fresh w
+    → slice_get w.members i ≡ Some m
+    → m.batch ≡ Some (record { plans = plans; asked_at = asked_at; fetched = fetched })
+    → Serves w (events.Run i) (run_happens w m (Some (record { plans = plans; asked_at = asked_at; fetched = fetched })))
 fetched-serves w i m plans asked_at None h here has = quiet w (events.Run i) (outputs.WaitingHead, w) h tt
 fetched-serves w i m plans asked_at (Some fetched) h here has = by (lacks_frame m fetched)
   where
@@ -117,13 +133,18 @@ fetched-serves w i m plans asked_at (Some fetched) h here has = by (lacks_frame 
     by true = quiet w (events.Run i) _ (Fresh-sent w (want_bytes m 0 (first_missing m.known) ∷ []) h (tt, tt)) tt
     by false =
         let is = ((h.members_are i m here).batch_is batch has).fetched_is fetched refl in
-        record { fresh = Fresh-member w i m _ h here (done-follows w i m fetched.version); reports = (i, m, batch, refl, here, has, (fetched, refl, is.0, is.1, refl)) }
+        record {
+          fresh = Fresh-member w i m _ h here (done-follows w i m fetched.version);
+          reports = (i, m, batch, refl, here, has, (fetched, refl, is.0, is.1, refl));
+        }
 
-runs : (w : World) (i : ℕ) (m : Member) (batch : Option Batch) → Fresh w → slice_get w.members i ≡ Some m → m.batch ≡ batch → Serves w (events.Run i) (run_happens w m batch)
+runs : (w : World) (i : ℕ) (m : Member) (batch : Option Batch) → Fresh w → slice_get w.members i ≡ Some m → m.batch ≡ batch
+    → Serves w (events.Run i) (run_happens w m batch)
 runs w i m None h here has = quiet w (events.Run i) (outputs.NoBatch, w) h tt
 runs w i m (Some batch) h here has = fetched-serves w i m batch.plans batch.asked_at batch.fetched h here has
 
-run-serves : (w : World) (i : ℕ) (found : Option Member) → Fresh w → slice_get w.members i ≡ found → Serves w (events.Run i) (on_member w found (λ m. cond m.broken (outputs.Broken, w) (run_happens w m m.batch)))
+run-serves : (w : World) (i : ℕ) (found : Option Member) → Fresh w → slice_get w.members i ≡ found
+    → Serves w (events.Run i) (on_member w found (λ m. cond m.broken (outputs.Broken, w) (run_happens w m m.batch)))
 run-serves w i None h here = quiet w (events.Run i) (outputs.Ignored, w) h tt
 run-serves w i (Some m) h here = by m.broken
   where
@@ -131,14 +152,18 @@ run-serves w i (Some m) h here = by m.broken
     by true = quiet w (events.Run i) (outputs.Broken, w) h tt
     by false = runs w i m m.batch h here refl
 
-cut-serves : (w : World) (event : Event) (i : ℕ) (found : Option Member) (output : Output) (new : World) → Fresh w → slice_get w.members i ≡ found → RunIsCut w found output new → Serves w event (output, new)
+cut-serves : (w : World) (event : Event) (i : ℕ) (found : Option Member) (output : Output) (new : World) → Fresh w
+    → slice_get w.members i ≡ found → RunIsCut w found output new → Serves w event (output, new)
 cut-serves w event i None output new h here cut = absurd cut
 cut-serves w event i (Some m) output new h here cut = elim cut.2 [
-  | inl memory ↦ is outputs.Memory (record m { version = cut.0.version }) memory.0 memory.1 tt (alike w.primary.durable i m _ (h.members_are i m here) refl refl refl refl)
-  | inr broken ↦ is outputs.Broken (record m { broken = true }) broken.0 broken.1 tt (alike w.primary.durable i m _ (h.members_are i m here) refl refl refl refl)
+  | inl memory ↦ is outputs.Memory (record m { version = cut.0.version }) memory.0 memory.1 tt
+      (alike w.primary.durable i m _ (h.members_are i m here) refl refl refl refl)
+  | inr broken ↦ is outputs.Broken (record m { broken = true }) broken.0 broken.1 tt
+      (alike w.primary.durable i m _ (h.members_are i m here) refl refl refl refl)
 ]
   where
-    is : (answer : Output) (changed : Member) → output ≡ answer → new ≡ with_member w changed → IsNoReport answer → Follows w.primary.durable m changed → Serves w event (output, new)
+    is : (answer : Output) (changed : Member) → output ≡ answer → new ≡ with_member w changed → IsNoReport answer
+        → Follows w.primary.durable m changed → Serves w event (output, new)
     is answer changed e f silent follows =
         quiet w event (output, new) (subst Fresh (sym f) (Fresh-member w i m changed h here follows)) (subst IsNoReport (sym e) silent)
 
@@ -147,12 +172,17 @@ cut-serves w event i (Some m) output new h here cut = elim cut.2 [
 happens-serves : (w : World) (event : Event) → Fresh w → Serves w event (happens w event)
 happens-serves w events.Begin h = quiet w events.Begin _ (Fresh-drafts w _ h) tt
 happens-serves w (events.Insert transaction table row values) h =
-    change-serves w _ transaction (open_draft w.transactions transaction) (λ draft. insert_answer w.primary.shape w.primary.durable draft table row.0 values) h
+    change-serves w _ transaction (open_draft w.transactions transaction)
+    (λ draft. insert_answer w.primary.shape w.primary.durable draft table row.0 values) h
 happens-serves w (events.Set transaction table row column value) h =
-    change-serves w _ transaction (open_draft w.transactions transaction) (λ draft. set_answer w.primary.shape w.primary.durable draft table row.0 column value) h
+    change-serves w _ transaction (open_draft w.transactions transaction)
+    (λ draft. set_answer w.primary.shape w.primary.durable draft table row.0 column value) h
 happens-serves w (events.Delete transaction table row) h =
-    change-serves w _ transaction (open_draft w.transactions transaction) (λ draft. delete_answer w.primary.shape w.primary.durable draft table row.0) h
-happens-serves w (events.Get transaction table row column) h = look-serves w _ (open_draft w.transactions transaction) (λ draft. get_answer w.primary.shape w.primary.durable draft table row.0 column) h
+    change-serves w _ transaction (open_draft w.transactions transaction)
+    (λ draft. delete_answer w.primary.shape w.primary.durable draft table row.0) h
+happens-serves w (events.Get transaction table row column) h =
+    look-serves w _ (open_draft w.transactions transaction)
+    (λ draft. get_answer w.primary.shape w.primary.durable draft table row.0 column) h
 happens-serves w (events.Commit transaction worker) h = commit-serves w _ transaction worker (open_draft w.transactions transaction) h
 happens-serves w (events.Abort transaction) h = abort-serves w _ transaction (open_draft w.transactions transaction) h
 happens-serves w (events.Flush count) h = flush-serves w _ count w.primary.failed h
@@ -163,8 +193,10 @@ happens-serves w (events.Open replica plan) h = open-serves w _ plan replica (sl
 happens-serves w (events.Ask replica) h = ask-serves w _ replica (slice_get w.members replica) h refl
 happens-serves w (events.Run replica) h = run-serves w replica (slice_get w.members replica) h refl
 
-cut-event : (w : World) (event : Event) (output : Output) (new : World) → Fresh w → RunIsCutAt w event output new → Serves w event (output, new)
-cut-event w (events.Run replica) output new h cut = cut-serves w (events.Run replica) replica (slice_get w.members replica) output new h refl cut
+cut-event : (w : World) (event : Event) (output : Output) (new : World) → Fresh w → RunIsCutAt w event output new
+    → Serves w event (output, new)
+cut-event w (events.Run replica) output new h cut =
+    cut-serves w (events.Run replica) replica (slice_get w.members replica) output new h refl cut
 cut-event w events.Begin output new h cut = absurd cut
 cut-event w (events.Insert transaction table row values) output new h cut = absurd cut
 cut-event w (events.Set transaction table row column value) output new h cut = absurd cut
@@ -179,7 +211,8 @@ cut-event w (events.Show place) output new h cut = absurd cut
 cut-event w (events.Open replica plan) output new h cut = absurd cut
 cut-event w (events.Ask replica) output new h cut = absurd cut
 
-pub step-serves : (old : World) (event : Event) (output : Output) (new : World) → Fresh old → MayHappen old event output new → Serves old event (output, new)
+pub step-serves : (old : World) (event : Event) (output : Output) (new : World) → Fresh old → MayHappen old event output new
+    → Serves old event (output, new)
 step-serves old event output new h may = elim may [
   | inl made ↦ subst (Serves old event) made (happens-serves old event h)
   | inr other ↦ elim other [

@@ -1,5 +1,6 @@
 -- In the world what is durable stays, and nothing is damaged.
-use Rattle.std.proofs.Common.{◌≡◌, ℕ, ◌+◌, ◌^◌, ◌≤◌, Bool, true, false, cond, not, ◌||◌, ◌&&◌, ◌==◌, List, [], ◌∷◌, ◌++◌, length, take, Option, Some, None, Result, Ok, Err, nat_lt, nat_le, refl, sym, ap, subst, ◌∙◌, inl, inr, arith}
+use Rattle.std.proofs.Common.{◌≡◌, ℕ, ◌+◌, ◌^◌, ◌≤◌, Bool, true, false, cond, not, ◌||◌, ◌&&◌, ◌==◌, List, [], ◌∷◌, ◌++◌, length, take}
+use Rattle.std.proofs.Common.{Option, Some, None, Result, Ok, Err, nat_lt, nat_le, refl, sym, ap, subst, ◌∙◌, inl, inr, arith}
 use Rattle.std.specs.List.{slice_get, slice_set, AllByRecursion, list_all}
 use Rattle.std.specs.Result.{is_ok}
 use Rattle.std.specs.BTreeSet.{insert_key}
@@ -43,7 +44,10 @@ use Rattle.script.specs.declared.output.Output.{Output}
 use Rattle.script.specs.declared.output.Output.TheVariants as outputs
 use Rattle.world.specs.Outputs.{of_change, of_look, of_commit, of_answers}
 use Rattle.world.specs.Theorem.{DurableOnlyGrows, IsFaultless, AllowedAreFaultless}
-use Rattle.world.specs.World.{World, Member, Batch, open_draft, happens, opening_world, with_member, send, on_draft, change_happens, commit_happens, abort_happens, push_happens, head_happens, datagram_happens, on_member, member_output, deliver_happens, shown, open_happens, ask_happens, new_batch, ask_bytes, run_happens, lacks_frame, wait_happens, want_bytes, batch_report}
+use Rattle.world.specs.World.{World, Member, Batch, open_draft, happens, opening_world, with_member, send, on_draft, change_happens}
+use Rattle.world.specs.World.{commit_happens, abort_happens, push_happens, head_happens, datagram_happens, on_member, member_output}
+use Rattle.world.specs.World.{deliver_happens, shown, open_happens, ask_happens, new_batch, ask_bytes, run_happens, lacks_frame}
+use Rattle.world.specs.World.{wait_happens, want_bytes, batch_report}
 use Rattle.world.specs.Allowed.{RunIsCut, RunIsCutAt, MayHappen, Runs}
 use Rattle.world.proofs.Lists.{get-set, get-append, get-one}
 use Rattle.world.proofs.Defined.{IsDefined, insert-defined, set-defined, delete-defined}
@@ -65,26 +69,31 @@ record IsFine (old : World) (answer : Output × World) : Type 0 where
   honest : IsHonest old → IsHonest answer.1
 
 -- a step that leaves the primary and the transactions
-plain : (old new : World) (output : Output) → new.primary ≡ old.primary → new.transactions ≡ old.transactions → IsFaultless output → IsFine old (output, new)
+plain : (old new : World) (output : Output) → new.primary ≡ old.primary → new.transactions ≡ old.transactions → IsFaultless output
+    → IsFine old (output, new)
 plain old new output same others faultless = record {
   grows = ([], ap (λ (p : Primary). p.durable) same ∙ sym (append-nil old.primary.durable));
   output = λ honest. faultless;
   honest = λ honest. record {
     whole = ap (λ (p : Primary). p.failed) same ∙ honest.whole;
-    begun = λ i draft here. subst (λ (p : Primary). IsBegun p draft) (sym same) (honest.begun i draft (ap (λ (l : List (Option Draft)). slice_get l i) (sym others) ∙ here));
+    begun =
+        λ i draft here. subst (λ (p : Primary). IsBegun p draft) (sym same)
+        (honest.begun i draft (ap (λ (l : List (Option Draft)). slice_get l i) (sym others) ∙ here));
   };
 }
 
 -- ---- transactions
 
-set-begun : (p : Primary) (transactions : List (Option Draft)) (number : ℕ) (new : Draft) → ((i : ℕ) (draft : Draft) → slice_get transactions i ≡ Some (Some draft) → IsBegun p draft) → IsBegun p new
+set-begun : (p : Primary) (transactions : List (Option Draft)) (number : ℕ) (new : Draft)
+    → ((i : ℕ) (draft : Draft) → slice_get transactions i ≡ Some (Some draft) → IsBegun p draft) → IsBegun p new
     → (i : ℕ) (draft : Draft) → slice_get (slice_set transactions number (Some new)) i ≡ Some (Some draft) → IsBegun p draft
 set-begun p transactions number new begun is i draft here = elim (get-set transactions number (Some new) i (Some draft) here) [
   | inl same ↦ subst (IsBegun p) (sym (same_Some draft new same.1)) is
   | inr old ↦ begun i draft old
 ]
 
-ended-begun : (p : Primary) (transactions : List (Option Draft)) (number : ℕ) → ((i : ℕ) (draft : Draft) → slice_get transactions i ≡ Some (Some draft) → IsBegun p draft)
+ended-begun : (p : Primary) (transactions : List (Option Draft)) (number : ℕ)
+    → ((i : ℕ) (draft : Draft) → slice_get transactions i ≡ Some (Some draft) → IsBegun p draft)
     → (i : ℕ) (draft : Draft) → slice_get (slice_set transactions number None) i ≡ Some (Some draft) → IsBegun p draft
 ended-begun p transactions number begun i draft here = elim (get-set transactions number None i (Some draft) here) [
   | inl same ↦ absurd (none-some draft (sym same.1))
@@ -121,7 +130,8 @@ look-faultless (Err fault) = change-faultless fault
 
 -- a transaction that reads the same version, with entries that are defined there
 made-begun : (p : Primary) (draft new : Draft) → IsBegun p draft
-    → (is_ok (changes_of p.shape (tables_after p.shape p.durable draft.snapshot) draft.entries) ≡ true → IsDefined p.shape p.durable draft new) → IsBegun p new
+    → (is_ok (changes_of p.shape (tables_after p.shape p.durable draft.snapshot) draft.entries) ≡ true
+    → IsDefined p.shape p.durable draft new) → IsBegun p new
 made-begun p draft new begun makes =
     let made = makes begun.defined in
     let known = begun.known in
@@ -131,16 +141,20 @@ made-begun p draft new begun makes =
       defined = ap (λ (n : ℕ). is_ok (changes_of p.shape (tables_after p.shape p.durable n) new.entries)) same ∙ made.defined;
     }
 
-changed : (w : World) (number : ℕ) (answer : Result Draft TxFault) → (IsHonest w → (new : Draft) → answer ≡ Ok new → IsBegun w.primary new) → IsFine w (change_happens w number answer)
+changed : (w : World) (number : ℕ) (answer : Result Draft TxFault) → (IsHonest w → (new : Draft) → answer ≡ Ok new → IsBegun w.primary new)
+    → IsFine w (change_happens w number answer)
 changed w number (Err fault) begun = plain w w (of_change fault) refl refl (change-faultless fault)
 changed w number (Ok new) begun = record {
   grows = ([], sym (append-nil w.primary.durable));
   output = λ honest. tt;
-  honest = λ honest. record { whole = honest.whole; begun = set-begun w.primary w.transactions number new honest.begun (begun honest new refl) };
+  honest =
+      λ honest. record { whole = honest.whole; begun = set-begun w.primary w.transactions number new honest.begun (begun honest new refl) };
 }
 
-change-fine : (w : World) (number : ℕ) (change : Draft → Result Draft TxFault) (found : Option Draft) → open_draft w.transactions number ≡ found
-    → ((draft new : Draft) → change draft ≡ Ok new → is_ok (changes_of w.primary.shape (tables_after w.primary.shape w.primary.durable draft.snapshot) draft.entries) ≡ true
+change-fine : (w : World) (number : ℕ) (change : Draft → Result Draft TxFault) (found : Option Draft)
+    → open_draft w.transactions number ≡ found
+    → ((draft new : Draft) → change draft ≡ Ok new
+    → is_ok (changes_of w.primary.shape (tables_after w.primary.shape w.primary.durable draft.snapshot) draft.entries) ≡ true
     → IsDefined w.primary.shape w.primary.durable draft new)
     → IsFine w (on_draft w found (λ draft. change_happens w number (change draft)))
 change-fine w number change None here makes = plain w w outputs.NoTx refl refl tt
@@ -148,7 +162,8 @@ change-fine w number change (Some draft) here makes =
     changed w number (change draft) (λ honest new h.
     made-begun w.primary draft new (honest.begun number draft (opened (slice_get w.transactions number) draft here)) (makes draft new h))
 
-look-fine : (w : World) (look : Draft → Result Value TxFault) (found : Option Draft) → IsFine w (on_draft w found (λ draft. (of_look (look draft), w)))
+look-fine : (w : World) (look : Draft → Result Value TxFault) (found : Option Draft)
+    → IsFine w (on_draft w found (λ draft. (of_look (look draft), w)))
 look-fine w look None = plain w w outputs.NoTx refl refl tt
 look-fine w look (Some draft) = plain w w (of_look (look draft)) refl refl (look-faultless (look draft))
 
@@ -164,19 +179,25 @@ abort-fine w number (Some draft) = record {
 
 not-foreign : (p : Primary) (draft : Draft) → IsBegun p draft → is_foreign p draft ≡ false
 not-foreign p draft begun =
-    or_from (nat_lt (length p.durable) draft.snapshot) (not (is_ok (changes_of p.shape (tables_after p.shape p.durable draft.snapshot) draft.entries)))
+    or_from (nat_lt (length p.durable) draft.snapshot)
+    (not (is_ok (changes_of p.shape (tables_after p.shape p.durable draft.snapshot) draft.entries)))
     (le-ltb (length p.durable) draft.snapshot begun.known) (not_from_true _ begun.defined)
 
 -- a refused commit, where the journal is whole and the transaction was begun here
-commit-faultless : (p : Primary) (draft : Draft) (fault : CommitFault) → p.failed ≡ false → is_foreign p draft ≡ false → commit_answer p draft ≡ Err fault → IsFaultless (of_commit fault)
+commit-faultless : (p : Primary) (draft : Draft) (fault : CommitFault) → p.failed ≡ false → is_foreign p draft ≡ false
+    → commit_answer p draft ≡ Err fault → IsFaultless (of_commit fault)
 commit-faultless p draft fault whole known h =
-    by p.failed (length draft.entries == 0) (is_foreign p draft) (nat_lt draft.snapshot (last_writer p draft.entries)) (nat_lt (next_number p) (2 ^ 64)) whole known h
+    by p.failed (length draft.entries == 0) (is_foreign p draft) (nat_lt draft.snapshot (last_writer p draft.entries))
+    (nat_lt (next_number p) (2 ^ 64)) whole known h
   where
-    is : (other : CommitFault) → IsFaultless (of_commit other) → ◌≡◌ {A = Result ℕ CommitFault} (Err other) (Err fault) → IsFaultless (of_commit fault)
+    is : (other : CommitFault) → IsFaultless (of_commit other) → ◌≡◌ {A = Result ℕ CommitFault} (Err other) (Err fault)
+        → IsFaultless (of_commit fault)
     is other faultless e = let same : other ≡ fault = cc in subst (λ (f : CommitFault). IsFaultless (of_commit f)) same faultless
 
     by : (a b c d e : Bool) → a ≡ false → c ≡ false
-        → cond a (Err faults.Failed) (cond b (Err faults.ReadOnly) (cond c (Err faults.Foreign) (cond d (Err (faults.Conflict (last_writer p draft.entries))) (cond e (Ok (next_number p)) (Err faults.NumbersUsedUp))))) ≡ Err fault
+        → cond a (Err faults.Failed) (cond b (Err faults.ReadOnly)
+        (cond c (Err faults.Foreign) (cond d (Err (faults.Conflict (last_writer p draft.entries)))
+        (cond e (Ok (next_number p)) (Err faults.NumbersUsedUp))))) ≡ Err fault
         → IsFaultless (of_commit fault)
     by true b c d e q r h = absurd (true≢false q)
     by false true c d e q r h = is faults.ReadOnly tt h
@@ -185,17 +206,21 @@ commit-faultless p draft fault whole known h =
     by false false false false true q r h = absurd (cc)
     by false false false false false q r h = is faults.NumbersUsedUp tt h
 
-pending-begun : (p : Primary) (worker : ℕ) (entries : List Entry) (draft : Draft) → IsBegun p draft → IsBegun (committed p worker entries) draft
+pending-begun : (p : Primary) (worker : ℕ) (entries : List Entry) (draft : Draft) → IsBegun p draft
+    → IsBegun (committed p worker entries) draft
 pending-begun p worker entries draft begun = record { known = begun.known; defined = begun.defined }
 
-commits : (w : World) (number worker : ℕ) (draft : Draft) (answer : Result ℕ CommitFault) → ((fault : CommitFault) → answer ≡ Err fault → IsHonest w → IsFaultless (of_commit fault))
+commits : (w : World) (number worker : ℕ) (draft : Draft) (answer : Result ℕ CommitFault)
+    → ((fault : CommitFault) → answer ≡ Err fault → IsHonest w → IsFaultless (of_commit fault))
     → IsFine w (commit_happens w number worker draft answer)
 commits w number worker draft (Ok ticket) faultless = record {
   grows = ([], sym (append-nil w.primary.durable));
   output = λ honest. tt;
   honest = λ honest. record {
     whole = honest.whole;
-    begun = ended-begun (committed w.primary worker draft.entries) w.transactions number (λ i other here. pending-begun w.primary worker draft.entries other (honest.begun i other here));
+    begun =
+        ended-begun (committed w.primary worker draft.entries) w.transactions number
+        (λ i other here. pending-begun w.primary worker draft.entries other (honest.begun i other here));
   };
 }
 commits w number worker draft (Err fault) faultless = record {
@@ -209,18 +234,22 @@ commit-fine : (w : World) (number worker : ℕ) (found : Option Draft) → open_
 commit-fine w number worker None here = plain w w outputs.NoTx refl refl tt
 commit-fine w number worker (Some draft) here =
     commits w number worker draft (commit_answer w.primary draft) (λ fault h honest.
-    commit-faultless w.primary draft fault honest.whole (not-foreign w.primary draft (honest.begun number draft (opened (slice_get w.transactions number) draft here))) h)
+    commit-faultless w.primary draft fault honest.whole
+    (not-foreign w.primary draft (honest.begun number draft (opened (slice_get w.transactions number) draft here))) h)
 
 flushed-begun : (p : Primary) (count : ℕ) (draft : Draft) → IsBegun p draft → IsBegun (flushed p count) draft
 flushed-begun p count draft begun =
     let known = begun.known in
     record {
       known = omega (arith, length-append p.durable (take count p.pending));
-      defined = ap (λ t. is_ok (changes_of p.shape t draft.entries)) (tables-stay p.shape p.durable (take count p.pending) draft.snapshot begun.known) ∙ begun.defined;
+      defined =
+          ap (λ t. is_ok (changes_of p.shape t draft.entries))
+          (tables-stay p.shape p.durable (take count p.pending) draft.snapshot begun.known) ∙ begun.defined;
     }
 
 flush-fine : (w : World) (count : ℕ) (failed : Bool) → w.primary.failed ≡ failed
-    → IsFine w (cond failed (outputs.Failed, w) (outputs.Durable (length (flushed w.primary count).durable), record w { primary = flushed w.primary count }))
+    → IsFine w (cond failed (outputs.Failed, w)
+    (outputs.Durable (length (flushed w.primary count).durable), record w { primary = flushed w.primary count }))
 flush-fine w count true e = record {
   grows = ([], sym (append-nil w.primary.durable));
   output = λ honest. absurd (true≢false (sym e ∙ honest.whole));
@@ -229,7 +258,8 @@ flush-fine w count true e = record {
 flush-fine w count false e = record {
   grows = (take count w.primary.pending, refl);
   output = λ honest. tt;
-  honest = λ honest. record { whole = honest.whole; begun = λ i draft here. flushed-begun w.primary count draft (honest.begun i draft here) };
+  honest =
+      λ honest. record { whole = honest.whole; begun = λ i draft here. flushed-begun w.primary count draft (honest.begun i draft here) };
 }
 
 -- ---- datagrams
@@ -241,7 +271,9 @@ push-fine w (Some bytes) = plain w _ _ refl refl tt
 member-fine : (w : World) (answer : Output × Member) → IsFaultless answer.0 → IsFine w (member_output w answer)
 member-fine w answer faultless = plain w (with_member w answer.1) answer.0 refl refl faultless
 
-frame-faultless : (m m' : Member) (a b c : Bool) → IsFaultless (cond {A = Output × Member} a (outputs.Ignored, m) (cond b (outputs.Repeat, m) (cond c (outputs.Ahead, m) (outputs.Stored, m')))).0
+frame-faultless : (m m' : Member) (a b c : Bool)
+    → IsFaultless (cond {A = Output × Member} a (outputs.Ignored, m)
+    (cond b (outputs.Repeat, m) (cond c (outputs.Ahead, m) (outputs.Stored, m')))).0
 frame-faultless m m' true b c = tt
 frame-faultless m m' false true c = tt
 frame-faultless m m' false false true = tt
@@ -252,15 +284,19 @@ head-fetched : (m : Member) (version : ℕ) (counts : List ℕ) (plans : List Pl
 head-fetched m version counts plans asked_at None = tt
 head-fetched m version counts plans asked_at (Some fetched) = tt
 
-head-faultless : (m : Member) (version : ℕ) (counts : List ℕ) (batch : Option Batch) (own : Bool) → IsFaultless (cond {A = Output × Member} own (head_happens m version counts batch) (outputs.Ignored, m)).0
+head-faultless : (m : Member) (version : ℕ) (counts : List ℕ) (batch : Option Batch) (own : Bool)
+    → IsFaultless (cond {A = Output × Member} own (head_happens m version counts batch) (outputs.Ignored, m)).0
 head-faultless m version counts batch false = tt
 head-faultless m version counts None true = tt
 head-faultless m version counts (Some batch) true = head-fetched m version counts batch.plans batch.asked_at batch.fetched
 
-datagram-faultless : (shape : Shape) (workers : ℕ) (m : Member) (datagram : Result Datagram WireFault) → IsFaultless (datagram_happens shape workers m datagram).0
+datagram-faultless : (shape : Shape) (workers : ℕ) (m : Member) (datagram : Result Datagram WireFault)
+    → IsFaultless (datagram_happens shape workers m datagram).0
 datagram-faultless shape workers m (Err fault) = tt
 datagram-faultless shape workers m (Ok (datagrams.Frame worker seq commit last entries)) =
-    frame-faultless m (record m { known = insert_key nat_cmp m.known seq }) (not (nat_lt worker workers) || not (list_all (λ entry. is_ok (fitting shape entry)) entries)) (is_known m.known seq) (is_ahead m.known seq)
+    frame-faultless m (record m { known = insert_key nat_cmp m.known seq })
+    (not (nat_lt worker workers) || not (list_all (λ entry. is_ok (fitting shape entry)) entries)) (is_known m.known seq)
+    (is_ahead m.known seq)
 datagram-faultless shape workers m (Ok (datagrams.Ask replica boot request)) = tt
 datagram-faultless shape workers m (Ok (datagrams.Head replica boot request version counts)) =
     head-faultless m version counts m.batch ((replica == m.number) && (boot == m.boot) && (request == m.request))
@@ -271,13 +307,17 @@ answers-faultless place [] = tt
 answers-faultless place (out ∷ outs) = tt
 
 bytes-fine : (w : World) (bytes : List ℕ) (found : Option Member)
-    → IsFine w (on_member w found (λ m. cond m.broken (outputs.Broken, w) (member_output w (datagram_happens w.primary.shape w.primary.workers m (reading bytes)))))
+    → IsFine w (on_member w found (λ m. cond m.broken (outputs.Broken, w)
+    (member_output w (datagram_happens w.primary.shape w.primary.workers m (reading bytes)))))
 bytes-fine w bytes None = plain w w outputs.Ignored refl refl tt
 bytes-fine w bytes (Some m) = by m.broken
   where
-    by : (b : Bool) → IsFine w (cond b (outputs.Broken, w) (member_output w (datagram_happens w.primary.shape w.primary.workers m (reading bytes))))
+    by : (b : Bool) → IsFine w (cond b (outputs.Broken, w)
+        (member_output w (datagram_happens w.primary.shape w.primary.workers m (reading bytes))))
     by true = plain w w outputs.Broken refl refl tt
-    by false = member-fine w (datagram_happens w.primary.shape w.primary.workers m (reading bytes)) (datagram-faultless w.primary.shape w.primary.workers m (reading bytes))
+    by false =
+        member-fine w (datagram_happens w.primary.shape w.primary.workers m (reading bytes))
+        (datagram-faultless w.primary.shape w.primary.workers m (reading bytes))
 
 deliver-fine : (w : World) (node : Node) (found : Option (List ℕ)) → IsFine w (deliver_happens w node found)
 deliver-fine w node None = plain w w outputs.NeverSent refl refl tt
@@ -291,17 +331,21 @@ show-fine w (Some bytes) = plain w w (outputs.Shown bytes) refl refl tt
 -- ---- batches
 
 open-fine : (w : World) (plan : Plan) (found : Option Member)
-    → IsFine w (on_member w found (λ m. cond m.broken (outputs.Broken, w) (cond (nat_le WAITING_QUERIES_MAX (length m.waiting)) (outputs.BatchFull, w) (open_happens w m plan (checked w.primary.shape plan)))))
+    → IsFine w (on_member w found (λ m. cond m.broken (outputs.Broken, w)
+    (cond (nat_le WAITING_QUERIES_MAX (length m.waiting)) (outputs.BatchFull, w)
+    (open_happens w m plan (checked w.primary.shape plan)))))
 open-fine w plan None = plain w w outputs.Ignored refl refl tt
 open-fine w plan (Some m) = by m.broken (nat_le WAITING_QUERIES_MAX (length m.waiting)) (checked w.primary.shape plan)
   where
-    by : (a b : Bool) (check : Result (Unit {0}) PlanFault) → IsFine w (cond a (outputs.Broken, w) (cond b (outputs.BatchFull, w) (open_happens w m plan check)))
+    by : (a b : Bool) (check : Result (Unit {0}) PlanFault)
+        → IsFine w (cond a (outputs.Broken, w) (cond b (outputs.BatchFull, w) (open_happens w m plan check)))
     by true b check = plain w w outputs.Broken refl refl tt
     by false true check = plain w w outputs.BatchFull refl refl tt
     by false false (Err fault) = plain w w (outputs.BadPlan fault) refl refl tt
     by false false (Ok fits) = plain w _ _ refl refl tt
 
-ask-fetched : (w : World) (m : Member) (plans : List Plan) (asked_at : ℕ) (fetched : Option Fetched) → IsFine w (ask_happens w m (Some (record { plans = plans; asked_at = asked_at; fetched = fetched })))
+ask-fetched : (w : World) (m : Member) (plans : List Plan) (asked_at : ℕ) (fetched : Option Fetched)
+    → IsFine w (ask_happens w m (Some (record { plans = plans; asked_at = asked_at; fetched = fetched })))
 ask-fetched w m plans asked_at None = plain w _ _ refl refl tt
 ask-fetched w m plans asked_at (Some fetched) = plain w w outputs.Busy refl refl tt
 
@@ -313,7 +357,8 @@ ask-batch w m None = by (length m.waiting == 0)
     by true = plain w w outputs.Empty refl refl tt
     by false = plain w _ _ refl refl tt
 
-ask-fine : (w : World) (found : Option Member) → IsFine w (on_member w found (λ m. cond m.broken (outputs.Broken, w) (ask_happens w m m.batch)))
+ask-fine : (w : World) (found : Option Member)
+    → IsFine w (on_member w found (λ m. cond m.broken (outputs.Broken, w) (ask_happens w m m.batch)))
 ask-fine w None = plain w w outputs.Ignored refl refl tt
 ask-fine w (Some m) = by m.broken
   where
@@ -321,7 +366,8 @@ ask-fine w (Some m) = by m.broken
     by true = plain w w outputs.Broken refl refl tt
     by false = ask-batch w m m.batch
 
-run-fetched : (w : World) (m : Member) (plans : List Plan) (asked_at : ℕ) (fetched : Option Fetched) → IsFine w (run_happens w m (Some (record { plans = plans; asked_at = asked_at; fetched = fetched })))
+run-fetched : (w : World) (m : Member) (plans : List Plan) (asked_at : ℕ) (fetched : Option Fetched)
+    → IsFine w (run_happens w m (Some (record { plans = plans; asked_at = asked_at; fetched = fetched })))
 run-fetched w m plans asked_at None = plain w w outputs.WaitingHead refl refl tt
 run-fetched w m plans asked_at (Some fetched) = by (lacks_frame m fetched)
   where
@@ -334,7 +380,8 @@ run-batch : (w : World) (m : Member) (batch : Option Batch) → IsFine w (run_ha
 run-batch w m None = plain w w outputs.NoBatch refl refl tt
 run-batch w m (Some batch) = run-fetched w m batch.plans batch.asked_at batch.fetched
 
-run-fine : (w : World) (found : Option Member) → IsFine w (on_member w found (λ m. cond m.broken (outputs.Broken, w) (run_happens w m m.batch)))
+run-fine : (w : World) (found : Option Member)
+    → IsFine w (on_member w found (λ m. cond m.broken (outputs.Broken, w) (run_happens w m m.batch)))
 run-fine w None = plain w w outputs.Ignored refl refl tt
 run-fine w (Some m) = by m.broken
   where
@@ -347,15 +394,19 @@ run-fine w (Some m) = by m.broken
 happens-fine : (w : World) (event : Event) → IsFine w (happens w event)
 happens-fine w events.Begin = begins w
 happens-fine w (events.Insert transaction table row values) =
-    change-fine w transaction (λ draft. insert_answer w.primary.shape w.primary.durable draft table row.0 values) (open_draft w.transactions transaction) refl
+    change-fine w transaction (λ draft. insert_answer w.primary.shape w.primary.durable draft table row.0 values)
+    (open_draft w.transactions transaction) refl
     (λ draft new h defined. insert-defined w.primary.shape w.primary.durable draft new defined table row.0 values h)
 happens-fine w (events.Set transaction table row column value) =
-    change-fine w transaction (λ draft. set_answer w.primary.shape w.primary.durable draft table row.0 column value) (open_draft w.transactions transaction) refl
+    change-fine w transaction (λ draft. set_answer w.primary.shape w.primary.durable draft table row.0 column value)
+    (open_draft w.transactions transaction) refl
     (λ draft new h defined. set-defined w.primary.shape w.primary.durable draft new defined table row.0 column value h)
 happens-fine w (events.Delete transaction table row) =
-    change-fine w transaction (λ draft. delete_answer w.primary.shape w.primary.durable draft table row.0) (open_draft w.transactions transaction) refl
+    change-fine w transaction (λ draft. delete_answer w.primary.shape w.primary.durable draft table row.0)
+    (open_draft w.transactions transaction) refl
     (λ draft new h defined. delete-defined w.primary.shape w.primary.durable draft new defined table row.0 h)
-happens-fine w (events.Get transaction table row column) = look-fine w (λ draft. get_answer w.primary.shape w.primary.durable draft table row.0 column) (open_draft w.transactions transaction)
+happens-fine w (events.Get transaction table row column) =
+    look-fine w (λ draft. get_answer w.primary.shape w.primary.durable draft table row.0 column) (open_draft w.transactions transaction)
 happens-fine w (events.Commit transaction worker) = commit-fine w transaction worker (open_draft w.transactions transaction) refl
 happens-fine w (events.Abort transaction) = abort-fine w transaction (open_draft w.transactions transaction)
 happens-fine w (events.Flush count) = flush-fine w count w.primary.failed refl
@@ -369,8 +420,12 @@ happens-fine w (events.Run replica) = run-fine w (slice_get w.members replica)
 cut-fine : (w : World) (found : Option Member) (output : Output) (new : World) → RunIsCut w found output new → IsFine w (output, new)
 cut-fine w None output new cut = absurd cut
 cut-fine w (Some m) output new cut = elim cut.2 [
-  | inl memory ↦ subst (λ (o : Output). IsFine w (o, new)) (sym memory.0) (subst (λ (v : World). IsFine w (outputs.Memory, v)) (sym memory.1) (plain w (with_member w (record m { version = cut.0.version })) outputs.Memory refl refl tt))
-  | inr broken ↦ subst (λ (o : Output). IsFine w (o, new)) (sym broken.0) (subst (λ (v : World). IsFine w (outputs.Broken, v)) (sym broken.1) (plain w (with_member w (record m { broken = true })) outputs.Broken refl refl tt))
+  | inl memory ↦ subst (λ (o : Output). IsFine w (o, new)) (sym memory.0)
+      (subst (λ (v : World). IsFine w (outputs.Memory, v)) (sym memory.1)
+      (plain w (with_member w (record m { version = cut.0.version })) outputs.Memory refl refl tt))
+  | inr broken ↦ subst (λ (o : Output). IsFine w (o, new)) (sym broken.0)
+      (subst (λ (v : World). IsFine w (outputs.Broken, v)) (sym broken.1)
+      (plain w (with_member w (record m { broken = true })) outputs.Broken refl refl tt))
 ]
 
 cut-event : (w : World) (event : Event) (output : Output) (new : World) → RunIsCutAt w event output new → IsFine w (output, new)
@@ -393,7 +448,8 @@ step-fine : (old : World) (event : Event) (output : Output) (new : World) → Ma
 step-fine old event output new may = elim may [
   | inl made ↦ subst (IsFine old) made (happens-fine old event)
   | inr other ↦ elim other [
-    | inl memory ↦ subst (λ (o : Output). IsFine old (o, new)) (sym memory.0) (subst (λ (v : World). IsFine old (outputs.Memory, v)) (sym memory.1) (plain old old outputs.Memory refl refl tt))
+    | inl memory ↦ subst (λ (o : Output). IsFine old (o, new)) (sym memory.0)
+        (subst (λ (v : World). IsFine old (outputs.Memory, v)) (sym memory.1) (plain old old outputs.Memory refl refl tt))
     | inr cut ↦ cut-event old event output new cut
   ]
 ]
@@ -409,7 +465,8 @@ durable-grows old new (event ∷ todo) (output ∷ done) run =
     let rest = durable-grows run.0 new todo done run.2 in
     (first.0 ++ rest.0, rest.1 ∙ ap (λ (l : List Commit). l ++ rest.0) first.1 ∙ append_assoc old.primary.durable first.0 rest.0)
 
-runs-faultless : (old new : World) (todo : List Event) (done : List Output) → IsHonest old → Runs old todo done new → AllByRecursion IsFaultless done
+runs-faultless : (old new : World) (todo : List Event) (done : List Output) → IsHonest old → Runs old todo done new
+    → AllByRecursion IsFaultless done
 runs-faultless old new [] [] honest run = tt
 runs-faultless old new [] (output ∷ done) honest run = absurd run
 runs-faultless old new (event ∷ todo) [] honest run = tt
@@ -419,4 +476,5 @@ runs-faultless old new (event ∷ todo) (output ∷ done) honest run =
 
 pub allowed-faultless : AllowedAreFaultless
 allowed-faultless shape workers replicas todo done allowed =
-    runs-faultless (opening_world shape workers replicas) allowed.0 todo done (record { whole = refl; begun = λ i draft here. absurd (none-some (Some draft) here) }) allowed.1
+    runs-faultless (opening_world shape workers replicas) allowed.0 todo done
+    (record { whole = refl; begun = λ i draft here. absurd (none-some (Some draft) here) }) allowed.1

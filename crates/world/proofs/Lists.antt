@@ -9,7 +9,8 @@ set-same (y ∷ xs) zero x h = let e : y ≡ x = cc in ap (λ z. z ∷ xs) (sym 
 set-same (y ∷ xs) (suc i) x h = ap (λ l. y ∷ l) (set-same xs i x h)
 
 -- what stands at a place after a change
-pub get-set : {A : Type 0} (xs : List A) (i : ℕ) (x : A) (j : ℕ) (y : A) → slice_get (slice_set xs i x) j ≡ Some y → ((j ≡ i) × (y ≡ x)) ⊎ (slice_get xs j ≡ Some y)
+pub get-set : {A : Type 0} (xs : List A) (i : ℕ) (x : A) (j : ℕ) (y : A) → slice_get (slice_set xs i x) j ≡ Some y → ((j ≡ i) × (y ≡ x))
+    ⊎ (slice_get xs j ≡ Some y)
 get-set [] i x j y h = inr h
 get-set (z ∷ xs) zero x zero y h = inl (refl, cc)
 get-set (z ∷ xs) zero x (suc j) y h = inr h
@@ -17,7 +18,8 @@ get-set (z ∷ xs) (suc i) x zero y h = inr h
 get-set (z ∷ xs) (suc i) x (suc j) y h = elim (get-set xs i x j y h) [ inl e ↦ inl (ap suc e.0, e.1) | inr e ↦ inr e ]
 
 -- what stands at a place of two lists joined
-pub get-append : {A : Type 0} (xs ys : List A) (i : ℕ) (x : A) → slice_get (xs ++ ys) i ≡ Some x → (slice_get xs i ≡ Some x) ⊎ ((j : ℕ) × (slice_get ys j ≡ Some x))
+pub get-append : {A : Type 0} (xs ys : List A) (i : ℕ) (x : A) → slice_get (xs ++ ys) i ≡ Some x → (slice_get xs i ≡ Some x)
+    ⊎ ((j : ℕ) × (slice_get ys j ≡ Some x))
 get-append [] ys i x h = inr (i, h)
 get-append (y ∷ xs) ys zero x h = inl h
 get-append (y ∷ xs) ys (suc i) x h = get-append xs ys i x h

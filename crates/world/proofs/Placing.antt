@@ -1,5 +1,6 @@
 -- The column that a value is for: its kind, and its place among its row's bytes.
-use Rattle.std.proofs.Common.{◌≡◌, ℕ, zero, suc, ◌+◌, ◌-◌, ◌<◌, ◌≤◌, Bool, true, false, cond, ◌==◌, ◌&&◌, List, [], ◌∷◌, length, take, Option, Some, None, Ok, Err, nat_lt, refl, sym, ap, ◌∙◌, arith}
+use Rattle.std.proofs.Common.{◌≡◌, ℕ, zero, suc, ◌+◌, ◌-◌, ◌<◌, ◌≤◌, Bool, true, false, cond, ◌==◌, ◌&&◌, List, [], ◌∷◌, length, take}
+use Rattle.std.proofs.Common.{Option, Some, None, Ok, Err, nat_lt, refl, sym, ap, ◌∙◌, arith}
 use Rattle.std.specs.List.{slice_get, list_all}
 use Rattle.std.specs.Option.{is_some}
 use Rattle.std.specs.Result.{is_ok}
@@ -35,9 +36,11 @@ pub width-few : (kind : Kind) → is_good kind ≡ true → width_of kind ≤ OC
 width-few IntKind good = omega arith
 width-few (OctetsKind width) good = grind (arith, nat_tests)
 
-pub good-at : (kinds : List Kind) (column : ℕ) (kind : Kind) → list_all is_good kinds ≡ true → slice_get kinds column ≡ Some kind → is_good kind ≡ true
+pub good-at : (kinds : List Kind) (column : ℕ) (kind : Kind) → list_all is_good kinds ≡ true → slice_get kinds column ≡ Some kind
+    → is_good kind ≡ true
 good-at [] column kind good h = absurd (none-some kind h)
-good-at (first ∷ kinds) zero kind good h = ap is_good (sym (same_Some first kind h)) ∙ (and_parts (is_good first) (list_all is_good kinds) good).0
+good-at (first ∷ kinds) zero kind good h =
+    ap is_good (sym (same_Some first kind h)) ∙ (and_parts (is_good first) (list_all is_good kinds) good).0
 good-at (first ∷ kinds) (suc column) kind good h = good-at kinds column kind (and_parts (is_good first) (list_all is_good kinds) good).1 h
 
 -- a column that is there is found at its place
@@ -48,7 +51,8 @@ found-at before (first ∷ kinds) zero kind h =
     let same = eq-eqb (width_of kind) (width_of first) (ap width_of (sym (same_Some first kind h))) in
     rw same refl
 found-at before (first ∷ kinds) (suc column) kind h =
-    behind (row_width (first ∷ take column kinds)) (sum_by-cons width_of first (take column kinds)) (found-at (before + 1) kinds column kind h)
+    behind (row_width (first ∷ take column kinds)) (sum_by-cons width_of first (take column kinds))
+    (found-at (before + 1) kinds column kind h)
   where
     either : (here : Bool) (rest : Option (ℕ × Kind)) → is_some rest ≡ true → is_some (cond here (Some (before, first)) rest) ≡ true
     either true rest found = refl
@@ -71,7 +75,8 @@ pub record IsColumn (shape : Shape) (table column : ℕ) (value : Value) : Type 
   pub value_is : is_of_kind value kind ≡ true
   pub offset_is : column_offset shape table column ≡ row_width (take column kinds)
 
-pub column-matched : (shape : Shape) (table column : ℕ) (value : Value) → match_column value (column_kind shape table column) ≡ true → IsColumn shape table column value
+pub column-matched : (shape : Shape) (table column : ℕ) (value : Value) → match_column value (column_kind shape table column) ≡ true
+    → IsColumn shape table column value
 column-matched shape table column value h = by (slice_get shape table) refl
   where
     of_kind : (found : Option Kind) → match_column value found ≡ true → (kind : Kind) × (found ≡ Some kind) × (is_of_kind value kind ≡ true)
@@ -94,4 +99,5 @@ value-fits shape table row column value at =
     ap (λ (n : ℕ). is_some (column_at at.kinds n size)) at.offset_is
     ∙ ap (λ (n : ℕ). is_some (column_at at.kinds (row_width (take column at.kinds)) n)) (length-value value at.kind at.value_is)
     ∙ found-at 0 at.kinds column at.kind at.column_is in
-    ap (λ (o : Option (List Kind)). is_ok (placed o offset size)) at.table_is ∙ ap (λ (b : Bool). is_ok (cond b (Ok tt) (Err NotAColumn))) place
+    ap (λ (o : Option (List Kind)). is_ok (placed o offset size)) at.table_is
+    ∙ ap (λ (b : Bool). is_ok (cond b (Ok tt) (Err NotAColumn))) place

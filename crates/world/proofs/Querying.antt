@@ -1,5 +1,6 @@
 -- Opening a query and asking for a version do at a replica of sound parts what they do at its member.
-use Rattle.std.proofs.Common.{◌≡◌, ℕ, ◌+◌, ◌^◌, ◌<◌, ◌≤◌, Bool, true, false, cond, ◌==◌, List, [], ◌∷◌, ◌++◌, length, Option, Some, None, Result, Ok, Err, nat_lt, nat_le, refl, sym, ap, subst, ◌∙◌, inl, inr, arith}
+use Rattle.std.proofs.Common.{◌≡◌, ℕ, ◌+◌, ◌^◌, ◌<◌, ◌≤◌, Bool, true, false, cond, ◌==◌, List, [], ◌∷◌, ◌++◌, length, Option, Some, None}
+use Rattle.std.proofs.Common.{Result, Ok, Err, nat_lt, nat_le, refl, sym, ap, subst, ◌∙◌, inl, inr, arith}
 use Rattle.std.specs.List.{slice_get, slice_set, slice_index}
 use Rattle.std.specs.Option.{option_map}
 use Rattle.std.proofs.lemmas.Bool.{false≢true, true≢false, cases_Bool}
@@ -45,13 +46,15 @@ opened-is : (r : Replica) (plan : Plan) → opened r plan ≡
     (cond (nat_lt plan.table (length r.shape)) (Ok (length r.waiting + 1, with_plan r plan)) (Err (opens.BadPlan NoTable))))
 opened-is r plan = elim (cases_Bool (nat_lt plan.table (length r.shape))) [ inl e ↦ rw e refl | inr e ↦ rw e refl ]
 
-plan-goes : (shape : Shape) (durable : List Commit) (r : Replica) (plan : Plan) → IsFedFrom shape durable r → Goes shape durable r (with_plan r plan)
+plan-goes : (shape : Shape) (durable : List Commit) (r : Replica) (plan : Plan) → IsFedFrom shape durable r
+    → Goes shape durable r (with_plan r plan)
 plan-goes shape durable r plan fed = record {
   feeding = plan-fed shape durable r plan fed;
   moves = record { number_stays = refl; boot_stays = refl; request_grows = omega arith; waits = λ waits same. (waits, refl) };
 }
 
-pub query-opens : (shape : Shape) (p : Parts) (i : ℕ) (plan : Plan) (found : Option Replica) → Sound shape p → slice_get p.replicas i ≡ found
+pub query-opens : (shape : Shape) (p : Parts) (i : ℕ) (plan : Plan) (found : Option Replica) → Sound shape p
+    → slice_get p.replicas i ≡ found
     → Follows shape
     (on_member (world_of p) (option_map (member_of (slice_index p.asked_at i)) found) (λ m.
     cond m.broken (outputs.Broken, world_of p) (cond (nat_le WAITING_QUERIES_MAX (length m.waiting)) (outputs.BatchFull, world_of p)
@@ -60,7 +63,8 @@ pub query-opens : (shape : Shape) (p : Parts) (i : ℕ) (plan : Plan) (found : O
 query-opens shape p i plan None sound here = (refl, sound)
 query-opens shape p i plan (Some r) sound here =
     subst (λ (o : Result (ℕ × Replica) OpenFault). Follows shape there (opening_query p i o)) (sym (opened-is r plan))
-    (by r.broken (nat_le WAITING_QUERIES_MAX (length r.waiting)) (nat_lt plan.table (length p.primary.shape)) (nat_lt plan.table (length r.shape))
+    (by r.broken (nat_le WAITING_QUERIES_MAX (length r.waiting)) (nat_lt plan.table (length p.primary.shape))
+    (nat_lt plan.table (length r.shape))
     (ap (λ (shape : Shape). nat_lt plan.table (length shape)) (sound.primary_is.shape_is ∙ sym fed.feeding.shape_is)))
   where
     w : World
@@ -70,30 +74,42 @@ query-opens shape p i plan (Some r) sound here =
     m = member_of (slice_index p.asked_at i) r
 
     there : Output × World
-    there = cond r.broken (outputs.Broken, w) (cond (nat_le WAITING_QUERIES_MAX (length r.waiting)) (outputs.BatchFull, w) (open_happens w m plan (checked p.primary.shape plan)))
+    there =
+        cond r.broken (outputs.Broken, w)
+        (cond (nat_le WAITING_QUERIES_MAX (length r.waiting)) (outputs.BatchFull, w) (open_happens w m plan (checked p.primary.shape plan)))
 
     fed : IsFed shape p.primary.durable i r
     fed = sound.fed i r here
 
     by : (a b c d : Bool) → c ≡ d → Follows shape
         (cond a (outputs.Broken, w) (cond b (outputs.BatchFull, w) (open_happens w m plan (cond c (Ok tt) (Err NoTable)))))
-        (opening_query p i (cond a (Err opens.Broken) (cond b (Err opens.BatchFull) (cond d (Ok (length r.waiting + 1, with_plan r plan)) (Err (opens.BadPlan NoTable))))))
+        (opening_query p i (cond a (Err opens.Broken)
+        (cond b (Err opens.BatchFull) (cond d (Ok (length r.waiting + 1, with_plan r plan)) (Err (opens.BadPlan NoTable))))))
     by true b c d e = (refl, sound)
     by false true c d e = (refl, sound)
     by false false true false e = absurd (true≢false e)
     by false false false true e = absurd (false≢true e)
     by false false false false e = (refl, sound)
     by false false true true e =
-        Follows-goes shape p i r (outputs.Opened (length r.waiting + 1), member_of (slice_index p.asked_at i) (with_plan r plan)) (outputs.Opened (length r.waiting + 1)) (with_plan r plan)
+        Follows-goes shape p i r (outputs.Opened (length r.waiting + 1), member_of (slice_index p.asked_at i) (with_plan r plan))
+        (outputs.Opened (length r.waiting + 1)) (with_plan r plan)
         sound here refl (plan-goes shape p.primary.durable r plan fed.feeding)
 
 -- ---- asking
 
 ask-means : (durable : List Commit) (replicas : List Replica) (number boot request : ℕ) → number < REPLICAS_MAX → boot < 2 ^ 64
-    → ((r : Replica) → slice_get replicas number ≡ Some r → request ≤ r.request) → Means durable replicas (reading (spelling (datagrams.Ask number boot request)))
+    → ((r : Replica) → slice_get replicas number ≡ Some r → request ≤ r.request)
+    → Means durable replicas (reading (spelling (datagrams.Ask number boot request)))
 ask-means durable replicas number boot request number_below boot_below asked =
     subst (Means durable replicas) (sym (ask-read number boot request number_below boot_below))
-    (record { tells = tt; requests = (ask-kept number boot request number_below boot_below, λ r here. let few = asked r here in omega arith) })
+    (record {
+      tells = tt;
+      requests = (
+        ask-kept number boot request number_below boot_below,
+        λ r here. let few = asked r here in
+            omega arith,
+      );
+    })
 
 -- the number of a replica that is there
 number-below : (shape : Shape) (p : Parts) (i : ℕ) (r : Replica) → Sound shape p → slice_get p.replicas i ≡ Some r → r.number < REPLICAS_MAX
@@ -115,68 +131,86 @@ batch-goes shape durable r fed = record {
 
 asks-anew : (shape : Shape) (p : Parts) (i : ℕ) (r : Replica) → Sound shape p → slice_get p.replicas i ≡ Some r
     → Follows shape
-    (send (with_member (world_of p) (new_batch (world_of p) (member_of (slice_index p.asked_at i) r))) (ask_bytes (member_of (slice_index p.asked_at i) r) (r.request + 1)))
+    (send (with_member (world_of p) (new_batch (world_of p) (member_of (slice_index p.asked_at i) r)))
+    (ask_bytes (member_of (slice_index p.asked_at i) r) (r.request + 1)))
     (asking p i None (Ok (ask_for r.number r.boot (r.request + 1), with_batch r)))
 asks-anew shape p i r sound here =
     let bytes = spelling (datagrams.Ask r.number r.boot (r.request + 1)) in
     let w = world_of p in
     let fed = sound.fed i r here in
-    let made : List Member → Output × World = λ (members : List Member). (sent_one p bytes, record w { members = members; sent = p.sent ++ bytes ∷ [] }) in
+    let made : List Member → Output × World =
+    λ (members : List Member). (sent_one p bytes, record w { members = members; sent = p.sent ++ bytes ∷ [] }) in
     let old = members_of p.replicas p.asked_at in
     let new = member_of (length p.primary.durable) (with_batch r) in
     let noted = slice_set p.asked_at i (length p.primary.durable) in
     let begun = with_replica p i (with_batch r) in (
-      ap (λ (n : ℕ). made (slice_set old n new)) fed.number_is ∙ ap made (sym (members-asked p.replicas p.asked_at i (with_batch r) (length p.primary.durable) sound.asked_there)),
+      ap (λ (n : ℕ). made (slice_set old n new)) fed.number_is
+          ∙ ap made (sym (members-asked p.replicas p.asked_at i (with_batch r) (length p.primary.durable) sound.asked_there)),
       Sound-one shape (record begun { asked_at = noted }) bytes
-          (Sound-noted shape begun noted (Sound-replica shape p i r (with_batch r) sound here (batch-goes shape p.primary.durable r fed.feeding)) (length-set p.asked_at i (length p.primary.durable)))
-          (ask-means p.primary.durable (slice_set p.replicas i (with_batch r)) r.number r.boot (r.request + 1) (number-below shape p i r sound here) (boot-below shape p i r sound here)
+          (Sound-noted shape begun noted
+          (Sound-replica shape p i r (with_batch r) sound here (batch-goes shape p.primary.durable r fed.feeding))
+          (length-set p.asked_at i (length p.primary.durable)))
+          (ask-means p.primary.durable (slice_set p.replicas i (with_batch r)) r.number r.boot (r.request + 1)
+          (number-below shape p i r sound here) (boot-below shape p i r sound here)
           (λ s there.
-          let same : s ≡ with_batch r = get-set_same p.replicas i (with_batch r) s (ap (slice_get (slice_set p.replicas i (with_batch r))) (sym fed.number_is) ∙ there) in
+          let same : s ≡ with_batch r =
+          get-set_same p.replicas i (with_batch r) s
+          (ap (slice_get (slice_set p.replicas i (with_batch r))) (sym fed.number_is) ∙ there) in
           let e : s.request ≡ r.request + 1 = ap (λ (s : Replica). s.request) same in
           omega arith)),
     )
 
 asks-again : (shape : Shape) (p : Parts) (i : ℕ) (r : Replica) (queries : Queries) → Sound shape p → slice_get p.replicas i ≡ Some r
-    → Follows shape (send (world_of p) (ask_bytes (member_of (slice_index p.asked_at i) r) r.request)) (asking p i (Some queries) (Ok (ask_for r.number r.boot r.request, r)))
+    → Follows shape (send (world_of p) (ask_bytes (member_of (slice_index p.asked_at i) r) r.request))
+    (asking p i (Some queries) (Ok (ask_for r.number r.boot r.request, r)))
 asks-again shape p i r queries sound here =
     let bytes = spelling (datagrams.Ask r.number r.boot r.request) in
     let fed = sound.fed i r here in
-    let same : with_sent p bytes ≡ with_sent (with_replica p i r) bytes = ap (λ (replicas : List Replica). with_sent (record p { replicas = replicas }) bytes) (sym (set-same p.replicas i r here)) in (
+    let same : with_sent p bytes ≡ with_sent (with_replica p i r) bytes =
+    ap (λ (replicas : List Replica). with_sent (record p { replicas = replicas }) bytes) (sym (set-same p.replicas i r here)) in (
       ap (λ (p' : Parts). (sent_one p bytes, world_of p')) same,
       subst (Sound shape) same (Sound-one shape p bytes sound
-          (ask-means p.primary.durable p.replicas r.number r.boot r.request (number-below shape p i r sound here) (boot-below shape p i r sound here)
+          (ask-means p.primary.durable p.replicas r.number r.boot r.request (number-below shape p i r sound here)
+          (boot-below shape p i r sound here)
           (λ s there.
           let e : r ≡ s = same_Some r s (sym here ∙ ap (slice_get p.replicas) (sym fed.number_is) ∙ there) in
           let f : r.request ≡ s.request = ap (λ (s : Replica). s.request) e in
           omega arith))),
     )
 
-asks-fetched : (shape : Shape) (p : Parts) (i : ℕ) (r : Replica) (plans : List Plan) (fetched : Option Fetched) → Sound shape p → slice_get p.replicas i ≡ Some r
-    → Follows shape (ask_happens (world_of p) (member_of (slice_index p.asked_at i) r) (Some (record { plans = plans; asked_at = slice_index p.asked_at i; fetched = fetched })))
+asks-fetched : (shape : Shape) (p : Parts) (i : ℕ) (r : Replica) (plans : List Plan) (fetched : Option Fetched) → Sound shape p
+    → slice_get p.replicas i ≡ Some r
+    → Follows shape (ask_happens (world_of p) (member_of (slice_index p.asked_at i) r)
+    (Some (record { plans = plans; asked_at = slice_index p.asked_at i; fetched = fetched })))
     (asking p i (Some (record { plans = plans; fetched = fetched })) (asked_by r (Some (record { plans = plans; fetched = fetched }))))
 asks-fetched shape p i r plans None sound here = asks-again shape p i r (record { plans = plans; fetched = None }) sound here
 asks-fetched shape p i r plans (Some fetched) sound here = (refl, sound)
 
 asks-by : (shape : Shape) (p : Parts) (i : ℕ) (r : Replica) (batch : Option Queries) → Sound shape p → slice_get p.replicas i ≡ Some r
-    → Follows shape (ask_happens (world_of p) (member_of (slice_index p.asked_at i) r) (option_map (batch_of (slice_index p.asked_at i)) batch)) (asking p i batch (asked_by r batch))
+    → Follows shape (ask_happens (world_of p) (member_of (slice_index p.asked_at i) r)
+    (option_map (batch_of (slice_index p.asked_at i)) batch)) (asking p i batch (asked_by r batch))
 asks-by shape p i r (Some queries) sound here = asks-fetched shape p i r queries.plans queries.fetched sound here
 asks-by shape p i r None sound here = by (length r.waiting == 0)
   where
     by : (b : Bool) → Follows shape
-        (cond b (outputs.Empty, world_of p) (send (with_member (world_of p) (new_batch (world_of p) (member_of (slice_index p.asked_at i) r))) (ask_bytes (member_of (slice_index p.asked_at i) r) (r.request + 1))))
+        (cond b (outputs.Empty, world_of p)
+        (send (with_member (world_of p) (new_batch (world_of p) (member_of (slice_index p.asked_at i) r)))
+        (ask_bytes (member_of (slice_index p.asked_at i) r) (r.request + 1))))
         (asking p i None (cond b (Err asks.Empty) (Ok (ask_for r.number r.boot (r.request + 1), with_batch r))))
     by true = (refl, sound)
     by false = asks-anew shape p i r sound here
 
 pub version-asked : (shape : Shape) (p : Parts) (i : ℕ) (found : Option Replica) → Sound shape p → slice_get p.replicas i ≡ found
     → Follows shape
-    (on_member (world_of p) (option_map (member_of (slice_index p.asked_at i)) found) (λ m. cond m.broken (outputs.Broken, world_of p) (ask_happens (world_of p) m m.batch)))
+    (on_member (world_of p) (option_map (member_of (slice_index p.asked_at i)) found)
+    (λ m. cond m.broken (outputs.Broken, world_of p) (ask_happens (world_of p) m m.batch)))
     (ask_by p i found)
 version-asked shape p i None sound here = (refl, sound)
 version-asked shape p i (Some r) sound here = by r.broken
   where
     by : (b : Bool) → Follows shape
-        (cond b (outputs.Broken, world_of p) (ask_happens (world_of p) (member_of (slice_index p.asked_at i) r) (option_map (batch_of (slice_index p.asked_at i)) r.batch)))
+        (cond b (outputs.Broken, world_of p)
+        (ask_happens (world_of p) (member_of (slice_index p.asked_at i) r) (option_map (batch_of (slice_index p.asked_at i)) r.batch)))
         (asking p i r.batch (cond b (Err asks.Broken) (asked_by r r.batch)))
     by true = (refl, sound)
     by false = asks-by shape p i r r.batch sound here

@@ -1,5 +1,6 @@
 -- A step leaves parts that are ready for the next one, with as many workers and replicas.
-use Rattle.std.proofs.Common.{◌≡◌, ℕ, ◌+◌, ◌≤◌, inl, inr, Bool, true, false, cond, List, [], ◌∷◌, ◌++◌, length, take, Option, None, Some, Result, Ok, Err, IfSome, slice_get, slice_set, refl, ap, sym, subst, ◌∙◌, arith, length-append}
+use Rattle.std.proofs.Common.{◌≡◌, ℕ, ◌+◌, ◌≤◌, inl, inr, Bool, true, false, cond, List, [], ◌∷◌, ◌++◌, length, take, Option, None, Some}
+use Rattle.std.proofs.Common.{Result, Ok, Err, IfSome, slice_get, slice_set, refl, ap, sym, subst, ◌∙◌, arith, length-append}
 use Rattle.std.specs.List.{AllByRecursion}
 use Rattle.std.proofs.lemmas.List.{length-set}
 use Rattle.rows.specs.declared.commit.Commit.{Commit}
@@ -22,7 +23,9 @@ use Rattle.script.specs.declared.event.Node.{Node}
 use Rattle.script.specs.declared.event.Node.TheVariants as nodes
 use Rattle.script.specs.declared.output.Output.{Output}
 use Rattle.world.specs.Parts.{Parts, IsReady}
-use Rattle.world.specs.Steps.{inserting, setting, deleting, changing, change_by, committing, commit_by, abort_by, push_by, with_replica, to_replica, to_node, deliver_by, opening_query, open_by, asked_durable, asking, ask_by, run_output, run_by, stepped, RunIsCut, IsCutAt, MayStep}
+use Rattle.world.specs.Steps.{inserting, setting, deleting, changing, change_by, committing, commit_by, abort_by, push_by, with_replica}
+use Rattle.world.specs.Steps.{to_replica, to_node, deliver_by, opening_query, open_by, asked_durable, asking, ask_by, run_output, run_by}
+use Rattle.world.specs.Steps.{stepped, RunIsCut, IsCutAt, MayStep}
 use Rattle.world.specs.World.{open_draft}
 use Rattle.world.proofs.Slots.{all_at, all_set, all_push, all_weaker, slot_at}
 use Rattle.world.proofs.Adding.{reads_same, insert-added, set-added, delete-added}
@@ -50,7 +53,8 @@ module _ (p : Parts) (ready : IsReady p) where
 
   set_keeps : (number : ℕ) (slot : Option Draft) → IfSome slot (λ draft. draft.snapshot ≤ length p.primary.durable)
       → Keeps p (record p { transactions = slice_set p.transactions number slot })
-  set_keeps number slot here = keeps_transactions (slice_set p.transactions number slot) (all_set _ p.transactions number slot here ready.snapshots)
+  set_keeps number slot here =
+      keeps_transactions (slice_set p.transactions number slot) (all_set _ p.transactions number slot here ready.snapshots)
 
   begin_keeps : Keeps p (stepped p events.Begin).1
   begin_keeps = keeps_transactions _ (all_push _ p.transactions _ (omega arith) ready.snapshots)
@@ -88,7 +92,8 @@ module _ (p : Parts) (ready : IsReady p) where
         replicas = length-set p.replicas number after;
       }
 
-  replica_keeps : (number : ℕ) (bytes : List ℕ) (found : Option Replica) → slice_get p.replicas number ≡ found → Keeps p (to_replica p number bytes found).1
+  replica_keeps : (number : ℕ) (bytes : List ℕ) (found : Option Replica) → slice_get p.replicas number ≡ found
+      → Keeps p (to_replica p number bytes found).1
   replica_keeps number bytes None at = keeps_self
   replica_keeps number bytes (Some replica) at = keeps_replica number replica (received replica bytes).1 at (received_keeps replica bytes)
 
@@ -100,12 +105,14 @@ module _ (p : Parts) (ready : IsReady p) where
   deliver_keeps node None = keeps_self
   deliver_keeps node (Some bytes) = node_keeps bytes node
 
-  opening_keeps : (number : ℕ) (plan : Plan) (replica : Replica) (answer : Result (ℕ × Replica) OpenFault) → slice_get p.replicas number ≡ Some replica
+  opening_keeps : (number : ℕ) (plan : Plan) (replica : Replica) (answer : Result (ℕ × Replica) OpenFault)
+      → slice_get p.replicas number ≡ Some replica
       → opened replica plan ≡ answer → Keeps p (opening_query p number answer).1
   opening_keeps number plan replica (Ok after) at is = keeps_replica number replica after.1 at (opened_keeps replica plan after is)
   opening_keeps number plan replica (Err fault) at is = keeps_self
 
-  open_keeps : (number : ℕ) (plan : Plan) (found : Option Replica) → slice_get p.replicas number ≡ found → Keeps p (open_by p number plan found).1
+  open_keeps : (number : ℕ) (plan : Plan) (found : Option Replica) → slice_get p.replicas number ≡ found
+      → Keeps p (open_by p number plan found).1
   open_keeps number plan None at = keeps_self
   open_keeps number plan (Some replica) at = opening_keeps number plan replica (opened replica plan) at refl
 
@@ -120,7 +127,8 @@ module _ (p : Parts) (ready : IsReady p) where
         ready = record {
           asked_there = same ∙ ready.asked_there ∙ sym (length-set p.replicas number after);
           snapshots = ready.snapshots;
-          requests = all_set _ p.replicas number after (omega arith) (all_weaker _ _ p.replicas (λ replica within. omega arith) ready.requests);
+          requests =
+              all_set _ p.replicas number after (omega arith) (all_weaker _ _ p.replicas (λ replica within. omega arith) ready.requests);
         };
         workers = refl;
         replicas = length-set p.replicas number after;
@@ -130,21 +138,25 @@ module _ (p : Parts) (ready : IsReady p) where
   durable_keeps number None = length-set p.asked_at number _
   durable_keeps number (Some batch) = refl
 
-  asking_keeps : (number : ℕ) (replica : Replica) (batch : Option Queries) (answer : Result (Out × Replica) AskFault) → slice_get p.replicas number ≡ Some replica
+  asking_keeps : (number : ℕ) (replica : Replica) (batch : Option Queries) (answer : Result (Out × Replica) AskFault)
+      → slice_get p.replicas number ≡ Some replica
       → asked replica ≡ answer → Keeps p (asking p number batch answer).1
   asking_keeps number replica batch (Ok after) at is =
-      keeps_asked number replica after.1 after.0.packet (asked_durable p number batch) at (asked_keeps replica after is) (durable_keeps number batch)
+      keeps_asked number replica after.1 after.0.packet (asked_durable p number batch) at (asked_keeps replica after is)
+      (durable_keeps number batch)
   asking_keeps number replica batch (Err fault) at is = keeps_self
 
   ask_keeps : (number : ℕ) (found : Option Replica) → slice_get p.replicas number ≡ found → Keeps p (ask_by p number found).1
   ask_keeps number None at = keeps_self
   ask_keeps number (Some replica) at = asking_keeps number replica replica.batch (asked replica) at refl
 
-  output_keeps : (number : ℕ) (before after : Replica) (answer : Run) → slice_get p.replicas number ≡ Some before → after.request ≡ before.request
+  output_keeps : (number : ℕ) (before after : Replica) (answer : Run) → slice_get p.replicas number ≡ Some before
+      → after.request ≡ before.request
       → Keeps p (run_output p number (answer, after)).1
   output_keeps number before after runs.NoBatch at same = keeps_replica number before after at same
   output_keeps number before after runs.WaitingHead at same = keeps_replica number before after at same
-  output_keeps number before after (runs.Waiting worker seq want) at same = keeps_asked number before after want.packet p.asked_at at (omega arith) refl
+  output_keeps number before after (runs.Waiting worker seq want) at same =
+      keeps_asked number before after want.packet p.asked_at at (omega arith) refl
   output_keeps number before after (runs.Answered report) at same = keeps_replica number before after at same
   output_keeps number before after runs.Inconsistent at same = keeps_replica number before after at same
   output_keeps number before after runs.Broken at same = keeps_replica number before after at same
@@ -175,7 +187,8 @@ module _ (p : Parts) (ready : IsReady p) where
   change_keeps number change None there reads = keeps_self
   change_keeps number change (Some draft) there reads = changing_keeps number draft (change draft) there (reads draft)
 
-  committing_keeps : (transaction worker : ℕ) (draft : Draft) (answer : Result ℕ CommitFault) → Keeps p (committing p transaction worker draft answer).1
+  committing_keeps : (transaction worker : ℕ) (draft : Draft) (answer : Result ℕ CommitFault)
+      → Keeps p (committing p transaction worker draft answer).1
   committing_keeps transaction worker draft (Ok number) =
       let left = set_keeps transaction None tt in
       record {
@@ -219,11 +232,17 @@ module _ (p : Parts) (ready : IsReady p) where
   stepped_keeps : (event : Event) → Keeps p (stepped p event).1
   stepped_keeps events.Begin = begin_keeps
   stepped_keeps (events.Insert transaction table row values) =
-      change_keeps transaction (inserting p.primary table row.0 values) _ refl (λ draft after is. reads_same p.primary.shape commits draft _ after (insert-added p.primary.shape commits draft table row.0 after values is).1)
+      change_keeps transaction (inserting p.primary table row.0 values) _ refl
+      (λ draft after is. reads_same p.primary.shape commits draft _ after
+      (insert-added p.primary.shape commits draft table row.0 after values is).1)
   stepped_keeps (events.Set transaction table row column value) =
-      change_keeps transaction (setting p.primary table row.0 column value) _ refl (λ draft after is. reads_same p.primary.shape commits draft _ after (set-added p.primary.shape commits draft table row.0 after column value is).1)
+      change_keeps transaction (setting p.primary table row.0 column value) _ refl
+      (λ draft after is. reads_same p.primary.shape commits draft _ after
+      (set-added p.primary.shape commits draft table row.0 after column value is).1)
   stepped_keeps (events.Delete transaction table row) =
-      change_keeps transaction (deleting p.primary table row.0) _ refl (λ draft after is. reads_same p.primary.shape commits draft _ after (delete-added p.primary.shape commits draft table row.0 after is).1)
+      change_keeps transaction (deleting p.primary table row.0) _ refl
+      (λ draft after is. reads_same p.primary.shape commits draft _ after
+      (delete-added p.primary.shape commits draft table row.0 after is).1)
   stepped_keeps (events.Get transaction table row column) = keeps_self
   stepped_keeps (events.Commit transaction worker) = commit_keeps transaction worker (open_draft p.transactions transaction)
   stepped_keeps (events.Abort transaction) = abort_keeps transaction (open_draft p.transactions transaction)

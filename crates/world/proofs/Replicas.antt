@@ -1,5 +1,6 @@
 -- What comes to a replica of sound parts does to it what it does to its member.
-use Rattle.std.proofs.Common.{◌≡◌, ℕ, ◌≤◌, Bool, true, false, cond, not, ◌||◌, ◌&&◌, ◌==◌, List, [], ◌∷◌, length, Option, Some, None, Result, Ok, Err, nat_lt, refl, sym, ap, subst, ◌∙◌, arith}
+use Rattle.std.proofs.Common.{◌≡◌, ℕ, ◌≤◌, Bool, true, false, cond, not, ◌||◌, ◌&&◌, ◌==◌, List, [], ◌∷◌, length, Option, Some, None}
+use Rattle.std.proofs.Common.{Result, Ok, Err, nat_lt, refl, sym, ap, subst, ◌∙◌, arith}
 use Rattle.std.specs.List.{slice_get, slice_index, list_all}
 use Rattle.std.specs.Option.{option_map}
 use Rattle.std.specs.Ordering.{nat_cmp}
@@ -54,9 +55,11 @@ Comes-same at r answer = (refl, Moves-same r)
 
 -- ---- a frame
 
-frame-comes : (at : ℕ) (r : Replica) (frame : Frame) → Comes at r (frame_happens r.shape r.workers (member_of at r) frame.worker frame.seq frame.entries) (frame_comes r frame)
+frame-comes : (at : ℕ) (r : Replica) (frame : Frame)
+    → Comes at r (frame_happens r.shape r.workers (member_of at r) frame.worker frame.seq frame.entries) (frame_comes r frame)
 frame-comes at r frame =
-    by (not (nat_lt frame.worker r.workers) || not (list_all (λ entry. is_ok (fitting r.shape entry)) frame.entries)) (is_known (known r) frame.seq) (is_ahead (known r) frame.seq)
+    by (not (nat_lt frame.worker r.workers) || not (list_all (λ entry. is_ok (fitting r.shape entry)) frame.entries))
+    (is_known (known r) frame.seq) (is_ahead (known r) frame.seq)
   where
     with : Replica
     with = record r { frames = insert_entry nat_cmp r.frames frame.seq frame }
@@ -65,7 +68,8 @@ frame-comes at r frame =
     m = member_of at r
 
     by : (a b c : Bool) → Comes at r
-        (cond a (outputs.Ignored, m) (cond b (outputs.Repeat, m) (cond c (outputs.Ahead, m) (outputs.Stored, record m { known = insert_key nat_cmp (keys_of r.frames) frame.seq }))))
+        (cond a (outputs.Ignored, m) (cond b (outputs.Repeat, m)
+        (cond c (outputs.Ahead, m) (outputs.Stored, record m { known = insert_key nat_cmp (keys_of r.frames) frame.seq }))))
         (cond a (got.Ignored, r) (cond b (got.Repeat, r) (cond c (got.Ahead, r) (got.Stored, with))))
     by true b c = Comes-same at r got.Ignored
     by false true c = Comes-same at r got.Repeat
@@ -89,38 +93,48 @@ takes : (a b c : Bool) → a ≡ true → b ≡ false → c ≡ false → (not a
 takes a b c e f g = rw (e, f, g) refl
 
 -- one that tells the truth of the list and is no older than the replica does not
-not-refused : (shape : Shape) (durable : List Commit) (r : Replica) (version : ℕ) (counts : List ℕ) → IsLegal shape 1 durable → IsFedFrom shape durable r
+not-refused : (shape : Shape) (durable : List Commit) (r : Replica) (version : ℕ) (counts : List ℕ) → IsLegal shape 1 durable
+    → IsFedFrom shape durable r
     → version ≤ length durable → counts ≡ frame_count durable 0 version ∷ [] → r.version ≤ version → refused r version counts ≡ false
 not-refused shape durable r version counts legal fed below are fresh =
     let count : slice_index counts 0 ≡ version = ap (λ (l : List ℕ). slice_index l 0) are ∙ count-is durable version legal.each below in
     let applied = applied-version shape durable r legal fed in
     takes (length counts == r.workers) (nat_lt version r.version) (nat_lt (slice_index counts 0) r.applied)
-    (eq-eqb (length counts) r.workers (ap length are ∙ sym fed.workers_are)) (le-ltb version r.version fresh) (le-ltb (slice_index counts 0) r.applied (omega arith))
+    (eq-eqb (length counts) r.workers (ap length are ∙ sym fed.workers_are)) (le-ltb version r.version fresh)
+    (le-ltb (slice_index counts 0) r.applied (omega arith))
 
 ignored : (at : ℕ) (r : Replica) (b : Bool) → Comes at r (outputs.Ignored, member_of at r) (cond b (got.Ignored, r) (got.Ignored, r))
 ignored at r true = Comes-same at r got.Ignored
 ignored at r false = Comes-same at r got.Ignored
 
-head-batch : (at : ℕ) (r : Replica) (version : ℕ) (counts : List ℕ) (plans : List Plan) (fetched : Option Fetched) → (is_none fetched ≡ true → refused r version counts ≡ false)
+head-batch : (at : ℕ) (r : Replica) (version : ℕ) (counts : List ℕ) (plans : List Plan) (fetched : Option Fetched)
+    → (is_none fetched ≡ true → refused r version counts ≡ false)
     → Comes at (batched r (Some (record { plans = plans; fetched = fetched })))
-    (head_happens (member_of at (batched r (Some (record { plans = plans; fetched = fetched })))) version counts (Some (record { plans = plans; asked_at = at; fetched = fetched })))
+    (head_happens (member_of at (batched r (Some (record { plans = plans; fetched = fetched })))) version counts
+    (Some (record { plans = plans; asked_at = at; fetched = fetched })))
     (own_head_comes (batched r (Some (record { plans = plans; fetched = fetched }))) version counts)
-head-batch at r version counts plans (Some fetched) passes = ignored at (batched r (Some (record { plans = plans; fetched = Some fetched }))) (refused r version counts)
+head-batch at r version counts plans (Some fetched) passes =
+    ignored at (batched r (Some (record { plans = plans; fetched = Some fetched }))) (refused r version counts)
 head-batch at r version counts plans None passes =
     let old = batched r (Some (record { plans = plans; fetched = None })) in
     let new = batched r (Some (record { plans = plans; fetched = Some (record { version = version; counts = counts }) })) in
-    subst (λ (b : Bool). Comes at old (outputs.Head version, member_of at new) (cond b (got.Ignored, old) (got.Head version, new))) (sym (passes refl))
+    subst (λ (b : Bool). Comes at old (outputs.Head version, member_of at new) (cond b (got.Ignored, old) (got.Head version, new)))
+    (sym (passes refl))
     (refl, record { number_stays = refl; boot_stays = refl; request_grows = omega arith; waits = λ waits same. absurd (false≢true waits) })
 
-head-comes : (at : ℕ) (r : Replica) (version : ℕ) (counts : List ℕ) (batch : Option Queries) → (awaits (batched r batch) ≡ true → refused r version counts ≡ false)
-    → Comes at (batched r batch) (head_happens (member_of at (batched r batch)) version counts (option_map (batch_of at) batch)) (own_head_comes (batched r batch) version counts)
+head-comes : (at : ℕ) (r : Replica) (version : ℕ) (counts : List ℕ) (batch : Option Queries)
+    → (awaits (batched r batch) ≡ true → refused r version counts ≡ false)
+    → Comes at (batched r batch) (head_happens (member_of at (batched r batch)) version counts (option_map (batch_of at) batch))
+    (own_head_comes (batched r batch) version counts)
 head-comes at r version counts None passes = ignored at (batched r None) (refused r version counts)
 head-comes at r version counts (Some queries) passes = head-batch at r version counts queries.plans queries.fetched passes
 
 -- ---- any datagram
 
-datagram-comes : (shape : Shape) (durable : List Commit) (replicas : List Replica) (i at : ℕ) (r : Replica) (datagram : Result Datagram WireFault) → IsLegal shape 1 durable → IsFed shape durable i r
-    → slice_get replicas i ≡ Some r → Means durable replicas datagram → Comes at r (datagram_happens r.shape r.workers (member_of at r) datagram) (datagram_comes r datagram)
+datagram-comes : (shape : Shape) (durable : List Commit) (replicas : List Replica) (i at : ℕ) (r : Replica)
+    (datagram : Result Datagram WireFault) → IsLegal shape 1 durable → IsFed shape durable i r
+    → slice_get replicas i ≡ Some r → Means durable replicas datagram
+    → Comes at r (datagram_happens r.shape r.workers (member_of at r) datagram) (datagram_comes r datagram)
 datagram-comes shape durable replicas i at r (Err fault) legal fed here means = Comes-same at r got.Ignored
 datagram-comes shape durable replicas i at r (Ok (datagrams.Frame worker seq commit last entries)) legal fed here means =
     frame-comes at r (record { worker = worker; seq = seq; commit = commit; last = last; entries = entries })
@@ -137,23 +151,29 @@ datagram-comes shape durable replicas i at r (Ok (datagrams.Head replica boot re
         let front = and_parts (replica == r.number) (boot == r.boot) parts.0 in
         let answer = means.requests r (ap (slice_get replicas) (eqb-true replica r.number front.0 ∙ fed.number_is) ∙ here) in
         head-comes at r version counts r.batch
-        (λ waits. not-refused shape durable r version counts legal fed.feeding means.tells.0 means.tells.1 (answer.fresh waits (eqb-true request r.request parts.1)))
+        (λ waits. not-refused shape durable r version counts legal fed.feeding means.tells.0 means.tells.1
+        (answer.fresh waits (eqb-true request r.request parts.1)))
 datagram-comes shape durable replicas i at r (Ok (datagrams.Want replica worker from)) legal fed here means = Comes-same at r got.Ignored
 
 -- ---- bytes
 
 -- a replica that goes on, and the member that does as it does
-pub Follows-goes : (shape : Shape) (p : Parts) (i : ℕ) (r : Replica) (there : Output × Member) (output : Output) (new : Replica) → Sound shape p → slice_get p.replicas i ≡ Some r
+pub Follows-goes : (shape : Shape) (p : Parts) (i : ℕ) (r : Replica) (there : Output × Member) (output : Output) (new : Replica)
+    → Sound shape p → slice_get p.replicas i ≡ Some r
     → there ≡ (output, member_of (slice_index p.asked_at i) new) → Goes shape p.primary.durable r new
     → Follows shape (member_output (world_of p) there) (output, with_replica p i new)
 Follows-goes shape p i r there output new sound here same goes =
-    let number = goes.moves.number_stays ∙ (sound.fed i r here).number_is in
-    (ap (member_output (world_of p)) same ∙ ap (λ (w : World). (output, w)) (member-changes p i new number), Sound-replica shape p i r new sound here goes)
+    let number = goes.moves.number_stays ∙ (sound.fed i r here).number_is in (
+      ap (member_output (world_of p)) same ∙ ap (λ (w : World). (output, w)) (member-changes p i new number),
+      Sound-replica shape p i r new sound here goes,
+    )
 
-pub bytes-come : (shape : Shape) (p : Parts) (i : ℕ) (bytes : List ℕ) (found : Option Replica) → Sound shape p → Means p.primary.durable p.replicas (reading bytes) → slice_get p.replicas i ≡ found
+pub bytes-come : (shape : Shape) (p : Parts) (i : ℕ) (bytes : List ℕ) (found : Option Replica) → Sound shape p
+    → Means p.primary.durable p.replicas (reading bytes) → slice_get p.replicas i ≡ found
     → Follows shape
     (on_member (world_of p) (option_map (member_of (slice_index p.asked_at i)) found)
-    (λ m. cond m.broken (outputs.Broken, world_of p) (member_output (world_of p) (datagram_happens p.primary.shape p.primary.workers m (reading bytes)))))
+    (λ m. cond m.broken (outputs.Broken, world_of p)
+    (member_output (world_of p) (datagram_happens p.primary.shape p.primary.workers m (reading bytes)))))
     (to_replica p i bytes found)
 bytes-come shape p i bytes None sound means here = (refl, sound)
 bytes-come shape p i bytes (Some r) sound means here = by r.broken
@@ -167,14 +187,18 @@ bytes-come shape p i bytes (Some r) sound means here = by r.broken
     came : Comes at r (datagram_happens r.shape r.workers (member_of at r) (reading bytes)) (datagram_comes r (reading bytes))
     came = datagram-comes shape p.primary.durable p.replicas i at r (reading bytes) (legal-durable shape p sound) fed here means
 
-    same : datagram_happens p.primary.shape p.primary.workers (member_of at r) (reading bytes) ≡ answered at (datagram_comes r (reading bytes))
+    same : datagram_happens p.primary.shape p.primary.workers (member_of at r) (reading bytes) ≡ answered at
+        (datagram_comes r (reading bytes))
     same =
-        ap (λ (shape : Shape). datagram_happens shape p.primary.workers (member_of at r) (reading bytes)) (sound.primary_is.shape_is ∙ sym fed.feeding.shape_is)
-        ∙ ap (λ (workers : ℕ). datagram_happens r.shape workers (member_of at r) (reading bytes)) (sound.primary_is.workers_are ∙ sym fed.feeding.workers_are)
+        ap (λ (shape : Shape). datagram_happens shape p.primary.workers (member_of at r) (reading bytes))
+        (sound.primary_is.shape_is ∙ sym fed.feeding.shape_is)
+        ∙ ap (λ (workers : ℕ). datagram_happens r.shape workers (member_of at r) (reading bytes))
+        (sound.primary_is.workers_are ∙ sym fed.feeding.workers_are)
         ∙ came.0
 
     by : (b : Bool) → Follows shape
-        (cond b (outputs.Broken, world_of p) (member_output (world_of p) (datagram_happens p.primary.shape p.primary.workers (member_of at r) (reading bytes))))
+        (cond b (outputs.Broken, world_of p)
+        (member_output (world_of p) (datagram_happens p.primary.shape p.primary.workers (member_of at r) (reading bytes))))
         (got_by p i (cond b (got.Broken, r) (datagram_comes r (reading bytes))))
     by true = Follows-same shape p i r outputs.Broken sound here
     by false = Follows-goes shape p i r _ (of_got (datagram_comes r (reading bytes)).0) (datagram_comes r (reading bytes)).1 sound here same

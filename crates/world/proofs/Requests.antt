@@ -1,5 +1,6 @@
 -- How many requests a replica has made after a step of it: the same number, or one more where it asks.
-use Rattle.std.proofs.Common.{◌≡◌, ℕ, ◌+◌, ◌≤◌, inl, inr, Bool, true, false, cond, List, Option, None, Some, Result, Ok, Err, refl, ap, sym, arith, rules}
+use Rattle.std.proofs.Common.{◌≡◌, ℕ, ◌+◌, ◌≤◌, inl, inr, Bool, true, false, cond, List, Option, None, Some, Result, Ok, Err, refl, ap, sym}
+use Rattle.std.proofs.Common.{arith, rules}
 use Rattle.std.specs.Option.{option_map}
 use Rattle.std.proofs.lemmas.Option.{same_Some}
 use Rattle.rows.specs.Tables.{Tables}
@@ -32,7 +33,8 @@ received_keeps r bytes = either_way r.broken (got.Broken, r) (datagram_comes r (
 pub opened_keeps : (r : Replica) (plan : Plan) (after : ℕ × Replica) → opened r plan ≡ Ok after → after.1.request ≡ r.request
 opened_keeps r plan after is = grind arith
 
-asked_by_keeps : (r : Replica) (batch : Option Queries) (after : Out × Replica) → asked_by r batch ≡ Ok after → after.1.request ≤ r.request + 1
+asked_by_keeps : (r : Replica) (batch : Option Queries) (after : Out × Replica) → asked_by r batch ≡ Ok after
+    → after.1.request ≤ r.request + 1
 asked_by_keeps r batch after is = grind arith
 
 pub asked_keeps : (r : Replica) (after : Out × Replica) → asked r ≡ Ok after → after.1.request ≤ r.request + 1
@@ -43,7 +45,8 @@ ran_keeps r = search (rules, either_way)
 
 -- catching up leaves the requests
 caught_keeps : (r after : Replica) (version applied : ℕ) (reached : Bool) (tables : Option Tables)
-    → cond reached (option_map (λ tables. record r { tables = tables; version = version; applied = applied }) tables) None ≡ Some after → after.request ≡ r.request
+    → cond reached (option_map (λ tables. record r { tables = tables; version = version; applied = applied }) tables) None ≡ Some after
+    → after.request ≡ r.request
 caught_keeps r after version applied false tables is = absurd cc
 caught_keeps r after version applied true None is = absurd cc
 caught_keeps r after version applied true (Some tables) is = sym (ap (λ (x : Replica). x.request) (same_Some _ after is))

@@ -1,5 +1,6 @@
 -- Running a batch does at a replica of sound parts what it does at its member, also where it is cut short.
-use Rattle.std.proofs.Common.{◌≡◌, ℕ, Bool, true, false, cond, List, length, map, Option, Some, None, refl, sym, ap, subst, ◌∙◌, ◌⊎◌, inl, inr, arith}
+use Rattle.std.proofs.Common.{◌≡◌, ℕ, Bool, true, false, cond, List, length, map, Option, Some, None, refl, sym, ap, subst, ◌∙◌, ◌⊎◌, inl}
+use Rattle.std.proofs.Common.{inr, arith}
 use Rattle.std.specs.List.{slice_get, slice_index}
 use Rattle.std.specs.Option.{option_map, is_none}
 use Rattle.std.proofs.lemmas.Bool.{false≢true, true≢false, ltb-false}
@@ -37,10 +38,12 @@ use Rattle.world.proofs.Replicas.{Follows-goes}
 -- ---- what a run makes of a replica
 
 -- a batch for which something was fetched waits for nothing
-waits-not : (batch : Option Queries) (queries : Queries) (fetched : Fetched) → batch ≡ Some queries → queries.fetched ≡ Some fetched → awaits_by batch ≡ false
+waits-not : (batch : Option Queries) (queries : Queries) (fetched : Fetched) → batch ≡ Some queries → queries.fetched ≡ Some fetched
+    → awaits_by batch ≡ false
 waits-not batch queries fetched e f = ap awaits_by e ∙ ap is_none f
 
-module _ (shape : Shape) (durable : List Commit) (r : Replica) (queries : Queries) (fetched : Fetched) (legal : IsLegal shape 1 durable) (fed : IsFedFrom shape durable r)
+module _ (shape : Shape) (durable : List Commit) (r : Replica) (queries : Queries) (fetched : Fetched) (legal : IsLegal shape 1 durable)
+    (fed : IsFedFrom shape durable r)
     (can : CanAnswer r queries fetched) where
   -- it stands at the version that was fetched, its batch still there
   caught-goes : Goes shape durable r (caught shape durable fetched r)
@@ -76,17 +79,21 @@ module _ (shape : Shape) (durable : List Commit) (r : Replica) (queries : Querie
 -- ---- the run
 
 module _ (shape : Shape) (p : Parts) (i : ℕ) (r : Replica) (sound : Sound shape p) (here : slice_get p.replicas i ≡ Some r) where
-  run-waits : (place : ℕ) → Follows shape (wait_happens (world_of p) 0 place (want_bytes (member_of (slice_index p.asked_at i) r) 0 place)) (run_output p i (runs.Waiting 0 place (want_for r.number 0 place), r))
+  run-waits : (place : ℕ) → Follows shape (wait_happens (world_of p) 0 place (want_bytes (member_of (slice_index p.asked_at i) r) 0 place))
+      (run_output p i (runs.Waiting 0 place (want_for r.number 0 place), r))
   run-waits place =
       let bytes = spelling (datagrams.Want r.number 0 place) in
       let output = outputs.Waiting 0 place (record { place = length p.sent; len = length bytes }) in
-      let same : with_sent p bytes ≡ with_sent (with_replica p i r) bytes = ap (λ (replicas : List Replica). with_sent (record p { replicas = replicas }) bytes) (sym (set-same p.replicas i r here)) in
+      let same : with_sent p bytes ≡ with_sent (with_replica p i r) bytes =
+      ap (λ (replicas : List Replica). with_sent (record p { replicas = replicas }) bytes) (sym (set-same p.replicas i r here)) in
       let means : Means p.primary.durable p.replicas (reading bytes) = record { tells = tt; requests = tt } in
       (ap (λ (p : Parts). (output, world_of p)) same, subst (Sound shape) same (Sound-one shape p bytes sound means))
 
   run-finishes : (queries : Queries) (fetched : Fetched) → CanAnswer r queries fetched
-      → Follows shape
-      (outputs.Report (batch_report (world_of p) queries.plans fetched.version), with_member (world_of p) (record (member_of (slice_index p.asked_at i) r) { version = fetched.version; batch = None }))
+      → Follows shape (
+        outputs.Report (batch_report (world_of p) queries.plans fetched.version),
+        with_member (world_of p) (record (member_of (slice_index p.asked_at i) r) { version = fetched.version; batch = None }),
+      )
       (run_output p i (finished r queries.plans (caught_up r fetched)))
   run-finishes queries fetched can =
       let fed = (sound.fed i r here).feeding in
@@ -94,40 +101,60 @@ module _ (shape : Shape) (p : Parts) (i : ℕ) (r : Replica) (sound : Sound shap
       let durable = p.primary.durable in
       let at = slice_index p.asked_at i in
       let after = record (caught shape durable fetched r) { batch = None } in
-      let text = λ (shape : Shape). report_text fetched.version (map (plain_answer (tables_after shape durable fetched.version)) queries.plans) in
-      let there : Output × World = (outputs.Report (batch_report (world_of p) queries.plans fetched.version), with_member (world_of p) (record (member_of at r) { version = fetched.version; batch = None })) in
-      subst (λ (o : Option Replica). Follows shape there (run_output p i (finished r queries.plans o))) (sym (catches-up shape durable r queries fetched legal fed can))
+      let text =
+      λ (shape : Shape). report_text fetched.version (map (plain_answer (tables_after shape durable fetched.version)) queries.plans) in
+      let there : Output × World = (
+        outputs.Report (batch_report (world_of p) queries.plans fetched.version),
+        with_member (world_of p) (record (member_of at r) { version = fetched.version; batch = None }),
+      ) in
+      subst (λ (o : Option Replica). Follows shape there (run_output p i (finished r queries.plans o)))
+      (sym (catches-up shape durable r queries fetched legal fed can))
       (Follows-goes shape p i r (outputs.Report (text p.primary.shape), member_of at after) (outputs.Report (text shape)) after sound here
-      (ap (λ (s : Shape). (outputs.Report (text s), member_of at after)) sound.primary_is.shape_is) (finished-goes shape durable r queries fetched legal fed can))
+      (ap (λ (s : Shape). (outputs.Report (text s), member_of at after)) sound.primary_is.shape_is)
+      (finished-goes shape durable r queries fetched legal fed can))
 
-  run-fetched : (plans : List Plan) (fetched : Option Fetched) → r.broken ≡ false → r.batch ≡ Some (record { plans = plans; fetched = fetched })
-      → Follows shape (run_happens (world_of p) (member_of (slice_index p.asked_at i) r) (Some (record { plans = plans; asked_at = slice_index p.asked_at i; fetched = fetched })))
+  run-fetched : (plans : List Plan) (fetched : Option Fetched) → r.broken ≡ false
+      → r.batch ≡ Some (record { plans = plans; fetched = fetched })
+      → Follows shape (run_happens (world_of p) (member_of (slice_index p.asked_at i) r)
+      (Some (record { plans = plans; asked_at = slice_index p.asked_at i; fetched = fetched })))
       (run_output p i (ran_by r (Some (record { plans = plans; fetched = fetched }))))
   run-fetched plans None whole batch = Follows-same shape p i r outputs.WaitingHead sound here
   run-fetched plans (Some fetched) whole batch = by (is_waiting r fetched) refl
     where
       by : (b : Bool) → is_waiting r fetched ≡ b → Follows shape
-          (cond b (wait_happens (world_of p) 0 (first_missing (known r)) (want_bytes (member_of (slice_index p.asked_at i) r) 0 (first_missing (known r))))
-          (outputs.Report (batch_report (world_of p) plans fetched.version), with_member (world_of p) (record (member_of (slice_index p.asked_at i) r) { version = fetched.version; batch = None })))
-          (run_output p i (cond b (runs.Waiting 0 (first_missing (known r)) (want_for r.number 0 (first_missing (known r))), r) (finished r plans (caught_up r fetched))))
+          (cond b (wait_happens (world_of p) 0 (first_missing (known r))
+          (want_bytes (member_of (slice_index p.asked_at i) r) 0 (first_missing (known r)))) (
+            outputs.Report (batch_report (world_of p) plans fetched.version),
+            with_member (world_of p) (record (member_of (slice_index p.asked_at i) r) { version = fetched.version; batch = None }),
+          ))
+          (run_output p i (cond b (runs.Waiting 0 (first_missing (known r)) (want_for r.number 0 (first_missing (known r))), r)
+          (finished r plans (caught_up r fetched))))
       by true e = run-waits (first_missing (known r))
       by false e = run-finishes (record { plans = plans; fetched = Some fetched }) fetched
-          (record { whole = whole; there = batch; has = refl; complete = ltb-false (first_missing (known r)) (slice_index fetched.counts 0) e })
+          (record {
+            whole = whole;
+            there = batch;
+            has = refl;
+            complete = ltb-false (first_missing (known r)) (slice_index fetched.counts 0) e;
+          })
 
   run-batch : (batch : Option Queries) → r.broken ≡ false → r.batch ≡ batch
-      → Follows shape (run_happens (world_of p) (member_of (slice_index p.asked_at i) r) (option_map (batch_of (slice_index p.asked_at i)) batch)) (run_output p i (ran_by r batch))
+      → Follows shape (run_happens (world_of p) (member_of (slice_index p.asked_at i) r)
+      (option_map (batch_of (slice_index p.asked_at i)) batch)) (run_output p i (ran_by r batch))
   run-batch None whole e = Follows-same shape p i r outputs.NoBatch sound here
   run-batch (Some queries) whole e = run-fetched queries.plans queries.fetched whole e
 
 pub batch-run : (shape : Shape) (p : Parts) (i : ℕ) (found : Option Replica) → Sound shape p → slice_get p.replicas i ≡ found
     → Follows shape
-    (on_member (world_of p) (option_map (member_of (slice_index p.asked_at i)) found) (λ m. cond m.broken (outputs.Broken, world_of p) (run_happens (world_of p) m m.batch)))
+    (on_member (world_of p) (option_map (member_of (slice_index p.asked_at i)) found)
+    (λ m. cond m.broken (outputs.Broken, world_of p) (run_happens (world_of p) m m.batch)))
     (run_by p i found)
 batch-run shape p i None sound here = (refl, sound)
 batch-run shape p i (Some r) sound here = by r.broken refl
   where
     by : (b : Bool) → r.broken ≡ b → Follows shape
-        (cond b (outputs.Broken, world_of p) (run_happens (world_of p) (member_of (slice_index p.asked_at i) r) (option_map (batch_of (slice_index p.asked_at i)) r.batch)))
+        (cond b (outputs.Broken, world_of p)
+        (run_happens (world_of p) (member_of (slice_index p.asked_at i) r) (option_map (batch_of (slice_index p.asked_at i)) r.batch)))
         (run_output p i (cond b (runs.Broken, r) (ran_by r r.batch)))
     by true e = Follows-same shape p i r outputs.Broken sound here
     by false e = run-batch shape p i r sound here r.batch e refl
@@ -135,11 +162,13 @@ batch-run shape p i (Some r) sound here = by r.broken refl
 -- ---- a run that is cut short
 
 ready-fetched : (at : ℕ) (r : Replica) (plans : List Plan) (fetched : Option Fetched)
-    → ready_batch (member_of at r) (Some (record { plans = plans; asked_at = at; fetched = fetched })) ≡ ready_by r (Some (record { plans = plans; fetched = fetched }))
+    → ready_batch (member_of at r) (Some (record { plans = plans; asked_at = at; fetched = fetched })) ≡ ready_by r
+    (Some (record { plans = plans; fetched = fetched }))
 ready-fetched at r plans None = refl
 ready-fetched at r plans (Some fetched) = refl
 
-ready-batched : (at : ℕ) (r : Replica) (batch : Option Queries) → ready_batch (member_of at r) (option_map (batch_of at) batch) ≡ ready_by r batch
+ready-batched : (at : ℕ) (r : Replica) (batch : Option Queries)
+    → ready_batch (member_of at r) (option_map (batch_of at) batch) ≡ ready_by r batch
 ready-batched at r None = refl
 ready-batched at r (Some queries) = ready-fetched at r queries.plans queries.fetched
 
@@ -160,24 +189,29 @@ module _ (shape : Shape) (p : Parts) (i : ℕ) (r : Replica) (sound : Sound shap
       let follows = Follows-same shape p i r outputs.Memory sound here in
       (inl (refl, ap (λ (x : Output × World). x.1) (sym follows.0)), follows.1)
 
-  memory-caught : (queries : Queries) (fetched : Fetched) → ready_member (member_of (slice_index p.asked_at i) r) ≡ Some fetched → CanAnswer r queries fetched
+  memory-caught : (queries : Queries) (fetched : Fetched) → ready_member (member_of (slice_index p.asked_at i) r) ≡ Some fetched
+      → CanAnswer r queries fetched
       → Ends shape p (member_of (slice_index p.asked_at i) r) (outputs.Memory, with_replica p i (caught shape p.primary.durable fetched r))
   memory-caught queries fetched is_ready can =
       let fed = sound.fed i r here in
       let after = caught shape p.primary.durable fetched r in (
         inr (fetched, is_ready, inl (refl, sym (member-changes p i after fed.number_is))),
-        Sound-replica shape p i r after sound here (caught-goes shape p.primary.durable r queries fetched (legal-durable shape p sound) fed.feeding can),
+        Sound-replica shape p i r after sound here
+            (caught-goes shape p.primary.durable r queries fetched (legal-durable shape p sound) fed.feeding can),
       )
 
-  cut-broken : (queries : Queries) (fetched : Fetched) → ready_member (member_of (slice_index p.asked_at i) r) ≡ Some fetched → CanAnswer r queries fetched
+  cut-broken : (queries : Queries) (fetched : Fetched) → ready_member (member_of (slice_index p.asked_at i) r) ≡ Some fetched
+      → CanAnswer r queries fetched
       → Ends shape p (member_of (slice_index p.asked_at i) r) (outputs.Broken, with_replica p i (broken_of r))
   cut-broken queries fetched is_ready can =
       let fed = sound.fed i r here in (
         inr (fetched, is_ready, inr (refl, sym (member-changes p i (broken_of r) fed.number_is))),
-        Sound-replica shape p i r (broken_of r) sound here (broken-goes shape p.primary.durable r queries fetched (legal-durable shape p sound) fed.feeding can),
+        Sound-replica shape p i r (broken_of r) sound here
+            (broken-goes shape p.primary.durable r queries fetched (legal-durable shape p sound) fed.feeding can),
       )
 
-  cut-ends : (answer : Run) (after : Replica) → WantsMemory r answer after → Ends shape p (member_of (slice_index p.asked_at i) r) (run_output p i (answer, after))
+  cut-ends : (answer : Run) (after : Replica) → WantsMemory r answer after
+      → Ends shape p (member_of (slice_index p.asked_at i) r) (run_output p i (answer, after))
   cut-ends answer after wants =
       let m = member_of (slice_index p.asked_at i) r in
       let fetched = wants.0 in
@@ -187,15 +221,19 @@ module _ (shape : Shape) (p : Parts) (i : ℕ) (r : Replica) (sound : Sound shap
       elim wants.2 [
         | inl memory ↦ subst (λ (a : Run). Ends shape p m (run_output p i (a, after))) (sym memory.0) (elim memory.1 [
           | inl same ↦ subst (λ (s : Replica). Ends shape p m (run_output p i (runs.Memory, s))) (sym same) memory-same
-          | inr reached ↦ subst (λ (s : Replica). Ends shape p m (run_output p i (runs.Memory, s))) (same_Some (caught shape p.primary.durable fetched r) after (sym made ∙ reached))
+          | inr reached ↦ subst (λ (s : Replica). Ends shape p m (run_output p i (runs.Memory, s)))
+              (same_Some (caught shape p.primary.durable fetched r) after (sym made ∙ reached))
               (memory-caught parts.0 fetched is_ready parts.1)
         ])
         | inr broken ↦ subst (λ (a : Run). Ends shape p m (run_output p i (a, after))) (sym broken.0)
-            (subst (λ (s : Replica). Ends shape p m (run_output p i (runs.Broken, s))) (sym broken.1) (cut-broken parts.0 fetched is_ready parts.1))
+            (subst (λ (s : Replica). Ends shape p m (run_output p i (runs.Broken, s))) (sym broken.1)
+            (cut-broken parts.0 fetched is_ready parts.1))
       ]
 
-pub run-cut : (shape : Shape) (p : Parts) (i : ℕ) (found : Option Replica) (output : Output) (new : Parts) → Sound shape p → slice_get p.replicas i ≡ found → RunIsCut p i found output new
+pub run-cut : (shape : Shape) (p : Parts) (i : ℕ) (found : Option Replica) (output : Output) (new : Parts) → Sound shape p
+    → slice_get p.replicas i ≡ found → RunIsCut p i found output new
     → Cuts (world_of p) (option_map (member_of (slice_index p.asked_at i)) found) output (world_of new) × Sound shape new
 run-cut shape p i None output new sound here cut = absurd cut
 run-cut shape p i (Some r) output new sound here cut =
-    subst (λ (x : Output × Parts). Ends shape p (member_of (slice_index p.asked_at i) r) x) cut.3 (cut-ends shape p i r sound here cut.0 cut.1 cut.2)
+    subst (λ (x : Output × Parts). Ends shape p (member_of (slice_index p.asked_at i) r) x) cut.3
+    (cut-ends shape p i r sound here cut.0 cut.1 cut.2)

@@ -28,7 +28,8 @@ abbrev pub IsNoReport : Output → Type 0
 IsNoReport (outputs.Report text) = ⊥
 IsNoReport other = Unit {0}
 
-no-report : (commits : List Commit) (old new : World) (event : Event) (output : Output) → IsNoReport output → ReportsItsBatch commits old event output new
+no-report : (commits : List Commit) (old new : World) (event : Event) (output : Output) → IsNoReport output
+    → ReportsItsBatch commits old event output new
 no-report commits old new event (outputs.Report text) h = absurd h
 no-report commits old new event other h = tt
 
@@ -44,7 +45,8 @@ change-silent changes.Unfit = tt
 change-silent changes.TooManyEntries = tt
 change-silent changes.Memory = tt
 
-pub change-serves : (w : World) (event : Event) (number : ℕ) (found : Option Draft) (answer : Draft → Result Draft TxFault) → Fresh w → Serves w event (on_draft w found (λ draft. change_happens w number (answer draft)))
+pub change-serves : (w : World) (event : Event) (number : ℕ) (found : Option Draft) (answer : Draft → Result Draft TxFault) → Fresh w
+    → Serves w event (on_draft w found (λ draft. change_happens w number (answer draft)))
 change-serves w event number None answer h = quiet w event (outputs.NoTx, w) h tt
 change-serves w event number (Some draft) answer h = by (answer draft)
   where
@@ -56,13 +58,16 @@ look-silent : (answer : Result Value TxFault) → IsNoReport (of_look answer)
 look-silent (Ok value) = tt
 look-silent (Err fault) = change-silent fault
 
-pub look-serves : (w : World) (event : Event) (found : Option Draft) (answer : Draft → Result Value TxFault) → Fresh w → Serves w event (on_draft w found (λ draft. (of_look (answer draft), w)))
+pub look-serves : (w : World) (event : Event) (found : Option Draft) (answer : Draft → Result Value TxFault) → Fresh w
+    → Serves w event (on_draft w found (λ draft. (of_look (answer draft), w)))
 look-serves w event None answer h = quiet w event (outputs.NoTx, w) h tt
 look-serves w event (Some draft) answer h = quiet w event (of_look (answer draft), w) h (look-silent (answer draft))
 
-pub abort-serves : (w : World) (event : Event) (number : ℕ) (found : Option Draft) → Fresh w → Serves w event (on_draft w found (λ draft. abort_happens w number))
+pub abort-serves : (w : World) (event : Event) (number : ℕ) (found : Option Draft) → Fresh w
+    → Serves w event (on_draft w found (λ draft. abort_happens w number))
 abort-serves w event number None h = quiet w event (outputs.NoTx, w) h tt
-abort-serves w event number (Some draft) h = quiet w event (outputs.Accepted, _) (Fresh-drafts w (slice_set w.transactions number None) h) tt
+abort-serves w event number (Some draft) h =
+    quiet w event (outputs.Accepted, _) (Fresh-drafts w (slice_set w.transactions number None) h) tt
 
 commit-silent : (fault : CommitFault) → IsNoReport (of_commit fault)
 commit-silent (faults.Conflict number) = tt
@@ -72,15 +77,21 @@ commit-silent faults.NumbersUsedUp = tt
 commit-silent faults.Memory = tt
 commit-silent faults.Foreign = tt
 
-pub commit-serves : (w : World) (event : Event) (number worker : ℕ) (found : Option Draft) → Fresh w → Serves w event (on_draft w found (λ draft. commit_happens w number worker draft (commit_answer w.primary draft)))
+pub commit-serves : (w : World) (event : Event) (number worker : ℕ) (found : Option Draft) → Fresh w
+    → Serves w event (on_draft w found (λ draft. commit_happens w number worker draft (commit_answer w.primary draft)))
 commit-serves w event number worker None h = quiet w event (outputs.NoTx, w) h tt
 commit-serves w event number worker (Some draft) h = by (commit_answer w.primary draft) refl
   where
-    by : (answer : Result ℕ CommitFault) → commit_answer w.primary draft ≡ answer → Serves w event (commit_happens w number worker draft answer)
-    by (Ok ticket) e = quiet w event (outputs.Ticket ticket, _) (Fresh-committed w worker draft (slice_set w.transactions number None) h (commit-taken w.primary draft ticket e).numbered) tt
+    by : (answer : Result ℕ CommitFault) → commit_answer w.primary draft ≡ answer
+        → Serves w event (commit_happens w number worker draft answer)
+    by (Ok ticket) e =
+        quiet w event (outputs.Ticket ticket, _)
+        (Fresh-committed w worker draft (slice_set w.transactions number None) h (commit-taken w.primary draft ticket e).numbered) tt
     by (Err fault) e = quiet w event (of_commit fault, _) (Fresh-drafts w (slice_set w.transactions number None) h) (commit-silent fault)
 
 pub flush-serves : (w : World) (event : Event) (count : ℕ) (failed : Bool) → Fresh w
-    → Serves w event (cond failed (outputs.Failed, w) (outputs.Durable (length (flushed w.primary count).durable), record w { primary = flushed w.primary count }))
+    → Serves w event (cond failed (outputs.Failed, w)
+    (outputs.Durable (length (flushed w.primary count).durable), record w { primary = flushed w.primary count }))
 flush-serves w event count true h = quiet w event (outputs.Failed, w) h tt
-flush-serves w event count false h = quiet w event (outputs.Durable (length (flushed w.primary count).durable), _) (Fresh-flushed w count h) tt
+flush-serves w event count false h =
+    quiet w event (outputs.Durable (length (flushed w.primary count).durable), _) (Fresh-flushed w count h) tt

@@ -10,7 +10,8 @@ set_same [] i x at = refl
 set_same (y ∷ ys) zero x at = ap (λ z. z ∷ ys) (sym (same_Some y x at))
 set_same (y ∷ ys) (suc i) x at = ap (λ zs. y ∷ zs) (set_same ys i x at)
 
-pub slot_same : {X : Type 0} (xs : List (Option X)) (i : ℕ) (slot : Option X) → option_and_then (λ s. s) (slice_get xs i) ≡ slot → slice_set xs i slot ≡ xs
+pub slot_same : {X : Type 0} (xs : List (Option X)) (i : ℕ) (slot : Option X) → option_and_then (λ s. s) (slice_get xs i) ≡ slot
+    → slice_set xs i slot ≡ xs
 slot_same [] i slot at = refl
 slot_same (y ∷ ys) zero slot at = ap (λ z. z ∷ ys) (sym at)
 slot_same (y ∷ ys) (suc i) slot at = ap (λ zs. y ∷ zs) (slot_same ys i slot at)
@@ -21,7 +22,8 @@ all_at P [] i x at all = absurd cc
 all_at P (y ∷ ys) zero x at all = rw (← same_Some y x at) all.0
 all_at P (y ∷ ys) (suc i) x at all = all_at P ys i x at all.1
 
-pub slot_at : {X : Type 0} (P : X → Type 0) (xs : List (Option X)) (i : ℕ) (x : X) → option_and_then (λ s. s) (slice_get xs i) ≡ Some x → AllByRecursion (λ slot. IfSome slot P) xs → P x
+pub slot_at : {X : Type 0} (P : X → Type 0) (xs : List (Option X)) (i : ℕ) (x : X) → option_and_then (λ s. s) (slice_get xs i) ≡ Some x
+    → AllByRecursion (λ slot. IfSome slot P) xs → P x
 slot_at P [] i x at all = absurd cc
 slot_at P (None ∷ ys) zero x at all = absurd cc
 slot_at P (Some y ∷ ys) zero x at all = rw (← same_Some y x at) all.0

@@ -1,5 +1,6 @@
 -- What is true of the parts at each step: what makes them a world.
-use Rattle.std.specs.Prelude.{◌≡◌, ℕ, ◌+◌, ◌^◌, ◌<◌, ◌≤◌, List, ◌++◌, length, Bool, true, false, Option, None, Some, Result, Ok, Err, slice_get, is_ok, is_none}
+use Rattle.std.specs.Prelude.{◌≡◌, ℕ, ◌+◌, ◌^◌, ◌<◌, ◌≤◌, List, ◌++◌, length, Bool, true, false, Option, None, Some, Result, Ok, Err}
+use Rattle.std.specs.Prelude.{slice_get, is_ok, is_none}
 use Rattle.std.specs.List.{AllByRecursion}
 use Rattle.rows.specs.declared.commit.Commit.{Commit}
 use Rattle.rows.specs.declared.limits.TheConstants.{REPLICAS_MAX}
@@ -64,7 +65,8 @@ IsOfRequests replicas (Err fault) = Unit {0}
 IsOfRequests replicas (Ok (datagrams.Frame worker seq commit last entries)) = Unit {0}
 IsOfRequests replicas (Ok (datagrams.Ask replica boot request)) =
     IsAsk replica boot request × ((r : Replica) → slice_get replicas replica ≡ Some r → request ≤ r.request)
-IsOfRequests replicas (Ok (datagrams.Head replica boot request version counts)) = (r : Replica) → slice_get replicas replica ≡ Some r → IsAnswer r request version
+IsOfRequests replicas (Ok (datagrams.Head replica boot request version counts)) =
+    (r : Replica) → slice_get replicas replica ≡ Some r → IsAnswer r request version
 IsOfRequests replicas (Ok (datagrams.Want replica worker from)) = Unit {0}
 
 -- what is known of bytes that were sent, by what they read as

@@ -7,7 +7,8 @@ use Rattle.dispatcher.specs.Steps.{started}
 use Rattle.world.specs.Parts.{replicas_from, zeros, parts_started, IsReady}
 
 pub replicas_left : (shape : Shape) (workers number count : ℕ) → number < count
-    → replicas_from shape workers number (count - number) ≡ started shape workers number 1 ∷ replicas_from shape workers (number + 1) (count - (number + 1))
+    → replicas_from shape workers number (count - number) ≡ started shape workers number 1
+    ∷ replicas_from shape workers (number + 1) (count - (number + 1))
 replicas_left shape workers number count more =
     let left : count - number ≡ suc (count - (number + 1)) = omega arith in
     rw (left, add-one) refl
@@ -25,7 +26,8 @@ length-zeros : (count : ℕ) → length (zeros count) ≡ count
 length-zeros zero = refl
 length-zeros (suc count) = ap suc (length-zeros count)
 
-none_asked : (shape : Shape) (workers number count : ℕ) → AllByRecursion (λ (replica : Replica). replica.request ≤ 0) (replicas_from shape workers number count)
+none_asked : (shape : Shape) (workers number count : ℕ)
+    → AllByRecursion (λ (replica : Replica). replica.request ≤ 0) (replicas_from shape workers number count)
 none_asked shape workers number zero = tt
 none_asked shape workers number (suc count) = (omega arith, none_asked shape workers (suc number) count)
 

@@ -9,14 +9,17 @@ use Rattle.mvcc.specs.Transactions.{insert_answer, set_answer, delete_answer, ge
 use Rattle.dispatcher.proofs.Versions.{tables-stay}
 
 module _ (shape : Shape) (durable pending : List Commit) (draft : Draft) (table row : ℕ) (known : draft.snapshot ≤ length durable) where
-  pub insert-told : (values : List Value) → insert_answer shape (durable ++ pending) draft table row values ≡ insert_answer shape durable draft table row values
+  pub insert-told : (values : List Value)
+      → insert_answer shape (durable ++ pending) draft table row values ≡ insert_answer shape durable draft table row values
   insert-told values = rw (tables-stay shape durable pending draft.snapshot known) refl
 
-  pub set-told : (column : ℕ) (value : Value) → set_answer shape (durable ++ pending) draft table row column value ≡ set_answer shape durable draft table row column value
+  pub set-told : (column : ℕ) (value : Value)
+      → set_answer shape (durable ++ pending) draft table row column value ≡ set_answer shape durable draft table row column value
   set-told column value = rw (tables-stay shape durable pending draft.snapshot known) refl
 
   pub delete-told : delete_answer shape (durable ++ pending) draft table row ≡ delete_answer shape durable draft table row
   delete-told = rw (tables-stay shape durable pending draft.snapshot known) refl
 
-  pub get-told : (column : ℕ) → get_answer shape (durable ++ pending) draft table row column ≡ get_answer shape durable draft table row column
+  pub get-told : (column : ℕ) → get_answer shape
+      (durable ++ pending) draft table row column ≡ get_answer shape durable draft table row column
   get-told column = rw (tables-stay shape durable pending draft.snapshot known) refl

@@ -15,7 +15,8 @@ use Rattle.world.specs.World.{World, Member, fresh_from, opening_world, with_mem
 abbrev pub seen : Output × Parts → Output × World
 seen answer = (answer.0, world_of answer.1)
 
-pub members-get : (replicas : List Replica) (asked_at : List ℕ) (i : ℕ) → slice_get (members_of replicas asked_at) i ≡ option_map (member_of (slice_index asked_at i)) (slice_get replicas i)
+pub members-get : (replicas : List Replica) (asked_at : List ℕ) (i : ℕ)
+    → slice_get (members_of replicas asked_at) i ≡ option_map (member_of (slice_index asked_at i)) (slice_get replicas i)
 members-get [] asked_at i = refl
 members-get (r ∷ replicas) [] zero = refl
 members-get (r ∷ replicas) [] (suc i) = members-get replicas [] i
@@ -23,7 +24,8 @@ members-get (r ∷ replicas) (at ∷ asked_at) zero = refl
 members-get (r ∷ replicas) (at ∷ asked_at) (suc i) = members-get replicas asked_at i
 
 -- one replica changes
-pub members-set : (replicas : List Replica) (asked_at : List ℕ) (i : ℕ) (r : Replica) → members_of (slice_set replicas i r) asked_at ≡ slice_set (members_of replicas asked_at) i (member_of (slice_index asked_at i) r)
+pub members-set : (replicas : List Replica) (asked_at : List ℕ) (i : ℕ) (r : Replica)
+    → members_of (slice_set replicas i r) asked_at ≡ slice_set (members_of replicas asked_at) i (member_of (slice_index asked_at i) r)
 members-set [] asked_at i r = refl
 members-set (first ∷ replicas) [] zero r = refl
 members-set (first ∷ replicas) [] (suc i) r = ap (λ l. member_of 0 first ∷ l) (members-set replicas [] i r)
@@ -36,15 +38,19 @@ pub members-asked : (replicas : List Replica) (asked_at : List ℕ) (i : ℕ) (r
 members-asked [] asked_at i r at h = refl
 members-asked (first ∷ replicas) [] i r at h = absurd (omega arith)
 members-asked (first ∷ replicas) (old ∷ asked_at) zero r at h = refl
-members-asked (first ∷ replicas) (old ∷ asked_at) (suc i) r at h = ap (λ l. member_of old first ∷ l) (members-asked replicas asked_at i r at (omega arith))
+members-asked (first ∷ replicas) (old ∷ asked_at) (suc i) r at h =
+    ap (λ l. member_of old first ∷ l) (members-asked replicas asked_at i r at (omega arith))
 
-pub member-changes : (p : Parts) (i : ℕ) (r : Replica) → r.number ≡ i → with_member (world_of p) (member_of (slice_index p.asked_at i) r) ≡ world_of (with_replica p i r)
+pub member-changes : (p : Parts) (i : ℕ) (r : Replica) → r.number ≡ i
+    → with_member (world_of p) (member_of (slice_index p.asked_at i) r) ≡ world_of (with_replica p i r)
 member-changes p i r h =
     let w = world_of p in
     let made = λ (members : List Member). record w { members = members } in
-    ap (λ n. made (slice_set w.members n (member_of (slice_index p.asked_at i) r))) h ∙ ap made (sym (members-set p.replicas p.asked_at i r))
+    ap (λ n. made (slice_set w.members n (member_of (slice_index p.asked_at i) r))) h
+    ∙ ap made (sym (members-set p.replicas p.asked_at i r))
 
-members-started : (shape : Shape) (number count : ℕ) → members_of (replicas_from shape 1 number count) (zeros count) ≡ fresh_from number count
+members-started : (shape : Shape) (number count : ℕ)
+    → members_of (replicas_from shape 1 number count) (zeros count) ≡ fresh_from number count
 members-started shape number zero = refl
 members-started shape number (suc count) = ap (λ l. member_of 0 (started shape 1 number 1) ∷ l) (members-started shape (suc number) count)
 

@@ -60,7 +60,8 @@ Runs old (event ∷ events) [] new = ⊥
 -- a run of the world, at each step of which something holds besides
 abbrev pub RunsWith : (World → Event → Output → World → Type 0) → World → List Event → List Output → World → Type 0
 RunsWith P old [] [] new = new ≡ old
-RunsWith P old (event ∷ events) (output ∷ outputs) new = (mid : World) × MayHappen old event output mid × P old event output mid × RunsWith P mid events outputs new
+RunsWith P old (event ∷ events) (output ∷ outputs) new =
+    (mid : World) × MayHappen old event output mid × P old event output mid × RunsWith P mid events outputs new
 RunsWith P old [] (output ∷ outputs) new = ⊥
 RunsWith P old (event ∷ events) [] new = ⊥
 

@@ -50,7 +50,8 @@ AreFed shape p = AllByRecursion (IsFedFrom shape p.primary.durable) p.replicas
 abbrev pub Stands : Shape → Parts → List Event → List Output → Parts → Type 0
 Stands shape old [] [] new = new ≡ old
 Stands shape old (event ∷ events) (output ∷ outputs) new =
-    (mid : Parts) × MayStep old event output mid × MayHappen (world_of old) event output (world_of mid) × AreFed shape mid × Stands shape mid events outputs new
+    (mid : Parts) × MayStep old event output mid × MayHappen (world_of old) event output (world_of mid) × AreFed shape mid
+    × Stands shape mid events outputs new
 Stands shape old [] (output ∷ outputs) new = ⊥
 Stands shape old (event ∷ events) [] new = ⊥
 

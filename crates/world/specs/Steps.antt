@@ -1,5 +1,6 @@
 -- One step of the parts: each event is one call on a core, and this is what it answers and leaves.
-use Rattle.std.specs.Prelude.{◌≡◌, ℕ, List, [], ◌∷◌, ◌++◌, length, Option, None, Some, Result, Ok, Err, slice_get, slice_set, ◌⊎◌, if◌then◌else◌}
+use Rattle.std.specs.Prelude.{◌≡◌, ℕ, List, [], ◌∷◌, ◌++◌, length, Option, None, Some, Result, Ok, Err, slice_get, slice_set, ◌⊎◌}
+use Rattle.std.specs.Prelude.{if◌then◌else◌}
 use Rattle.rows.specs.declared.value.Value.{Value}
 use Rattle.wire.specs.declared.out.Out.{Out}
 use Rattle.mvcc.specs.declared.faults.TxFault.{TxFault}
@@ -63,8 +64,13 @@ look_by look (Some draft) = of_look (look draft)
 
 -- a transaction is open until its commit is answered, or it is given up
 abbrev pub committing : Parts → ℕ → ℕ → Draft → Result ℕ CommitFault → Output × Parts
-committing p transaction worker draft (Ok number) =
-    (outputs.Ticket number, record p { primary = committed p.primary worker draft.entries; transactions = slice_set p.transactions transaction None })
+committing p transaction worker draft (Ok number) = (
+  outputs.Ticket number,
+  record p {
+    primary = committed p.primary worker draft.entries;
+    transactions = slice_set p.transactions transaction None;
+  },
+)
 committing p transaction worker draft (Err fault) = (of_commit fault, record p { transactions = slice_set p.transactions transaction None })
 
 abbrev pub commit_by : Parts → ℕ → ℕ → Option Draft → Output × Parts
@@ -138,8 +144,10 @@ ask_by p number (Some replica) = asking p number replica.batch (asked replica)
 abbrev pub run_output : Parts → ℕ → Run × Replica → Output × Parts
 run_output p number (runs.NoBatch, replica) = (outputs.NoBatch, with_replica p number replica)
 run_output p number (runs.WaitingHead, replica) = (outputs.WaitingHead, with_replica p number replica)
-run_output p number (runs.Waiting worker seq want, replica) =
-    (outputs.Waiting worker seq (record { place = length p.sent; len = length want.packet }), with_sent (with_replica p number replica) want.packet)
+run_output p number (runs.Waiting worker seq want, replica) = (
+  outputs.Waiting worker seq (record { place = length p.sent; len = length want.packet }),
+  with_sent (with_replica p number replica) want.packet,
+)
 run_output p number (runs.Answered report, replica) = (outputs.Report report, with_replica p number replica)
 run_output p number (runs.Inconsistent, replica) = (outputs.Inconsistent, with_replica p number replica)
 run_output p number (runs.Broken, replica) = (outputs.Broken, with_replica p number replica)

@@ -22,14 +22,18 @@ use Rattle.world.specs.Standing.{CoresStand}
 -- whatever one primary of one worker and at most 16 replicas answer to events that are possible is allowed
 abbrev pub StepsAreAllowed : Type 0
 StepsAreAllowed =
-    (shape : Shape) (workers replicas : ℕ) (events : List Event) (outputs : List Output) (end : Parts) → AreTables shape → workers ≡ 1 → replicas ≤ replicas_max
-    → AllByRecursion (IsPossible workers replicas) events → Steps (parts_started shape workers replicas) events outputs end → Allowed shape workers replicas events outputs
+    (shape : Shape) (workers replicas : ℕ) (events : List Event) (outputs : List Output) (end : Parts) → AreTables shape → workers ≡ 1
+    → replicas ≤ replicas_max
+    → AllByRecursion (IsPossible workers replicas) events → Steps (parts_started shape workers replicas) events outputs end
+    → Allowed shape workers replicas events outputs
 
 -- and the cores stand where the world does at every step
 abbrev pub StepsStand : Type 0
 StepsStand =
-    (shape : Shape) (workers replicas : ℕ) (events : List Event) (outputs : List Output) (end : Parts) → AreTables shape → workers ≡ 1 → replicas ≤ replicas_max
-    → AllByRecursion (IsPossible workers replicas) events → Steps (parts_started shape workers replicas) events outputs end → CoresStand shape workers replicas events outputs
+    (shape : Shape) (workers replicas : ℕ) (events : List Event) (outputs : List Output) (end : Parts) → AreTables shape → workers ≡ 1
+    → replicas ≤ replicas_max
+    → AllByRecursion (IsPossible workers replicas) events → Steps (parts_started shape workers replicas) events outputs end
+    → CoresStand shape workers replicas events outputs
 
 -- what was durable is the beginning of what is durable later
 abbrev pub DurableOnlyGrows : Type 0
@@ -64,7 +68,8 @@ IsReportOf commits w batch text =
 abbrev pub ReportsItsBatch : List Commit → World → Event → Output → World → Type 0
 ReportsItsBatch commits old event (outputs.Report text) new =
     (replica : ℕ) × (member : Member) × (batch : Batch)
-    × (event ≡ events.Run replica) × (slice_get old.members replica ≡ Some member) × (member.batch ≡ Some batch) × IsReportOf commits old batch text
+    × (event ≡ events.Run replica) × (slice_get old.members replica ≡ Some member) × (member.batch ≡ Some batch)
+    × IsReportOf commits old batch text
 ReportsItsBatch commits old event other new = Unit {0}
 
 -- what was durable before a step is the beginning of what is durable after it
@@ -85,4 +90,5 @@ HasGrowingList shape workers replicas events outputs =
 abbrev pub ReportsAreExact : Type 0
 ReportsAreExact =
     (shape : Shape) (workers replicas : ℕ) (events : List Event) (outputs : List Output) (end : World) → replicas ≤ replicas_max
-    → Runs (opening_world shape workers replicas) events outputs end → RunsWith (ReportsItsBatch end.primary.durable) (opening_world shape workers replicas) events outputs end
+    → Runs (opening_world shape workers replicas) events outputs end
+    → RunsWith (ReportsItsBatch end.primary.durable) (opening_world shape workers replicas) events outputs end

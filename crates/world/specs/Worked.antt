@@ -6,7 +6,8 @@ use Rattle.rows.specs.declared.kind.Kind.TheVariants.{Int as IntKind}
 use Rattle.rows.specs.declared.row_id.RowId.{RowId}
 use Rattle.rows.specs.declared.value.Value.TheVariants.{Int}
 use Rattle.script.specs.declared.event.Event.{Event}
-use Rattle.script.specs.declared.event.Event.TheVariants.{Begin, Insert, Set, Delete, Get, Commit, Abort, Flush, Push, Deliver, Show, Open, Ask, Run}
+use Rattle.script.specs.declared.event.Event.TheVariants.{Begin, Insert, Set, Delete, Get, Commit, Abort, Flush, Push, Deliver, Show, Open}
+use Rattle.script.specs.declared.event.Event.TheVariants.{Ask, Run}
 use Rattle.script.specs.declared.event.Node.TheVariants.{Primary, Replica}
 use Rattle.script.specs.declared.output.Output.{Output}
 use Rattle.script.specs.declared.output.Output.TheVariants as outputs
@@ -31,7 +32,8 @@ open_and_fetch = Open 0 (record { table = 0 }) ∷ Ask 0 ∷ Deliver 1 Primary �
 
 abbrev pub open_and_fetch_outputs : List Output
 open_and_fetch_outputs =
-    outputs.Opened 1 ∷ outputs.Sent (record { place = 1; len = 23 } ∷ []) ∷ outputs.Sent (record { place = 2; len = 40 } ∷ []) ∷ outputs.Head 1 ∷ []
+    outputs.Opened 1 ∷ outputs.Sent (record { place = 1; len = 23 } ∷ []) ∷ outputs.Sent (record { place = 2; len = 40 } ∷ [])
+    ∷ outputs.Head 1 ∷ []
 
 abbrev pub report : List ℕ
 report = codes "version 1 queries 1\nquery 0 rows 1\n1\n"
@@ -85,7 +87,8 @@ other_account = record { 0 = 8 }
 -- each of two transactions sets the row that the other one looked at, and both are committed: write skew
 abbrev pub write_skew : List Event
 write_skew =
-    Begin ∷ Insert 0 0 account (Int (pos 5) ∷ Int (negsuc 0) ∷ []) ∷ Insert 0 0 other_account (Int (pos 9) ∷ Int (pos 0) ∷ []) ∷ Commit 0 0 ∷ Flush 1
+    Begin ∷ Insert 0 0 account (Int (pos 5) ∷ Int (negsuc 0) ∷ []) ∷ Insert 0 0 other_account (Int (pos 9) ∷ Int (pos 0) ∷ []) ∷ Commit 0 0
+    ∷ Flush 1
     ∷ Begin ∷ Begin ∷ Get 1 0 other_account 0 ∷ Get 2 0 account 0 ∷ Set 1 0 account 0 (Int (pos 0)) ∷ Set 2 0 other_account 0 (Int (pos 0))
     ∷ Commit 1 0 ∷ Commit 2 0 ∷ []
 
@@ -101,8 +104,10 @@ abbrev pub refusals : List Event
 refusals =
     Begin ∷ Commit 0 0 ∷ Commit 0 0
     ∷ Begin ∷ Set 1 0 account 2 (Int (pos 6)) ∷ Set 1 0 account 0 (Int (pos 6)) ∷ Get 1 0 account 2 ∷ Get 1 0 account 0
-    ∷ Delete 1 1 account ∷ Delete 1 0 account ∷ Insert 1 0 account (Int (pos 5) ∷ []) ∷ Insert 1 0 account (Int (pos 5) ∷ Int (negsuc 0) ∷ [])
-    ∷ Insert 1 0 account (Int (pos 5) ∷ []) ∷ Insert 1 0 account (Int (pos 5) ∷ Int (negsuc 0) ∷ []) ∷ Delete 1 0 account ∷ Get 1 0 account 0
+    ∷ Delete 1 1 account ∷ Delete 1 0 account ∷ Insert 1 0 account (Int (pos 5) ∷ [])
+    ∷ Insert 1 0 account (Int (pos 5) ∷ Int (negsuc 0) ∷ [])
+    ∷ Insert 1 0 account (Int (pos 5) ∷ []) ∷ Insert 1 0 account (Int (pos 5) ∷ Int (negsuc 0) ∷ []) ∷ Delete 1 0 account
+    ∷ Get 1 0 account 0
     ∷ Set 1 0 account 0 (Int (pos 6)) ∷ Insert 1 0 account (Int (pos 5) ∷ []) ∷ Insert 1 0 account (Int (pos 5) ∷ Int (negsuc 0) ∷ [])
     ∷ Begin ∷ Insert 2 0 account (Int (pos 5) ∷ Int (negsuc 0) ∷ []) ∷ Commit 1 0 ∷ Commit 2 0 ∷ Abort 2 ∷ []
 

@@ -1,6 +1,7 @@
 -- The world: one primary, its open transactions, every datagram that was ever sent, and of each replica what it knows.
 -- No replica's tables are held: what a batch answers is said by the one list of durable commits.
-use Rattle.std.specs.Prelude.{ℕ, zero, suc, ◌+◌, List, [], ◌∷◌, ◌++◌, length, map, Bool, false, Option, None, Some, Result, Ok, Err, slice_get, slice_set, slice_index, ◌==◌, ◌||◌, ◌&&◌, not, nat_lt, nat_le, if◌then◌else◌, is_ok}
+use Rattle.std.specs.Prelude.{ℕ, zero, suc, ◌+◌, List, [], ◌∷◌, ◌++◌, length, map, Bool, false, Option, None, Some, Result, Ok, Err}
+use Rattle.std.specs.Prelude.{slice_get, slice_set, slice_index, ◌==◌, ◌||◌, ◌&&◌, not, nat_lt, nat_le, if◌then◌else◌, is_ok}
 use Rattle.std.specs.List.{list_all}
 use Rattle.std.specs.Option.{option_and_then}
 use Rattle.std.specs.Ordering.{nat_cmp}
@@ -95,9 +96,15 @@ on_draft w (Some draft) next = next draft
 
 -- a transaction is open until its commit is answered, or it is given up
 abbrev pub commit_happens : World → ℕ → ℕ → Draft → Result ℕ CommitFault → Output × World
-commit_happens w transaction worker draft (Ok number) =
-    (outputs.Ticket number, record w { primary = committed w.primary worker draft.entries; transactions = slice_set w.transactions transaction None })
-commit_happens w transaction worker draft (Err fault) = (of_commit fault, record w { transactions = slice_set w.transactions transaction None })
+commit_happens w transaction worker draft (Ok number) = (
+  outputs.Ticket number,
+  record w {
+    primary = committed w.primary worker draft.entries;
+    transactions = slice_set w.transactions transaction None;
+  },
+)
+commit_happens w transaction worker draft (Err fault) =
+    (of_commit fault, record w { transactions = slice_set w.transactions transaction None })
 
 abbrev pub abort_happens : World → ℕ → Output × World
 abort_happens w transaction = (outputs.Accepted, record w { transactions = slice_set w.transactions transaction None })
@@ -138,7 +145,8 @@ abbrev pub datagram_happens : Shape → ℕ → Member → Result Datagram WireF
 datagram_happens shape workers m (Err fault) = (outputs.Ignored, m)
 datagram_happens shape workers m (Ok (datagrams.Frame worker seq commit last entries)) = frame_happens shape workers m worker seq entries
 datagram_happens shape workers m (Ok (datagrams.Head replica boot request version counts)) =
-    if (replica == m.number) && (boot == m.boot) && (request == m.request) then head_happens m version counts m.batch else (outputs.Ignored, m)
+    if (replica == m.number) && (boot == m.boot)
+    && (request == m.request) then head_happens m version counts m.batch else (outputs.Ignored, m)
 datagram_happens shape workers m (Ok (datagrams.Ask replica boot request)) = (outputs.Ignored, m)
 datagram_happens shape workers m (Ok (datagrams.Want replica worker from)) = (outputs.Ignored, m)
 
@@ -215,7 +223,10 @@ run_happens w m (Some batch) = on batch.fetched
     on (Some fetched) =
         if lacks_frame m fetched
         then wait_happens w 0 (first_missing m.known) (want_bytes m 0 (first_missing m.known))
-        else (outputs.Report (batch_report w batch.plans fetched.version), with_member w (record m { version = fetched.version; batch = None }))
+        else (
+          outputs.Report (batch_report w batch.plans fetched.version),
+          with_member w (record m { version = fetched.version; batch = None }),
+        )
 
 -- ---- the step
 

@@ -26,11 +26,15 @@ pub fn run(alloc: Global, setup: &Setup, events: &[Event]) -> Result<Vec<Output>
     requires workers { setup.now.workers ≡ 1 }
     requires replicas { setup.now.replicas ≤ 16 }
     requires possible { AllByRecursion (IsPossible setup.now.workers setup.now.replicas) events.now }
-    ensures allowed { IfOk result (λ outputs. Allowed (shape_of setup.now.schema) setup.now.workers setup.now.replicas events.now outputs.items) }
-    ensures reports { IfOk result (λ outputs. HasExactReports (shape_of setup.now.schema) setup.now.workers setup.now.replicas events.now outputs.items) }
-    ensures durable { IfOk result (λ outputs. HasGrowingList (shape_of setup.now.schema) setup.now.workers setup.now.replicas events.now outputs.items) }
+    ensures allowed { IfOk result (λ outputs. Allowed
+        (shape_of setup.now.schema) setup.now.workers setup.now.replicas events.now outputs.items) }
+    ensures reports { IfOk result (λ outputs. HasExactReports
+        (shape_of setup.now.schema) setup.now.workers setup.now.replicas events.now outputs.items) }
+    ensures durable { IfOk result (λ outputs. HasGrowingList
+        (shape_of setup.now.schema) setup.now.workers setup.now.replicas events.now outputs.items) }
     ensures faultless { IfOk result (λ outputs. AllByRecursion IsFaultless outputs.items) }
-    ensures cores { IfOk result (λ outputs. CoresStand (shape_of setup.now.schema) setup.now.workers setup.now.replicas events.now outputs.items) }
+    ensures cores { IfOk result (λ outputs. CoresStand
+        (shape_of setup.now.schema) setup.now.workers setup.now.replicas events.now outputs.items) }
 {
     setup.schema.keeps_limits();
     let mut cores = Cores::start(alloc, &setup.schema, setup.workers, setup.replicas)?;

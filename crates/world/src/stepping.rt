@@ -236,7 +236,8 @@ impl Cores {
 /// Sends datagrams one after the other, and answers where they are found. Fails for want of
 /// memory alone, and then nothing is sent.
 fn send_all(alloc: Global, sent: &mut Vec<Packet>, outs: Vec<Out>) -> Result<SentList, AllocError>
-    ensures ok { IfOk result (λ list. (list ≡ sent_from (length sent.old.items) outs.items) × (sent.new.items ≡ sent.old.items ++ packets_of outs.items)) }
+    ensures ok { IfOk result (λ list. (list ≡ sent_from (length sent.old.items) outs.items)
+        × (sent.new.items ≡ sent.old.items ++ packets_of outs.items)) }
     ensures err { OnErr result (sent.new.items ≡ sent.old.items) }
 {
     let list = places_of(alloc, sent.as_slice(), outs.as_slice())?;

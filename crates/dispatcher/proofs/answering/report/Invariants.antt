@@ -7,4 +7,6 @@ use Rattle.dispatcher.proofs.answering.report.Given as goal
 
 abbrev pub invariant-loop-index : goal.invariant-loop-index
 invariant-loop-index g l =
-    string_bytes l.text ++ queries_text l.index (map (plain_answer (g.S.Store.tables l.store)) (drop l.index l.plans)) ≡ report_text l.fn.version (map (plain_answer (g.S.Store.tables l.store)) l.plans)
+    string_bytes l.text ++ queries_text l.index
+    (map (plain_answer (g.S.Store.tables l.store)) (drop l.index l.plans)) ≡ report_text l.fn.version
+    (map (plain_answer (g.S.Store.tables l.store)) l.plans)

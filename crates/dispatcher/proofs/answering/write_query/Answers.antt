@@ -9,7 +9,8 @@ use Rattle.dispatcher.proofs.answering.write_query.Goals as goal
 one : decimal 1 ≡ 49 ∷ []
 one = decimal_digit 1 (omega arith)
 
-added : (text after : List ℕ) (index count : ℕ) → after ≡ text ++ (codes "query " ++ (decimal index ++ (codes " rows 1" ++ 10 ∷ (decimal count ++ 10 ∷ []))))
+added : (text after : List ℕ) (index count : ℕ)
+    → after ≡ text ++ (codes "query " ++ (decimal index ++ (codes " rows 1" ++ 10 ∷ (decimal count ++ 10 ∷ []))))
     → after ≡ text ++ query_text index ((count ∷ []) ∷ [])
 added text after index count h = simp append_assoc (rw one h)
 

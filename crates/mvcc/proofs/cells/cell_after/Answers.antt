@@ -18,12 +18,15 @@ loop-place-preserved c =
     elim c.match-get.branch [
       | in-Some w ↦
           let found = w.in-Some.entry.now in
-          let some : slice_get entries (get_or places i 0) ≡ Some found = slice_get_read entries (length entries) (get_or places i 0) found refl (ltb-true _ _ (sym w.in-Some.ensures.lookup.0)) w.in-Some.ensures.lookup.1 in
+          let some : slice_get entries (get_or places i 0) ≡ Some found =
+          slice_get_read entries (length entries) (get_or places i 0) found refl
+          (ltb-true _ _ (sym w.in-Some.ensures.lookup.0)) w.in-Some.ensures.lookup.1 in
           ap (cell_after kinds c.args.table c.args.row.0 c.args.column (picked entries _)) (w.cell-is ∙ w.cell_after_entry-cell.ensures)
           ∙ sym (cell_after-some kinds c.args.table c.args.row.0 c.args.column entries places i found cell c.loop-place-test.true some)
           ∙ c.loop-place.invariant
       | in_default w ↦
-          let none : slice_get entries (get_or places i 0) ≡ None = slice_get_past entries (get_or places i 0) (ltb-false _ _ (sym w.in_default.ensures.lookup.0)) in
+          let none : slice_get entries (get_or places i 0) ≡ None =
+          slice_get_past entries (get_or places i 0) (ltb-false _ _ (sym w.in_default.ensures.lookup.0)) in
           ap (cell_after kinds c.args.table c.args.row.0 c.args.column (picked entries _)) w.cell-is
           ∙ sym (cell_after-none kinds c.args.table c.args.row.0 c.args.column entries places i cell c.loop-place-test.true none)
           ∙ c.loop-place.invariant

@@ -10,6 +10,8 @@ pub returns-clause-before : goal.returns-clause-before
 returns-clause-before c =
     let links = c.args.links.now in
     let version = c.args.version in
-    let place = IsPartitionPoint-from_clause (λ (y : Link). nat_le y.version version) links c.partition_point.result c.partition_point.ensures.partitioned
+    let place =
+    IsPartitionPoint-from_clause (λ (y : Link). nat_le y.version version) links c.partition_point.result
+    c.partition_point.ensures.partitioned
     (IsPartitionedBy-leb (λ (link : Link). link.version) links version c.requires) (λ a r f' q. search rules) in
     values-partition version links c.partition_point.result None c.partition_point.ensures.bound place

@@ -13,5 +13,6 @@ returns-then-is_err-clause-err c =
     let tables = c.link_entries-linked.new.tables in
     let counted : length tables ≡ length shape = omega (arith, length-map c.args.schema.now (λ table. table.1)) in
     on_err_weaker c.link_entries-linked.result
-    (λ left. subst (AreChains shape c.args.commits.now) (sym c.cut_entries.ensures) (kept-cut shape c.args.commits.now tables c.args.entries.now counted c.requires.fit left))
+    (λ left. subst (AreChains shape c.args.commits.now) (sym c.cut_entries.ensures)
+    (kept-cut shape c.args.commits.now tables c.args.entries.now counted c.requires.fit left))
     c.link_entries-linked.ensures.err

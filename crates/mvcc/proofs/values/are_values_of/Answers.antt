@@ -10,7 +10,8 @@ use Rattle.rows.specs.declared.kind.Kind.{Kind}
 use Rattle.mvcc.specs.Transactions.{is_of_kind, are_of_kinds}
 use Rattle.mvcc.proofs.values.are_values_of.Goals as goal
 
-in_pairs : (values : List Value) (kinds : List Kind) → length values ≡ length kinds → are_of_kinds values kinds ≡ list_all (λ pair. is_of_kind pair.0 pair.1) (zip values kinds)
+in_pairs : (values : List Value) (kinds : List Kind) → length values ≡ length kinds
+    → are_of_kinds values kinds ≡ list_all (λ pair. is_of_kind pair.0 pair.1) (zip values kinds)
 in_pairs [] [] h = refl
 in_pairs [] (kind ∷ kinds) h = absurd (omega arith)
 in_pairs (value ∷ values) [] h = absurd (omega arith)
@@ -28,7 +29,9 @@ returns-then-values-kinds c =
     let kinds = c.args.kinds.now in
     let left = YieldsList-at c.zip.ensures.first (YieldsList-from_slice {s = c.iter.result} values c.iter.ensures.rest) in
     let right = YieldsList-from_slice {s = c.zip.result.b} kinds c.zip.ensures.second.0 in
-    let pairs = all_from_yields_List (λ pair. is_of_kind pair.0 pair.1) c.all.new.self _ c.all.result c.all.ensures.ran (YieldsList-from_zip left right) (λ x b q k. search (rules, tests)) in
+    let pairs =
+    all_from_yields_List (λ pair. is_of_kind pair.0 pair.1) c.all.new.self _ c.all.result c.all.ensures.ran
+    (YieldsList-from_zip left right) (λ x b q k. search (rules, tests)) in
     pairs ∙ sym (in_pairs values kinds c.if-values-kinds.true)
 
 pub returns-else-values-kinds : goal.returns-else-values-kinds

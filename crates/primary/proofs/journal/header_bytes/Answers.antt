@@ -12,6 +12,7 @@ loop-table-preserved c =
     elim c.match-kinds.branch [
       | in-Some+in_ok-push_table w ↦
           let kinds = w.in-Some.kinds.now in
-          rw w.bytes-is (w.in_ok-push_table.ensures ∙ ap (λ text. text ++ table_header kinds) c.loop-table.invariant ∙ header_more c.args.workers shape c.loop-table.table kinds (sym w.in-Some.ensures.value))
+          rw w.bytes-is (w.in_ok-push_table.ensures ∙ ap (λ text. text ++ table_header kinds) c.loop-table.invariant
+          ∙ header_more c.args.workers shape c.loop-table.table kinds (sym w.in-Some.ensures.value))
       | in_default w ↦ absurd (no_gap c.args.schema.now c.loop-table.table (omega arith) w.in_default.ensures.value)
     ]

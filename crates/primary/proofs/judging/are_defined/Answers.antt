@@ -16,7 +16,8 @@ returns-then-not-is_defined-clause-answer c =
     let before = c.loop-entry.invariant in
     let there = c.is_there-there.result in
     let stands = told-there versions version (take i entries) c.loop-entry.told entry there before.told c.is_there-there.ensures in
-    not_defined-more versions version entries i entry there c.loop-entry-test.true c.entry-item.is before.defined stands c.if-not-is_defined.ensures.answer
+    not_defined-more versions version entries i entry there c.loop-entry-test.true c.entry-item.is before.defined stands
+    c.if-not-is_defined.ensures.answer
 
 pub loop-entry-preserved : goal.loop-entry-preserved
 loop-entry-preserved c =
@@ -29,13 +30,18 @@ loop-entry-preserved c =
     let there = c.is_there-there.result in
     let stands = told-there versions version (take i entries) c.loop-entry.told entry there before.told c.is_there-there.ensures in
     record {
-      defined = defined-more versions version entries i entry there c.loop-entry-test.true c.entry-item.is before.defined stands ∙ sym c.if-not-is_defined.ensures.answer;
+      defined =
+          defined-more versions version entries i entry there c.loop-entry-test.true c.entry-item.is before.defined stands
+          ∙ sym c.if-not-is_defined.ensures.answer;
       spelled = spelled-more entries i entry c.loop-entry-test.true c.entry-item.is before.spelled c.if-not-is_defined.ensures.spelled;
       told =
-          told-more versions version entries i entry there c.loop-entry.told c.tell.new.self c.loop-entry-test.true c.entry-item.is before.told c.is_there-there.ensures
+          told-more versions version entries i entry there c.loop-entry.told c.tell.new.self c.loop-entry-test.true c.entry-item.is
+          before.told c.is_there-there.ensures
           (λ t r.
           c.in-Ok.ensures t r
-          ∙ ap (λ table. cond ((table == t) && (c.row.result.0 == r)) (Some c.leaves_row.result) (told_of c.loop-entry.told t r)) c.table.ensures
+          ∙ ap (λ table. cond ((table == t) && (c.row.result.0 == r)) (Some c.leaves_row.result) (told_of c.loop-entry.told t r))
+          c.table.ensures
           ∙ ap (λ row. cond ((table_of entry == t) && (row == r)) (Some c.leaves_row.result) (told_of c.loop-entry.told t r)) c.row.ensures
-          ∙ ap (λ left. cond ((table_of entry == t) && (row_of entry == r)) (Some left) (told_of c.loop-entry.told t r)) c.leaves_row.ensures);
+          ∙ ap (λ left. cond ((table_of entry == t) && (row_of entry == r)) (Some left) (told_of c.loop-entry.told t r))
+          c.leaves_row.ensures);
     }

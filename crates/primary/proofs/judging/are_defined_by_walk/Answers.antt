@@ -10,8 +10,11 @@ pub returns-then-not-is_defined-clause-answer : goal.returns-then-not-is_defined
 returns-then-not-is_defined-clause-answer c =
     let versions = c.args.versions.now in
     let entry = c.index-entries-index.result in
-    not_defined-more versions c.args.version c.args.entries.now c.loop-index.index entry c.is_row_there_after-there.result c.loop-index-test.true c.index-entries-index.is c.loop-index.invariant.defined
-    (c.is_row_there_after-there.ensures ∙ ap (λ before. is_there_after (table_of entry) (row_of entry) before (is_row_there versions c.args.version entry)) c.split_at.ensures.front) c.if-not-is_defined.ensures.answer
+    not_defined-more versions c.args.version c.args.entries.now c.loop-index.index entry c.is_row_there_after-there.result
+    c.loop-index-test.true c.index-entries-index.is c.loop-index.invariant.defined
+    (c.is_row_there_after-there.ensures
+    ∙ ap (λ before. is_there_after (table_of entry) (row_of entry) before (is_row_there versions c.args.version entry))
+    c.split_at.ensures.front) c.if-not-is_defined.ensures.answer
 
 pub loop-index-preserved : goal.loop-index-preserved
 loop-index-preserved c =
@@ -19,8 +22,13 @@ loop-index-preserved c =
     let entry = c.index-entries-index.result in
     record {
       defined =
-          defined-more versions c.args.version c.args.entries.now c.loop-index.index entry c.is_row_there_after-there.result c.loop-index-test.true c.index-entries-index.is c.loop-index.invariant.defined
-          (c.is_row_there_after-there.ensures ∙ ap (λ before. is_there_after (table_of entry) (row_of entry) before (is_row_there versions c.args.version entry)) c.split_at.ensures.front)
+          defined-more versions c.args.version c.args.entries.now c.loop-index.index entry c.is_row_there_after-there.result
+          c.loop-index-test.true c.index-entries-index.is c.loop-index.invariant.defined
+          (c.is_row_there_after-there.ensures
+          ∙ ap (λ before. is_there_after (table_of entry) (row_of entry) before (is_row_there versions c.args.version entry))
+          c.split_at.ensures.front)
           ∙ sym c.if-not-is_defined.ensures.answer;
-      spelled = spelled-more c.args.entries.now c.loop-index.index entry c.loop-index-test.true c.index-entries-index.is c.loop-index.invariant.spelled c.if-not-is_defined.ensures.spelled;
+      spelled =
+          spelled-more c.args.entries.now c.loop-index.index entry c.loop-index-test.true c.index-entries-index.is
+          c.loop-index.invariant.spelled c.if-not-is_defined.ensures.spelled;
     }

@@ -7,18 +7,21 @@ use Rattle.primary.proofs.sending.frame_packet.Goals as goal
 pub returns-in_err-number : goal.returns-in_err-number
 returns-in_err-number c =
     let commits = c.args.versions.now.commits in
-    rw c.from_residual.ensures (sym (packet-none commits c.args.durable c.args.worker c.args.seq (c.in_err-number.ensures commits c.requires.placed)))
+    rw c.from_residual.ensures (sym
+    (packet-none commits c.args.durable c.args.worker c.args.seq (c.in_err-number.ensures commits c.requires.placed)))
 
 pub returns-then-number-durable : goal.returns-then-number-durable
 returns-then-number-durable c =
     let commits = c.args.versions.now.commits in
-    sym (packet-late commits c.args.durable c.args.worker c.args.seq c.in_ok-number.number (c.in_ok-number.ensures commits c.requires.placed) c.if-number-durable.true)
+    sym (packet-late commits c.args.durable c.args.worker c.args.seq c.in_ok-number.number
+    (c.in_ok-number.ensures commits c.requires.placed) c.if-number-durable.true)
 
 pub returns-in_err-commit : goal.returns-in_err-commit
 returns-in_err-commit c =
     let commits = c.args.versions.now.commits in
     rw c.from_residual-in_err-commit.ensures
-    (sym (packet-found commits c.args.durable c.args.worker c.args.seq c.in_ok-number.number None (c.in_ok-number.ensures commits c.requires.placed) c.if-number-durable.false c.in_err-commit.ensures))
+    (sym (packet-found commits c.args.durable c.args.worker c.args.seq c.in_ok-number.number None
+    (c.in_ok-number.ensures commits c.requires.placed) c.if-number-durable.false c.in_err-commit.ensures))
 
 pub of_commit-requires : goal.of_commit-requires
 of_commit-requires c =
@@ -26,7 +29,9 @@ of_commit-requires c =
     let number = c.in_ok-number.number in
     let commit = c.in_ok-commit.commit.now in
     let some = numbered-from_1 commits c.args.worker c.args.seq number (c.in_ok-number.ensures commits c.requires.placed) in
-    kept_is_framed commit c.args.seq number (commit-kept commits number commit c.requires.kept some c.in_ok-commit.ensures) c.ranges.seq.fits some (omega (arith, c.if-number-durable.false, c.ranges.durable.fits))
+    kept_is_framed commit c.args.seq number
+    (commit-kept commits number commit c.requires.kept some c.in_ok-commit.ensures) c.ranges.seq.fits some
+    (omega (arith, c.if-number-durable.false, c.ranges.durable.fits))
 
 pub returns : goal.returns
 returns c =
@@ -34,4 +39,5 @@ returns c =
     let number = c.in_ok-number.number in
     let commit = c.in_ok-commit.commit.now in
     ap Some c.of_commit.ensures
-    ∙ sym (packet-found commits c.args.durable c.args.worker c.args.seq number (Some commit) (c.in_ok-number.ensures commits c.requires.placed) c.if-number-durable.false c.in_ok-commit.ensures)
+    ∙ sym (packet-found commits c.args.durable c.args.worker c.args.seq number (Some commit)
+    (c.in_ok-number.ensures commits c.requires.placed) c.if-number-durable.false c.in_ok-commit.ensures)

@@ -1,5 +1,6 @@
 -- Two digits make a byte, and zeros are bytes too.
-use Rattle.std.proofs.Common.{ℕ, zero, suc, ◌/◌, ◌<◌, Bool, true, false, cond, List, [], ◌∷◌, length, set, take, replicate, None, Some, IfSome, arith}
+use Rattle.std.proofs.Common.{ℕ, zero, suc, ◌/◌, ◌<◌, Bool, true, false, cond, List, [], ◌∷◌, length, set, take, replicate, None, Some}
+use Rattle.std.proofs.Common.{IfSome, arith}
 use Rattle.rows.specs.Spelling.{AreBytes}
 use Rattle.script.proofs.words.octets_of.Goals as goal
 
@@ -25,7 +26,9 @@ pub loop-place-init : goal.loop-place-init
 loop-place-init c = AreBytes-zeros 64
 
 pub loop-place-preserved : goal.loop-place-preserved
-loop-place-preserved c = AreBytes-set c.loop-place.bytes c.loop-place.place _ (omega (arith, c.in_ok-hex_digit.ensures, c.in_ok-bytes.ensures)) c.loop-place.invariant
+loop-place-preserved c =
+    AreBytes-set c.loop-place.bytes c.loop-place.place _
+    (omega (arith, c.in_ok-hex_digit.ensures, c.in_ok-bytes.ensures)) c.loop-place.invariant
 
 kept : (refused : Bool) (bytes : List ℕ) → AreBytes bytes → IfSome (cond refused None (Some bytes)) AreBytes
 kept true bytes are = tt

@@ -9,7 +9,9 @@ loop-i-preserved g c =
     let so_far = c.loop-i.invariant in
     let made = rw (so_far.shape) at c.in-Ok.ensures.ok in
     let entry = c.index-entries-i.result in
-    let entries = take_more c.args.entries.now c.loop-i.i entry c.loop-i-test.true ∙ ap (λ e. take c.loop-i.i c.args.entries.now ++ e ∷ []) (sym c.index-entries-i.is) in
+    let entries =
+    take_more c.args.entries.now c.loop-i.i entry c.loop-i-test.true
+    ∙ ap (λ e. take c.loop-i.i c.args.entries.now ++ e ∷ []) (sym c.index-entries-i.is) in
     record {
       before = rw entries (changes_of-push _ _ _ _ _ entry so_far.before made);
       first = λ broken. let whole = so_far.whole ∙ broken in let was = c.in-Ok.ensures.only_whole in cc;

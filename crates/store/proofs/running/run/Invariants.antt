@@ -5,7 +5,8 @@ use Rattle.store.proofs.running.run.Given as goal
 
 abbrev pub invariant-loop-i : goal.invariant-loop-i
 invariant-loop-i g l = record {
-  before : changes_of (g.S.Store.shape l.initial.store) (g.S.Store.tables l.initial.store) (take l.i l.entries) ≡ Ok (g.S.Store.tables l.store);
+  before : changes_of (g.S.Store.shape l.initial.store) (g.S.Store.tables l.initial.store) (take l.i l.entries) ≡ Ok
+      (g.S.Store.tables l.store);
   first : g.S.Store.is_whole l.initial.store ≡ false → l.i ≡ 0;
   whole : g.S.Store.is_whole l.store ≡ g.S.Store.is_whole l.initial.store;
   shape : g.S.Store.shape l.store ≡ g.S.Store.shape l.initial.store;

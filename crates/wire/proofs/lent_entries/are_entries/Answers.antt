@@ -7,11 +7,14 @@ use Rattle.wire.proofs.Filling.{filled_more, filled_not}
 use Rattle.wire.proofs.lent_entries.are_entries.Goals as goal
 
 pub returns-in-None : goal.returns-in-None
-returns-in-None c = filled_not c.args.count c.loop.counter c.loop.rest.now (is_some (entries_filling c.args.count c.args.bytes.now)) c.loop-test.true (sym c.in-None.ensures) c.loop.invariant
+returns-in-None c =
+    filled_not c.args.count c.loop.counter c.loop.rest.now (is_some (entries_filling c.args.count c.args.bytes.now)) c.loop-test.true
+    (sym c.in-None.ensures) c.loop.invariant
 
 pub split_at-requires : goal.split_at-requires
 split_at-requires c = entry_at-within c.loop.rest.now (seen (c.in-Some.field-0-0, c.in-Some.len)) (sym c.in-Some.ensures)
 
 pub loop-preserved : goal.loop-preserved
 loop-preserved c =
-    rw c.split_at.ensures.back (filled_more c.args.count c.loop.counter c.loop.rest.now (seen (c.in-Some.field-0-0, c.in-Some.len)) (is_some (entries_filling c.args.count c.args.bytes.now)) c.loop-test.true (sym c.in-Some.ensures) c.loop.invariant)
+    rw c.split_at.ensures.back (filled_more c.args.count c.loop.counter c.loop.rest.now (seen (c.in-Some.field-0-0, c.in-Some.len))
+    (is_some (entries_filling c.args.count c.args.bytes.now)) c.loop-test.true (sym c.in-Some.ensures) c.loop.invariant)

@@ -5,4 +5,5 @@ use Rattle.wire.specs.Entries.{entries_filling}
 use Rattle.wire.proofs.lent_entries.list_of.Given as goal
 
 abbrev pub invariant-loop : goal.invariant-loop
-invariant-loop l = entries_filling l.count l.bytes ≡ option_map (λ others. l.entries ++ others) (entries_filling (l.count - l.counter) l.rest)
+invariant-loop l =
+    entries_filling l.count l.bytes ≡ option_map (λ others. l.entries ++ others) (entries_filling (l.count - l.counter) l.rest)

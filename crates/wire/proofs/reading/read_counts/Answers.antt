@@ -7,7 +7,10 @@ use Rattle.wire.proofs.reading.read_counts.Goals as goal
 
 pub loop-preserved : goal.loop-preserved
 loop-preserved c = record {
-  counted = rw (c.push.ensures, c.read_u64.ensures, c.split_at.ensures.back) (counted_more c.loop.counts c.args.workers c.loop.counter c.loop.rest.now (counts_at c.args.workers c.args.bytes.now) c.loop-test.true c.loop.invariant.counted);
+  counted =
+      rw (c.push.ensures, c.read_u64.ensures, c.split_at.ensures.back)
+      (counted_more c.loop.counts c.args.workers c.loop.counter c.loop.rest.now
+      (counts_at c.args.workers c.args.bytes.now) c.loop-test.true c.loop.invariant.counted);
   rest = rw (c.split_at.ensures.back, length-drop) (omega arith);
   as_many = rw (c.push.ensures, length_push) (omega arith);
 }

@@ -12,6 +12,14 @@ returns c =
     let boot : c.read_u64.result ≡ big_number 8 (drop 1 body) = c.read_u64.ensures ∙ ap (big_number 8) (take_rest body 1) in
     let request : c.read_u64-2.result ≡ big_number 8 (drop 9 body) = c.read_u64-2.ensures ∙ ap (big_number 8) (take_rest body 9) in
     let version : c.read_u64-3.result ≡ big_number 8 (drop 17 body) = c.read_u64-3.ensures ∙ ap (big_number 8) (take_rest body 17) in
-    let counts : c.read_counts.result ≡ counts_at (get_or body 25 0) (drop 26 body) = c.read_counts.ensures ∙ rw c.split_at.ensures.back refl in
-    let is : IsHeadAt body = record { long = omega arith; replica = omega arith; some = omega arith; few = omega arith; whole = omega (arith, c.split_at.ensures.back_len) } in
+    let counts : c.read_counts.result ≡ counts_at (get_or body 25 0) (drop 26 body) =
+    c.read_counts.ensures ∙ rw c.split_at.ensures.back refl in
+    let is : IsHeadAt body =
+    record {
+      long = omega arith;
+      replica = omega arith;
+      some = omega arith;
+      few = omega arith;
+      whole = omega (arith, c.split_at.ensures.back_len);
+    } in
     rw (boot, request, version, counts) (sym (head_at-is body is))

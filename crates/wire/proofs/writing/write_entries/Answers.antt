@@ -8,7 +8,8 @@ use Rattle.wire.proofs.writing.write_entries.Goals as goal
 
 pub write_entry-at-requires-clause-room : goal.write_entry-at-requires-clause-room
 write_entry-at-requires-clause-room c =
-    let room = joined_room entry_spelling c.args.entries.now c.loop-entry.entry-index c.entry-item.result c.loop-entry-test.true c.entry-item.is in
+    let room =
+    joined_room entry_spelling c.args.entries.now c.loop-entry.entry-index c.entry-item.result c.loop-entry-test.true c.entry-item.is in
     simp (length-take, length-drop) (omega arith)
 
 pub loop-entry-preserved : goal.loop-entry-preserved
@@ -22,5 +23,7 @@ loop-entry-preserved c =
     let more = joined_more entry_spelling entries c.loop-entry.entry-index c.entry-item.result c.loop-entry-test.true c.entry-item.is in
     record {
       at = rw more (omega (arith, length-append front piece, c.write_entry-at.ensures.len));
-      written = rw more (written_more front piece c.args.buffer.now c.loop-entry.buffer c.write_entry-at.new.buffer at len c.loop-entry.invariant.at (omega arith) c.loop-entry.invariant.written c.write_entry-at.ensures.written);
+      written =
+          rw more (written_more front piece c.args.buffer.now c.loop-entry.buffer c.write_entry-at.new.buffer at len
+          c.loop-entry.invariant.at (omega arith) c.loop-entry.invariant.written c.write_entry-at.ensures.written);
     }

@@ -11,5 +11,6 @@ returns-clause-ok c =
     let entries = c.args.entries.now in (
       omega arith,
       rw (c.copy_from_slice.ensures.after, c.frame_front-front.ensures, c.write_entries.ensures, c.split_at_mut-head.ensures.back)
-          (frame_written c.args.worker c.args.seq c.args.commit c.args.last entries c.entries_len-total.result c.args.buffer.now c.entries_len-total.ensures),
+          (frame_written c.args.worker c.args.seq c.args.commit c.args.last entries c.entries_len-total.result c.args.buffer.now
+          c.entries_len-total.ensures),
     )

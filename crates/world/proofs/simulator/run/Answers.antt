@@ -31,7 +31,8 @@ loop-event-preserved c = record {
   replicas = cc;
   behind = λ more end steps. rw (c.in_ok-push.ensures.items, append_assoc)
       (c.loop-event.invariant.behind (c.step-output.result ∷ more) end
-      (step_first _ _ end c.args.events.now c.loop-event.event-index c.event-item.result c.step-output.result more c.loop-event-test.true c.event-item.is c.step-output.ensures.may_step steps));
+      (step_first _ _ end c.args.events.now c.loop-event.event-index c.event-item.result c.step-output.result more c.loop-event-test.true
+      c.event-item.is c.step-output.ensures.may_step steps));
 }
 
 pub step-output-requires : goal.step-output-requires
@@ -41,7 +42,8 @@ step-output-requires c =
     record {
       ready = c.loop-event.invariant.ready;
       possible = rw (c.loop-event.invariant.workers, c.loop-event.invariant.replicas)
-          (all_at (IsPossible setup.workers setup.replicas) c.args.events.now c.loop-event.event-index c.event-item.result at c.requires.possible);
+          (all_at (IsPossible setup.workers setup.replicas) c.args.events.now c.loop-event.event-index c.event-item.result at
+          c.requires.possible);
     }
 
 pub returns : goal.returns
@@ -53,11 +55,15 @@ returns c =
     let end = c.loop-event.cores in
     let run = c.loop-event.invariant.behind [] end (none_left end c.args.events.now c.loop-event.event-index c.loop-event-test.false) in
     let steps : Steps start c.args.events.now outputs end = rw append-nil at run in
-    let allowed = steps-allowed shape setup.workers setup.replicas c.args.events.now outputs end c.keeps_limits.ensures c.requires.workers c.requires.replicas c.requires.possible steps in
+    let allowed =
+    steps-allowed shape setup.workers setup.replicas c.args.events.now outputs end c.keeps_limits.ensures c.requires.workers
+    c.requires.replicas c.requires.possible steps in
     record {
       allowed = allowed;
       reports = runs-report shape setup.workers setup.replicas c.args.events.now outputs allowed.0 c.requires.replicas allowed.1;
       durable = runs-grow shape setup.workers setup.replicas c.args.events.now outputs allowed.0 allowed.1;
       faultless = allowed-faultless shape setup.workers setup.replicas c.args.events.now outputs allowed;
-      cores = steps-stand shape setup.workers setup.replicas c.args.events.now outputs end c.keeps_limits.ensures c.requires.workers c.requires.replicas c.requires.possible steps;
+      cores =
+          steps-stand shape setup.workers setup.replicas c.args.events.now outputs end c.keeps_limits.ensures c.requires.workers
+          c.requires.replicas c.requires.possible steps;
     }

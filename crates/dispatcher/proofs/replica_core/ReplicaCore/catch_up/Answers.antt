@@ -10,7 +10,9 @@ returns-in-Ok-Some g c =
     let reached = sym c.is_reached.ensures ∙ c.if-not-is_reached.false in
     let listed = ap (option_map (λ list. list.items)) (sym c.in-Ok-Some.field-0-is) ∙ c.in-Ok-Some.ensures in
     let applied = rw (← c.self.view_is, c.deref.ensures.value) at c.apply.ensures in
-    rw (← c.self.view_is) (catches_up-applied (replica_of g.S.Store.tables c.self.inside) c.args.version c.args.count reached c.in-Ok-Some.commits.items c.apply.result c.apply.new.self listed applied)
+    rw (← c.self.view_is) (catches_up-applied
+    (replica_of g.S.Store.tables c.self.inside) c.args.version c.args.count reached c.in-Ok-Some.commits.items c.apply.result
+    c.apply.new.self listed applied)
 
 pub returns-in-Ok-None : goal.returns-in-Ok-None
 returns-in-Ok-None g c =

@@ -9,7 +9,10 @@ pub returns-in-Ok : goal.returns-in-Ok
 returns-in-Ok g c =
     let batch = c.in-Some.batch in
     let head = c.in-Some-head.head in
-    let there = ap (option_map queries_of) c.in-Some.is ∙ ap (λ h. Some (record { plans = batch.plans.items; fetched = option_map fetched_of h })) c.in-Some-head.is in
+    let there =
+    ap (option_map queries_of) c.in-Some.is
+    ∙ ap (λ h. Some (record { plans = batch.plans.items; fetched = option_map fetched_of h })) c.in-Some-head.is in
     let complete = rw (c.as_slice.ensures.counts, c.first_missing-missing.ensures) at c.if-missing-count.false in
     run_answers (replica_of g.S.Store.tables c.self.inside) batch.plans.items (fetched_of head) c.if-self.false there complete
-    c.args.self.now c.catch_up.new.self c.answer.new.self c.answer.result c.as_slice.result.now c.self.view_is c.as_slice.ensures.counts c.in-Ok.ensures c.answer.ensures
+    c.args.self.now c.catch_up.new.self c.answer.new.self c.answer.result c.as_slice.result.now c.self.view_is c.as_slice.ensures.counts
+    c.in-Ok.ensures c.answer.ensures

@@ -7,5 +7,7 @@ use Rattle.mvcc.proofs.chain.Chain.latest.Goals as goal
 pub returns-in-Some : goal.returns-in-Some
 returns-in-Some c =
     let links = c.self.inside.links.items in
-    let last = latest-last links c.in-Some.link.now None (ap (λ xs. slice_get xs (length xs - 1)) (sym c.deref.ensures.value) ∙ sym c.in-Some.ensures.value) in
+    let last =
+    latest-last links c.in-Some.link.now None
+    (ap (λ xs. slice_get xs (length xs - 1)) (sym c.deref.ensures.value) ∙ sym c.in-Some.ensures.value) in
     rw (← c.self.view_is) (c.as_ref.ensures.value ∙ sym last)

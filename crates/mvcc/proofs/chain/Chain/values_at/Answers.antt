@@ -8,7 +8,8 @@ pub returns-then-end-eq0 : goal.returns-then-end-eq0
 returns-then-end-eq0 c =
     let links = c.self.inside.links.items in
     let same = c.as_slice.ensures.value in
-    let before = ap (values_at c.args.version) (sym same) ∙ c.end_of-end.ensures.before ∙ ap (λ xs. latest_in (take c.end_of-end.result xs)) same in
+    let before =
+    ap (values_at c.args.version) (sym same) ∙ c.end_of-end.ensures.before ∙ ap (λ xs. latest_in (take c.end_of-end.result xs)) same in
     let none = ap (λ n. latest_in (take n links)) c.if-end-eq0.true in
     rw (← c.self.view_is) (sym (before ∙ none))
 
@@ -16,6 +17,8 @@ pub returns : goal.returns
 returns c =
     let links = c.self.inside.links.items in
     let same = c.as_slice.ensures.value in
-    let before = ap (values_at c.args.version) (sym same) ∙ c.end_of-end.ensures.before ∙ ap (λ xs. latest_in (take c.end_of-end.result xs)) same in
+    let before =
+    ap (values_at c.args.version) (sym same) ∙ c.end_of-end.ensures.before ∙ ap (λ xs. latest_in (take c.end_of-end.result xs)) same in
     let within : c.end_of-end.result ≤ length links = subst (λ xs. c.end_of-end.result ≤ length xs) same c.end_of-end.ensures.within in
-    rw (← c.self.view_is) (c.as_ref.ensures.value ∙ sym (before ∙ latest-before links c.end_of-end.result c.index.result.now None c.if-end-eq0.false within c.index.ensures))
+    rw (← c.self.view_is) (c.as_ref.ensures.value
+    ∙ sym (before ∙ latest-before links c.end_of-end.result c.index.result.now None c.if-end-eq0.false within c.index.ensures))

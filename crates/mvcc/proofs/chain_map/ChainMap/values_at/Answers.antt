@@ -7,4 +7,5 @@ use Rattle.mvcc.proofs.chain_map.ChainMap.values_at.Goals as goal
 
 pub values_at-requires : goal.values_at-requires
 values_at-requires c =
-    subst (IsNonDecreasingBy (λ (link : Link). link.version)) (ap (λ chains. links_in chains c.args.row) (sym c.self.view_is) ∙ ap links_found (sym c.in-Some.ensures.value)) c.requires
+    subst (IsNonDecreasingBy (λ (link : Link). link.version))
+    (ap (λ chains. links_in chains c.args.row) (sym c.self.view_is) ∙ ap links_found (sym c.in-Some.ensures.value)) c.requires

@@ -4,4 +4,5 @@ use Rattle.mvcc.proofs.own_rows.OwnRows.put.Goals as goal
 
 pub returns-clause-ok : goal.returns-clause-ok
 returns-clause-ok c =
-    rw (← c.self.view_is) (places-put c.self.inside.rows.entries c.insert.new.self.entries c.args.table c.args.row.0 c.args.places c.in_ok-insert.ensures.updates.0)
+    rw (← c.self.view_is) (places-put c.self.inside.rows.entries c.insert.new.self.entries c.args.table c.args.row.0 c.args.places
+    c.in_ok-insert.ensures.updates.0)

@@ -12,8 +12,21 @@ invariant_of-self-2 c =
     let entries = c.self.inside.entries.items in
     let index = c.self.inside.rows in
     let entry = c.args.entry in
-    let items : c.push_reserved.new.self.items ≡ entries ++ entry ∷ [] = c.push_reserved.ensures.items ∙ ap (λ before. before ++ entry ∷ []) c.in_ok-reserve.ensures.items in
-    let put : (table row : ℕ) → places_at c.put.new.self table row ≡ cond (is_of table row entry) (kept_places entries entry (places_at index (table_of entry) (row_of entry)) ++ length entries ∷ []) (places_at index table row) = λ table row.
-    cc (c.in_ok-put.ensures.ok table row, c.in_ok-places.ensures, c.places-earlier.ensures, c.as_slice.ensures.value, c.table-table.ensures, c.row-row.ensures) in
+    let items : c.push_reserved.new.self.items ≡ entries ++ entry ∷ [] =
+    c.push_reserved.ensures.items ∙ ap (λ before. before ++ entry ∷ []) c.in_ok-reserve.ensures.items in
+    let put : (table row : ℕ) → places_at c.put.new.self table row ≡ cond (is_of table row entry)
+    (kept_places entries entry (places_at index (table_of entry) (row_of entry)) ++ length entries ∷ [])
+    (places_at index table row) = λ table row.
+    cc (
+      c.in_ok-put.ensures.ok table row,
+      c.in_ok-places.ensures,
+      c.places-earlier.ensures,
+      c.as_slice.ensures.value,
+      c.table-table.ensures,
+      c.row-row.ensures,
+    ) in
     let room = ap (λ (draft : _). length draft.entries) c.self.view_is in
-    rw items (omega (arith, length_push entries entry, c.requires, room), IsIndexOf-push entries index c.put.new.self entry c.self.invariant.1 put)
+    rw items (
+      omega (arith, length_push entries entry, c.requires, room),
+      IsIndexOf-push entries index c.put.new.self entry c.self.invariant.1 put,
+    )

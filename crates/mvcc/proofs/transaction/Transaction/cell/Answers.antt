@@ -17,9 +17,12 @@ returns-in-None c =
     let table = c.args.table in
     let row = c.args.row.0 in
     let was = row_at (rows_of (tables_after versions.shape versions.commits inside.snapshot) table) row in
-    let none : slice_get versions.shape table ≡ None = sym (c.in-None.ensures.value ∙ ap (λ shape. slice_get shape table) c.schema.ensures) in
+    let none : slice_get versions.shape table ≡ None =
+    sym (c.in-None.ensures.value ∙ ap (λ shape. slice_get shape table) c.schema.ensures) in
     rw (← c.self.view_is)
-    (c.cell_at-was.ensures ∙ ap (cell_of c.args.column) (sym (row-seen versions.shape versions.commits inside.snapshot entries table row ∙ unlisted versions.shape table row entries was none)))
+    (c.cell_at-was.ensures ∙ ap (cell_of c.args.column)
+    (sym (row-seen versions.shape versions.commits inside.snapshot entries table row
+    ∙ unlisted versions.shape table row entries was none)))
 
 pub returns-in-Some : goal.returns-in-Some
 returns-in-Some c =
@@ -32,11 +35,14 @@ returns-in-Some c =
     let kinds = c.in-Some.kinds.now in
     let places = places_at inside.rows table row in
     let was = row_at (rows_of (tables_after versions.shape versions.commits inside.snapshot) table) row in
-    let some : slice_get versions.shape table ≡ Some kinds = sym (c.in-Some.ensures.value ∙ ap (λ shape. slice_get shape table) c.schema.ensures) in
+    let some : slice_get versions.shape table ≡ Some kinds =
+    sym (c.in-Some.ensures.value ∙ ap (λ shape. slice_get shape table) c.schema.ensures) in
     rw (← c.self.view_is)
     (c.cell_after.ensures
-    ∙ ap (λ own. cell_after kinds table row column (picked own c.places-places.result.now) c.cell_at-was.result) c.as_slice-entries.ensures.value
+    ∙ ap (λ own. cell_after kinds table row column (picked own c.places-places.result.now) c.cell_at-was.result)
+    c.as_slice-entries.ensures.value
     ∙ ap (λ places. cell_after kinds table row column (picked entries places) c.cell_at-was.result) c.places-places.ensures
     ∙ ap (cell_after kinds table row column (picked entries places)) c.cell_at-was.ensures
     ∙ sym (cell-row versions.shape kinds table row column (picked entries places) was some)
-    ∙ ap (cell_of column) (c.self.invariant.1.told table row versions.shape was ∙ sym (row-seen versions.shape versions.commits inside.snapshot entries table row)))
+    ∙ ap (cell_of column) (c.self.invariant.1.told table row versions.shape was
+    ∙ sym (row-seen versions.shape versions.commits inside.snapshot entries table row)))

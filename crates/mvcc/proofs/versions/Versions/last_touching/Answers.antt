@@ -18,9 +18,11 @@ pub loop-entry-preserved : goal.loop-entry-preserved
 loop-entry-preserved c =
     let commits = c.args.self.now.commits in
     let entry = c.entry-item.result in
-    let next = last_touching-next c.args.entries.now commits c.loop-entry.entry-index c.entry-item.result c.loop-entry-test.true c.entry-item.is in
+    let next =
+    last_touching-next c.args.entries.now commits c.loop-entry.entry-index c.entry-item.result c.loop-entry-test.true c.entry-item.is in
     let newest : c.newest-newest.result ≡ newest_of (table_of entry) (row_of entry) commits =
-    c.newest-newest.ensures ∙ ap (λ t. newest_of t c.row.result.0 commits) c.table.ensures ∙ ap (λ r. newest_of (table_of entry) r commits) c.row.ensures in
+    c.newest-newest.ensures ∙ ap (λ t. newest_of t c.row.result.0 commits) c.table.ensures
+    ∙ ap (λ r. newest_of (table_of entry) r commits) c.row.ensures in
     elim c.if-last-newest.branch [ then-last-newest w ↦ omega arith | else-last-newest w ↦ omega arith ]
 
 pub returns-clause-stay_defined : goal.returns-clause-stay_defined
@@ -28,6 +30,10 @@ returns-clause-stay_defined c =
     let inside = c.self.inside in
     let entries = c.args.entries.now in
     let last : c.loop-entry.last ≡ last_touching entries 0 inside.commits.items =
-    c.loop-entry.invariant ∙ ap (λ xs. last_touching xs 0 c.args.self.now.commits) (take_all c.loop-entry.entry-index entries c.loop-entry-test.false) ∙ ap (λ (v : History). last_touching entries 0 v.commits) (sym c.self.view_is) in
-    subst (λ (v : History). (version : ℕ) → c.loop-entry.last ≤ version → defined_at v version entries ≡ true → defined_at v (length v.commits) entries ≡ true) c.self.view_is
-    (λ version below defined. still_defined (shape_of inside.schema) inside.commits.items version entries c.self.invariant.legal (subst (λ n. n ≤ version) last below) defined)
+    c.loop-entry.invariant ∙ ap (λ xs. last_touching xs 0 c.args.self.now.commits)
+    (take_all c.loop-entry.entry-index entries c.loop-entry-test.false)
+    ∙ ap (λ (v : History). last_touching entries 0 v.commits) (sym c.self.view_is) in
+    subst (λ (v : History). (version : ℕ) → c.loop-entry.last ≤ version → defined_at v version entries ≡ true
+    → defined_at v (length v.commits) entries ≡ true) c.self.view_is
+    (λ version below defined. still_defined (shape_of inside.schema) inside.commits.items version entries c.self.invariant.legal
+    (subst (λ n. n ≤ version) last below) defined)

@@ -10,4 +10,5 @@ pub invariant_of-result : goal.invariant_of-result
 invariant_of-result c =
     let schema = c.in_ok-clone.field-0 in
     let count = c.len.ensures ∙ ap length (sym c.in_ok-clone.ensures.cases) ∙ sym (length-map schema (λ table. table.1)) in
-    rw c.new.ensures.items (versions-none (shape_of schema) c.in_ok-no_chains.field-0.items (c.in_ok-no_chains.ensures ∙ ap (λ n. replicate {A = Chains} n []) count))
+    rw c.new.ensures.items (versions-none (shape_of schema) c.in_ok-no_chains.field-0.items
+    (c.in_ok-no_chains.ensures ∙ ap (λ n. replicate {A = Chains} n []) count))

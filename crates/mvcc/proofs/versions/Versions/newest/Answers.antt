@@ -8,5 +8,6 @@ use Rattle.mvcc.proofs.versions.Versions.newest.Goals as goal
 pub returns : goal.returns
 returns c =
     let inside = c.self.inside in
-    rw (← c.self.view_is) (c.newest_at.ensures ∙ ap (λ tables. newest_in (links_at tables c.args.table c.args.row.0)) c.as_slice.ensures.value
+    rw (← c.self.view_is) (c.newest_at.ensures
+    ∙ ap (λ tables. newest_in (links_at tables c.args.table c.args.row.0)) c.as_slice.ensures.value
     ∙ newest-at (shape_of inside.schema) inside.commits.items inside.chains.items c.args.table c.args.row.0 c.self.invariant.kept)

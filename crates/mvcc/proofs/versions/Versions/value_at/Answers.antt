@@ -12,20 +12,24 @@ use Rattle.mvcc.proofs.versions.Versions.value_at.Goals as goal
 pub values_at-requires : goal.values_at-requires
 values_at-requires c =
     let inside = c.self.inside in
-    subst (λ (tables : List Chains). IsNonDecreasingBy (λ (link : Link). link.version) (links_at tables c.args.table c.args.row.0)) (sym c.as_slice.ensures.value)
+    subst (λ (tables : List Chains). IsNonDecreasingBy (λ (link : Link). link.version) (links_at tables c.args.table c.args.row.0))
+    (sym c.as_slice.ensures.value)
     (sorted-at (shape_of inside.schema) inside.commits.items inside.chains.items c.args.table c.args.row.0 c.self.invariant.kept)
 
 pub returns-in_err-values : goal.returns-in_err-values
 returns-in_err-values c =
     let inside = c.self.inside in
     let found = ap (λ tables. values_at c.args.version (links_at tables c.args.table c.args.row.0)) c.as_slice.ensures.value
-    ∙ row-kept (shape_of inside.schema) inside.commits.items inside.chains.items c.args.version c.args.table c.args.row.0 c.self.invariant.legal c.self.invariant.kept in
-    rw (← c.self.view_is) (c.from_residual.ensures ∙ ap (option_and_then (λ values. slice_get values c.args.column)) (c.in_err-values.ensures ∙ found))
+    ∙ row-kept (shape_of inside.schema) inside.commits.items inside.chains.items c.args.version c.args.table c.args.row.0
+    c.self.invariant.legal c.self.invariant.kept in
+    rw (← c.self.view_is) (c.from_residual.ensures
+    ∙ ap (option_and_then (λ values. slice_get values c.args.column)) (c.in_err-values.ensures ∙ found))
 
 pub returns : goal.returns
 returns c =
     let inside = c.self.inside in
     let found = ap (λ tables. values_at c.args.version (links_at tables c.args.table c.args.row.0)) c.as_slice.ensures.value
-    ∙ row-kept (shape_of inside.schema) inside.commits.items inside.chains.items c.args.version c.args.table c.args.row.0 c.self.invariant.legal c.self.invariant.kept in
+    ∙ row-kept (shape_of inside.schema) inside.commits.items inside.chains.items c.args.version c.args.table c.args.row.0
+    c.self.invariant.legal c.self.invariant.kept in
     rw (← c.self.view_is) (c.column_of.ensures ∙ ap (λ values. slice_get values c.args.column) c.as_slice-2.ensures
     ∙ ap (option_and_then (λ values. slice_get values c.args.column)) (c.in_ok-values.ensures ∙ found))

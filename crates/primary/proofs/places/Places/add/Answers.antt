@@ -7,6 +7,9 @@ use Rattle.primary.proofs.places.Places.add.Goals as goal
 pub returns-clause-added : goal.returns-clause-added
 returns-clause-added c commits commit ours numbered are =
     let lists = c.self.inside.workers.items in
-    let there : c.args.worker < length lists = subst (λ (p : List Numbers). c.args.worker < length p) (sym c.self.view_is) (within-room c.args.self.now c.args.worker c.requires) in
+    let there : c.args.worker < length lists =
+    subst (λ (p : List Numbers). c.args.worker < length p) (sym c.self.view_is)
+    (within-room c.args.self.now c.args.worker c.requires) in
     let these : ArePlaces lists commits = subst (λ p. ArePlaces p commits) (sym c.self.view_is) are in
-    places-push lists commits commit c.index_mut-list.result.now c.add.new.self c.args.worker c.args.number there c.index_mut-list.ensures.value c.add.ensures ours numbered these
+    places-push lists commits commit c.index_mut-list.result.now c.add.new.self c.args.worker c.args.number there
+    c.index_mut-list.ensures.value c.add.ensures ours numbered these

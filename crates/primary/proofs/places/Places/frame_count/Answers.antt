@@ -14,7 +14,8 @@ returns c commits are =
     let version = c.args.version in
     let there : worker < length lists = subst (λ (p : List Numbers). worker < length p) (sym c.self.view_is) c.requires in
     let these : ArePlaces lists commits = subst (λ p. ArePlaces p commits) (sym c.self.view_is) are in
-    let same : numbers ≡ numbers_of commits worker = c.as_slice-numbers.ensures ∙ sym (numbers-kept lists worker c.index.result.now there c.index.ensures) ∙ these.each worker there in
+    let same : numbers ≡ numbers_of commits worker =
+    c.as_slice-numbers.ensures ∙ sym (numbers-kept lists worker c.index.result.now there c.index.ensures) ∙ these.each worker there in
     frame_count-from numbers commits worker version c.partition_point.result same c.partition_point.ensures.bound
     (λ rises.
     IsPartitionPoint-from_clause (λ n. nat_le n version) numbers c.partition_point.result c.partition_point.ensures.partitioned

@@ -9,7 +9,9 @@ pub invariant_of-self : goal.invariant_of-self
 invariant_of-self c =
     let inside = c.self.inside in
     let kept = c.self.invariant in
-    let moved : c.min-moved.result ≡ min c.args.count (length (drop inside.durable inside.versions.commits)) = c.min-moved.ensures ∙ ap (min c.args.count) c.pending.ensures ∙ ap (λ (p : Primary). min c.args.count (length p.pending)) (sym c.self.view_is) in
+    let moved : c.min-moved.result ≡ min c.args.count (length (drop inside.durable inside.versions.commits)) =
+    c.min-moved.ensures ∙ ap (min c.args.count) c.pending.ensures
+    ∙ ap (λ (p : Primary). min c.args.count (length p.pending)) (sym c.self.view_is) in
     record {
       some_workers = kept.some_workers;
       few_workers = kept.few_workers;
@@ -18,7 +20,9 @@ invariant_of-self c =
       kept = kept.kept;
       all_placed = kept.all_placed;
       placed = kept.placed;
-      text = moved_text inside.workers inside.versions.shape inside.versions.commits c.commits.result.now inside.durable c.min-moved.result inside.journal.items c.append.new.journal.items
+      text =
+          moved_text inside.workers inside.versions.shape inside.versions.commits c.commits.result.now inside.durable c.min-moved.result
+          inside.journal.items c.append.new.journal.items
           c.commits.ensures kept.within kept.text c.in-Ok.ensures.ok;
     }
 
@@ -26,7 +30,13 @@ pub returns-in-Ok-clause-ok : goal.returns-in-Ok-clause-ok
 returns-in-Ok-clause-ok c =
     let inside = c.self.inside in
     let kept = c.self.invariant in
-    let moved : c.min-moved.result ≡ min c.args.count (length (drop inside.durable inside.versions.commits)) = c.min-moved.ensures ∙ ap (min c.args.count) c.pending.ensures ∙ ap (λ (p : Primary). min c.args.count (length p.pending)) (sym c.self.view_is) in
-    let within : inside.durable + c.min-moved.result ≤ length inside.versions.commits = omega (arith, length-drop inside.durable inside.versions.commits, kept.within) in
-    rw (← c.self.view_is)
-    (c.if-self.false, flushed_is inside.versions inside.durable c.args.count c.min-moved.result inside.workers inside.failed moved, sym (length-take-le (inside.durable + c.min-moved.result) inside.versions.commits within))
+    let moved : c.min-moved.result ≡ min c.args.count (length (drop inside.durable inside.versions.commits)) =
+    c.min-moved.ensures ∙ ap (min c.args.count) c.pending.ensures
+    ∙ ap (λ (p : Primary). min c.args.count (length p.pending)) (sym c.self.view_is) in
+    let within : inside.durable + c.min-moved.result ≤ length inside.versions.commits =
+    omega (arith, length-drop inside.durable inside.versions.commits, kept.within) in
+    rw (← c.self.view_is) (
+      c.if-self.false,
+      flushed_is inside.versions inside.durable c.args.count c.min-moved.result inside.workers inside.failed moved,
+      sym (length-take-le (inside.durable + c.min-moved.result) inside.versions.commits within),
+    )

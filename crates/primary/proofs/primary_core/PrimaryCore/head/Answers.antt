@@ -30,8 +30,11 @@ returns c =
     let counted : c.counts.result ≡ counts_of (take inside.durable commits) (length (take inside.durable commits)) inside.workers =
     c.counts.ensures commits kept.placed ∙ sym (counts-durable commits inside.durable inside.workers kept.within) in
     let version : inside.durable ≡ length (take inside.durable commits) = sym (length-take-le inside.durable commits kept.within) in
-    let here : c.of.result ≡ spelling (head_for (primary_of inside.versions inside.durable inside.workers inside.failed) replica boot request) =
+    let here : c.of.result ≡ spelling
+    (head_for (primary_of inside.versions inside.durable inside.workers inside.failed) replica boot request) =
     c.of.ensures.spelled ∙ ap (λ counts. spelling (Head replica boot request inside.durable counts)) counted
-    ∙ ap (λ version. spelling (Head replica boot request version (counts_of (take inside.durable commits) (length (take inside.durable commits)) inside.workers))) version in
-    let there : c.of.result ≡ spelling (head_for c.args.self.now replica boot request) = here ∙ ap (λ p. spelling (head_for p replica boot request)) c.self.view_is in
+    ∙ ap (λ version. spelling (Head replica boot request version
+    (counts_of (take inside.durable commits) (length (take inside.durable commits)) inside.workers))) version in
+    let there : c.of.result ≡ spelling (head_for c.args.self.now replica boot request) =
+    here ∙ ap (λ p. spelling (head_for p replica boot request)) c.self.view_is in
     ap (λ packet. let out : Out = record { to = Replica replica; packet = packet } in out) there

@@ -3,4 +3,6 @@ use Rattle.primary.proofs.Telling.{told-put}
 use Rattle.primary.proofs.rows_told.RowsTold.tell.Goals as goal
 
 pub returns : goal.returns
-returns c = rw (← c.self.view_is) (told-put c.self.inside.rows.entries c.insert.new.self.entries c.args.table c.args.row.0 c.args.there c.in_ok-insert.ensures.updates.0)
+returns c =
+    rw (← c.self.view_is) (told-put c.self.inside.rows.entries c.insert.new.self.entries c.args.table c.args.row.0 c.args.there
+    c.in_ok-insert.ensures.updates.0)

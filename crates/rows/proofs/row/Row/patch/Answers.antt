@@ -4,9 +4,13 @@ use Rattle.rows.proofs.Columns.{column_at-good, column_at-wide}
 use Rattle.rows.proofs.row.Row.patch.Goals as goal
 
 pub first_value-requires-clause-good : goal.first_value-requires-clause-good
-first_value-requires-clause-good c = column_at-good c.args.kinds.now c.args.offset (length c.args.bytes.now) c.in-Some.column c.in-Some.kind (sym c.in-Some.ensures) c.requires
+first_value-requires-clause-good c =
+    column_at-good c.args.kinds.now c.args.offset (length c.args.bytes.now) c.in-Some.column c.in-Some.kind
+    (sym c.in-Some.ensures) c.requires
 
 pub first_value-requires-clause-wide : goal.first_value-requires-clause-wide
 first_value-requires-clause-wide c =
-    let wide = column_at-wide c.args.kinds.now c.args.offset (length c.args.bytes.now) c.in-Some.column c.in-Some.kind (sym c.in-Some.ensures) c.requires in
+    let wide =
+    column_at-wide c.args.kinds.now c.args.offset (length c.args.bytes.now) c.in-Some.column c.in-Some.kind
+    (sym c.in-Some.ensures) c.requires in
     omega (arith, wide)

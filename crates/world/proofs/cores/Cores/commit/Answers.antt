@@ -12,5 +12,7 @@ pub returns-in-Err-default-Memory : goal.returns-in-Err-default-Memory
 returns-in-Err-default-Memory c =
     let refused = c.in-Err-default-Memory.ensures.refused in
     let left = rw (c.take_open.ensures.left) at c.put_back.ensures in
-    let same = put_back_same _ _ c.self.view_is c.args.number c.in-Some.transaction c.in-Err-default-Memory.transaction _ (sym c.take_open.ensures.taken ∙ c.in-Some.is) left refused.0 in
+    let same =
+    put_back_same _ _ c.self.view_is c.args.number c.in-Some.transaction c.in-Err-default-Memory.transaction _
+    (sym c.take_open.ensures.taken ∙ c.in-Some.is) left refused.0 in
     rw (refused.1) (inr (inl (refl, same)))

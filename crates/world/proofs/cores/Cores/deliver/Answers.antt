@@ -10,7 +10,9 @@ returns-in-Replica c =
     let at = slice_get_read c.self.inside.sent.items _ c.args.place c.index.result.now refl sent_there c.index.ensures in
     let number = c.in-Replica.number in
     let there = rw (← c.self.view_is, c.in-Replica.is) at c.requires in
-    let replica_at = slice_get_read c.self.inside.replicas.items _ number c.index_mut-replica.result.now refl there c.index_mut-replica.ensures.value in
+    let replica_at =
+    slice_get_read c.self.inside.replicas.items _ number c.index_mut-replica.result.now refl there c.index_mut-replica.ensures.value in
     let came = rw c.bytes-bytes.ensures.bytes at c.on_bytes.ensures in
     rw (c.in-Replica.is, c.got_output.ensures)
-    (came_to _ _ c.self.view_is c.args.place c.index.result.now at number c.index_mut-replica.result.now c.on_bytes.new.self c.on_bytes.result replica_at came)
+    (came_to _ _ c.self.view_is c.args.place c.index.result.now at number c.index_mut-replica.result.now c.on_bytes.new.self
+    c.on_bytes.result replica_at came)

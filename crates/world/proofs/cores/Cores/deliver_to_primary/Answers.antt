@@ -20,6 +20,8 @@ returns c =
     let some : 0 < length c.in-Ok.outs.items = grind (arith, nat_tests) in
     let outs = rw c.bytes.ensures.bytes at c.in-Ok.ensures in
     elim c.match-send_all.branch [
-      | in-Ok-send_all w ↦ rw w.result-is (all_sent _ _ c.self.view_is c.args.place c.index.result.now at c.in-Ok.outs.items w.in-Ok-send_all.list _ outs some w.in-Ok-send_all.ensures.ok.0 w.in-Ok-send_all.ensures.ok.1)
+      | in-Ok-send_all w ↦ rw w.result-is
+          (all_sent _ _ c.self.view_is c.args.place c.index.result.now at c.in-Ok.outs.items w.in-Ok-send_all.list _ outs some
+          w.in-Ok-send_all.ensures.ok.0 w.in-Ok-send_all.ensures.ok.1)
       | in-Err w ↦ rw (w.result-is, w.in-Err.ensures.err) (inr (inl (refl, c.self.view_is)))
     ]

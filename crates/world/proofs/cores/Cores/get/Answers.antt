@@ -15,7 +15,9 @@ get-requires c =
     let primary = c.self.inside.primary in
     let there = rw (c.as_slice.ensures.value, c.in-Some.is) at c.find_open.ensures in
     let snapshots = rw (← c.self.view_is) at c.requires.snapshots in
-    let within = slot_at (λ (draft : Draft). draft.snapshot ≤ length primary.durable) c.self.inside.transactions.items c.args.number c.in-Some.transaction.now (sym there) snapshots in
+    let within =
+    slot_at (λ (draft : Draft). draft.snapshot ≤ length primary.durable) c.self.inside.transactions.items c.args.number
+    c.in-Some.transaction.now (sym there) snapshots in
     rw c.versions.ensures (omega (arith, length-append primary.durable primary.pending))
 
 pub returns-in-Some : goal.returns-in-Some

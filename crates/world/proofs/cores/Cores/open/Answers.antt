@@ -8,8 +8,13 @@ use Rattle.world.proofs.cores.Cores.open.Goals.{in-Ok, in-Err}
 pub returns : goal.returns
 returns c =
     let there = rw (← c.self.view_is) at c.requires in
-    let at = slice_get_read c.self.inside.replicas.items _ c.args.number c.index_mut-replica.result.now refl there c.index_mut-replica.ensures.value in
+    let at =
+    slice_get_read c.self.inside.replicas.items _ c.args.number c.index_mut-replica.result.now refl there
+    c.index_mut-replica.ensures.value in
     elim c.match-open.branch [
-      | in-Ok w ↦ rw w.result-is (opened_query _ _ c.self.view_is c.args.number _ c.open.new.self at c.args.plan w.in-Ok.count w.in-Ok.ensures.ok)
-      | in-Err w ↦ rw (w.result-is, w.open_output.ensures) (open_refused _ _ c.self.view_is c.args.number _ c.open.new.self at c.args.plan w.in-Err.fault w.in-Err.ensures.refused.0 w.in-Err.ensures.refused.1)
+      | in-Ok w ↦ rw w.result-is (opened_query _ _ c.self.view_is c.args.number _ c.open.new.self at c.args.plan w.in-Ok.count
+          w.in-Ok.ensures.ok)
+      | in-Err w ↦ rw (w.result-is, w.open_output.ensures)
+          (open_refused _ _ c.self.view_is c.args.number _ c.open.new.self at c.args.plan w.in-Err.fault w.in-Err.ensures.refused.0
+          w.in-Err.ensures.refused.1)
     ]

@@ -10,14 +10,17 @@ use Rattle.world.proofs.cores.Cores.set.Goals.{in-Ok, in-Err}
 
 pub returns-in_default : goal.returns-in_default
 returns-in_default c =
-    change_nothing _ _ c.self.view_is c.args.number (Set c.args.number c.args.table c.args.row c.args.column c.args.value) (setting c.self.inside.primary c.args.table c.args.row.0 c.args.column c.args.value) refl
+    change_nothing _ _ c.self.view_is c.args.number (Set c.args.number c.args.table c.args.row c.args.column c.args.value)
+    (setting c.self.inside.primary c.args.table c.args.row.0 c.args.column c.args.value) refl
     c.take_open.new.transactions.items (sym c.take_open.ensures.taken ∙ c.in_default.is) c.take_open.ensures.left
 
 pub set-set-requires : goal.set-set-requires
 set-set-requires c =
     let primary = c.self.inside.primary in
     let snapshots = rw (← c.self.view_is) at c.requires.snapshots in
-    let within = slot_at (λ (draft : Draft). draft.snapshot ≤ length primary.durable) c.self.inside.transactions.items c.args.number c.in-Some.transaction (sym c.take_open.ensures.taken ∙ c.in-Some.is) snapshots in
+    let within =
+    slot_at (λ (draft : Draft). draft.snapshot ≤ length primary.durable) c.self.inside.transactions.items c.args.number
+    c.in-Some.transaction (sym c.take_open.ensures.taken ∙ c.in-Some.is) snapshots in
     rw c.versions.ensures (omega (arith, length-append primary.durable primary.pending))
 
 pub returns : goal.returns
@@ -31,6 +34,7 @@ returns c =
     elim c.match-set.branch [
       | in-Ok w ↦ rw w.result-is (changed _ _ c.self.view_is c.args.number event change refl draft after _ there left
           (rw (c.versions.ensures) at w.in-Ok.ensures.ok))
-      | in-Err w ↦ rw (w.result-is, w.change_output.ensures) (change_refused _ _ c.self.view_is c.args.number event change refl draft after _ _ there left
+      | in-Err w ↦ rw (w.result-is, w.change_output.ensures)
+          (change_refused _ _ c.self.view_is c.args.number event change refl draft after _ _ there left
           w.in-Err.ensures.refused.0 (rw (c.versions.ensures) at w.in-Err.ensures.refused.1))
     ]

@@ -10,7 +10,9 @@ loop-number-preserved c =
     let next = replicas_left (shape_of c.args.schema.now) c.args.workers c.loop-number.number c.args.replicas (omega arith) in
     record {
       made = rw (c.in_ok-push.ensures.items, c.in_ok-start.ensures, append_assoc) (rw next at c.loop-number.invariant.made);
-      noted = rw (c.in_ok-push-2.ensures.items, append_assoc) (rw (zeros_left c.loop-number.number c.args.replicas (omega arith)) at c.loop-number.invariant.noted);
+      noted =
+          rw (c.in_ok-push-2.ensures.items, append_assoc)
+          (rw (zeros_left c.loop-number.number c.args.replicas (omega arith)) at c.loop-number.invariant.noted);
     }
 
 pub returns : goal.returns
