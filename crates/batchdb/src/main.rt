@@ -7,7 +7,7 @@
 
 mod program;
 
-pub use program::run_words;
+pub use program::{run_words, without_words};
 use std::process::ExitCode;
 use std::{env, io};
 
@@ -17,8 +17,16 @@ mod tests;
 /// Runs the words that the program was called with, and ends with their status.
 fn main(rt: HostRuntime) -> io::Result<ExitCode> {
     let mut words = Vec::new(rt.alloc());
-    for word in env::args(&rt)? {
-        words.push(word)?;
+    match env::args(&rt) {
+        Ok(given) => {
+            for word in given {
+                words.push(word)?;
+            }
+        }
+        Err(fault) => {
+            let status = without_words(fault.kind(), &mut rt.stderr());
+            return Ok(ExitCode::from(status));
+        }
     }
     let mut texts = Vec::new(rt.alloc());
     for word in &words {

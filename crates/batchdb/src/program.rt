@@ -3,11 +3,12 @@
 ghost use Rattle.std.specs.Prelude.{◌≡◌, ◌≤◌};
 ghost use Rattle.batchdb.specs.Status.{fault_status};
 
-use clap::Command;
 use clap::error::ErrorKind;
-use std::alloc::{AllocError, Global};
+use clap::{Arg, ArgAction, Command, Error};
+use std::alloc::Global;
+use std::io;
 use std::io::{Read, Write};
-use world::{RunFault, run_script};
+use world::{Echo, RunFault, run_script};
 
 /// The work was done.
 const DONE: u8 = 0;
@@ -17,6 +18,28 @@ const FAILED: u8 = 1;
 
 /// Words or a script that do not read.
 const NOT_READ: u8 = 2;
+
+/// What `--version` prints behind the program's name. The kit is what `rt version` prints.
+const VERSION: &str = "0.1.0, proved with rattle-kit-13b logic dac8208d650f15bf";
+
+/// What `--help` prints.
+const HELP: &str = "\
+batchdb: a replicated engine for transactions and analytics
+
+Usage:
+  batchdb sim [--echo] < SCRIPT   runs a script, and prints what each of its events answers;
+                                  with --echo each event stands before that, behind \"> \"
+  batchdb --help, batchdb help    prints this
+  batchdb --version               prints the version, and the kit that proved it
+
+Example:
+  batchdb sim --echo < examples/first-commit.script
+
+Exit status:
+  0  all was done
+  1  a read or a write failed, or there was too little memory
+  2  the words or the script do not read; no event was run
+";
 
 /// Runs the program with these words, the first of which is its own name, and answers its exit
 /// status: 0, all was done; 1, a read or a write failed or memory was wanted; 2, the words or the
@@ -30,40 +53,96 @@ pub fn run_words<R: Read, W: Write, E: Write>(
 ) -> u8
     ensures { result ≤ 2 }
 {
-    match is_sim(alloc, words) {
-        Ok(true) => simulate(alloc, reader, writer, errors),
-        Ok(false) => {
-            say(errors, "expected the word `sim`: batchdb sim < SCRIPT");
+    match asked(alloc, words) {
+        Ok(Some(echo)) => simulate(alloc, echo, reader, writer, errors),
+        Ok(None) => {
+            say(
+                errors,
+                "error: a word is missing: `sim`; see `batchdb --help`",
+            );
             NOT_READ
         }
-        Err(_) => {
+        Err(answer) => tell(alloc, answer, writer, errors),
+    }
+}
+
+/// What the simulator is asked for; `None` where there is no word at all. Fails with what is to be
+/// said of other words: help, the version, or what is wrong with them.
+fn asked(alloc: Global, words: &[&str]) -> Result<Option<Echo>, Error> {
+    let echo = Arg::new(alloc, "echo")
+        .long("echo")
+        .action(ArgAction::SetTrue);
+    let sim = Command::new(alloc, "sim").override_help(HELP).arg(echo)?;
+    let command = Command::new(alloc, "batchdb")
+        .version(VERSION)
+        .override_help(HELP)
+        .subcommand(sim)?;
+    let matches = command.try_get_matches_from(words)?;
+    match matches.subcommand_matches("sim") {
+        Some(sim) if sim.get_flag("echo") => Ok(Some(Echo::Events)),
+        Some(_) => Ok(Some(Echo::No)),
+        None => Ok(None),
+    }
+}
+
+/// Says what the words are answered with: help and the version on the output, what is wrong with
+/// them in one line on the errors.
+fn tell<W: Write, E: Write>(alloc: Global, answer: Error, writer: &mut W, errors: &mut E) -> u8
+    ensures { result ≤ 2 }
+{
+    let Some(text) = text_of(alloc, &answer) else {
+        say(errors, "out of memory");
+        return FAILED;
+    };
+    let text = text.as_str();
+    if answer.use_stderr() {
+        // The first line says what is wrong; what follows it is advice.
+        let line = text.split_once('\n').map_or(text, |(line, _)| line);
+        let _ = writeln!(errors, "{line}; see `batchdb --help`");
+        return NOT_READ;
+    }
+    if writer.write_all(text.as_bytes()).is_err() || writer.flush().is_err() {
+        say(errors, "the output could not be written");
+        return FAILED;
+    }
+    DONE
+}
+
+/// What words are answered with, as text; `None` for want of memory, then or now.
+fn text_of(alloc: Global, answer: &Error) -> Option<String> {
+    match answer.kind() {
+        ErrorKind::OutOfMemory => None,
+        _ => format!(in alloc; "{answer}").ok(),
+    }
+}
+
+/// The exit status where the words could not be had, of which one line on `errors` says why.
+pub fn without_words<E: Write>(fault: io::ErrorKind, errors: &mut E) -> u8
+    ensures { result ≤ 2 }
+{
+    match fault {
+        io::ErrorKind::InvalidData => {
+            say(errors, "error: a word is no text; see `batchdb --help`");
+            NOT_READ
+        }
+        _ => {
             say(errors, "out of memory");
             FAILED
         }
     }
 }
 
-/// Whether the words are those of the simulator. Fails for want of memory alone.
-fn is_sim(alloc: Global, words: &[&str]) -> Result<bool, AllocError> {
-    let sim = Command::new(alloc, "sim");
-    let command = Command::new(alloc, "batchdb").subcommand(sim)?;
-    match command.try_get_matches_from(words) {
-        Ok(matches) => Ok(matches.subcommand_name() == Some("sim")),
-        Err(fault) if fault.kind() == ErrorKind::OutOfMemory => Err(AllocError),
-        Err(_) => Ok(false),
-    }
-}
-
 /// Runs the script.
 fn simulate<R: Read, W: Write, E: Write>(
     alloc: Global,
+    echo: Echo,
     reader: &mut R,
     writer: &mut W,
     errors: &mut E,
 ) -> u8
     ensures { result ≤ 2 }
 {
-    match run_script(alloc, reader, writer) {
+    match run_script(alloc, echo, reader, writer) {
         Ok(()) => DONE,
         Err(fault) => {
             // The line is lost where it cannot be written; the status still tells.

@@ -4,7 +4,7 @@ use crate::scripts::{SETTINGS, printed, refusal};
 use std::test::Fail;
 
 /// Scripts that do not read, with the line that says why.
-const BAD_SETTINGS: [(&str, &str); 10] = [
+const BAD_SETTINGS: [(&str, &str); 13] = [
     ("", "line 1: bad setting"),
     ("workers 1\n", "line 2: bad setting"),
     ("workers 1\nreplicas 1\n# no table\n", "line 4: bad setting"),
@@ -15,10 +15,13 @@ const BAD_SETTINGS: [(&str, &str); 10] = [
     ("begin\n", "line 1: bad setting"),
     ("workers 1\nreplicas 1\ntable acct\n", "line 3: bad setting"),
     ("workers 1\nreplicas\t1\n", "line 2: not text"),
+    ("workers 1\r\nreplicas 1\r\n", "line 1: not text"),
+    ("\u{feff}workers 1\n", "line 1: not text"),
+    ("WORKERS 1\n", "line 1: bad setting"),
 ];
 
 /// What does not read behind the three settings, with the line that says why.
-const BAD_EVENTS: [(&str, &str); 32] = [
+const BAD_EVENTS: [(&str, &str); 41] = [
     ("frobnicate", "line 4: unknown event"),
     ("\n# a comment\nfrobnicate", "line 6: unknown event"),
     ("# caf\u{e9}", "line 4: not text"),
@@ -51,6 +54,15 @@ const BAD_EVENTS: [(&str, &str); 32] = [
     ("open 0 query acct get sum 0", "line 4: bad words"),
     ("open 0 query site get count", "line 4: no table"),
     ("run 1", "line 4: bad words"),
+    ("Begin", "line 4: unknown event"),
+    ("BEGIN", "line 4: unknown event"),
+    ("begin;", "line 4: unknown event"),
+    ("begin 0", "line 4: bad words"),
+    ("commit 0 0;", "line 4: bad words"),
+    ("get 0 Acct 7 0", "line 4: bad words"),
+    ("get 0 acct 07 0", "line 4: bad words"),
+    ("get 0 acct +7 0", "line 4: bad words"),
+    ("insert 0 acct 7 xAB 0", "line 4: bad words"),
 ];
 
 /// What may not follow `table ` behind the settings.

@@ -1,19 +1,24 @@
 //! Scripts from their text to what they print, and what the crate `world` gives its callers.
 
 use rows::{Kind, Schema};
-use std::alloc::Global;
+use std::alloc::{AllocError, Global};
 use std::process::Abort;
 use std::test::Fail;
 use world::{
-    Event, Node, Output, RunFault, Setup, read_script, run, run_script, steps_are_allowed,
+    Echo, Event, Node, Output, RunFault, Setup, read_script, run, run_script, steps_are_allowed,
     worked_scripts,
 };
 
 /// What a script prints.
 pub fn printed(alloc: Global, script: &[u8]) -> Result<Vec<u8>, Fail> {
+    printed_with(alloc, Echo::No, script)
+}
+
+/// What a script prints, with its events or without.
+fn printed_with(alloc: Global, echo: Echo, script: &[u8]) -> Result<Vec<u8>, Fail> {
     let mut reader = script;
     let mut text = Vec::new(alloc);
-    run_script(alloc, &mut reader, &mut text)?;
+    run_script(alloc, echo, &mut reader, &mut text)?;
     Ok(text)
 }
 
@@ -23,31 +28,51 @@ pub const SETTINGS: &str = "workers 1\nreplicas 1\ntable acct int int\n";
 /// Two tables, one with a column of bytes.
 pub const TWO_TABLES: &str = "workers 1\nreplicas 1\ntable acct int int\ntable item int bytes2\n";
 
-/// Refuses what the events behind these settings print, unless it is what stands beside them.
+/// Refuses what the events behind these settings print, unless it is what stands beside them; and
+/// what they print where events are shown, unless each event stands there as it is written here.
 pub fn expect(
     rt: &impl Abort,
     alloc: Global,
     settings: &str,
     story: &[(&str, &str)],
 ) -> Result<(), Fail> {
+    expect_with(rt, alloc, Echo::No, settings, story)?;
+    expect_with(rt, alloc, Echo::Events, settings, story)
+}
+
+fn expect_with(
+    rt: &impl Abort,
+    alloc: Global,
+    echo: Echo,
+    settings: &str,
+    story: &[(&str, &str)],
+) -> Result<(), Fail> {
     let mut script = String::from_str(alloc, settings)?;
     let mut expected = String::new(alloc);
     for (event, answer) in story {
-        script.push_str(event)?;
-        script.push_str("\n")?;
-        expected.push_str(answer)?;
-        expected.push_str("\n")?;
+        push_line(&mut script, "", event)?;
+        if echo == Echo::Events {
+            push_line(&mut expected, "> ", event)?;
+        }
+        push_line(&mut expected, "", answer)?;
     }
-    let text = printed(alloc, script.as_bytes())?;
+    let text = printed_with(alloc, echo, script.as_bytes())?;
     assert_eq!(rt; text.as_slice(), expected.as_bytes());
     Ok(())
+}
+
+/// Adds a line.
+fn push_line(text: &mut String, front: &str, line: &str) -> Result<(), AllocError> {
+    text.push_str(front)?;
+    text.push_str(line)?;
+    text.push_str("\n")
 }
 
 /// The line that says why a script does not run; nothing where it does, or where it wrote anything.
 pub fn refusal(alloc: Global, script: &[u8]) -> Result<String, Fail> {
     let mut reader = script;
     let mut text = Vec::new(alloc);
-    match run_script(alloc, &mut reader, &mut text) {
+    match run_script(alloc, Echo::No, &mut reader, &mut text) {
         Err(RunFault::Script { line, reason }) if text.is_empty() => {
             Ok(format!(in alloc; "line {line}: {reason}")?)
         }

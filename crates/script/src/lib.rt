@@ -1,13 +1,15 @@
 //! Scripts of the simulator: settings, events and outputs as values, and their text.
 //!
 //! `read_script` reads the settings and the events of a script, or says which line is the first
-//! that does not read, and why. `text_of` is the text of what events answer. `specs/` says which
-//! events may be asked for (`Events.antt`). What the text of a line is, is shown by tests.
+//! that does not read, and why. `text_of` is the text of what events answer, and `echoed_text_of`
+//! has the line of each event before it. `specs/` says which events may be asked for
+//! (`Events.antt`). What the text of a line is, is shown by tests.
 //!
 //! It stands on `rows` for schemas and values, and on `dispatcher` for plans.
 #![tactic(auto)]
 
 mod event;
+mod event_text;
 mod line_fault;
 mod output;
 mod output_text;
@@ -16,9 +18,11 @@ mod script_fault;
 mod sent;
 mod settings;
 mod setup;
+mod value_text;
 mod words;
 
 pub use event::{Event, Node};
+pub use event_text::echoed_text_of;
 pub use output::Output;
 pub use output_text::text_of;
 pub use reading::read_script;

@@ -1,11 +1,9 @@
 //! The lines of outputs.
 
-ghost use Rattle.std.specs.Prelude.{◌<◌};
-
 use crate::output::Output;
 use crate::sent::Sent;
+use crate::value_text::{push_hex, push_value};
 use dispatcher::PlanFault;
-use rows::Value;
 use std::alloc::{AllocError, Global};
 
 /// The text of outputs, a line for each, but two for a run that waits for a frame and as many as
@@ -19,14 +17,18 @@ pub fn text_of(alloc: Global, outputs: &[Output]) -> Result<Vec<u8>, AllocError>
 }
 
 /// Adds the lines of an output.
-fn push_output(alloc: Global, text: &mut Vec<u8>, output: &Output) -> Result<(), AllocError> {
+pub fn push_output(alloc: Global, text: &mut Vec<u8>, output: &Output) -> Result<(), AllocError> {
     match output {
         Output::Report(report) => text.extend_from_slice(report.as_slice()),
         Output::Shown(bytes) => {
             push_hex(text, bytes.as_slice())?;
             text.extend_from_slice(b"\n")
         }
-        Output::Value(value) => push_value(alloc, text, value),
+        Output::Value(value) => {
+            text.extend_from_slice(b"value ")?;
+            push_value(alloc, text, value)?;
+            text.extend_from_slice(b"\n")
+        }
         Output::Sent(list) => push_sent(alloc, text, list.as_slice()),
         Output::Waiting { worker, seq, want } => {
             let line = format!(in alloc; "waiting {worker} {seq}\n")?;
@@ -36,21 +38,6 @@ fn push_output(alloc: Global, text: &mut Vec<u8>, output: &Output) -> Result<(),
         other => {
             let line = line_of(alloc, other)?;
             text.extend_from_slice(line.as_bytes())?;
-            text.extend_from_slice(b"\n")
-        }
-    }
-}
-
-/// Adds the line of a value: a number in decimal, or `x` and bytes in lower-case hexadecimal.
-fn push_value(alloc: Global, text: &mut Vec<u8>, value: &Value) -> Result<(), AllocError> {
-    match value {
-        Value::Int(number) => {
-            let line = format!(in alloc; "value {number}\n")?;
-            text.extend_from_slice(line.as_bytes())
-        }
-        Value::Octets(bytes) => {
-            text.extend_from_slice(b"value x")?;
-            push_hex(text, bytes.as_slice())?;
             text.extend_from_slice(b"\n")
         }
     }
@@ -69,25 +56,6 @@ fn push_one_sent(alloc: Global, text: &mut Vec<u8>, sent: &Sent) -> Result<(), A
     let len = sent.len;
     let line = format!(in alloc; "sent {place} {len}\n")?;
     text.extend_from_slice(line.as_bytes())
-}
-
-/// Adds bytes in lower-case hexadecimal.
-fn push_hex(text: &mut Vec<u8>, bytes: &[u8]) -> Result<(), AllocError> {
-    for byte in bytes {
-        text.push(hex_digit(*byte >> 4))?;
-        text.push(hex_digit(*byte & 15))?;
-    }
-    Ok(())
-}
-
-fn hex_digit(digit: u8) -> u8
-    requires { digit < 16 }
-{
-    if digit < 10 {
-        b'0' + digit
-    } else {
-        b'a' + (digit - 10)
-    }
 }
 
 /// The line of an output that has exactly one.

@@ -23,7 +23,7 @@ mod transacting;
 mod worked;
 
 pub use script::{Event, Node, Output, Reason, ScriptFault, Sent, SentList, Setup, read_script};
-pub use script_running::{RunFault, run_script};
+pub use script_running::{Echo, RunFault, run_script};
 pub use simulator::run;
 pub use theorem::steps_are_allowed;
 pub use worked::worked_scripts;

@@ -1,7 +1,7 @@
 //! A script from a reader to a writer.
 
 use crate::simulator::run;
-use script::{Reason, ScriptFault, read_script, text_of};
+use script::{Reason, ScriptFault, echoed_text_of, read_script, text_of};
 use std::alloc::{AllocError, Global};
 use std::io::{ErrorKind, Read, Write};
 use thiserror::Error;
@@ -23,9 +23,19 @@ pub enum RunFault {
     Memory,
 }
 
+/// What stands before the lines that an event answers.
+#[derive(Clone, Copy, Debug, PartialEq, Eq)]
+pub enum Echo {
+    /// Nothing.
+    No,
+    /// The event's own line, behind `> `.
+    Events,
+}
+
 /// Reads a script to its end, runs all its events, and then writes the text of what they answer.
 pub fn run_script<R: Read, W: Write>(
     alloc: Global,
+    echo: Echo,
     reader: &mut R,
     writer: &mut W,
 ) -> Result<(), RunFault> {
@@ -36,7 +46,7 @@ pub fn run_script<R: Read, W: Write>(
             _ => RunFault::Read,
         });
     }
-    let text = match output_of(alloc, script.as_slice()) {
+    let text = match output_of(alloc, echo, script.as_slice()) {
         Ok(text) => text,
         Err(ScriptFault::At { line, reason }) => return Err(RunFault::Script { line, reason }),
         Err(ScriptFault::Memory) => return Err(RunFault::Memory),
@@ -48,8 +58,13 @@ pub fn run_script<R: Read, W: Write>(
 }
 
 /// The text of what a script's events answer.
-fn output_of(alloc: Global, script: &[u8]) -> Result<Vec<u8>, ScriptFault> {
+fn output_of(alloc: Global, echo: Echo, script: &[u8]) -> Result<Vec<u8>, ScriptFault> {
     let (setup, events) = read_script(alloc, script)?;
-    let outputs = run(alloc, &setup, events.as_slice())?;
-    Ok(text_of(alloc, outputs.as_slice())?)
+    let events = events.as_slice();
+    let outputs = run(alloc, &setup, events)?;
+    let outputs = outputs.as_slice();
+    match echo {
+        Echo::No => Ok(text_of(alloc, outputs)?),
+        Echo::Events => Ok(echoed_text_of(alloc, &setup.schema, events, outputs)?),
+    }
 }
