@@ -13,7 +13,6 @@ use Rattle.dispatcher.specs.Replica.{Replica}
 use Rattle.dispatcher.specs.Steps.{started}
 use Rattle.dispatcher.specs.Feeding.{IsFedFrom}
 use Rattle.dispatcher.proofs.Feeding.{fresh-fed}
-use Rattle.mvcc.specs.Draft.{Draft}
 use Rattle.mvcc.specs.Transactions.{insert_answer, set_answer, delete_answer, get_answer}
 use Rattle.script.specs.declared.event.Event.{Event}
 use Rattle.script.specs.declared.event.Event.TheVariants as events
