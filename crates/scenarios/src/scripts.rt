@@ -5,8 +5,8 @@ use std::alloc::{AllocError, Global};
 use std::process::Abort;
 use std::test::Fail;
 use world::{
-    Echo, Event, Node, Output, RunFault, Setup, read_script, run, run_script, steps_are_allowed,
-    worked_scripts,
+    Echo, Event, Node, Output, RunFault, Setup, allowed_runs_are_exact, read_script, run,
+    run_script, runs_keep_promises, worked_scripts,
 };
 
 /// What a script prints.
@@ -233,6 +233,7 @@ fn a_run_answers_each_event(rt: HostRuntime) -> Result<(), Fail> {
 
 #[test]
 fn the_laws_can_be_called() {
-    steps_are_allowed();
+    runs_keep_promises();
+    allowed_runs_are_exact();
     worked_scripts();
 }

@@ -27,7 +27,7 @@ use Rattle.mvcc.specs.Transactions.{set_answer, delete_answer}
 use Rattle.mvcc.proofs.Columns.{column-within}
 use Rattle.script.specs.Events.{IsValue}
 use Rattle.world.proofs.Lists.{All-append, All-get}
-use Rattle.world.proofs.Sound.{IsSmallDraft}
+use Rattle.world.specs.Inner.Sound.{IsSmallDraft}
 use Rattle.world.proofs.Datagrams.{bytes-below}
 use Rattle.world.proofs.Adding.{IsAdded, insert-added, set-added, delete-added}
 use Rattle.world.proofs.Placing.{length-value, width-some, width-few, good-at, column-matched}

@@ -32,10 +32,10 @@ use Rattle.dispatcher.proofs.Streams.{count-is, frame-commit}
 use Rattle.dispatcher.proofs.Versions.{tables-stay}
 use Rattle.world.specs.Outputs.{of_look, packets_of}
 use Rattle.world.specs.Parts.{Parts}
-use Rattle.world.specs.Steps.{changing, change_by, look_by, committing, commit_by, abort_by, push_by, to_primary}
+use Rattle.world.specs.Inner.Steps.{changing, change_by, look_by, committing, commit_by, abort_by, push_by, to_primary}
 use Rattle.world.specs.World.{open_draft, change_happens, commit_happens, abort_happens, on_draft, push_happens}
 use Rattle.world.proofs.Lists.{get-set, get-append, get-one, All-get, All-left, All-append}
-use Rattle.world.proofs.Sound.{Sound, IsSoundPrimary, IsSmall, IsSmallDraft, Means}
+use Rattle.world.specs.Inner.Sound.{Sound, IsSoundPrimary, IsSmall, IsSmallDraft, Means}
 use Rattle.world.proofs.Datagrams.{frame-read, head-read}
 use Rattle.world.specs.Standing.{world_of}
 use Rattle.world.proofs.Moves.{Follows, legal-durable, Sound-drafts, Sound-sent, Sound-one, Sound-primary}

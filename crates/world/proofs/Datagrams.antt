@@ -24,7 +24,7 @@ use Rattle.wire.specs.Reading.{reading, body_at, counts_at}
 use Rattle.wire.specs.Spelling.{datagram_of, spelling, frame_spelling, IsAsk}
 use Rattle.wire.proofs.SpelledIsRead.{reading-again}
 use Rattle.dispatcher.proofs.Streams.{whole_frame}
-use Rattle.world.proofs.Sound.{IsSmall}
+use Rattle.world.specs.Inner.Sound.{IsSmall}
 
 -- entries of a small commit take few bytes
 entries_few : (entries : List Entry) → AllByRecursion EntryHasSpelling entries

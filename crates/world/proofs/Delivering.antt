@@ -15,7 +15,7 @@ use Rattle.script.specs.declared.output.Output.TheVariants as outputs
 use Rattle.script.specs.declared.sent.Sent.{Sent}
 use Rattle.world.specs.Outputs.{of_got, of_answers, packets_of, sent_from}
 use Rattle.world.specs.Parts.{Parts}
-use Rattle.world.specs.Steps.{to_primary, to_replica, to_node, got_by, deliver_by, with_replica, MayStep}
+use Rattle.world.specs.Inner.Steps.{to_primary, to_replica, to_node, got_by, deliver_by, with_replica, MayStep}
 use Rattle.world.proofs.Moving.{replica_same}
 
 module _ (p old : Parts) (seen : p ≡ old) (place : ℕ) (bytes : List ℕ) (at : slice_get p.sent place ≡ Some bytes) where

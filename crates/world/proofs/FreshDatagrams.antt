@@ -31,7 +31,8 @@ use Rattle.world.specs.Outputs.{of_answers, packets_of}
 use Rattle.world.specs.World.{World, Member, Batch, send, push_happens, head_happens, datagram_happens, on_member, member_output}
 use Rattle.world.specs.World.{deliver_happens, shown}
 use Rattle.world.proofs.Datagrams.{frame-reads, head-reads}
-use Rattle.world.proofs.Fresh.{IsFreshBatch, IsFreshMember, IsFreshHead, IsFreshReading, Fresh, Fresh-sent, Follows, alike, Fresh-member}
+use Rattle.world.specs.Inner.Fresh.{IsFreshBatch, IsFreshMember, IsFreshHead, IsFreshReading, Fresh}
+use Rattle.world.proofs.Fresh.{Fresh-sent, Follows, alike, Fresh-member}
 use Rattle.world.proofs.Serving.{IsNoReport, Serves, quiet}
 
 -- one more datagram is sent

@@ -21,7 +21,8 @@ use Rattle.world.specs.World.{ask_bytes, run_happens, lacks_frame, wait_happens,
 use Rattle.world.specs.Allowed.{RunIsCut, RunIsCutAt, MayHappen}
 use Rattle.world.proofs.Lists.{get-set_same}
 use Rattle.world.proofs.Datagrams.{ask-read, ask-kept}
-use Rattle.world.proofs.Fresh.{IsFreshBatch, IsFreshReading, Fresh, Fresh-drafts, Fresh-sent, Follows, alike, Fresh-member}
+use Rattle.world.specs.Inner.Fresh.{IsFreshBatch, IsFreshReading, Fresh}
+use Rattle.world.proofs.Fresh.{Fresh-drafts, Fresh-sent, Follows, alike, Fresh-member}
 use Rattle.world.proofs.Serving.{IsNoReport, Serves, quiet, change-serves, look-serves, commit-serves, abort-serves, flush-serves}
 use Rattle.world.proofs.FreshDatagrams.{send-serves, push-serves, deliver-serves, show-serves}
 
@@ -197,19 +198,7 @@ cut-event : (w : World) (event : Event) (output : Output) (new : World) → Fres
     → Serves w event (output, new)
 cut-event w (events.Run replica) output new h cut =
     cut-serves w (events.Run replica) replica (slice_get w.members replica) output new h refl cut
-cut-event w events.Begin output new h cut = absurd cut
-cut-event w (events.Insert transaction table row values) output new h cut = absurd cut
-cut-event w (events.Set transaction table row column value) output new h cut = absurd cut
-cut-event w (events.Delete transaction table row) output new h cut = absurd cut
-cut-event w (events.Get transaction table row column) output new h cut = absurd cut
-cut-event w (events.Commit transaction worker) output new h cut = absurd cut
-cut-event w (events.Abort transaction) output new h cut = absurd cut
-cut-event w (events.Flush count) output new h cut = absurd cut
-cut-event w (events.Push worker seq) output new h cut = absurd cut
-cut-event w (events.Deliver place node) output new h cut = absurd cut
-cut-event w (events.Show place) output new h cut = absurd cut
-cut-event w (events.Open replica plan) output new h cut = absurd cut
-cut-event w (events.Ask replica) output new h cut = absurd cut
+cut-event w other output new h cut = absurd cut
 
 pub step-serves : (old : World) (event : Event) (output : Output) (new : World) → Fresh old → MayHappen old event output new
     → Serves old event (output, new)

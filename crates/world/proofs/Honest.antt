@@ -43,30 +43,22 @@ use Rattle.script.specs.declared.event.Node.TheVariants as nodes
 use Rattle.script.specs.declared.output.Output.{Output}
 use Rattle.script.specs.declared.output.Output.TheVariants as outputs
 use Rattle.world.specs.Outputs.{of_change, of_look, of_commit, of_answers}
-use Rattle.world.specs.Theorem.{DurableOnlyGrows, IsFaultless, AllowedAreFaultless}
+use Rattle.world.specs.Theorem.{IsBeginning, IsFaultless}
 use Rattle.world.specs.World.{World, Member, Batch, open_draft, happens, opening_world, with_member, send, on_draft, change_happens}
 use Rattle.world.specs.World.{commit_happens, abort_happens, push_happens, head_happens, datagram_happens, on_member, member_output}
 use Rattle.world.specs.World.{deliver_happens, shown, open_happens, ask_happens, new_batch, ask_bytes, run_happens, lacks_frame}
 use Rattle.world.specs.World.{wait_happens, want_bytes, batch_report}
-use Rattle.world.specs.Allowed.{RunIsCut, RunIsCutAt, MayHappen, Runs}
+use Rattle.world.specs.Inner.Honest.{IsBegun, IsHonest}
+use Rattle.world.specs.Allowed.{RunIsCut, RunIsCutAt, MayHappen}
 use Rattle.world.proofs.Lists.{get-set, get-append, get-one}
 use Rattle.world.proofs.Defined.{IsDefined, insert-defined, set-defined, delete-defined}
 use Rattle.world.proofs.Committing.{opened}
 
--- a transaction that the primary began: its entries are defined on the rows at a version that is durable
-record IsBegun (p : Primary) (draft : Draft) : Type 0 where
-  known : draft.snapshot ≤ length p.durable
-  defined : is_ok (changes_of p.shape (tables_after p.shape p.durable draft.snapshot) draft.entries) ≡ true
-
-record IsHonest (w : World) : Type 0 where
-  whole : w.primary.failed ≡ false
-  begun : (i : ℕ) (draft : Draft) → slice_get w.transactions i ≡ Some (Some draft) → IsBegun w.primary draft
-
 -- what a step is to be
-record IsFine (old : World) (answer : Output × World) : Type 0 where
-  grows : (more : List Commit) × (answer.1.primary.durable ≡ old.primary.durable ++ more)
-  output : IsHonest old → IsFaultless answer.0
-  honest : IsHonest old → IsHonest answer.1
+pub record IsFine (old : World) (answer : Output × World) : Type 0 where
+  pub grows : IsBeginning old.primary.durable answer.1.primary.durable
+  pub output : IsHonest old → IsFaultless answer.0
+  pub honest : IsHonest old → IsHonest answer.1
 
 -- a step that leaves the primary and the transactions
 plain : (old new : World) (output : Output) → new.primary ≡ old.primary → new.transactions ≡ old.transactions → IsFaultless output
@@ -430,21 +422,9 @@ cut-fine w (Some m) output new cut = elim cut.2 [
 
 cut-event : (w : World) (event : Event) (output : Output) (new : World) → RunIsCutAt w event output new → IsFine w (output, new)
 cut-event w (events.Run replica) output new cut = cut-fine w (slice_get w.members replica) output new cut
-cut-event w events.Begin output new cut = absurd cut
-cut-event w (events.Insert transaction table row values) output new cut = absurd cut
-cut-event w (events.Set transaction table row column value) output new cut = absurd cut
-cut-event w (events.Delete transaction table row) output new cut = absurd cut
-cut-event w (events.Get transaction table row column) output new cut = absurd cut
-cut-event w (events.Commit transaction worker) output new cut = absurd cut
-cut-event w (events.Abort transaction) output new cut = absurd cut
-cut-event w (events.Flush count) output new cut = absurd cut
-cut-event w (events.Push worker seq) output new cut = absurd cut
-cut-event w (events.Deliver place node) output new cut = absurd cut
-cut-event w (events.Show place) output new cut = absurd cut
-cut-event w (events.Open replica plan) output new cut = absurd cut
-cut-event w (events.Ask replica) output new cut = absurd cut
+cut-event w other output new cut = absurd cut
 
-step-fine : (old : World) (event : Event) (output : Output) (new : World) → MayHappen old event output new → IsFine old (output, new)
+pub step-fine : (old : World) (event : Event) (output : Output) (new : World) → MayHappen old event output new → IsFine old (output, new)
 step-fine old event output new may = elim may [
   | inl made ↦ subst (IsFine old) made (happens-fine old event)
   | inr other ↦ elim other [
@@ -454,27 +434,7 @@ step-fine old event output new may = elim may [
   ]
 ]
 
--- ---- whole runs
+-- ---- the beginning
 
-pub durable-grows : DurableOnlyGrows
-durable-grows old new [] [] run = ([], ap (λ (w : World). w.primary.durable) run ∙ sym (append-nil old.primary.durable))
-durable-grows old new [] (output ∷ done) run = absurd run
-durable-grows old new (event ∷ todo) [] run = absurd run
-durable-grows old new (event ∷ todo) (output ∷ done) run =
-    let first = (step-fine old event output run.0 run.1).grows in
-    let rest = durable-grows run.0 new todo done run.2 in
-    (first.0 ++ rest.0, rest.1 ∙ ap (λ (l : List Commit). l ++ rest.0) first.1 ∙ append_assoc old.primary.durable first.0 rest.0)
-
-runs-faultless : (old new : World) (todo : List Event) (done : List Output) → IsHonest old → Runs old todo done new
-    → AllByRecursion IsFaultless done
-runs-faultless old new [] [] honest run = tt
-runs-faultless old new [] (output ∷ done) honest run = absurd run
-runs-faultless old new (event ∷ todo) [] honest run = tt
-runs-faultless old new (event ∷ todo) (output ∷ done) honest run =
-    let first = step-fine old event output run.0 run.1 in
-    (first.output honest, runs-faultless run.0 new todo done (first.honest honest) run.2)
-
-pub allowed-faultless : AllowedAreFaultless
-allowed-faultless shape workers replicas todo done allowed =
-    runs-faultless (opening_world shape workers replicas) allowed.0 todo done
-    (record { whole = refl; begun = λ i draft here. absurd (none-some (Some draft) here) }) allowed.1
+pub opening-honest : (shape : Shape) (workers replicas : ℕ) → IsHonest (opening_world shape workers replicas)
+opening-honest shape workers replicas = record { whole = refl; begun = λ i draft here. absurd (none-some (Some draft) here) }

@@ -1,5 +1,4 @@
 pub mod Lists
-pub mod Sound
 pub mod Worlds
 pub mod Datagrams
 pub mod Moves

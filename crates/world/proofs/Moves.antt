@@ -21,10 +21,10 @@ use Rattle.dispatcher.proofs.Lists.{All-map}
 use Rattle.dispatcher.proofs.Versions.{legal-left}
 use Rattle.script.specs.declared.output.Output.{Output}
 use Rattle.world.specs.Parts.{Parts}
-use Rattle.world.specs.Steps.{with_replica, with_sent}
+use Rattle.world.specs.Inner.Steps.{with_replica, with_sent}
 use Rattle.world.specs.World.{World}
 use Rattle.world.proofs.Lists.{get-set, get-append, get-one, set-same, All-left}
-use Rattle.world.proofs.Sound.{Sound, IsSoundPrimary, IsSmall, IsSmallDraft, IsFed, IsAnswer, IsOfRequests, Means, awaits}
+use Rattle.world.specs.Inner.Sound.{Sound, IsSoundPrimary, IsSmall, IsSmallDraft, IsFed, IsAnswer, IsOfRequests, Means, awaits}
 use Rattle.world.specs.Standing.{world_of}
 use Rattle.world.proofs.Worlds.{seen}
 

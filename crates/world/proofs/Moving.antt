@@ -18,8 +18,9 @@ use Rattle.script.specs.declared.output.Output.{Output}
 use Rattle.script.specs.declared.output.Output.TheVariants as outputs
 use Rattle.world.specs.Outputs.{of_change, of_open, of_ask}
 use Rattle.world.specs.Parts.{Parts}
-use Rattle.world.specs.Steps.{looking, changing, change_by, look_by, commit_by, abort_by, with_replica, opening_query, open_by, asking}
-use Rattle.world.specs.Steps.{ask_by, stepped, MayStep}
+use Rattle.world.specs.Inner.Steps.{looking, changing, change_by, look_by, commit_by, abort_by, with_replica, opening_query, open_by}
+use Rattle.world.specs.Inner.Steps.{asking}
+use Rattle.world.specs.Inner.Steps.{ask_by, stepped, MayStep}
 use Rattle.world.specs.World.{open_draft}
 use Rattle.world.proofs.Slots.{set_same, slot_same}
 

@@ -25,10 +25,10 @@ use Rattle.dispatcher.proofs.Feeding.{plan-fed, batch-fed}
 use Rattle.script.specs.declared.output.Output.{Output}
 use Rattle.script.specs.declared.output.Output.TheVariants as outputs
 use Rattle.world.specs.Parts.{Parts}
-use Rattle.world.specs.Steps.{with_replica, with_sent, open_by, opening_query, ask_by, asking, sent_one}
+use Rattle.world.specs.Inner.Steps.{with_replica, with_sent, open_by, opening_query, ask_by, asking, sent_one}
 use Rattle.world.specs.World.{World, Member, open_happens, ask_happens, new_batch, send, ask_bytes, with_member, on_member}
 use Rattle.world.proofs.Lists.{set-same, get-set_same}
-use Rattle.world.proofs.Sound.{Sound, IsFed, Means}
+use Rattle.world.specs.Inner.Sound.{Sound, IsFed, Means}
 use Rattle.world.proofs.Datagrams.{ask-read, ask-kept}
 use Rattle.world.specs.Standing.{world_of, member_of, batch_of, members_of}
 use Rattle.world.proofs.Worlds.{members-asked}

@@ -22,10 +22,13 @@ use Rattle.script.specs.declared.event.Event.TheVariants as events
 use Rattle.script.specs.declared.event.Node.{Node}
 use Rattle.script.specs.declared.event.Node.TheVariants as nodes
 use Rattle.script.specs.declared.output.Output.{Output}
-use Rattle.world.specs.Parts.{Parts, IsReady}
-use Rattle.world.specs.Steps.{inserting, setting, deleting, changing, change_by, committing, commit_by, abort_by, push_by, with_replica}
-use Rattle.world.specs.Steps.{to_replica, to_node, deliver_by, opening_query, open_by, asked_durable, asking, ask_by, run_output, run_by}
-use Rattle.world.specs.Steps.{stepped, RunIsCut, IsCutAt, MayStep}
+use Rattle.world.specs.Parts.{Parts}
+use Rattle.world.specs.Inner.Kept.{IsReady}
+use Rattle.world.specs.Inner.Steps.{inserting, setting, deleting, changing, change_by, committing, commit_by, abort_by, push_by}
+use Rattle.world.specs.Inner.Steps.{with_replica}
+use Rattle.world.specs.Inner.Steps.{to_replica, to_node, deliver_by, opening_query, open_by, asked_durable, asking, ask_by, run_output}
+use Rattle.world.specs.Inner.Steps.{run_by}
+use Rattle.world.specs.Inner.Steps.{stepped, RunIsCut, IsCutAt, MayStep}
 use Rattle.world.specs.World.{open_draft}
 use Rattle.world.proofs.Slots.{all_at, all_set, all_push, all_weaker, slot_at}
 use Rattle.world.proofs.Adding.{reads_same, insert-added, set-added, delete-added}
@@ -255,20 +258,8 @@ module _ (p : Parts) (ready : IsReady p) where
   stepped_keeps (events.Run replica) = run_keeps replica _ refl
 
   cut_at_keeps : (event : Event) (output : Output) (new : Parts) → IsCutAt p event output new → Keeps p new
-  cut_at_keeps events.Begin output new cut = absurd cut
-  cut_at_keeps (events.Insert transaction table row values) output new cut = absurd cut
-  cut_at_keeps (events.Set transaction table row column value) output new cut = absurd cut
-  cut_at_keeps (events.Delete transaction table row) output new cut = absurd cut
-  cut_at_keeps (events.Get transaction table row column) output new cut = absurd cut
-  cut_at_keeps (events.Commit transaction worker) output new cut = absurd cut
-  cut_at_keeps (events.Abort transaction) output new cut = absurd cut
-  cut_at_keeps (events.Flush count) output new cut = absurd cut
-  cut_at_keeps (events.Push worker seq) output new cut = absurd cut
-  cut_at_keeps (events.Deliver place node) output new cut = absurd cut
-  cut_at_keeps (events.Show place) output new cut = absurd cut
-  cut_at_keeps (events.Open replica plan) output new cut = absurd cut
-  cut_at_keeps (events.Ask replica) output new cut = absurd cut
   cut_at_keeps (events.Run replica) output new cut = cut_run_keeps replica _ output new refl cut
+  cut_at_keeps other output new cut = absurd cut
 
   pub may_step_keeps : (event : Event) (output : Output) (new : Parts) → MayStep p event output new → Keeps p new
   may_step_keeps event output new (inl is) = subst (Keeps p) (ap (λ x. x.1) is) (stepped_keeps event)

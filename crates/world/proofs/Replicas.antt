@@ -35,9 +35,9 @@ use Rattle.script.specs.declared.output.Output.{Output}
 use Rattle.script.specs.declared.output.Output.TheVariants as outputs
 use Rattle.world.specs.Outputs.{of_got}
 use Rattle.world.specs.Parts.{Parts}
-use Rattle.world.specs.Steps.{with_replica, got_by, to_replica}
+use Rattle.world.specs.Inner.Steps.{with_replica, got_by, to_replica}
 use Rattle.world.specs.World.{World, Member, frame_happens, head_happens, datagram_happens, member_output, on_member}
-use Rattle.world.proofs.Sound.{Sound, IsFed, Means, awaits}
+use Rattle.world.specs.Inner.Sound.{Sound, IsFed, Means, awaits}
 use Rattle.world.specs.Standing.{world_of, member_of, batch_of}
 use Rattle.world.proofs.Worlds.{member-changes}
 use Rattle.world.proofs.Moves.{Moves, Goes, Follows, legal-durable, Sound-replica, Follows-same, Moves-same}

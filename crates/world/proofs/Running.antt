@@ -25,11 +25,11 @@ use Rattle.dispatcher.proofs.Feeding.{broken-fed, caught-fed, finished-fed}
 use Rattle.script.specs.declared.output.Output.{Output}
 use Rattle.script.specs.declared.output.Output.TheVariants as outputs
 use Rattle.world.specs.Parts.{Parts}
-use Rattle.world.specs.Steps.{with_replica, with_sent, run_output, run_by, RunIsCut}
+use Rattle.world.specs.Inner.Steps.{with_replica, with_sent, run_output, run_by, RunIsCut}
 use Rattle.world.specs.World.{World, Member, run_happens, wait_happens, want_bytes, batch_report, with_member, on_member}
 use Rattle.world.specs.Allowed.{ready_batch, ready_member, RunIsCut as MemberIsCut}
 use Rattle.world.proofs.Lists.{set-same}
-use Rattle.world.proofs.Sound.{Sound, Means, awaits_by}
+use Rattle.world.specs.Inner.Sound.{Sound, Means, awaits_by}
 use Rattle.world.specs.Standing.{world_of, member_of, batch_of}
 use Rattle.world.proofs.Worlds.{member-changes}
 use Rattle.world.proofs.Moves.{Goes, Follows, legal-durable, Sound-replica, Sound-one, Follows-same}

@@ -4,7 +4,8 @@ use Rattle.std.specs.List.{AllByRecursion}
 use Rattle.rows.specs.Shape.{Shape}
 use Rattle.dispatcher.specs.Replica.{Replica}
 use Rattle.dispatcher.specs.Steps.{started}
-use Rattle.world.specs.Parts.{replicas_from, zeros, parts_started, IsReady}
+use Rattle.world.specs.Parts.{replicas_from, zeros, parts_started}
+use Rattle.world.specs.Inner.Kept.{IsReady}
 
 pub replicas_left : (shape : Shape) (workers number count : ℕ) → number < count
     → replicas_from shape workers number (count - number) ≡ started shape workers number 1

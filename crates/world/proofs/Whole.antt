@@ -1,4 +1,4 @@
--- Each step of sound parts is one of their world, and so is each run.
+-- Each step of sound parts is one of their world, and leaves the parts of one.
 use Rattle.std.proofs.Common.{◌≡◌, ℕ, zero, suc, ◌+◌, ◌≤◌, Bool, true, false, cond, List, [], ◌∷◌, length, Option, Some, None, refl, sym}
 use Rattle.std.proofs.Common.{ap, subst, ◌∙◌, inl, inr, arith}
 use Rattle.std.specs.List.{slice_get, slice_index, AllByRecursion}
@@ -6,6 +6,7 @@ use Rattle.std.specs.Option.{option_map}
 use Rattle.std.proofs.lemmas.Option.{none-some}
 use Rattle.rows.specs.declared.limits.TheConstants.{REPLICAS_MAX}
 use Rattle.rows.specs.Shape.{Shape, AreTables}
+use Rattle.rows.specs.Commits.{IsLegal}
 use Rattle.wire.specs.Reading.{reading}
 use Rattle.wire.specs.Streams.{stream_of}
 use Rattle.primary.specs.Primary.{flushed}
@@ -21,15 +22,23 @@ use Rattle.script.specs.declared.event.Node.TheVariants as nodes
 use Rattle.script.specs.declared.output.Output.{Output}
 use Rattle.script.specs.declared.output.Output.TheVariants as outputs
 use Rattle.world.specs.Parts.{Parts, parts_started, replicas_from, zeros}
-use Rattle.world.specs.Steps.{stepped, to_node, deliver_by, show_by, inserting, setting, deleting, looking, MayStep, IsCutAt, Steps}
+use Rattle.world.specs.Inner.Steps.{stepped, to_node, deliver_by, show_by, inserting, setting, deleting, looking, MayStep, IsCutAt}
 use Rattle.script.specs.Events.{IsPossible}
-use Rattle.world.specs.Theorem.{StepsAreAllowed, StepsStand}
+use Rattle.world.specs.Theorem.{IsStep}
 use Rattle.world.specs.World.{World, Member, open_draft, happens, on_member, delivered, deliver_happens, shown}
-use Rattle.world.specs.Allowed.{MayHappen, Runs, Allowed}
-use Rattle.world.proofs.Sound.{Sound, IsFed, Means}
-use Rattle.world.specs.Standing.{world_of, member_of, members_of, AreFed, Stands, CoresStand}
+use Rattle.world.specs.Allowed.{MayHappen}
+use Rattle.world.specs.Inner.Sound.{Sound, IsFed, Means}
+use Rattle.world.specs.Standing.{world_of, member_of, members_of, AreFed}
+use Rattle.world.specs.Inner.Honest.{IsHonest}
+use Rattle.world.specs.Inner.Fresh.{Fresh}
+use Rattle.world.specs.Inner.Kept.{IsKept}
 use Rattle.world.proofs.Worlds.{members-get, world-started}
-use Rattle.world.proofs.Moves.{Follows, Sound-flushed}
+use Rattle.world.proofs.Moves.{Follows, Sound-flushed, legal-durable}
+use Rattle.world.proofs.Fresh.{opening-fresh}
+use Rattle.world.proofs.Freshness.{step-serves}
+use Rattle.world.proofs.Honest.{step-fine, opening-honest}
+use Rattle.world.proofs.Readiness.{may_step_keeps}
+use Rattle.world.proofs.Starting.{ready_at_start}
 use Rattle.world.proofs.Replicas.{bytes-come}
 use Rattle.world.proofs.Querying.{query-opens, version-asked}
 use Rattle.world.proofs.Running.{batch-run, run-cut, Cuts}
@@ -140,19 +149,7 @@ cut-follows : (shape : Shape) (p : Parts) (event : Event) (output : Output) (new
 cut-follows shape p (events.Run replica) output new sound cut =
     let follows = run-cut shape p replica (slice_get p.replicas replica) output new sound refl cut in
     (cut-member p replica output (world_of new) follows.0, follows.1)
-cut-follows shape p events.Begin output new sound cut = absurd cut
-cut-follows shape p (events.Insert transaction table row values) output new sound cut = absurd cut
-cut-follows shape p (events.Set transaction table row column value) output new sound cut = absurd cut
-cut-follows shape p (events.Delete transaction table row) output new sound cut = absurd cut
-cut-follows shape p (events.Get transaction table row column) output new sound cut = absurd cut
-cut-follows shape p (events.Commit transaction worker) output new sound cut = absurd cut
-cut-follows shape p (events.Abort transaction) output new sound cut = absurd cut
-cut-follows shape p (events.Flush count) output new sound cut = absurd cut
-cut-follows shape p (events.Push worker seq) output new sound cut = absurd cut
-cut-follows shape p (events.Deliver place node) output new sound cut = absurd cut
-cut-follows shape p (events.Show place) output new sound cut = absurd cut
-cut-follows shape p (events.Open replica plan) output new sound cut = absurd cut
-cut-follows shape p (events.Ask replica) output new sound cut = absurd cut
+cut-follows shape p other output new sound cut = absurd cut
 
 may-follow : (shape : Shape) (p : Parts) (replicas : ℕ) (event : Event) (output : Output) (new : Parts) → AreTables shape → Sound shape p
     → IsPossible 1 replicas event → MayStep p event output new
@@ -166,18 +163,6 @@ may-follow shape p replicas event output new tables sound possible may = elim ma
     | inr cut ↦ cut-follows shape p event output new sound cut
   ]
 ]
-
--- ---- whole runs
-
-runs-follow : (shape : Shape) (p : Parts) (replicas : ℕ) (todo : List Event) (done : List Output) (new : Parts) → AreTables shape
-    → Sound shape p → AllByRecursion (IsPossible 1 replicas) todo → Steps p todo done new
-    → Runs (world_of p) todo done (world_of new)
-runs-follow shape p replicas [] [] new tables sound possible steps = ap world_of steps
-runs-follow shape p replicas [] (output ∷ done) new tables sound possible steps = absurd steps
-runs-follow shape p replicas (event ∷ todo) [] new tables sound possible steps = absurd steps
-runs-follow shape p replicas (event ∷ todo) (output ∷ done) new tables sound possible steps =
-    let first = may-follow shape p replicas event output steps.0 tables sound possible.0 steps.1 in
-    (world_of steps.0, first.0, runs-follow shape steps.0 replicas todo done new tables first.1 possible.1 steps.2)
 
 -- ---- the beginning
 
@@ -214,22 +199,6 @@ parts-sound shape replicas few = record {
   sent_is = λ i bytes here. absurd (none-some bytes here);
 }
 
-allowed-one : (shape : Shape) (replicas : ℕ) (todo : List Event) (done : List Output) (end : Parts) → AreTables shape
-    → replicas ≤ REPLICAS_MAX → AllByRecursion (IsPossible 1 replicas) todo
-    → Steps (parts_started shape 1 replicas) todo done end → Allowed shape 1 replicas todo done
-allowed-one shape replicas todo done end tables few possible steps = (
-  world_of end,
-  subst (λ (w : World). Runs w todo done (world_of end)) (world-started shape replicas)
-      (runs-follow shape (parts_started shape 1 replicas) replicas todo done end tables (parts-sound shape replicas few) possible steps),
-)
-
-pub steps-allowed : StepsAreAllowed
-steps-allowed shape workers replicas todo done end tables one few possible steps =
-    subst (λ (n : ℕ). Allowed shape n replicas todo done) (sym one)
-    (allowed-one shape replicas todo done end tables few
-    (subst (λ (n : ℕ). AllByRecursion (IsPossible n replicas) todo) one possible)
-    (subst (λ (n : ℕ). Steps (parts_started shape n replicas) todo done end) one steps))
-
 -- ---- where the cores stand
 
 all-from-get : {A : Type 0} (P : A → Type 0) (xs : List A) → ((i : ℕ) (x : A) → slice_get xs i ≡ Some x → P x) → AllByRecursion P xs
@@ -237,36 +206,59 @@ all-from-get P [] each = tt
 all-from-get P (x ∷ xs) each = (each 0 x refl, all-from-get P xs (λ i y here. each (suc i) y here))
 
 -- each replica of sound parts is fed from what is durable
-fed-sound : (shape : Shape) (p : Parts) → Sound shape p → AreFed shape p
-fed-sound shape p sound = all-from-get (IsFedFrom shape p.primary.durable) p.replicas (λ i r here. (sound.fed i r here).feeding)
+fed-sound : (p : Parts) → Sound p.primary.shape p → AreFed p
+fed-sound p sound =
+    all-from-get (IsFedFrom p.primary.shape p.primary.durable) p.replicas (λ i r here. (sound.fed i r here).feeding)
 
-stands-follow : (shape : Shape) (p : Parts) (replicas : ℕ) (todo : List Event) (done : List Output) (new : Parts) → AreTables shape
-    → Sound shape p → AllByRecursion (IsPossible 1 replicas) todo → Steps p todo done new
-    → Stands shape p todo done new
-stands-follow shape p replicas [] [] new tables sound possible steps = steps
-stands-follow shape p replicas [] (output ∷ done) new tables sound possible steps = absurd steps
-stands-follow shape p replicas (event ∷ todo) [] new tables sound possible steps = absurd steps
-stands-follow shape p replicas (event ∷ todo) (output ∷ done) new tables sound possible steps =
-    let first = may-follow shape p replicas event output steps.0 tables sound possible.0 steps.1 in (
-      steps.0,
-      steps.1,
-      first.0,
-      fed-sound shape steps.0 first.1,
-      stands-follow shape steps.0 replicas todo done new tables first.1 possible.1 steps.2,
-    )
+-- ---- what every world keeps
 
-stands-one : (shape : Shape) (replicas : ℕ) (todo : List Event) (done : List Output) (end : Parts) → AreTables shape
-    → replicas ≤ REPLICAS_MAX → AllByRecursion (IsPossible 1 replicas) todo
-    → Steps (parts_started shape 1 replicas) todo done end → CoresStand shape 1 replicas todo done
-stands-one shape replicas todo done end tables few possible steps = (
-  world-started shape replicas,
-  end,
-  stands-follow shape (parts_started shape 1 replicas) replicas todo done end tables (parts-sound shape replicas few) possible steps,
-)
+pub started-kept : (shape : Shape) (workers replicas : ℕ) → AreTables shape → workers ≡ 1 → replicas ≤ REPLICAS_MAX
+    → IsKept (parts_started shape workers replicas)
+started-kept shape workers replicas tables one few =
+    subst (λ (n : ℕ). IsKept (parts_started shape n replicas)) (sym one) (record {
+      tables = tables;
+      sound = parts-sound shape replicas few;
+      ready = ready_at_start shape 1 replicas;
+      honest = subst IsHonest (sym (world-started shape 1 replicas)) (opening-honest shape 1 replicas);
+      fresh = subst Fresh (sym (world-started shape 1 replicas)) (opening-fresh shape 1 replicas few);
+    })
 
-pub steps-stand : StepsStand
-steps-stand shape workers replicas todo done end tables one few possible steps =
-    subst (λ (n : ℕ). CoresStand shape n replicas todo done) (sym one)
-    (stands-one shape replicas todo done end tables few
-    (subst (λ (n : ℕ). AllByRecursion (IsPossible n replicas) todo) one possible)
-    (subst (λ (n : ℕ). Steps (parts_started shape n replicas) todo done end) one steps))
+-- what a step of the parts of a world is, and that it leaves the parts of one
+pub record IsKeptStep (old : Parts) (event : Event) (output : Output) (new : Parts) : Type 0 where
+  pub step : IsStep old.primary.durable (world_of old) event output (world_of new)
+  pub fed : AreFed new
+  pub shape : new.primary.shape ≡ old.primary.shape
+  pub workers : new.primary.workers ≡ old.primary.workers
+  pub replicas : length new.replicas ≡ length old.replicas
+  pub kept : IsKept new
+
+pub step-keeps : (old : Parts) (event : Event) (output : Output) (new : Parts) → IsKept old
+    → IsPossible old.primary.workers (length old.replicas) event → MayStep old event output new → IsKeptStep old event output new
+step-keeps old event output new kept possible may =
+    let count = length old.replicas in
+    let only = subst (λ (n : ℕ). IsPossible n count event) kept.sound.primary_is.workers_are possible in
+    let first = may-follow old.primary.shape old count event output new kept.tables kept.sound only may in
+    let same = first.1.primary_is.shape_is in
+    let sound = subst (λ (s : Shape). Sound s new) (sym same) first.1 in
+    let fine = step-fine (world_of old) event output (world_of new) first.0 in
+    let serves = step-serves (world_of old) event output (world_of new) kept.fresh first.0 in
+    let stays = may_step_keeps old kept.ready event output new may in
+    record {
+      step = record { happens = first.0; reports = serves.reports; durable = fine.grows; faultless = fine.output kept.honest };
+      fed = fed-sound new sound;
+      shape = same;
+      workers = stays.workers;
+      replicas = stays.replicas;
+      kept = record {
+        tables = subst AreTables (sym same) kept.tables;
+        sound = sound;
+        ready = stays.ready;
+        honest = fine.honest kept.honest;
+        fresh = serves.fresh;
+      };
+    }
+
+pub kept-legal : (p : Parts) → IsKept p → IsLegal p.primary.shape p.primary.workers p.primary.durable
+kept-legal p kept =
+    subst (λ (n : ℕ). IsLegal p.primary.shape n p.primary.durable) (sym kept.sound.primary_is.workers_are)
+    (legal-durable p.primary.shape p kept.sound)

@@ -7,7 +7,7 @@ use Rattle.dispatcher.specs.Steps.{started}
 use Rattle.rows.specs.Shape.{Shape}
 use Rattle.script.specs.declared.output.Output.{Output}
 use Rattle.world.specs.Parts.{Parts, replicas_from, zeros, parts_started}
-use Rattle.world.specs.Steps.{with_replica}
+use Rattle.world.specs.Inner.Steps.{with_replica}
 use Rattle.world.specs.Standing.{member_of, members_of, world_of}
 use Rattle.world.specs.World.{World, Member, fresh_from, opening_world, with_member}
 
@@ -49,12 +49,14 @@ member-changes p i r h =
     ap (λ n. made (slice_set w.members n (member_of (slice_index p.asked_at i) r))) h
     ∙ ap made (sym (members-set p.replicas p.asked_at i r))
 
-members-started : (shape : Shape) (number count : ℕ)
-    → members_of (replicas_from shape 1 number count) (zeros count) ≡ fresh_from number count
-members-started shape number zero = refl
-members-started shape number (suc count) = ap (λ l. member_of 0 (started shape 1 number 1) ∷ l) (members-started shape (suc number) count)
+members-started : (shape : Shape) (workers number count : ℕ)
+    → members_of (replicas_from shape workers number count) (zeros count) ≡ fresh_from number count
+members-started shape workers number zero = refl
+members-started shape workers number (suc count) =
+    ap (λ l. member_of 0 (started shape workers number 1) ∷ l) (members-started shape workers (suc number) count)
 
-pub world-started : (shape : Shape) (replicas : ℕ) → world_of (parts_started shape 1 replicas) ≡ opening_world shape 1 replicas
-world-started shape replicas =
-    let w = opening_world shape 1 replicas in
-    ap (λ (members : List Member). record w { members = members }) (members-started shape 0 replicas)
+pub world-started : (shape : Shape) (workers replicas : ℕ)
+    → world_of (parts_started shape workers replicas) ≡ opening_world shape workers replicas
+world-started shape workers replicas =
+    let w = opening_world shape workers replicas in
+    ap (λ (members : List Member). record w { members = members }) (members-started shape workers 0 replicas)

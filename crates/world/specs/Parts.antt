@@ -1,6 +1,5 @@
 -- The parts of a world that the program steps: the cores, the open transactions, and every datagram that was ever sent.
-use Rattle.std.specs.Prelude.{ℕ, zero, suc, ◌≤◌, ◌≡◌, List, [], ◌∷◌, length, Option, IfSome}
-use Rattle.std.specs.List.{AllByRecursion}
+use Rattle.std.specs.Prelude.{ℕ, zero, suc, List, [], ◌∷◌, Option}
 use Rattle.rows.specs.Shape.{Shape}
 use Rattle.mvcc.specs.Draft.{Draft}
 use Rattle.primary.specs.State.{Primary}
@@ -36,10 +35,3 @@ parts_started shape workers replicas = record {
   replicas = replicas_from shape workers 0 replicas;
   asked_at = zeros replicas;
 }
-
--- what the program needs of its parts to call the cores: each open transaction reads a durable version, and each
--- request was sent
-pub record IsReady (p : Parts) : Type 0 where
-  pub asked_there : length p.asked_at ≡ length p.replicas
-  pub snapshots : AllByRecursion (λ slot. IfSome slot (λ draft. draft.snapshot ≤ length p.primary.durable)) p.transactions
-  pub requests : AllByRecursion (λ (replica : Replica). replica.request ≤ length p.sent) p.replicas

@@ -21,9 +21,11 @@ mod stepping;
 mod theorem;
 mod transacting;
 mod worked;
+mod world;
 
 pub use script::{Event, Node, Output, Reason, ScriptFault, Sent, SentList, Setup, read_script};
 pub use script_running::{Echo, RunFault, run_script};
 pub use simulator::run;
-pub use theorem::steps_are_allowed;
+pub use theorem::{allowed_runs_are_exact, runs_keep_promises};
 pub use worked::worked_scripts;
+pub use world::World;

@@ -3,9 +3,9 @@
 
 ghost use Rattle.std.specs.Prelude.{◌≡◌, ◌<◌, ◌++◌, ◌⊎◌, length, IfOk, OnErr};
 ghost use Rattle.world.specs.Outputs.{sent_from, packets_of};
-ghost use Rattle.world.specs.Parts.{IsReady};
+ghost use Rattle.world.specs.Inner.Kept.{IsReady};
 ghost use Rattle.script.specs.Events.{IsPossible, IsThere};
-ghost use Rattle.world.specs.Steps.{MayStep, sent_one, with_sent};
+ghost use Rattle.world.specs.Inner.Steps.{MayStep, sent_one, with_sent};
 
 use crate::cores::Cores;
 use crate::naming::{ask_output, got_output, open_output};
@@ -17,20 +17,8 @@ use std::alloc::{AllocError, Global};
 use wire::{Out, Packet};
 
 impl Cores {
-    /// Lets an event happen, and answers what it gave.
-    pub fn step(&mut self, event: &Event) -> Output
-        requires ready { IsReady self.old }
-        requires possible { IsPossible self.old.primary.workers (length self.old.replicas) event.now }
-        ensures may_step { MayStep self.old event.now result self.new }
-        ensures ready { IsReady self.new }
-        ensures workers { self.new.primary.workers ≡ self.old.primary.workers }
-        ensures replicas { length self.new.replicas ≡ length self.old.replicas }
-    {
-        self.happen(event)
-    }
-
-    /// The call that an event is.
-    fn happen(&mut self, event: &Event) -> Output
+    /// Lets an event happen by the call that it is, and answers what it gave.
+    pub fn happen(&mut self, event: &Event) -> Output
         requires ready { IsReady self.old }
         requires possible { IsPossible self.old.primary.workers (length self.old.replicas) event.now }
         ensures { MayStep self.old event.now result self.new }

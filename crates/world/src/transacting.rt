@@ -3,8 +3,8 @@
 ghost use Rattle.std.specs.Prelude.{◌≡◌, ◌<◌, None, Some, IfSome, slice_set, vec_len};
 ghost use Rattle.std.specs.Option.{option_map};
 ghost use Rattle.script.specs.declared.event.Event.{Event};
-ghost use Rattle.world.specs.Parts.{IsReady};
-ghost use Rattle.world.specs.Steps.{MayStep};
+ghost use Rattle.world.specs.Inner.Kept.{IsReady};
+ghost use Rattle.world.specs.Inner.Steps.{MayStep};
 ghost use Rattle.world.specs.World.{open_draft};
 
 use crate::cores::Cores;

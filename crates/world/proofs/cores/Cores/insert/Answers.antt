@@ -2,7 +2,7 @@
 use Rattle.std.proofs.Common.{◌≤◌, length, refl, sym, ◌∙◌, arith, length-append}
 use Rattle.mvcc.specs.Draft.{Draft}
 use Rattle.script.specs.declared.event.Event.TheVariants.{Insert}
-use Rattle.world.specs.Steps.{inserting}
+use Rattle.world.specs.Inner.Steps.{inserting}
 use Rattle.world.proofs.Slots.{slot_at}
 use Rattle.world.proofs.Moving.{change_nothing, changed, change_refused}
 use Rattle.world.proofs.cores.Cores.insert.Goals as goal

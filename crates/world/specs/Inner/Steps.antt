@@ -1,4 +1,4 @@
--- One step of the parts: each event is one call on a core, and this is what it answers and leaves.
+-- Only for proofs: one step of the parts. Each event is one call on a core, and this is what it answers and leaves.
 use Rattle.std.specs.Prelude.{◌≡◌, ℕ, List, [], ◌∷◌, ◌++◌, length, Option, None, Some, Result, Ok, Err, slice_get, slice_set, ◌⊎◌}
 use Rattle.std.specs.Prelude.{if◌then◌else◌}
 use Rattle.rows.specs.declared.value.Value.{Value}
@@ -191,29 +191,10 @@ RunIsCut old number (Some replica) output new =
 
 abbrev pub IsCutAt : Parts → Event → Output → Parts → Type 0
 IsCutAt old (events.Run replica) output new = RunIsCut old replica (slice_get old.replicas replica) output new
-IsCutAt old events.Begin output new = ⊥
-IsCutAt old (events.Insert transaction table row values) output new = ⊥
-IsCutAt old (events.Set transaction table row column value) output new = ⊥
-IsCutAt old (events.Delete transaction table row) output new = ⊥
-IsCutAt old (events.Get transaction table row column) output new = ⊥
-IsCutAt old (events.Commit transaction worker) output new = ⊥
-IsCutAt old (events.Abort transaction) output new = ⊥
-IsCutAt old (events.Flush count) output new = ⊥
-IsCutAt old (events.Push worker seq) output new = ⊥
-IsCutAt old (events.Deliver place node) output new = ⊥
-IsCutAt old (events.Show place) output new = ⊥
-IsCutAt old (events.Open replica plan) output new = ⊥
-IsCutAt old (events.Ask replica) output new = ⊥
+IsCutAt old other output new = ⊥
 
 -- what an event may answer and leave: what the cores make of it; or `memory`, and nothing has changed; or a run is cut
 -- short for want of memory
 abbrev pub MayStep : Parts → Event → Output → Parts → Type 0
 MayStep old event output new =
     (stepped old event ≡ (output, new)) ⊎ ((output ≡ outputs.Memory) × (new ≡ old)) ⊎ IsCutAt old event output new
-
--- the outputs of a list of events, one after the other
-abbrev pub Steps : Parts → List Event → List Output → Parts → Type 0
-Steps old [] [] new = new ≡ old
-Steps old (event ∷ events) (output ∷ outputs) new = (mid : Parts) × MayStep old event output mid × Steps mid events outputs new
-Steps old [] (output ∷ outputs) new = ⊥
-Steps old (event ∷ events) [] new = ⊥

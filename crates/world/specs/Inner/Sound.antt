@@ -1,4 +1,4 @@
--- What is true of the parts at each step: what makes them a world.
+-- Only for proofs: what is true of the parts at each step, and what makes them a world.
 use Rattle.std.specs.Prelude.{◌≡◌, ℕ, ◌+◌, ◌^◌, ◌<◌, ◌≤◌, List, ◌++◌, length, Bool, true, false, Option, None, Some, Result, Ok, Err}
 use Rattle.std.specs.Prelude.{slice_get, is_ok, is_none}
 use Rattle.std.specs.List.{AllByRecursion}

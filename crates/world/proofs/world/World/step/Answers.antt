@@ -1,0 +1,24 @@
+-- What the event's call leaves is the world's again, and what it answers may happen there.
+use Rattle.world.proofs.Whole.{step-keeps}
+use Rattle.world.proofs.world.World.step.Goals as goal
+
+pub invariant_of-self : goal.invariant_of-self
+invariant_of-self c =
+    (step-keeps c.self.inside.cores c.args.event.now c.happen.result c.happen.new.self c.self.invariant
+    (rw (← c.self.view_is) at c.requires.possible) c.happen.ensures).kept
+
+pub returns : goal.returns
+returns c =
+    let done =
+    step-keeps c.self.inside.cores c.args.event.now c.happen.result c.happen.new.self c.self.invariant
+    (rw (← c.self.view_is) at c.requires.possible) c.happen.ensures in
+    rw (← c.self.view_is) (record {
+      happens = done.step.happens;
+      reports = done.step.reports;
+      durable = done.step.durable;
+      fed = done.fed;
+      faultless = done.step.faultless;
+      shape = done.shape;
+      workers = done.workers;
+      replicas = done.replicas;
+    })
