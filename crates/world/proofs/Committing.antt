@@ -24,21 +24,23 @@ use Rattle.mvcc.specs.declared.faults.TxFault.{TxFault}
 use Rattle.primary.specs.declared.faults.CommitFault.{CommitFault}
 use Rattle.primary.specs.declared.faults.CommitFault.TheVariants as faults
 use Rattle.mvcc.specs.Draft.{Draft}
-use Rattle.primary.specs.Primary.{commit_answer, committed, is_foreign, last_writer, next_number}
+use Rattle.primary.specs.Primary.{commit_answer, committed, flushed, is_foreign, last_writer, next_number}
 use Rattle.primary.specs.Sending.{answers, answers_to, head_for, counts_of}
 use Rattle.primary.specs.State.{Primary}
 use Rattle.dispatcher.specs.Replica.{Replica}
 use Rattle.dispatcher.proofs.Streams.{count-is, frame-commit}
 use Rattle.dispatcher.proofs.Versions.{tables-stay}
+use Rattle.script.specs.declared.event.Node.TheVariants as nodes
+use Rattle.script.specs.declared.output.Output.{Output}
 use Rattle.world.specs.Outputs.{of_look, packets_of}
 use Rattle.world.specs.Parts.{Parts}
-use Rattle.world.specs.Inner.Steps.{changing, change_by, look_by, committing, commit_by, abort_by, push_by, to_primary}
-use Rattle.world.specs.World.{open_draft, change_happens, commit_happens, abort_happens, on_draft, push_happens}
+use Rattle.world.specs.World.{World, open_draft, change_happens, commit_happens, abort_happens, on_draft, push_happens, deliver_happens}
 use Rattle.world.proofs.Lists.{get-set, get-append, get-one, All-get, All-left, All-append}
 use Rattle.world.specs.Inner.Sound.{Sound, IsSoundPrimary, IsSmall, IsSmallDraft, Means}
 use Rattle.world.proofs.Datagrams.{frame-read, head-read}
 use Rattle.world.specs.Standing.{world_of}
-use Rattle.world.proofs.Moves.{Follows, legal-durable, Sound-drafts, Sound-sent, Sound-one, Sound-primary}
+use Rattle.world.proofs.Moves.{legal-durable, Sound-drafts, Sound-sent, Sound-one, Sound-primary, Sound-flushed}
+use Rattle.world.proofs.Worlds.{beside_of}
 
 -- ---- transactions
 
@@ -83,40 +85,29 @@ drafts-ended shape p number sound =
 
 changed : (shape : Shape) (p : Parts) (number : ℕ) (answer : Result Draft TxFault) → Sound shape p
     → ((new : Draft) → answer ≡ Ok new → IsSmallDraft (length p.primary.durable) new)
-    → Follows shape (change_happens (world_of p) number answer) (changing p number answer)
-changed shape p number (Ok new) sound small = (refl, drafts-changed shape p number new sound (small new refl))
-changed shape p number (Err fault) sound small = (refl, sound)
+    → Sound shape (beside_of (change_happens (world_of p) number answer).1 p)
+changed shape p number (Ok new) sound small = drafts-changed shape p number new sound (small new refl)
+changed shape p number (Err fault) sound small = sound
 
--- what a transaction's call answers in the world, where it is told what is durable, and what it answers to the program,
--- which tells it all commits
-pub change-follows : (shape : Shape) (p : Parts) (number : ℕ) (there here : Draft → Result Draft TxFault) (found : Option Draft)
+pub change-sound : (shape : Shape) (p : Parts) (number : ℕ) (change : Draft → Result Draft TxFault) (found : Option Draft)
     → Sound shape p
-    → ((draft : Draft) → draft.snapshot ≤ length p.primary.durable → here draft ≡ there draft)
-    → ((draft new : Draft) → IsSmallDraft (length p.primary.durable) draft → there draft ≡ Ok new
+    → ((draft new : Draft) → IsSmallDraft (length p.primary.durable) draft → change draft ≡ Ok new
     → IsSmallDraft (length p.primary.durable) new) → open_draft p.transactions number ≡ found
-    → Follows shape (on_draft (world_of p) found (λ draft. change_happens (world_of p) number (there draft)))
-    (change_by p number here found)
-change-follows shape p number there here None sound same small at = (refl, sound)
-change-follows shape p number there here (Some draft) sound same small at =
+    → Sound shape (beside_of (on_draft (world_of p) found (λ draft. change_happens (world_of p) number (change draft))).1 p)
+change-sound shape p number change None sound small at = sound
+change-sound shape p number change (Some draft) sound small at =
     let begun = sound.drafts_are number draft (opened (slice_get p.transactions number) draft at) in
-    subst (λ (answer : Result Draft TxFault). Follows shape (change_happens (world_of p) number (there draft)) (changing p number answer))
-    (sym (same draft begun.known))
-    (changed shape p number (there draft) sound (λ new h. small draft new begun h))
+    changed shape p number (change draft) sound (λ new h. small draft new begun h)
 
-pub look-follows : (shape : Shape) (p : Parts) (number : ℕ) (there here : Draft → Result Value TxFault) (found : Option Draft)
-    → Sound shape p
-    → ((draft : Draft) → draft.snapshot ≤ length p.primary.durable → here draft ≡ there draft) → open_draft p.transactions number ≡ found
-    → Follows shape (on_draft (world_of p) found (λ draft. (of_look (there draft), world_of p))) (look_by here found, p)
-look-follows shape p number there here None sound same at = (refl, sound)
-look-follows shape p number there here (Some draft) sound same at =
-    let begun = sound.drafts_are number draft (opened (slice_get p.transactions number) draft at) in
-    subst (λ (answer : Result Value TxFault). Follows shape (of_look (there draft), world_of p) (of_look answer, p))
-    (sym (same draft begun.known)) (refl, sound)
+pub look-sound : (shape : Shape) (p : Parts) (look : Draft → Result Value TxFault) (found : Option Draft) → Sound shape p
+    → Sound shape (beside_of (on_draft (world_of p) found (λ draft. (of_look (look draft), world_of p))).1 p)
+look-sound shape p look None sound = sound
+look-sound shape p look (Some draft) sound = sound
 
-pub abort-follows : (shape : Shape) (p : Parts) (number : ℕ) (found : Option Draft) → Sound shape p
-    → Follows shape (on_draft (world_of p) found (λ draft. abort_happens (world_of p) number)) (abort_by p number found)
-abort-follows shape p number None sound = (refl, sound)
-abort-follows shape p number (Some draft) sound = (refl, drafts-ended shape p number sound)
+pub abort-sound : (shape : Shape) (p : Parts) (number : ℕ) (found : Option Draft) → Sound shape p
+    → Sound shape (beside_of (on_draft (world_of p) found (λ draft. abort_happens (world_of p) number)).1 p)
+abort-sound shape p number None sound = sound
+abort-sound shape p number (Some draft) sound = drafts-ended shape p number sound
 
 -- ---- commits
 
@@ -185,23 +176,27 @@ primary-committed shape p worker draft sound small below taken =
 commits : (shape : Shape) (p : Parts) (number worker : ℕ) (draft : Draft) (answer : Result ℕ CommitFault) → Sound shape p
     → IsSmallDraft (length p.primary.durable) draft → worker < 1
     → commit_answer p.primary draft ≡ answer
-    → Follows shape (commit_happens (world_of p) number worker draft answer) (committing p number worker draft answer)
-commits shape p number worker draft (Ok ticket) sound small below h = (
-  refl,
-  Sound-primary shape (record p { transactions = slice_set p.transactions number None })
-      (p.primary.pending ++ record { worker = worker; entries = draft.entries } ∷ []) (drafts-ended shape p number sound)
-      (primary-committed shape p.primary worker draft sound.primary_is small below (commit-taken p.primary draft ticket h)),
-)
-commits shape p number worker draft (Err fault) sound small below h = (refl, drafts-ended shape p number sound)
+    → Sound shape (beside_of (commit_happens (world_of p) number worker draft answer).1 p)
+commits shape p number worker draft (Ok ticket) sound small below h =
+    Sound-primary shape (record p { transactions = slice_set p.transactions number None })
+    (p.primary.pending ++ record { worker = worker; entries = draft.entries } ∷ []) (drafts-ended shape p number sound)
+    (primary-committed shape p.primary worker draft sound.primary_is small below (commit-taken p.primary draft ticket h))
+commits shape p number worker draft (Err fault) sound small below h = drafts-ended shape p number sound
 
-pub commit-follows : (shape : Shape) (p : Parts) (number worker : ℕ) (found : Option Draft) → Sound shape p → worker < 1
+pub commit-sound : (shape : Shape) (p : Parts) (number worker : ℕ) (found : Option Draft) → Sound shape p → worker < 1
     → open_draft p.transactions number ≡ found
-    → Follows shape (on_draft (world_of p) found (λ draft. commit_happens (world_of p) number worker draft (commit_answer p.primary draft)))
-    (commit_by p number worker found)
-commit-follows shape p number worker None sound below here = (refl, sound)
-commit-follows shape p number worker (Some draft) sound below here =
+    → Sound shape (beside_of (on_draft (world_of p) found
+    (λ draft. commit_happens (world_of p) number worker draft (commit_answer p.primary draft))).1 p)
+commit-sound shape p number worker None sound below here = sound
+commit-sound shape p number worker (Some draft) sound below here =
     commits shape p number worker draft (commit_answer p.primary draft) sound
     (sound.drafts_are number draft (opened (slice_get p.transactions number) draft here)) below refl
+
+pub flush-sound : (shape : Shape) (p : Parts) (count : ℕ) (failed : Bool) (refused answered : Output) → Sound shape p
+    → Sound shape (beside_of (cond {A = Output × World} failed (refused, world_of p)
+    (answered, world_of (record p { primary = flushed p.primary count }))).1 p)
+flush-sound shape p count true refused answered sound = sound
+flush-sound shape p count false refused answered sound = Sound-flushed shape p count sound
 
 -- ---- what the primary sends
 
@@ -220,15 +215,15 @@ frame-means shape p place frame sound h =
     (subst (Means durable p.replicas) (sym (frame-read place found.0 small (omega arith)))
     (record { tells = ap (λ (w : ℕ). slice_get (stream_of durable w) place) small.worker ∙ h ∙ ap Some (sym found.2); requests = tt }))
 
-pub push-follows : (shape : Shape) (p : Parts) (worker place : ℕ) (found : Option Frame) → Sound shape p → worker < 1
+pub push-sound : (shape : Shape) (p : Parts) (worker place : ℕ) (found : Option Frame) → Sound shape p → worker < 1
     → slice_get (stream_of p.primary.durable worker) place ≡ found
-    → Follows shape (push_happens (world_of p) (option_map frame_spelling found)) (push_by p (option_map frame_spelling found))
-push-follows shape p worker place None sound below here = (refl, sound)
-push-follows shape p worker place (Some frame) sound below here =
+    → Sound shape (beside_of (push_happens (world_of p) (option_map frame_spelling found)).1 p)
+push-sound shape p worker place None sound below here = sound
+push-sound shape p worker place (Some frame) sound below here =
     let only : 0 ≡ worker = omega arith in
     let at : slice_get (stream_of p.primary.durable 0) place ≡ Some frame =
     ap (λ (w : ℕ). slice_get (stream_of p.primary.durable w) place) only ∙ here in
-    (refl, Sound-one shape p (frame_spelling frame) sound (frame-means shape p place frame sound at))
+    Sound-one shape p (frame_spelling frame) sound (frame-means shape p place frame sound at)
 
 -- the count of the only worker
 counts-all : (shape : Shape) (p : Parts) → Sound shape p
@@ -271,7 +266,9 @@ answers-mean shape p (Ok (datagrams.Ask replica boot request)) sound means i byt
 answers-mean shape p (Ok (datagrams.Head replica boot request version counts)) sound means i bytes h = absurd (none-some bytes h)
 answers-mean shape p (Ok (datagrams.Want replica worker from)) sound means i bytes h = absurd (none-some bytes h)
 
-pub primary-answers : (shape : Shape) (p : Parts) (bytes : List ℕ) → Sound shape p → Means p.primary.durable p.replicas (reading bytes)
-    → Sound shape (to_primary p bytes).1
-primary-answers shape p bytes sound means =
-    Sound-sent shape p (packets_of (answers p.primary bytes)) sound (answers-mean shape p (reading bytes) sound means)
+pub deliver-sound : (shape : Shape) (p : Parts) (place : ℕ) (found : Option (List ℕ)) → Sound shape p → slice_get p.sent place ≡ found
+    → Sound shape (beside_of (deliver_happens (world_of p) nodes.Primary found).1 p)
+deliver-sound shape p place None sound here = sound
+deliver-sound shape p place (Some bytes) sound here =
+    Sound-sent shape p (packets_of (answers p.primary bytes)) sound
+    (answers-mean shape p (reading bytes) sound (sound.sent_is place bytes here))

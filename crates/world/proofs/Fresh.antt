@@ -11,10 +11,8 @@ use Rattle.wire.specs.declared.datagram.Datagram.{Datagram}
 use Rattle.wire.specs.declared.datagram.Datagram.TheVariants as datagrams
 use Rattle.wire.specs.declared.fault.WireFault.{WireFault}
 use Rattle.wire.specs.Reading.{reading}
-use Rattle.wire.specs.Spelling.{IsAsk}
 use Rattle.mvcc.specs.Draft.{Draft}
 use Rattle.primary.specs.Primary.{committed, flushed}
-use Rattle.dispatcher.specs.Replica.{Fetched}
 use Rattle.world.specs.World.{World, Member, Batch, fresh, fresh_from, opening_world, with_member}
 use Rattle.world.specs.Inner.Fresh.{IsFreshBatch, IsFreshMember, IsFreshHead, IsFreshReading, Fresh}
 use Rattle.world.proofs.Lists.{get-set, get-append, All-get}

@@ -1,5 +1,5 @@
 -- Each step of a run is by the one list of commits that is durable at its end.
-use Rattle.std.proofs.Common.{◌≡◌, ℕ, ◌≤◌, List, [], ◌∷◌, ◌++◌, map, refl, sym, ap, subst, ◌∙◌}
+use Rattle.std.proofs.Common.{ℕ, List, [], ◌∷◌, ◌++◌, map, sym, ap, subst, ◌∙◌}
 use Rattle.std.specs.List.{AllByRecursion}
 use Rattle.std.proofs.lemmas.List.{append-nil, append_assoc}
 use Rattle.rows.specs.declared.commit.Commit.{Commit}
@@ -14,8 +14,8 @@ use Rattle.script.specs.declared.output.Output.TheVariants as outputs
 use Rattle.world.specs.Parts.{Parts, parts_started}
 use Rattle.world.specs.World.{World, opening_world}
 use Rattle.world.specs.Allowed.{MayHappen, RunsBy, Runs, Allowed}
-use Rattle.world.specs.Standing.{world_of, AreFed}
-use Rattle.world.specs.Theorem.{ReportsItsBatch, IsBeginning, IsFaultless, IsStep, IsCoreStep, OfEachRun, RunsWith, HasExactReports}
+use Rattle.world.specs.Standing.{world_of}
+use Rattle.world.specs.Theorem.{ReportsItsBatch, IsBeginning, IsFaultless, IsStep, IsCoreStep, OfEachRun, HasExactReports}
 use Rattle.world.specs.Theorem.{HasGrowingList, HasLegalList, HasNoFault, CoresStand, AllowedRunsAreExact}
 use Rattle.world.specs.Inner.Fresh.{Fresh}
 use Rattle.world.specs.Inner.Honest.{IsHonest}

@@ -15,6 +15,10 @@ use Rattle.world.specs.World.{World, Member, fresh_from, opening_world, with_mem
 abbrev pub seen : Output × Parts → Output × World
 seen answer = (answer.0, world_of answer.1)
 
+-- the parts with another primary, other transactions and other datagrams: those of a world
+abbrev pub beside_of : World → Parts → Parts
+beside_of w p = record p { primary = w.primary; transactions = w.transactions; sent = w.sent }
+
 pub members-get : (replicas : List Replica) (asked_at : List ℕ) (i : ℕ)
     → slice_get (members_of replicas asked_at) i ≡ option_map (member_of (slice_index asked_at i)) (slice_get replicas i)
 members-get [] asked_at i = refl

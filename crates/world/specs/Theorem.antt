@@ -14,7 +14,7 @@ use Rattle.script.specs.declared.output.Output.{Output}
 use Rattle.script.specs.declared.output.Output.TheVariants as outputs
 use Rattle.world.specs.Parts.{Parts, parts_started}
 use Rattle.world.specs.World.{World, Member, Batch, opening_world}
-use Rattle.world.specs.Allowed.{MayHappen, RunsBy, Runs, Allowed}
+use Rattle.world.specs.Allowed.{MayHappen, RunsBy, Runs}
 use Rattle.world.specs.Standing.{world_of, AreFed}
 
 -- ---- what a step keeps

@@ -5,7 +5,7 @@ ghost use Rattle.std.specs.Prelude.{◌≡◌, ◌<◌, ◌++◌, ◌⊎◌, len
 ghost use Rattle.world.specs.Outputs.{sent_from, packets_of};
 ghost use Rattle.world.specs.Inner.Kept.{IsReady};
 ghost use Rattle.script.specs.Events.{IsPossible, IsThere};
-ghost use Rattle.world.specs.Inner.Steps.{MayStep, sent_one, with_sent};
+ghost use Rattle.world.specs.Inner.Steps.{HappensBeside, MayStep, sent_one, with_sent};
 
 use crate::cores::Cores;
 use crate::naming::{ask_output, got_output, open_output};
@@ -65,7 +65,7 @@ impl Cores {
     }
 
     fn flush(&mut self, count: u32) -> Output
-        ensures { MayStep self.old (Event.Flush count) result self.new }
+        ensures { HappensBeside self.old (Event.Flush count) result self.new }
     {
         match self.primary.flush(count as usize) {
             Ok(durable) => Output::Durable(durable),
@@ -76,7 +76,7 @@ impl Cores {
 
     fn push(&mut self, worker: u8, seq: u64) -> Output
         requires { worker < self.old.primary.workers }
-        ensures { MayStep self.old (Event.Push worker seq) result self.new }
+        ensures { HappensBeside self.old (Event.Push worker seq) result self.new }
     {
         match self.primary.push(worker, seq) {
             None => Output::NoFrame,
@@ -106,24 +106,19 @@ impl Cores {
         requires { IsThere (length self.old.replicas) node }
         ensures { MayStep self.old (Event.Deliver place node) result self.new }
     {
-        if place >= self.sent.len() as u64 {
-            return Output::NeverSent;
-        }
         match node {
-            Node::Primary => self.deliver_to_primary(place as usize),
-            Node::Replica(number) => {
-                let bytes = self.sent[place as usize].bytes();
-                let replica = &mut self.replicas[number as usize];
-                got_output(replica.on_bytes(bytes))
-            }
+            Node::Primary => self.deliver_to_primary(place),
+            Node::Replica(number) => self.deliver_to_replica(place, number),
         }
     }
 
-    fn deliver_to_primary(&mut self, place: usize) -> Output
-        requires { place < length self.old.sent }
-        ensures { MayStep self.old (Event.Deliver place Node.Primary) result self.new }
+    fn deliver_to_primary(&mut self, place: u64) -> Output
+        ensures { HappensBeside self.old (Event.Deliver place Node.Primary) result self.new }
     {
-        let Ok(outs) = self.primary.on_bytes(self.sent[place].bytes()) else {
+        if place >= self.sent.len() as u64 {
+            return Output::NeverSent;
+        }
+        let Ok(outs) = self.primary.on_bytes(self.sent[place as usize].bytes()) else {
             return Output::Memory;
         };
         if outs.is_empty() {
@@ -135,8 +130,20 @@ impl Cores {
         }
     }
 
+    fn deliver_to_replica(&mut self, place: u64, number: u8) -> Output
+        requires { number < length self.old.replicas }
+        ensures { MayStep self.old (Event.Deliver place (Node.Replica number)) result self.new }
+    {
+        if place >= self.sent.len() as u64 {
+            return Output::NeverSent;
+        }
+        let bytes = self.sent[place as usize].bytes();
+        let replica = &mut self.replicas[number as usize];
+        got_output(replica.on_bytes(bytes))
+    }
+
     fn show(&self, place: u64) -> Output
-        ensures { MayStep self.now (Event.Show place) result self.now }
+        ensures { HappensBeside self.now (Event.Show place) result self.now }
     {
         if place >= self.sent.len() as u64 {
             return Output::NeverSent;

@@ -1,5 +1,5 @@
 -- Only for proofs: a world in which nothing is damaged.
-use Rattle.std.specs.Prelude.{◌≡◌, ℕ, ◌≤◌, length, true, false, Option, Some, slice_get, is_ok}
+use Rattle.std.specs.Prelude.{◌≡◌, ℕ, ◌≤◌, length, true, false, Some, slice_get, is_ok}
 use Rattle.rows.specs.Tables.{changes_of}
 use Rattle.rows.specs.Commits.{tables_after}
 use Rattle.mvcc.specs.Draft.{Draft}

@@ -1,9 +1,10 @@
 -- Only for proofs: what every world keeps.
-use Rattle.std.specs.Prelude.{◌≡◌, ℕ, ◌≤◌, length, IfSome}
+use Rattle.std.specs.Prelude.{◌≡◌, ◌≤◌, length, IfSome}
 use Rattle.std.specs.List.{AllByRecursion}
 use Rattle.rows.specs.Shape.{AreTables}
 use Rattle.dispatcher.specs.Replica.{Replica}
 use Rattle.world.specs.Parts.{Parts}
+use Rattle.world.specs.World.{World, Member}
 use Rattle.world.specs.Standing.{world_of}
 use Rattle.world.specs.Inner.Sound.{Sound}
 use Rattle.world.specs.Inner.Honest.{IsHonest}
@@ -16,11 +17,15 @@ pub record IsReady (p : Parts) : Type 0 where
   pub snapshots : AllByRecursion (λ slot. IfSome slot (λ draft. draft.snapshot ≤ length p.primary.durable)) p.transactions
   pub requests : AllByRecursion (λ (replica : Replica). replica.request ≤ length p.sent) p.replicas
 
--- the parts of every world: its tables are in their limits, the cores are sound and ready, nothing is damaged, and what
--- was fetched is no older than its batch
+-- no replica has made more requests than there were datagrams
+abbrev pub IsRequested : World → Type 0
+IsRequested w = AllByRecursion (λ (m : Member). m.request ≤ length w.sent) w.members
+
+-- the parts of every world: its tables are in their limits, the cores are sound, each request was sent, nothing is damaged,
+-- and what was fetched is no older than its batch
 pub record IsKept (p : Parts) : Type 0 where
   pub tables : AreTables p.primary.shape
   pub sound : Sound p.primary.shape p
-  pub ready : IsReady p
+  pub requested : IsRequested (world_of p)
   pub honest : IsHonest (world_of p)
   pub fresh : Fresh (world_of p)

@@ -1,10 +1,9 @@
 -- Each event is one step, and what follows it is a run behind it.
-use Rattle.std.proofs.Common.{ℕ, [], ◌∷◌, refl, append_assoc, subst}
+use Rattle.std.proofs.Common.{[], ◌∷◌, refl, append_assoc}
 use Rattle.std.proofs.lemmas.List.{append-nil}
 use Rattle.std.proofs.lemmas.Option.{slice_get_read}
 use Rattle.rows.specs.Shape.{shape_of}
 use Rattle.script.specs.Events.{IsPossible}
-use Rattle.world.specs.Theorem.{IsRun}
 use Rattle.world.proofs.Continuing.{step_first, none_left}
 use Rattle.world.proofs.Slots.{all_at}
 use Rattle.world.proofs.Starting.{as_many}

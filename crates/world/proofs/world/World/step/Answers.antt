@@ -1,6 +1,13 @@
 -- What the event's call leaves is the world's again, and what it answers may happen there.
+use Rattle.world.proofs.Requested.{kept-ready}
 use Rattle.world.proofs.Whole.{step-keeps}
 use Rattle.world.proofs.world.World.step.Goals as goal
+
+pub happen-requires : goal.happen-requires
+happen-requires c = record {
+  ready = kept-ready c.self.inside.cores c.self.invariant;
+  possible = rw (← c.self.view_is) at c.requires.possible;
+}
 
 pub invariant_of-self : goal.invariant_of-self
 invariant_of-self c =
