@@ -2,6 +2,7 @@
 -- frame holds, and each commit's place in its worker's stream is known.
 use Rattle.std.specs.Prelude.{ℕ, ◌≡◌, ◌<◌, ◌≤◌, ◌^◌, List, length, take}
 use Rattle.std.specs.List.{AllByRecursion}
+use Rattle.rows.specs.Shape.{shape_of}
 use Rattle.mvcc.specs.History.{History}
 use Rattle.primary.specs.Kept.{IsKept}
 use Rattle.primary.specs.Places.{Numbers, ArePlaces}
@@ -15,4 +16,4 @@ pub record IsCore (versions : History) (places : List Numbers) (durable workers 
   pub kept : AllByRecursion IsKept versions.commits
   pub all_placed : length places ≡ workers
   pub placed : ArePlaces places versions.commits
-  pub text : journal ≡ journal_text workers versions.shape (take durable versions.commits)
+  pub text : journal ≡ journal_text workers (shape_of versions.schema) (take durable versions.commits)

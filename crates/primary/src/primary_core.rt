@@ -3,7 +3,6 @@
 ghost use Rattle.std.specs.Prelude.{◌≡◌, ◌<◌, ◌≤◌, length, true, false, Ok, Err, IfOk, IfErr, IsOk, OnOk, OnErr, ◌⊎◌, ◌∷◌, [], ◌++◌, ◌+◌};
 ghost use Rattle.std.specs.Prelude.{◌^◌};
 ghost use Rattle.std.specs.List.{AllByRecursion};
-ghost use Rattle.rows.specs.Shape.{shape_of};
 ghost use Rattle.mvcc.specs.History.{defined_at};
 ghost use Rattle.primary.specs.Places.{ArePlaces};
 ghost use Rattle.primary.specs.State.{Primary};
@@ -27,7 +26,7 @@ use wire::{Datagram, Out, Packet, To, read};
 
 /// A primary: its durable list of commits, its pending list, and whether it has failed.
 ///
-/// Contracts see these lists with the shape of the tables and the number of workers. The journal
+/// Contracts see these lists with the schema and the number of workers. The journal
 /// holds the text of the durable list, and nothing else is ever pushed or counted.
 #[derive(Debug, Drop)]
 pub struct PrimaryCore {
@@ -58,7 +57,7 @@ impl PrimaryCore {
     pub fn start(alloc: Global, schema: &Schema, workers: u8) -> Result<PrimaryCore, AllocError>
         requires some { 0 < workers }
         requires few { workers ≤ 16 }
-        ensures { IfOk result (λ primary. primary ≡ started (shape_of schema.now) workers) }
+        ensures { IfOk result (λ primary. primary ≡ started schema.now workers) }
     {
         Ok(PrimaryCore {
             alloc,
@@ -87,7 +86,7 @@ impl PrimaryCore {
 
     /// The versions of the durable list followed by the pending one.
     pub fn versions(&self) -> &Versions
-        ensures { result.now ≡ record { shape = self.now.shape; commits = self.now.durable ++ self.now.pending } }
+        ensures { result.now ≡ record { schema = self.now.schema; commits = self.now.durable ++ self.now.pending } }
     {
         &self.versions
     }
