@@ -1,9 +1,10 @@
 //! Every version of the database: the list of its commits.
 
-ghost use Rattle.std.specs.Prelude.{◌≡◌, ◌≤◌, ◌-◌, ◌∷◌, [], ◌++◌, ℕ, length, true, IfOk, OnOk, OnErr, slice_get, if◌then◌else◌, ◌==◌, None};
+ghost use Rattle.std.specs.Prelude.{◌≡◌, ◌≤◌, ◌-◌, ◌∷◌, [], ◌++◌, ℕ, length, true, IfOk, OnOk, OnErr, slice_get, take, if◌then◌else◌, ◌==◌, None, IsOk};
 ghost use Rattle.std.specs.Option.{option_map};
-ghost use Rattle.rows.specs.Tables.{is_present, rows_of};
-ghost use Rattle.rows.specs.Commits.{last_touching};
+ghost use Rattle.rows.specs.Shape.{shape_of};
+ghost use Rattle.rows.specs.Tables.{opening, is_present, rows_of};
+ghost use Rattle.rows.specs.Commits.{commits_of, last_touching};
 ghost use Rattle.mvcc.specs.History.{defined_at, tables_at};
 ghost use Rattle.mvcc.specs.Newest.{newest_of};
 ghost use Rattle.mvcc.specs.Values.{value_in};
@@ -50,6 +51,17 @@ impl Versions {
             commits: Vec::new(alloc),
             chains: no_chains(alloc, schema.len())?,
         })
+    }
+
+    /// Each entry of the commits is defined in its place, in all of them and in the first of them
+    /// up to any version. It does nothing: its contract is the law.
+    pub fn keeps_defined(&self)
+        ensures all { IsOk (commits_of (shape_of self.now.schema) (opening (shape_of self.now.schema)) self.now.commits) }
+        ensures first { (version : ℕ)
+            → IsOk (commits_of (shape_of self.now.schema) (opening (shape_of self.now.schema)) (take version self.now.commits)) }
+    {
+        // A look at a field brings the invariant to the proof.
+        let _ = &self.chains;
     }
 
     /// How many commits there are, which is the newest version.

@@ -3,6 +3,7 @@
 use Rattle.std.specs.Prelude.{ℕ, ◌≡◌, ◌<◌, ◌≤◌, ◌^◌, List, length, take}
 use Rattle.std.specs.List.{AllByRecursion}
 use Rattle.rows.specs.Shape.{shape_of}
+use Rattle.rows.specs.Commits.{IsCommit}
 use Rattle.mvcc.specs.History.{History}
 use Rattle.primary.specs.Kept.{IsKept}
 use Rattle.primary.specs.Places.{Numbers, ArePlaces}
@@ -13,6 +14,7 @@ pub record IsCore (versions : History) (places : List Numbers) (durable workers 
   pub few_workers : workers ≤ 16
   pub within : durable ≤ length versions.commits
   pub numbered : length versions.commits < 2 ^ 64
+  pub each : AllByRecursion (IsCommit workers) versions.commits
   pub kept : AllByRecursion IsKept versions.commits
   pub all_placed : length places ≡ workers
   pub placed : ArePlaces places versions.commits

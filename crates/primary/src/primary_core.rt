@@ -3,6 +3,8 @@
 ghost use Rattle.std.specs.Prelude.{◌≡◌, ◌<◌, ◌≤◌, length, true, false, Ok, Err, IfOk, IfErr, IsOk, OnOk, OnErr, ◌⊎◌, ◌∷◌, [], ◌++◌, ◌+◌};
 ghost use Rattle.std.specs.Prelude.{◌^◌};
 ghost use Rattle.std.specs.List.{AllByRecursion};
+ghost use Rattle.rows.specs.Shape.{shape_of};
+ghost use Rattle.rows.specs.Commits.{IsLegal};
 ghost use Rattle.mvcc.specs.History.{defined_at};
 ghost use Rattle.primary.specs.Places.{ArePlaces};
 ghost use Rattle.primary.specs.State.{Primary};
@@ -68,6 +70,15 @@ impl PrimaryCore {
             failed: false,
             journal: header_bytes(alloc, workers, schema)?,
         })
+    }
+
+    /// The durable list followed by the pending one is legal for the primary's schema and workers,
+    /// and so is the durable list alone. It does nothing: its contract is the law.
+    pub fn keeps_legal(&self)
+        ensures all { IsLegal (shape_of self.now.schema) self.now.workers (self.now.durable ++ self.now.pending) }
+        ensures durable { IsLegal (shape_of self.now.schema) self.now.workers self.now.durable }
+    {
+        self.versions.keeps_defined();
     }
 
     /// How many commits are durable, which is the version that a transaction begins on.

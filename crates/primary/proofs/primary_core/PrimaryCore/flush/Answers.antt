@@ -18,6 +18,7 @@ invariant_of-self c =
       few_workers = kept.few_workers;
       within = omega (arith, length-drop inside.durable inside.versions.commits);
       numbered = kept.numbered;
+      each = kept.each;
       kept = kept.kept;
       all_placed = kept.all_placed;
       placed = kept.placed;
