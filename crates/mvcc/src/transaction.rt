@@ -1,8 +1,9 @@
 //! Transactions before their commit.
 
-ghost use Rattle.std.specs.Prelude.{◌≡◌, ◌<◌, ◌≤◌, [], ◌∷◌, ◌++◌, length, IfErr, Ok, Err, Some, None, OnOk, OnErr, ◌⊎◌, IsOk, is_some};
+ghost use Rattle.std.specs.Prelude.{◌≡◌, ◌<◌, ◌≤◌, [], ◌∷◌, ◌++◌, length, IfErr, Ok, Some, None, OnOk, OnErr, is_some};
 ghost use Rattle.std.specs.Prelude.{if◌then◌else◌};
 ghost use Rattle.rows.specs.declared.entry.Entry.TheVariants.{Insert, Patch, Delete};
+ghost use Rattle.rows.specs.Faults.{IsFaultOf};
 ghost use Rattle.rows.specs.Shape.{shape_of};
 ghost use Rattle.rows.specs.Values.{bytes_of, value_bytes};
 ghost use Rattle.rows.specs.Tables.{rows_of, row_at};
@@ -109,9 +110,7 @@ impl Transaction {
         ensures ok { OnOk result
             (insert_answer (shape_of versions.now.schema) versions.now.commits self.old table row.0 values.now ≡ Ok self.new) }
         ensures refused { IfErr result (λ fault. (self.new ≡ self.old)
-            × (((fault ≡ TxFault.Memory)
-            × IsOk (insert_answer (shape_of versions.now.schema) versions.now.commits self.old table row.0 values.now))
-            ⊎ (insert_answer (shape_of versions.now.schema) versions.now.commits self.old table row.0 values.now ≡ Err fault))) }
+            × IsFaultOf (insert_answer (shape_of versions.now.schema) versions.now.commits self.old table row.0 values.now) TxFault.Memory fault) }
     {
         if !matches_table(values, versions.schema().kinds(table as usize)) {
             return Err(TxFault::Unfit);
@@ -147,9 +146,7 @@ impl Transaction {
         ensures ok { OnOk result
             (set_answer (shape_of versions.now.schema) versions.now.commits self.old table row.0 column value ≡ Ok self.new) }
         ensures refused { IfErr result (λ fault. (self.new ≡ self.old)
-            × (((fault ≡ TxFault.Memory)
-            × IsOk (set_answer (shape_of versions.now.schema) versions.now.commits self.old table row.0 column value))
-            ⊎ (set_answer (shape_of versions.now.schema) versions.now.commits self.old table row.0 column value ≡ Err fault))) }
+            × IsFaultOf (set_answer (shape_of versions.now.schema) versions.now.commits self.old table row.0 column value) TxFault.Memory fault) }
     {
         let Some(offset) = offset_for(versions.schema(), table, column, &value) else {
             return Err(TxFault::Unfit);
@@ -177,8 +174,7 @@ impl Transaction {
         ensures same_snapshot { self.new.snapshot ≡ self.old.snapshot }
         ensures ok { OnOk result (delete_answer (shape_of versions.now.schema) versions.now.commits self.old table row.0 ≡ Ok self.new) }
         ensures refused { IfErr result (λ fault. (self.new ≡ self.old)
-            × (((fault ≡ TxFault.Memory) × IsOk (delete_answer (shape_of versions.now.schema) versions.now.commits self.old table row.0))
-            ⊎ (delete_answer (shape_of versions.now.schema) versions.now.commits self.old table row.0 ≡ Err fault))) }
+            × IsFaultOf (delete_answer (shape_of versions.now.schema) versions.now.commits self.old table row.0) TxFault.Memory fault) }
     {
         if versions.schema().kinds(table as usize).is_none() {
             return Err(TxFault::Unfit);
