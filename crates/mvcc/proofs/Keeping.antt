@@ -17,7 +17,6 @@ use Rattle.rows.specs.Commits.{commits_of, tables_after, is_of}
 use Rattle.rows.proofs.Presence.{fitting-within, change_of-parts, and_then-parts}
 use Rattle.rows.proofs.TableLaws.{from_is_ok, commits_of-push}
 use Rattle.rows.proofs.RowLaws.{row-at}
-use Rattle.mvcc.specs.History.{defined_at}
 use Rattle.mvcc.specs.declared.link.Link.{Link}
 use Rattle.mvcc.specs.Newest.{newest_of}
 use Rattle.mvcc.specs.Chains.{Chains, chain_of, newest_in, values_at, cut_at, linked, links_at, tables_linked, tables_cut, tables_cut_all}
@@ -132,7 +131,7 @@ row-kept shape commits tables version t r legal kept =
 
 -- with one more commit
 pub versions-push : (shape : Shape) (commits : List Commit) (before after : List Chains) (commit : Commit)
-    → AreVersions shape commits before → defined_at (record { shape = shape; commits = commits }) (length commits) commit.entries ≡ true
+    → AreVersions shape commits before → is_ok (changes_of shape (tables_after shape commits (length commits)) commit.entries) ≡ true
     → length after ≡ length before → AreChains shape (and_entries commits commit.entries) after
     → AreVersions shape (commits ++ commit ∷ []) after
 versions-push shape commits before after commit versions defined counted kept = record {

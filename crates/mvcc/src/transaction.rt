@@ -1,12 +1,13 @@
 //! Transactions before their commit.
 
-ghost use Rattle.std.specs.Prelude.{◌≡◌, ◌<◌, ◌≤◌, [], ◌∷◌, ◌++◌, length, IfErr, Ok, Err, Some, None, OnOk, OnErr, ◌⊎◌, IsOk, is_some};
+ghost use Rattle.std.specs.Prelude.{◌≡◌, ◌<◌, ◌≤◌, [], ◌∷◌, ◌++◌, length, IfErr, Ok, Some, None, OnOk, OnErr, is_some};
 ghost use Rattle.std.specs.Prelude.{if◌then◌else◌};
 ghost use Rattle.rows.specs.declared.entry.Entry.TheVariants.{Insert, Patch, Delete};
+ghost use Rattle.rows.specs.Faults.{IsFaultOf};
 ghost use Rattle.rows.specs.Shape.{shape_of};
 ghost use Rattle.rows.specs.Values.{bytes_of, value_bytes};
 ghost use Rattle.rows.specs.Tables.{rows_of, row_at};
-ghost use Rattle.rows.specs.Commits.{tables_after};
+ghost use Rattle.mvcc.specs.History.{tables_at};
 ghost use Rattle.mvcc.specs.Draft.{Draft};
 ghost use Rattle.mvcc.specs.Cells.{cell_of};
 ghost use Rattle.mvcc.specs.Transactions.{insert_answer, set_answer, delete_answer, get_answer, match_column, column_kind, column_offset};
@@ -106,10 +107,10 @@ impl Transaction {
     ) -> Result<(), TxFault>
         requires { self.old.snapshot ≤ length versions.now.commits }
         ensures same_snapshot { self.new.snapshot ≡ self.old.snapshot }
-        ensures ok { OnOk result (insert_answer versions.now.shape versions.now.commits self.old table row.0 values.now ≡ Ok self.new) }
+        ensures ok { OnOk result
+            (insert_answer (shape_of versions.now.schema) versions.now.commits self.old table row.0 values.now ≡ Ok self.new) }
         ensures refused { IfErr result (λ fault. (self.new ≡ self.old)
-            × (((fault ≡ TxFault.Memory) × IsOk (insert_answer versions.now.shape versions.now.commits self.old table row.0 values.now))
-            ⊎ (insert_answer versions.now.shape versions.now.commits self.old table row.0 values.now ≡ Err fault))) }
+            × IsFaultOf (insert_answer (shape_of versions.now.schema) versions.now.commits self.old table row.0 values.now) TxFault.Memory fault) }
     {
         if !matches_table(values, versions.schema().kinds(table as usize)) {
             return Err(TxFault::Unfit);
@@ -142,10 +143,10 @@ impl Transaction {
     ) -> Result<(), TxFault>
         requires { self.old.snapshot ≤ length versions.now.commits }
         ensures same_snapshot { self.new.snapshot ≡ self.old.snapshot }
-        ensures ok { OnOk result (set_answer versions.now.shape versions.now.commits self.old table row.0 column value ≡ Ok self.new) }
+        ensures ok { OnOk result
+            (set_answer (shape_of versions.now.schema) versions.now.commits self.old table row.0 column value ≡ Ok self.new) }
         ensures refused { IfErr result (λ fault. (self.new ≡ self.old)
-            × (((fault ≡ TxFault.Memory) × IsOk (set_answer versions.now.shape versions.now.commits self.old table row.0 column value))
-            ⊎ (set_answer versions.now.shape versions.now.commits self.old table row.0 column value ≡ Err fault))) }
+            × IsFaultOf (set_answer (shape_of versions.now.schema) versions.now.commits self.old table row.0 column value) TxFault.Memory fault) }
     {
         let Some(offset) = offset_for(versions.schema(), table, column, &value) else {
             return Err(TxFault::Unfit);
@@ -171,10 +172,9 @@ impl Transaction {
     pub fn delete(&mut self, versions: &Versions, table: u8, row: RowId) -> Result<(), TxFault>
         requires { self.old.snapshot ≤ length versions.now.commits }
         ensures same_snapshot { self.new.snapshot ≡ self.old.snapshot }
-        ensures ok { OnOk result (delete_answer versions.now.shape versions.now.commits self.old table row.0 ≡ Ok self.new) }
+        ensures ok { OnOk result (delete_answer (shape_of versions.now.schema) versions.now.commits self.old table row.0 ≡ Ok self.new) }
         ensures refused { IfErr result (λ fault. (self.new ≡ self.old)
-            × (((fault ≡ TxFault.Memory) × IsOk (delete_answer versions.now.shape versions.now.commits self.old table row.0))
-            ⊎ (delete_answer versions.now.shape versions.now.commits self.old table row.0 ≡ Err fault))) }
+            × IsFaultOf (delete_answer (shape_of versions.now.schema) versions.now.commits self.old table row.0) TxFault.Memory fault) }
     {
         if versions.schema().kinds(table as usize).is_none() {
             return Err(TxFault::Unfit);
@@ -204,7 +204,7 @@ impl Transaction {
         column: usize,
     ) -> Result<Value, TxFault>
         requires { self.now.snapshot ≤ length versions.now.commits }
-        ensures { result ≡ get_answer versions.now.shape versions.now.commits self.now table row.0 column }
+        ensures { result ≡ get_answer (shape_of versions.now.schema) versions.now.commits self.now table row.0 column }
     {
         if !has_column(versions.schema(), table, column) {
             return Err(TxFault::Unfit);
@@ -218,7 +218,7 @@ impl Transaction {
     /// Whether the row is there, as the transaction sees it.
     fn sees(&self, versions: &Versions, table: u8, row: RowId) -> bool
         requires { self.now.snapshot ≤ length versions.now.commits }
-        ensures { result ≡ sees versions.now.shape versions.now.commits self.now table row.0 }
+        ensures { result ≡ sees (shape_of versions.now.schema) versions.now.commits self.now table row.0 }
     {
         self.cell(versions, table, row, 0).is_some()
     }
@@ -233,7 +233,8 @@ impl Transaction {
         column: usize,
     ) -> Option<Option<Value>>
         requires { self.now.snapshot ≤ length versions.now.commits }
-        ensures { result ≡ cell_of column (row_at (rows_of (seen_by versions.now.shape versions.now.commits self.now) table) row.0) }
+        ensures { result ≡ cell_of column
+            (row_at (rows_of (seen_by (shape_of versions.now.schema) versions.now.commits self.now) table) row.0) }
     {
         let was = cell_at(versions, self.snapshot, table, row, column);
         match versions.schema().kinds(table as usize) {
@@ -306,7 +307,7 @@ fn cell_at(
     column: usize,
 ) -> Option<Option<Value>>
     requires { version ≤ length versions.now.commits }
-    ensures { result ≡ cell_of column (row_at (rows_of (tables_after versions.now.shape versions.now.commits version) table) row.0) }
+    ensures { result ≡ cell_of column (row_at (rows_of (tables_at versions.now version) table) row.0) }
 {
     if versions.is_present(version, table, row) {
         Some(versions.value_at(version, table, row, column))

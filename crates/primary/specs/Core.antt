@@ -2,6 +2,8 @@
 -- frame holds, and each commit's place in its worker's stream is known.
 use Rattle.std.specs.Prelude.{ℕ, ◌≡◌, ◌<◌, ◌≤◌, ◌^◌, List, length, take}
 use Rattle.std.specs.List.{AllByRecursion}
+use Rattle.rows.specs.Shape.{shape_of}
+use Rattle.rows.specs.Commits.{IsCommit}
 use Rattle.mvcc.specs.History.{History}
 use Rattle.primary.specs.Kept.{IsKept}
 use Rattle.primary.specs.Places.{Numbers, ArePlaces}
@@ -12,7 +14,8 @@ pub record IsCore (versions : History) (places : List Numbers) (durable workers 
   pub few_workers : workers ≤ 16
   pub within : durable ≤ length versions.commits
   pub numbered : length versions.commits < 2 ^ 64
+  pub each : AllByRecursion (IsCommit workers) versions.commits
   pub kept : AllByRecursion IsKept versions.commits
   pub all_placed : length places ≡ workers
   pub placed : ArePlaces places versions.commits
-  pub text : journal ≡ journal_text workers versions.shape (take durable versions.commits)
+  pub text : journal ≡ journal_text workers (shape_of versions.schema) (take durable versions.commits)

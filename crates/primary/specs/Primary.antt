@@ -2,7 +2,8 @@
 use Rattle.std.specs.Prelude.{ℕ, ◌+◌, ◌^◌, List, [], ◌∷◌, ◌++◌, length, take, drop, Bool, false, Result, Ok, Err, ◌||◌, not, nat_lt, ◌==◌}
 use Rattle.std.specs.Prelude.{if◌then◌else◌, is_ok}
 use Rattle.rows.specs.declared.entry.Entry.{Entry}
-use Rattle.rows.specs.Shape.{Shape}
+use Rattle.rows.specs.declared.kind.Kind.{Kind}
+use Rattle.rows.specs.Shape.{shape_of}
 use Rattle.rows.specs.Tables.{changes_of}
 use Rattle.rows.specs.Commits.{tables_after, last_touching}
 use Rattle.primary.specs.declared.faults.CommitFault.{CommitFault}
@@ -12,15 +13,15 @@ use Rattle.mvcc.specs.History.{History}
 use Rattle.primary.specs.State.{Primary}
 
 -- a primary without commits
-abbrev pub started : Shape → ℕ → Primary
-started shape workers = record { shape = shape; workers = workers; durable = []; pending = []; failed = false }
+abbrev pub started : List (List ℕ × List Kind) → ℕ → Primary
+started schema workers = record { schema = schema; workers = workers; durable = []; pending = []; failed = false }
 
 -- whether a transaction is not of this primary: its snapshot is above what is durable, or an entry is not defined in
 -- its place on the rows at the snapshot
 abbrev pub is_foreign : Primary → Draft → Bool
 is_foreign p draft =
     nat_lt (length p.durable) draft.snapshot
-    || not (is_ok (changes_of p.shape (tables_after p.shape p.durable draft.snapshot) draft.entries))
+    || not (is_ok (changes_of (shape_of p.schema) (tables_after (shape_of p.schema) p.durable draft.snapshot) draft.entries))
 
 -- the number of the last commit, durable or pending, that touches a row of these entries; 0 where none does
 abbrev pub last_writer : Primary → List Entry → ℕ
@@ -51,7 +52,7 @@ flushed p count = record p { durable = p.durable ++ take count p.pending; pendin
 -- the primary of these versions, the first `durable` of them durable and the others pending
 abbrev pub primary_of : History → ℕ → ℕ → Bool → Primary
 primary_of versions durable workers failed = record {
-  shape = versions.shape;
+  schema = versions.schema;
   workers = workers;
   durable = take durable versions.commits;
   pending = drop durable versions.commits;

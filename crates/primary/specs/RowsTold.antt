@@ -4,9 +4,8 @@ use Rattle.std.specs.Option.{unwrap_or}
 use Rattle.std.specs.Map.{lookup}
 use Rattle.rows.specs.declared.entry.Entry.{Entry}
 use Rattle.rows.specs.Tables.{is_present, rows_of}
-use Rattle.rows.specs.Commits.{tables_after}
 use Rattle.rows.specs.Presence.{is_there_after}
-use Rattle.mvcc.specs.History.{History}
+use Rattle.mvcc.specs.History.{History, tables_at}
 
 -- rows, by table and identifier, and whether each is there
 abbrev pub Told : Type 0
@@ -26,7 +25,7 @@ there_in told table row was = unwrap_or (told_of told table row) was
 
 -- whether a row is there at a version
 abbrev pub is_there_at : History → ℕ → ℕ → ℕ → Bool
-is_there_at versions version table row = is_present (rows_of (tables_after versions.shape versions.commits version) table) row
+is_there_at versions version table row = is_present (rows_of (tables_at versions version) table) row
 
 -- each row is told as the entries leave it, on the rows at that version
 pub record IsToldAfter (versions : History) (version : ℕ) (entries : List Entry) (told : Told) : Type 0 where

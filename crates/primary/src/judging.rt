@@ -6,6 +6,7 @@ ghost use Rattle.std.specs.List.{AllByRecursion};
 ghost use Rattle.rows.specs.Commits.{last_touching};
 ghost use Rattle.rows.specs.Entries.{table_of, row_of, fitting};
 ghost use Rattle.rows.specs.Presence.{stands_for, is_there_after};
+ghost use Rattle.rows.specs.Shape.{shape_of};
 ghost use Rattle.rows.specs.Spelling.{HasSpelling};
 ghost use Rattle.mvcc.specs.History.{defined_at, is_row_there};
 ghost use Rattle.primary.specs.Primary.{commit_answer, primary_of};
@@ -106,7 +107,7 @@ fn is_there(versions: &Versions, version: u64, told: &RowsTold, entry: &Entry) -
 
 /// Whether the entry fits, and its row stands as it needs it, where it is there or not.
 fn is_defined(versions: &Versions, entry: &Entry, there: bool) -> bool
-    ensures answer { result ≡ (is_ok (fitting versions.now.shape entry.now) && stands_for entry.now there) }
+    ensures answer { result ≡ (is_ok (fitting (shape_of versions.now.schema) entry.now) && stands_for entry.now there) }
     ensures spelled { OnTrue result (HasSpelling entry.now) }
 {
     fits(versions.schema(), entry).is_ok() && entry.is_possible(there)

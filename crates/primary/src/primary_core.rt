@@ -1,9 +1,11 @@
 //! The primary's core: bytes and values in, bytes and values out.
 
-ghost use Rattle.std.specs.Prelude.{◌≡◌, ◌<◌, ◌≤◌, length, true, false, Ok, Err, IfOk, IfErr, IsOk, OnOk, OnErr, ◌⊎◌, ◌∷◌, [], ◌++◌, ◌+◌};
+ghost use Rattle.std.specs.Prelude.{◌≡◌, ◌<◌, ◌≤◌, length, true, false, take, Ok, IfOk, IfErr, OnOk, OnErr, ◌⊎◌, ◌∷◌, [], ◌++◌, ◌+◌};
 ghost use Rattle.std.specs.Prelude.{◌^◌};
 ghost use Rattle.std.specs.List.{AllByRecursion};
+ghost use Rattle.rows.specs.Faults.{IsFaultOf};
 ghost use Rattle.rows.specs.Shape.{shape_of};
+ghost use Rattle.rows.specs.Commits.{IsLegal};
 ghost use Rattle.mvcc.specs.History.{defined_at};
 ghost use Rattle.primary.specs.Places.{ArePlaces};
 ghost use Rattle.primary.specs.State.{Primary};
@@ -27,7 +29,7 @@ use wire::{Datagram, Out, Packet, To, read};
 
 /// A primary: its durable list of commits, its pending list, and whether it has failed.
 ///
-/// Contracts see these lists with the shape of the tables and the number of workers. The journal
+/// Contracts see these lists with the schema and the number of workers. The journal
 /// holds the text of the durable list, and nothing else is ever pushed or counted.
 #[derive(Debug, Drop)]
 pub struct PrimaryCore {
@@ -58,7 +60,7 @@ impl PrimaryCore {
     pub fn start(alloc: Global, schema: &Schema, workers: u8) -> Result<PrimaryCore, AllocError>
         requires some { 0 < workers }
         requires few { workers ≤ 16 }
-        ensures { IfOk result (λ primary. primary ≡ started (shape_of schema.now) workers) }
+        ensures { IfOk result (λ primary. primary ≡ started schema.now workers) }
     {
         Ok(PrimaryCore {
             alloc,
@@ -69,6 +71,15 @@ impl PrimaryCore {
             failed: false,
             journal: header_bytes(alloc, workers, schema)?,
         })
+    }
+
+    /// The durable list followed by the pending one is legal for the primary's schema and workers,
+    /// and so is the durable list alone. It does nothing: its contract is the law.
+    pub fn keeps_legal(&self)
+        ensures all { IsLegal (shape_of self.now.schema) self.now.workers (self.now.durable ++ self.now.pending) }
+        ensures durable { IsLegal (shape_of self.now.schema) self.now.workers self.now.durable }
+    {
+        self.versions.keeps_defined();
     }
 
     /// How many commits are durable, which is the version that a transaction begins on.
@@ -87,7 +98,7 @@ impl PrimaryCore {
 
     /// The versions of the durable list followed by the pending one.
     pub fn versions(&self) -> &Versions
-        ensures { result.now ≡ record { shape = self.now.shape; commits = self.now.durable ++ self.now.pending } }
+        ensures { result.now ≡ record { schema = self.now.schema; commits = self.now.durable ++ self.now.pending } }
     {
         &self.versions
     }
@@ -109,8 +120,7 @@ impl PrimaryCore {
         ensures ok { IfOk result (λ ticket. (commit_answer self.old transaction ≡ Ok ticket.number) × (ticket.worker ≡ worker)
             × (ticket.entries ≡ transaction.entries) × (self.new ≡ committed self.old worker transaction.entries)) }
         ensures refused { IfErr result (λ refusal. (refusal.0 ≡ transaction) × (self.new ≡ self.old)
-            × (((refusal.1 ≡ CommitFault.Memory) × IsOk (commit_answer self.old transaction))
-            ⊎ (commit_answer self.old transaction ≡ Err refusal.1))) }
+            × IsFaultOf (commit_answer self.old transaction) CommitFault.Memory refusal.1) }
     {
         let number = match judge(
             self.alloc,
@@ -143,12 +153,14 @@ impl PrimaryCore {
     /// Moves the first `count` pending commits (all, if there are fewer) to the durable list, and
     /// answers how many are durable then. Their records go to the journal in one append.
     ///
-    /// Fails with `Failed`, or with `Memory`; the primary is then as it was.
+    /// Fails with `Failed`, or with `Memory` where a commit is to be moved; the primary is then as
+    /// it was.
     pub fn flush(&mut self, count: usize) -> Result<u64, FlushFault>
         ensures ok { IfOk result (λ durable. (self.old.failed ≡ false) × (self.new ≡ flushed self.old count)
             × (durable ≡ length self.new.durable)) }
         ensures refused { IfErr result (λ fault. (self.new ≡ self.old)
-            × (((fault ≡ FlushFault.Failed) × (self.old.failed ≡ true)) ⊎ ((fault ≡ FlushFault.Memory) × (self.old.failed ≡ false)))) }
+            × (((fault ≡ FlushFault.Failed) × (self.old.failed ≡ true))
+            ⊎ ((fault ≡ FlushFault.Memory) × (self.old.failed ≡ false) × (0 < length (take count self.old.pending))))) }
     {
         if self.failed {
             return Err(FlushFault::Failed);
@@ -176,9 +188,11 @@ impl PrimaryCore {
     }
 
     /// What the primary sends for bytes that came: to an Ask, one Head with what is durable and
-    /// each worker's frame count at it; to anything else nothing. Fails for want of memory alone.
+    /// each worker's frame count at it; to anything else nothing. Fails for want of memory alone,
+    /// and only where something is to be sent.
     pub fn on_bytes(&self, bytes: &[u8]) -> Result<Vec<Out>, AllocError>
-        ensures { IfOk result (λ outs. outs.items ≡ answers self.now bytes.now) }
+        ensures ok { IfOk result (λ outs. outs.items ≡ answers self.now bytes.now) }
+        ensures err { OnErr result (0 < length (answers self.now bytes.now)) }
     {
         match read(bytes) {
             Ok(
@@ -267,7 +281,7 @@ fn copy_of(entry: &Entry) -> Result<Entry, AllocError>
 }
 
 /// Appends the records of commits that stand behind `before` others. Fails for want of memory
-/// alone, and then nothing has changed.
+/// alone, and only where there is a commit; then nothing has changed.
 fn append(
     alloc: Global,
     journal: &mut Vec<u8>,
@@ -278,7 +292,11 @@ fn append(
     requires numbered { before + length commits.now < 2 ^ 64 }
     ensures ok { OnOk result (journal.new.items ≡ journal.old.items ++ records_from before commits.now) }
     ensures err { OnErr result (journal.new.items ≡ journal.old.items) }
+    ensures some { OnErr result (0 < length commits.now) }
 {
+    if commits.is_empty() {
+        return Ok(());
+    }
     let records = records(alloc, before, commits)?;
     journal.extend_from_slice(&records)
 }

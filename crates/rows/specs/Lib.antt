@@ -1,4 +1,5 @@
 pub mod Limits
+pub mod Faults
 pub mod Shape
 pub mod SchemaFaults
 pub mod Padded
