@@ -1,19 +1,18 @@
 -- A replica that is fed from a legal list and lacks no frame catches up with the version that was fetched for its batch.
 use Rattle.std.proofs.Common.{◌≡◌, ℕ, ◌+◌, ◌-◌, ◌≤◌, Bool, true, false, cond, ◌==◌, List, Option, Some, None, slice_index, refl, sym, ap}
 use Rattle.std.proofs.Common.{◌∙◌, arith}
-use Rattle.std.specs.Option.{option_map}
+use Rattle.std.specs.Option.{option_map, option_and_then}
 use Rattle.std.proofs.lemmas.Bool.{eq-eqb, ltb-false}
 use Rattle.std.proofs.lemmas.Option.{none-some, same_Some}
 use Rattle.rows.specs.declared.commit.Commit.{Commit}
 use Rattle.rows.specs.Shape.{Shape}
 use Rattle.rows.specs.Tables.{Tables}
 use Rattle.rows.specs.Commits.{tables_after, IsLegal}
-use Rattle.dispatcher.specs.declared.plan.Plan.{Plan}
 use Rattle.dispatcher.specs.Feeding.{IsFetchedFrom, IsFedFrom}
 use Rattle.dispatcher.specs.Known.{first_missing}
 use Rattle.dispatcher.specs.Replay.{frames_at, replayed}
 use Rattle.dispatcher.specs.Replica.{Replica, Queries, Fetched}
-use Rattle.dispatcher.specs.Steps.{known, caught_up, is_waiting, ready, ready_by}
+use Rattle.dispatcher.specs.Steps.{known, caught_up, lacks_frame, unless_lacking, ready_of}
 use Rattle.dispatcher.proofs.Streams.{count-is}
 use Rattle.dispatcher.proofs.Versions.{replayed-known}
 
@@ -30,27 +29,26 @@ unless : {A : Type 0} (b : Bool) (o : Option A) (x : A) → cond b None o ≡ So
 unless true o x e = absurd (none-some x e)
 unless false o x e = (refl, e)
 
-ready-fetched : (r : Replica) (plans : List Plan) (found : Option Fetched) (fetched : Fetched)
-    → ready_by r (Some (record { plans = plans; fetched = found })) ≡ Some fetched
-    → (found ≡ Some fetched) × (slice_index fetched.counts 0 ≤ first_missing (known r))
-ready-fetched r plans None fetched e = absurd (none-some fetched e)
-ready-fetched r plans (Some found) fetched e =
-    let parts = unless (is_waiting r found) (Some found) fetched e in (
+ready-fetched : (known : List ℕ) (found : Option Fetched) (fetched : Fetched) → unless_lacking known found ≡ Some fetched
+    → (found ≡ Some fetched) × (slice_index fetched.counts 0 ≤ first_missing known)
+ready-fetched known None fetched e = absurd (none-some fetched e)
+ready-fetched known (Some found) fetched e =
+    let parts = unless (lacks_frame known found) (Some found) fetched e in (
       parts.1,
-      ltb-false (first_missing (known r)) (slice_index fetched.counts 0)
-          (ap (is_waiting r) (sym (same_Some found fetched parts.1)) ∙ parts.0),
+      ltb-false (first_missing known) (slice_index fetched.counts 0)
+          (ap (lacks_frame known) (sym (same_Some found fetched parts.1)) ∙ parts.0),
     )
 
 ready-batch : (r : Replica) (batch : Option Queries) (fetched : Fetched) → r.broken ≡ false → r.batch ≡ batch
-    → ready_by r batch ≡ Some fetched → (queries : Queries) × CanAnswer r queries fetched
+    → unless_lacking (known r) (option_and_then (λ batch. batch.fetched) batch) ≡ Some fetched → (queries : Queries) × CanAnswer r queries fetched
 ready-batch r None fetched whole there e = absurd (none-some fetched e)
 ready-batch r (Some batch) fetched whole there e =
-    let parts = ready-fetched r batch.plans batch.fetched fetched e in
+    let parts = ready-fetched (known r) batch.fetched fetched e in
     (batch, record { whole = whole; there = there; has = parts.0; complete = parts.1 })
 
-pub ready-parts : (r : Replica) (fetched : Fetched) → ready r ≡ Some fetched → (batch : Queries) × CanAnswer r batch fetched
+pub ready-parts : (r : Replica) (fetched : Fetched) → ready_of r ≡ Some fetched → (batch : Queries) × CanAnswer r batch fetched
 ready-parts r fetched e =
-    let parts = unless r.broken (ready_by r r.batch) fetched e in
+    let parts = unless r.broken (unless_lacking (known r) (option_and_then (λ batch. batch.fetched) r.batch)) fetched e in
     ready-batch r r.batch fetched parts.0 refl parts.1
 
 -- ---- catching up

@@ -5,14 +5,15 @@ use Rattle.std.proofs.lemmas.Bool.{ltb-false}
 use Rattle.std.proofs.lemmas.Option.{same_Some}
 use Rattle.rows.specs.declared.commit.Commit.{Commit}
 use Rattle.rows.specs.Shape.{Shape}
-use Rattle.rows.specs.Commits.{IsLegal}
+use Rattle.rows.specs.Commits.{IsLegal, tables_after}
 use Rattle.dispatcher.specs.declared.outcome.Run.{Run}
 use Rattle.dispatcher.specs.declared.outcome.Run.TheVariants as runs
 use Rattle.dispatcher.specs.declared.plan.Plan.{Plan}
-use Rattle.dispatcher.specs.Feeding.{IsFedFrom, report_at, RunKeepsFed, RunIsConsistent, AnswerIsReport, ReadyIsAnswered}
+use Rattle.dispatcher.specs.Feeding.{IsFedFrom, RunKeepsFed, RunIsConsistent, AnswerIsReport, ReadyIsAnswered}
 use Rattle.dispatcher.specs.Known.{first_missing}
 use Rattle.dispatcher.specs.Replica.{Replica, Queries, Fetched}
-use Rattle.dispatcher.specs.Steps.{known, caught_up, finished, is_waiting, ran, ran_by, want_for, WantsMemory}
+use Rattle.dispatcher.specs.Report.{report_of}
+use Rattle.dispatcher.specs.Steps.{known, caught_up, finished, lacks_frame, ran, ran_by, want_for, WantsMemory}
 use Rattle.dispatcher.proofs.CatchingUp.{CanAnswer, ready-parts, caught, catches-up}
 use Rattle.dispatcher.proofs.Feeding.{broken-fed, caught-fed, finished-fed}
 use Rattle.dispatcher.proofs.Running.{ran-ready}
@@ -28,7 +29,7 @@ record IsIdle (r : Replica) (answer : Run × Replica) : Type 0 where
 -- the end of a batch
 abbrev reported : Shape → List Commit → Replica → Queries → Fetched → Run × Replica
 reported shape commits r batch fetched =
-    (runs.Answered (report_at shape commits fetched.version batch.plans), record (caught shape commits fetched r) { batch = None })
+    (runs.Answered (report_of (tables_after shape commits fetched.version) fetched.version batch.plans), record (caught shape commits fetched r) { batch = None })
 
 -- a run that answers one
 record IsReport (shape : Shape) (commits : List Commit) (r : Replica) (answer : Run × Replica) : Type 0 where
@@ -48,12 +49,12 @@ module _ (shape : Shape) (commits : List Commit) (r : Replica) (legal : IsLegal 
   ran-fetched : (plans : List Plan) (found : Option Fetched) → r.broken ≡ false → r.batch ≡ Some (record { plans = plans; fetched = found })
       → Ran shape commits r (ran_by r (Some (record { plans = plans; fetched = found })))
   ran-fetched plans None whole there = inl (record { same = refl; consistent = λ e. cc; no_report = λ text e. cc })
-  ran-fetched plans (Some fetched) whole there = by (is_waiting r fetched) refl
+  ran-fetched plans (Some fetched) whole there = by (lacks_frame (known r) fetched) refl
     where
       batch : Queries
       batch = record { plans = plans; fetched = Some fetched }
 
-      by : (waits : Bool) → is_waiting r fetched ≡ waits
+      by : (waits : Bool) → lacks_frame (known r) fetched ≡ waits
           → Ran shape commits r (cond waits (runs.Waiting 0 (first_missing (known r)) (want_for r.number 0 (first_missing (known r))), r)
           (finished r plans (caught_up r fetched)))
       by true e = inl (record { same = refl; consistent = λ e. cc; no_report = λ text e. cc })
@@ -117,7 +118,7 @@ ran-consistent : (shape : Shape) (commits : List Commit) (r : Replica) (answer :
     → answer.0 ≡ runs.Inconsistent → ⊥
 ran-consistent shape commits r answer (inl idle) e = idle.consistent e
 ran-consistent shape commits r answer (inr report) e =
-    let is : answer.0 ≡ runs.Answered (report_at shape commits report.fetched.version report.batch.plans) =
+    let is : answer.0 ≡ runs.Answered (report_of (tables_after shape commits report.fetched.version) report.fetched.version report.batch.plans) =
     ap (λ (answer : Run × Replica). answer.0) report.is in
     cc
 
@@ -135,7 +136,7 @@ run-consistent shape commits r answer new legal fed (inr wants) e = cut-consiste
 abbrev Answers : Shape → List Commit → Replica → List ℕ → Replica → Type 0
 Answers shape commits r text new =
     (batch : Queries) × (fetched : Fetched) × (r.batch ≡ Some batch) × (batch.fetched ≡ Some fetched)
-    × (text ≡ report_at shape commits fetched.version batch.plans) × (new.version ≡ fetched.version)
+    × (text ≡ report_of (tables_after shape commits fetched.version) fetched.version batch.plans) × (new.version ≡ fetched.version)
 
 ran-answers : (shape : Shape) (commits : List Commit) (r : Replica) (answer : Run × Replica) (text : List ℕ) (new : Replica)
     → Ran shape commits r answer → answer ≡ (runs.Answered text, new)
@@ -145,7 +146,7 @@ ran-answers shape commits r answer text new (inr report) e =
     let is = report.can in
     let same : ◌≡◌ {A = Run × Replica} (runs.Answered text, new) (reported shape commits r report.batch report.fetched) =
     sym e ∙ report.is in
-    let answered : runs.Answered text ≡ runs.Answered (report_at shape commits report.fetched.version report.batch.plans) =
+    let answered : runs.Answered text ≡ runs.Answered (report_of (tables_after shape commits report.fetched.version) report.fetched.version report.batch.plans) =
     ap (λ (answer : Run × Replica). answer.0) same in
     (report.batch, report.fetched, is.there, is.has, cc answered, ap (λ (answer : Run × Replica). answer.1.version) same)
 

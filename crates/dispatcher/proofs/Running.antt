@@ -1,7 +1,7 @@
 -- What a run answers where a version was fetched, no frame is missing, and the tables have caught up.
 use Rattle.std.proofs.Common.{◌≡◌, ℕ, ◌≤◌, ◌⊎◌, inl, inr, true, false, cond, List, [], ◌∷◌, slice_index, Option, None, Some, Bool, sym, ap}
 use Rattle.std.proofs.Common.{subst, ◌∙◌, le-ltb}
-use Rattle.std.specs.Option.{option_map}
+use Rattle.std.specs.Option.{option_map, option_and_then}
 use Rattle.std.proofs.lemmas.Bool.{cond-false}
 use Rattle.std.proofs.lemmas.Option.{same_Some}
 use Rattle.rows.specs.Tables.{Tables}
@@ -9,8 +9,8 @@ use Rattle.dispatcher.specs.declared.plan.Plan.{Plan}
 use Rattle.dispatcher.specs.declared.outcome.Run.{Run}
 use Rattle.dispatcher.specs.declared.outcome.Run.TheVariants as runs
 use Rattle.dispatcher.specs.Known.{first_missing}
-use Rattle.dispatcher.specs.Replica.{Replica, Fetched}
-use Rattle.dispatcher.specs.Steps.{known, ready, ready_by, ran, ran_by, is_waiting, caught_up, finished, answered_by, MayRun}
+use Rattle.dispatcher.specs.Replica.{Replica, Queries, Fetched}
+use Rattle.dispatcher.specs.Steps.{known, unless_lacking, ready_of, ran, ran_by, lacks_frame, caught_up, finished, answered_by, MayRun}
 
 -- catching up leaves the batch
 same_batch : (r after : Replica) (version applied : ℕ) (reached : Bool) (tables : Option Tables)
@@ -27,14 +27,14 @@ module _ (r : Replica) (plans : List Plan) (fetched : Fetched) (whole : r.broken
   ran-ready =
       cond-false r.broken (runs.Broken, r) (ran_by r r.batch) whole
       ∙ ap (ran_by r) there
-      ∙ cond-false (is_waiting r fetched) _ (finished r plans (caught_up r fetched))
+      ∙ cond-false (lacks_frame (known r) fetched) _ (finished r plans (caught_up r fetched))
       (le-ltb (first_missing (known r)) (slice_index fetched.counts 0) complete)
 
-  ready-there : ready r ≡ Some fetched
+  ready-there : ready_of r ≡ Some fetched
   ready-there =
-      cond-false r.broken None (ready_by r r.batch) whole
-      ∙ ap (ready_by r) there
-      ∙ cond-false (is_waiting r fetched) None (Some fetched) (le-ltb (first_missing (known r)) (slice_index fetched.counts 0) complete)
+      cond-false r.broken None (unless_lacking (known r) (option_and_then (λ batch. batch.fetched) r.batch)) whole
+      ∙ ap (λ (batch : Option Queries). unless_lacking (known r) (option_and_then (λ batch. batch.fetched) batch)) there
+      ∙ cond-false (lacks_frame (known r) fetched) None (Some fetched) (le-ltb (first_missing (known r)) (slice_index fetched.counts 0) complete)
 
   run_by_parts : (after new : Replica) (answer : Run) → caught_up r fetched ≡ Some after
       → ((answer ≡ runs.Memory) × (new ≡ after)) ⊎ (answered_by after after.batch ≡ (answer, new)) → MayRun r answer new

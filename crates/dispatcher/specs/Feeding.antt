@@ -1,6 +1,6 @@
 -- A replica that is fed from a list of commits: all that it knows is of that list. And the laws of what keeps it so, and
 -- of what its runs answer then.
-use Rattle.std.specs.Prelude.{◌≡◌, ℕ, ◌<◌, ◌≤◌, List, [], ◌∷◌, ◌++◌, length, map, true, false, Some, Result, Ok, Err, slice_get}
+use Rattle.std.specs.Prelude.{◌≡◌, ℕ, ◌<◌, ◌≤◌, List, [], ◌∷◌, ◌++◌, length, true, false, Some, Result, Ok, Err, slice_get}
 use Rattle.std.specs.List.{AllByRecursion}
 use Rattle.rows.specs.declared.commit.Commit.{Commit}
 use Rattle.rows.specs.Shape.{Shape}
@@ -15,10 +15,9 @@ use Rattle.dispatcher.specs.declared.outcome.Run.{Run}
 use Rattle.dispatcher.specs.declared.outcome.Run.TheVariants as runs
 use Rattle.dispatcher.specs.declared.plan.Plan.{Plan}
 use Rattle.dispatcher.specs.Known.{is_known}
-use Rattle.dispatcher.specs.Plans.{plain_answer}
 use Rattle.dispatcher.specs.Replica.{Replica, Queries, Fetched}
-use Rattle.dispatcher.specs.Report.{report_text}
-use Rattle.dispatcher.specs.Steps.{started, known, received, opened, asked, ready, ran, MayRun}
+use Rattle.dispatcher.specs.Report.{report_of}
+use Rattle.dispatcher.specs.Steps.{started, known, received, opened, asked, ready_of, ran, MayRun}
 
 -- a version of the list, fetched by a replica at this version, with the frame count at it
 pub record IsFetchedFrom (commits : List Commit) (version : ℕ) (fetched : Fetched) : Type 0 where
@@ -87,10 +86,6 @@ RunKeepsFed =
 
 -- ---- what its runs answer
 
--- the report of queries on the tables after the first `version` commits
-abbrev pub report_at : Shape → List Commit → ℕ → List Plan → List ℕ
-report_at shape commits version plans = report_text version (map (plain_answer (tables_after shape commits version)) plans)
-
 -- a run of a replica that is fed from a legal list never finds that its frames are not those of one list
 abbrev pub RunIsConsistent : Type 0
 RunIsConsistent =
@@ -106,14 +101,15 @@ AnswerIsReport =
     → IsFedFrom shape commits r
     → MayRun r (runs.Answered text) new
     → (batch : Queries) × (fetched : Fetched) × (r.batch ≡ Some batch) × (batch.fetched ≡ Some fetched)
-    × (text ≡ report_at shape commits fetched.version batch.plans) × (new.version ≡ fetched.version)
+    × (text ≡ report_of (tables_after shape commits fetched.version) fetched.version batch.plans) × (new.version ≡ fetched.version)
 
 -- and where a version was fetched and no frame is missing, its run is that report
 abbrev pub ReadyIsAnswered : Type 0
 ReadyIsAnswered =
     (shape : Shape) (commits : List Commit) (r : Replica) (batch : Queries) (fetched : Fetched) → IsLegal shape 1 commits
     → IsFedFrom shape commits r
-    → r.batch ≡ Some batch → ready r ≡ Some fetched → (ran r).0 ≡ runs.Answered (report_at shape commits fetched.version batch.plans)
+    → r.batch ≡ Some batch → ready_of r ≡ Some fetched
+    → (ran r).0 ≡ runs.Answered (report_of (tables_after shape commits fetched.version) fetched.version batch.plans)
 
 -- ---- what two of them hold
 

@@ -1,8 +1,8 @@
 -- One step of a replica: what each call answers, and what it leaves.
-use Rattle.std.specs.Prelude.{◌≡◌, ℕ, ◌+◌, ◌-◌, List, [], ◌∷◌, ◌++◌, length, map, Bool, true, false, Option, None, Some, Result, Ok, Err}
+use Rattle.std.specs.Prelude.{◌≡◌, ℕ, ◌+◌, ◌-◌, List, [], ◌∷◌, ◌++◌, length, Bool, true, false, Option, None, Some, Result, Ok, Err}
 use Rattle.std.specs.Prelude.{◌==◌, ◌||◌, ◌&&◌, not, nat_lt, nat_le, if◌then◌else◌, is_ok, IsErr, IsOkAnd, slice_index, ◌⊎◌}
 use Rattle.std.specs.List.{list_all}
-use Rattle.std.specs.Option.{option_map}
+use Rattle.std.specs.Option.{option_map, option_and_then}
 use Rattle.std.specs.Ordering.{nat_cmp}
 use Rattle.std.specs.Map.{keys_of}
 use Rattle.std.specs.BTreeMap.{insert_entry}
@@ -33,10 +33,10 @@ use Rattle.dispatcher.specs.declared.outcome.Got.TheVariants as got
 use Rattle.dispatcher.specs.declared.outcome.Run.{Run}
 use Rattle.dispatcher.specs.declared.outcome.Run.TheVariants as runs
 use Rattle.dispatcher.specs.Known.{is_known, is_ahead, first_missing}
-use Rattle.dispatcher.specs.Plans.{checked, plain_answer}
+use Rattle.dispatcher.specs.Plans.{checked}
 use Rattle.dispatcher.specs.Replay.{frames_at, replayed}
 use Rattle.dispatcher.specs.Replica.{Replica, Queries, Fetched}
-use Rattle.dispatcher.specs.Report.{report_text}
+use Rattle.dispatcher.specs.Report.{report_of}
 
 -- a replica fresh from its start
 abbrev pub started : Shape → ℕ → ℕ → ℕ → Replica
@@ -147,18 +147,14 @@ caught_up r fetched =
     (replayed r.shape r.tables r.version (frames_at r.frames r.applied (slice_index fetched.counts 0 - r.applied)))
     else None
 
--- the report of a batch on the tables of a replica that has caught up
-abbrev pub report_of : Replica → List Plan → List ℕ
-report_of r plans = report_text r.version (map (plain_answer r.tables) plans)
-
 -- the end of a batch
 abbrev pub finished : Replica → List Plan → Option Replica → Run × Replica
 finished r plans None = (runs.Inconsistent, broken_of r)
-finished r plans (Some after) = (runs.Answered (report_of after plans), record after { batch = None })
+finished r plans (Some after) = (runs.Answered (report_of after.tables after.version plans), record after { batch = None })
 
--- a frame below what was fetched is not known
-abbrev pub is_waiting : Replica → Fetched → Bool
-is_waiting r fetched = nat_lt (first_missing (known r)) (slice_index fetched.counts 0)
+-- whether a frame below what was fetched is not known
+abbrev pub lacks_frame : List ℕ → Fetched → Bool
+lacks_frame known fetched = nat_lt (first_missing known) (slice_index fetched.counts 0)
 
 abbrev pub ran_by : Replica → Option Queries → Run × Replica
 ran_by r None = (runs.NoBatch, r)
@@ -167,7 +163,7 @@ ran_by r (Some batch) = on batch.fetched
     on : Option Fetched → Run × Replica
     on None = (runs.WaitingHead, r)
     on (Some fetched) =
-        if is_waiting r fetched
+        if lacks_frame (known r) fetched
         then (runs.Waiting 0 (first_missing (known r)) (want_for r.number 0 (first_missing (known r))), r)
         else finished r batch.plans (caught_up r fetched)
 
@@ -175,23 +171,24 @@ ran_by r (Some batch) = on batch.fetched
 abbrev pub ran : Replica → Run × Replica
 ran r = if r.broken then (runs.Broken, r) else ran_by r r.batch
 
--- what was fetched for a batch of which no frame is missing
-abbrev pub ready_by : Replica → Option Queries → Option Fetched
-ready_by r None = None
-ready_by r (Some batch) = unless_waiting batch.fetched
-  where
-    unless_waiting : Option Fetched → Option Fetched
-    unless_waiting None = None
-    unless_waiting (Some fetched) = if is_waiting r fetched then None else Some fetched
+-- what was fetched, where no frame below it is missing
+abbrev pub unless_lacking : List ℕ → Option Fetched → Option Fetched
+unless_lacking known None = None
+unless_lacking known (Some fetched) = if lacks_frame known fetched then None else Some fetched
 
-abbrev pub ready : Replica → Option Fetched
-ready r = if r.broken then None else ready_by r r.batch
+-- what was fetched for a batch that a replica, broken or not, may answer: of these known frames none below it is missing
+abbrev pub ready : Bool → List ℕ → Option Fetched → Option Fetched
+ready broken known fetched = if broken then None else unless_lacking known fetched
+
+-- what was fetched for a replica's batch, where it may be answered
+abbrev pub ready_of : Replica → Option Fetched
+ready_of r = ready r.broken (known r) (option_and_then (λ batch. batch.fetched) r.batch)
 
 -- what a run may answer and leave for want of memory, where a version was fetched and no frame is missing: `Memory`,
 -- the tables at the old version or at the one that was fetched; or `Broken`
 abbrev pub WantsMemory : Replica → Run → Replica → Type 0
 WantsMemory old answer new =
-    (fetched : Fetched) × (ready old ≡ Some fetched)
+    (fetched : Fetched) × (ready_of old ≡ Some fetched)
     × (((answer ≡ runs.Memory) × ((new ≡ old) ⊎ (caught_up old fetched ≡ Some new))) ⊎ ((answer ≡ runs.Broken) × (new ≡ broken_of old)))
 
 -- what catching up answers and leaves: where memory is wanted before the first change, nothing has changed; where it is
@@ -213,7 +210,7 @@ Applies old commits version count (Err Broken) new = new ≡ broken_of old
 -- answering a batch on the tables as they are, which ends it
 abbrev pub answered_by : Replica → Option Queries → Run × Replica
 answered_by r None = (runs.NoBatch, r)
-answered_by r (Some batch) = (runs.Answered (report_of r batch.plans), record r { batch = None })
+answered_by r (Some batch) = (runs.Answered (report_of r.tables r.version batch.plans), record r { batch = None })
 
 -- what a run may answer and leave
 abbrev pub MayRun : Replica → Run → Replica → Type 0

@@ -6,7 +6,7 @@ ghost use Rattle.rows.specs.Tables.{opening};
 ghost use Rattle.dispatcher.specs.Replica.{Replica};
 ghost use Rattle.std.specs.List.{list_all};
 ghost use Rattle.rows.specs.Entries.{fitting};
-ghost use Rattle.dispatcher.specs.Steps.{started, opened, asked, received, frame_comes, own_head_comes, ask_for, want_for, ready};
+ghost use Rattle.dispatcher.specs.Steps.{started, opened, asked, received, frame_comes, own_head_comes, ask_for, want_for, ready_of};
 ghost use Rattle.dispatcher.specs.Steps.{CatchesUp, Applies, answered_by, MayRun};
 
 use crate::answering::report;
@@ -308,7 +308,7 @@ impl<S: ApplyStore + Sync> ReplicaCore<S> {
     /// is at `version` then. They are listed before the first change: where memory is wanted for
     /// the list nothing has changed.
     fn catch_up(&mut self, version: u64, count: u64) -> Result<(), CatchUpFault>
-        requires { ready self.old ≡ Some (record { version = version; counts = count ∷ [] }) }
+        requires { ready_of self.old ≡ Some (record { version = version; counts = count ∷ [] }) }
         ensures { CatchesUp self.old (record { version = version; counts = count ∷ [] }) result self.new }
     {
         if !is_reached(self.version, version, self.applied, count) {
@@ -328,7 +328,7 @@ impl<S: ApplyStore + Sync> ReplicaCore<S> {
     /// Applies commits, and is at `version` then, with as many frames applied. Where that fails,
     /// it is broken.
     fn apply(&mut self, commits: &[Commit], version: u64, count: u64) -> Result<(), CatchUpFault>
-        requires { ready self.old ≡ Some (record { version = version; counts = count ∷ [] }) }
+        requires { ready_of self.old ≡ Some (record { version = version; counts = count ∷ [] }) }
         ensures { Applies self.old commits.now version count result self.new }
     {
         let applied = self.store.apply_all(commits);
