@@ -1,4 +1,4 @@
--- A replica that is fed from a legal list and lacks no frame catches up with the version that was fetched for its batch.
+-- A replica that is fed from a list and lacks no frame catches up with the version that was fetched for its batch.
 use Rattle.std.proofs.Common.{◌≡◌, ℕ, ◌+◌, ◌-◌, ◌≤◌, Bool, true, false, cond, ◌==◌, List, Option, Some, None, slice_index, refl, sym, ap}
 use Rattle.std.proofs.Common.{◌∙◌, arith}
 use Rattle.std.specs.Option.{option_map, option_and_then}
@@ -11,7 +11,7 @@ use Rattle.rows.specs.Commits.{tables_after, IsLegal}
 use Rattle.dispatcher.specs.Feeding.{IsFetchedFrom, IsFedFrom}
 use Rattle.dispatcher.specs.Known.{first_missing}
 use Rattle.dispatcher.specs.Replay.{frames_at, replayed}
-use Rattle.dispatcher.specs.Replica.{Replica, Queries, Fetched}
+use Rattle.dispatcher.specs.Replica.{Replica, Batch, Fetched}
 use Rattle.dispatcher.specs.Steps.{known, caught_up, lacks_frame, unless_lacking, ready_of}
 use Rattle.dispatcher.proofs.Streams.{count-is}
 use Rattle.dispatcher.proofs.Versions.{replayed-known}
@@ -19,7 +19,7 @@ use Rattle.dispatcher.proofs.Versions.{replayed-known}
 -- ---- which replicas can answer
 
 -- a replica that can answer its batch: a version was fetched for it, and no frame below the count at it is missing
-pub record CanAnswer (r : Replica) (batch : Queries) (fetched : Fetched) : Type 0 where
+pub record CanAnswer (r : Replica) (batch : Batch) (fetched : Fetched) : Type 0 where
   pub whole : r.broken ≡ false
   pub there : r.batch ≡ Some batch
   pub has : batch.fetched ≡ Some fetched
@@ -39,14 +39,15 @@ ready-fetched known (Some found) fetched e =
           (ap (lacks_frame known) (sym (same_Some found fetched parts.1)) ∙ parts.0),
     )
 
-ready-batch : (r : Replica) (batch : Option Queries) (fetched : Fetched) → r.broken ≡ false → r.batch ≡ batch
-    → unless_lacking (known r) (option_and_then (λ batch. batch.fetched) batch) ≡ Some fetched → (queries : Queries) × CanAnswer r queries fetched
+ready-batch : (r : Replica) (batch : Option Batch) (fetched : Fetched) → r.broken ≡ false → r.batch ≡ batch
+    → unless_lacking (known r) (option_and_then (λ batch. batch.fetched) batch) ≡ Some fetched
+    → (queries : Batch) × CanAnswer r queries fetched
 ready-batch r None fetched whole there e = absurd (none-some fetched e)
 ready-batch r (Some batch) fetched whole there e =
     let parts = ready-fetched (known r) batch.fetched fetched e in
     (batch, record { whole = whole; there = there; has = parts.0; complete = parts.1 })
 
-pub ready-parts : (r : Replica) (fetched : Fetched) → ready_of r ≡ Some fetched → (batch : Queries) × CanAnswer r batch fetched
+pub ready-parts : (r : Replica) (fetched : Fetched) → ready_of r ≡ Some fetched → (batch : Batch) × CanAnswer r batch fetched
 ready-parts r fetched e =
     let parts = unless r.broken (unless_lacking (known r) (option_and_then (λ batch. batch.fetched) r.batch)) fetched e in
     ready-batch r r.batch fetched parts.0 refl parts.1
@@ -66,23 +67,22 @@ caught_by r version count applied shape tables =
     (replayed shape tables r.version (frames_at r.frames applied (count - applied))))
     None
 
-caught-known : (shape : Shape) (commits : List Commit) (r : Replica) (version : ℕ) → IsLegal shape 1 commits → IsFedFrom shape commits r
-    → r.version ≤ version → version ≤ first_missing (known r)
+caught-known : (shape : Shape) (commits : List Commit) (r : Replica) (version : ℕ) → IsFedFrom shape commits r → r.version ≤ version
+    → version ≤ first_missing (known r)
     → caught_by r version version r.version shape (tables_after shape commits r.version) ≡ Some
     (record r { tables = tables_after shape commits version; version = version; applied = version })
-caught-known shape commits r version legal fed above all =
+caught-known shape commits r version fed above all =
     let end : r.version + (version - r.version) ≡ version = omega arith in
     let made = λ (tables : Tables). record r { tables = tables; version = version; applied = version } in
-    let replay = replayed-known shape commits r.frames r.version (version - r.version) legal fed.frames_are (omega arith) in
+    let replay = replayed-known shape commits r.frames r.version (version - r.version) fed.legal fed.frames_are (omega arith) in
     ap (λ (b : Bool). cond b (option_map made
     (replayed shape (tables_after shape commits r.version) r.version (frames_at r.frames r.version (version - r.version)))) None)
     (eq-eqb (r.version + (version - r.version)) version end)
     ∙ ap (option_map made) (replay ∙ ap (λ (v : ℕ). Some (tables_after shape commits v)) end)
 
 -- its frame count is its version
-pub applied-version : (shape : Shape) (commits : List Commit) (r : Replica) → IsLegal shape 1 commits → IsFedFrom shape commits r
-    → r.applied ≡ r.version
-applied-version shape commits r legal fed = fed.applied_is ∙ count-is commits r.version legal.each fed.below
+pub applied-version : (shape : Shape) (commits : List Commit) (r : Replica) → IsFedFrom shape commits r → r.applied ≡ r.version
+applied-version shape commits r fed = fed.applied_is ∙ count-is commits r.version fed.legal.each fed.below
 
 -- and so is the count that was fetched
 pub count-fetched : (shape : Shape) (commits : List Commit) (version : ℕ) (fetched : Fetched) → IsLegal shape 1 commits
@@ -90,15 +90,15 @@ pub count-fetched : (shape : Shape) (commits : List Commit) (version : ℕ) (fet
 count-fetched shape commits version fetched legal is =
     ap (λ (l : List ℕ). slice_index l 0) is.counts_are ∙ count-is commits fetched.version legal.each is.below
 
-pub catches-up : (shape : Shape) (commits : List Commit) (r : Replica) (batch : Queries) (fetched : Fetched) → IsLegal shape 1 commits
-    → IsFedFrom shape commits r → CanAnswer r batch fetched
+pub catches-up : (shape : Shape) (commits : List Commit) (r : Replica) (batch : Batch) (fetched : Fetched) → IsFedFrom shape commits r
+    → CanAnswer r batch fetched
     → caught_up r fetched ≡ Some (caught shape commits fetched r)
-catches-up shape commits r batch fetched legal fed can =
+catches-up shape commits r batch fetched fed can =
     let is = fed.fetched_is batch fetched can.there can.has in
     let complete = can.complete in
-    let count = count-fetched shape commits r.version fetched legal is in
+    let count = count-fetched shape commits r.version fetched fed.legal is in
     ap (λ (c : ℕ). caught_by r fetched.version c r.applied r.shape r.tables) count
-    ∙ ap (λ (a : ℕ). caught_by r fetched.version fetched.version a r.shape r.tables) (applied-version shape commits r legal fed)
+    ∙ ap (λ (a : ℕ). caught_by r fetched.version fetched.version a r.shape r.tables) (applied-version shape commits r fed)
     ∙ ap (λ (s : Shape). caught_by r fetched.version fetched.version r.version s r.tables) fed.shape_is
     ∙ ap (λ (t : Tables). caught_by r fetched.version fetched.version r.version shape t) (fed.tables_are can.whole)
-    ∙ caught-known shape commits r fetched.version legal fed is.above (omega arith)
+    ∙ caught-known shape commits r fetched.version fed is.above (omega arith)

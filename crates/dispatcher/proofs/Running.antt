@@ -9,7 +9,7 @@ use Rattle.dispatcher.specs.declared.plan.Plan.{Plan}
 use Rattle.dispatcher.specs.declared.outcome.Run.{Run}
 use Rattle.dispatcher.specs.declared.outcome.Run.TheVariants as runs
 use Rattle.dispatcher.specs.Known.{first_missing}
-use Rattle.dispatcher.specs.Replica.{Replica, Queries, Fetched}
+use Rattle.dispatcher.specs.Replica.{Replica, Batch, Fetched}
 use Rattle.dispatcher.specs.Steps.{known, unless_lacking, ready_of, ran, ran_by, lacks_frame, caught_up, finished, answered_by, MayRun}
 
 -- catching up leaves the batch
@@ -33,8 +33,9 @@ module _ (r : Replica) (plans : List Plan) (fetched : Fetched) (whole : r.broken
   ready-there : ready_of r ≡ Some fetched
   ready-there =
       cond-false r.broken None (unless_lacking (known r) (option_and_then (λ batch. batch.fetched) r.batch)) whole
-      ∙ ap (λ (batch : Option Queries). unless_lacking (known r) (option_and_then (λ batch. batch.fetched) batch)) there
-      ∙ cond-false (lacks_frame (known r) fetched) None (Some fetched) (le-ltb (first_missing (known r)) (slice_index fetched.counts 0) complete)
+      ∙ ap (λ (batch : Option Batch). unless_lacking (known r) (option_and_then (λ batch. batch.fetched) batch)) there
+      ∙ cond-false (lacks_frame (known r) fetched) None (Some fetched)
+      (le-ltb (first_missing (known r)) (slice_index fetched.counts 0) complete)
 
   run_by_parts : (after new : Replica) (answer : Run) → caught_up r fetched ≡ Some after
       → ((answer ≡ runs.Memory) × (new ≡ after)) ⊎ (answered_by after after.batch ≡ (answer, new)) → MayRun r answer new

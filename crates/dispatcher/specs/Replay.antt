@@ -1,4 +1,4 @@
--- Frames in the order of their places: the tables after them, and the commits that they hold.
+-- Frames in the order of their seqs: the tables after them, and the commits that they hold.
 use Rattle.std.specs.Prelude.{ℕ, zero, suc, ◌+◌, List, [], ◌∷◌, ◌++◌, Option, None, Some, Result, Ok, Err, ◌==◌, ◌&&◌, if◌then◌else◌}
 use Rattle.std.specs.Option.{option_to_list, option_map}
 use Rattle.std.specs.Ordering.{nat_cmp}
@@ -9,7 +9,7 @@ use Rattle.rows.specs.Shape.{Shape}
 use Rattle.rows.specs.Tables.{Tables, Refusal, changes_of}
 use Rattle.wire.specs.declared.frame.Frame.{Frame}
 
--- the known frames at the places from `first` on, this many places
+-- the kept frames of the seqs from `first` on, this many seqs
 abbrev pub frames_at : List (ℕ × Frame) → ℕ → ℕ → List Frame
 frames_at frames first zero = []
 frames_at frames first (suc count) = option_to_list (lookup (is_at (nat_cmp first)) frames) ++ frames_at frames (first + 1) count

@@ -4,7 +4,6 @@ use Rattle.std.specs.Prelude.{◌==◌, ◌||◌, ◌&&◌, not, nat_lt, nat_le,
 use Rattle.std.specs.List.{list_all}
 use Rattle.std.specs.Option.{option_map, option_and_then}
 use Rattle.std.specs.Ordering.{nat_cmp}
-use Rattle.std.specs.Map.{keys_of}
 use Rattle.std.specs.BTreeMap.{insert_entry}
 use Rattle.rows.specs.Limits.{waiting_queries_max}
 use Rattle.rows.specs.declared.commit.Commit.{Commit}
@@ -32,10 +31,10 @@ use Rattle.dispatcher.specs.declared.outcome.Got.{Got}
 use Rattle.dispatcher.specs.declared.outcome.Got.TheVariants as got
 use Rattle.dispatcher.specs.declared.outcome.Run.{Run}
 use Rattle.dispatcher.specs.declared.outcome.Run.TheVariants as runs
-use Rattle.dispatcher.specs.Known.{is_known, is_ahead, first_missing}
+use Rattle.dispatcher.specs.Known.{known_of, is_known, is_ahead, first_missing}
 use Rattle.dispatcher.specs.Plans.{checked}
 use Rattle.dispatcher.specs.Replay.{frames_at, replayed}
-use Rattle.dispatcher.specs.Replica.{Replica, Queries, Fetched}
+use Rattle.dispatcher.specs.Replica.{Replica, Batch, Fetched}
 use Rattle.dispatcher.specs.Report.{report_of}
 
 -- a replica fresh from its start
@@ -70,7 +69,7 @@ opened r plan =
 abbrev pub ask_for : ℕ → ℕ → ℕ → Out
 ask_for number boot request = record { to = Primary; packet = spelling (datagrams.Ask number boot request) }
 
--- the Want of a worker's frames from a place on
+-- the Want of a worker's frames from a seq on
 abbrev pub want_for : ℕ → ℕ → ℕ → Out
 want_for number worker from = record { to = Primary; packet = spelling (datagrams.Want number worker from) }
 
@@ -79,7 +78,7 @@ abbrev pub with_batch : Replica → Replica
 with_batch r = record r { request = r.request + 1; waiting = []; batch = Some (record { plans = r.waiting; fetched = None }) }
 
 -- asking for a version: the Ask and the replica after it, or the first refusal
-abbrev pub asked_by : Replica → Option Queries → Result (Out × Replica) AskFault
+abbrev pub asked_by : Replica → Option Batch → Result (Out × Replica) AskFault
 asked_by r None =
     if length r.waiting == 0 then Err asks.Empty else Ok (ask_for r.number r.boot (r.request + 1), with_batch r)
 asked_by r (Some batch) = again batch.fetched
@@ -91,9 +90,9 @@ asked_by r (Some batch) = again batch.fetched
 abbrev pub asked : Replica → Result (Out × Replica) AskFault
 asked r = if r.broken then Err asks.Broken else asked_by r r.batch
 
--- the places of the known frames
+-- the seqs that it knows
 abbrev pub known : Replica → List ℕ
-known r = keys_of r.frames
+known r = known_of r.frames
 
 -- a frame that comes
 abbrev pub frame_comes : Replica → Frame → Got × Replica
@@ -111,12 +110,12 @@ own_head_comes r version counts =
     if not (length counts == r.workers) || nat_lt version r.version || nat_lt (slice_index counts 0) r.applied then (got.Ignored, r) else
     by_batch r.batch
   where
-    taken : Queries → Option Fetched → Got × Replica
+    taken : Batch → Option Fetched → Got × Replica
     taken batch None =
         (got.Head version, record r { batch = Some (record batch { fetched = Some (record { version = version; counts = counts }) }) })
     taken batch (Some fetched) = (got.Ignored, r)
 
-    by_batch : Option Queries → Got × Replica
+    by_batch : Option Batch → Got × Replica
     by_batch None = (got.Ignored, r)
     by_batch (Some batch) = taken batch batch.fetched
 
@@ -156,7 +155,7 @@ finished r plans (Some after) = (runs.Answered (report_of after.tables after.ver
 abbrev pub lacks_frame : List ℕ → Fetched → Bool
 lacks_frame known fetched = nat_lt (first_missing known) (slice_index fetched.counts 0)
 
-abbrev pub ran_by : Replica → Option Queries → Run × Replica
+abbrev pub ran_by : Replica → Option Batch → Run × Replica
 ran_by r None = (runs.NoBatch, r)
 ran_by r (Some batch) = on batch.fetched
   where
@@ -208,7 +207,7 @@ Applies old commits version count (Err Memory) new = ⊥
 Applies old commits version count (Err Broken) new = new ≡ broken_of old
 
 -- answering a batch on the tables as they are, which ends it
-abbrev pub answered_by : Replica → Option Queries → Run × Replica
+abbrev pub answered_by : Replica → Option Batch → Run × Replica
 answered_by r None = (runs.NoBatch, r)
 answered_by r (Some batch) = (runs.Answered (report_of r.tables r.version batch.plans), record r { batch = None })
 

@@ -10,7 +10,7 @@ ghost use Rattle.dispatcher.specs.Steps.{started, opened, asked, received, frame
 ghost use Rattle.dispatcher.specs.Steps.{CatchesUp, Applies, answered_by, MayRun};
 
 use crate::answering::report;
-use crate::batch::{Batch, TakenHead};
+use crate::batch::{Batch, Fetched};
 use crate::catch_up_fault::CatchUpFault;
 use crate::faults::{AskFault, OpenFault};
 use crate::frame_map::FrameMap;
@@ -134,11 +134,11 @@ impl<S: ApplyStore + Sync> ReplicaCore<S> {
     }
 
     /// Asks for the newest durable version. With no batch it makes one of all queries that wait
-    /// and counts the request up; while the batch waits for its Head it asks the same again.
+    /// and counts the request up; while nothing was fetched for the batch it asks the same again.
     /// Takes no memory.
     ///
     /// Fails with the first of these, and changes nothing: `Broken`; `Busy`, the batch has its
-    /// Head; `Empty`, there is no batch and no query waits.
+    /// version; `Empty`, there is no batch and no query waits.
     pub fn ask(&mut self) -> Result<Out, AskFault>
         requires { self.old.request < 2 ^ 64 - 1 }
         ensures ok { IfOk result (λ out. asked self.old ≡ Ok (out, self.new)) }
@@ -149,7 +149,7 @@ impl<S: ApplyStore + Sync> ReplicaCore<S> {
         }
         match &self.batch {
             Some(batch) => {
-                if batch.head.is_some() {
+                if batch.fetched.is_some() {
                     return Err(AskFault::Busy);
                 }
             }
@@ -159,7 +159,10 @@ impl<S: ApplyStore + Sync> ReplicaCore<S> {
                 }
                 let plans = std::mem::replace(&mut self.waiting, Vec::new(self.alloc));
                 self.request += 1;
-                self.batch = Some(Batch { plans, head: None });
+                self.batch = Some(Batch {
+                    plans,
+                    fetched: None,
+                });
             }
         }
         Ok(ask_out(self.number, self.boot, self.request))
@@ -218,11 +221,11 @@ impl<S: ApplyStore + Sync> ReplicaCore<S> {
         let Some(batch) = &self.batch else {
             return Run::NoBatch;
         };
-        let Some(head) = &batch.head else {
+        let Some(fetched) = &batch.fetched else {
             return Run::WaitingHead;
         };
-        let version = head.version;
-        let count = head.counts.as_slice()[0];
+        let version = fetched.version;
+        let count = fetched.counts.as_slice()[0];
         let missing = self.frames.first_missing();
         if missing < count {
             return Run::Waiting {
@@ -294,10 +297,10 @@ impl<S: ApplyStore + Sync> ReplicaCore<S> {
         }
         match &mut self.batch {
             Some(batch) => {
-                if batch.head.is_some() {
+                if batch.fetched.is_some() {
                     return Got::Ignored;
                 }
-                batch.head = Some(TakenHead { version, counts });
+                batch.fetched = Some(Fetched { version, counts });
                 Got::Head(version)
             }
             None => Got::Ignored,
@@ -387,7 +390,7 @@ fn ask_out(replica: u8, boot: u64, request: u64) -> Out
     }
 }
 
-/// The Want of a worker's frames from a place on, on its way to the primary.
+/// The Want of a worker's frames from a seq on, on its way to the primary.
 fn want_out(replica: u8, worker: u8, from: u64) -> Out
     requires replica { replica < 16 }
     requires worker { worker < 16 }
