@@ -1,20 +1,23 @@
 -- A replica that is fed from a list and lacks no frame catches up with the version that was fetched for its batch.
-use Rattle.std.proofs.Common.{◌≡◌, ℕ, ◌+◌, ◌-◌, ◌≤◌, Bool, true, false, cond, ◌==◌, List, Option, Some, None, slice_index, refl, sym, ap}
-use Rattle.std.proofs.Common.{◌∙◌, arith}
+use Rattle.std.proofs.Common.{◌≡◌, ℕ, ◌+◌, ◌-◌, ◌≤◌, Bool, true, false, cond, ◌==◌, List, length, take, drop, Option, Some, None, refl}
+use Rattle.std.proofs.Common.{sym, ap, Result, Ok, slice_index, ◌∙◌, arith}
 use Rattle.std.specs.Option.{option_map, option_and_then}
+use Rattle.std.specs.Result.{result_ok}
 use Rattle.std.proofs.lemmas.Bool.{eq-eqb, ltb-false}
+use Rattle.std.proofs.lemmas.List.{length-drop, length-take-le}
 use Rattle.std.proofs.lemmas.Option.{none-some, same_Some}
 use Rattle.rows.specs.declared.commit.Commit.{Commit}
 use Rattle.rows.specs.Shape.{Shape}
-use Rattle.rows.specs.Tables.{Tables}
-use Rattle.rows.specs.Commits.{tables_after, IsLegal}
+use Rattle.rows.specs.Tables.{Tables, Refusal}
+use Rattle.rows.specs.Commits.{commits_of, tables_after, IsLegal}
 use Rattle.dispatcher.specs.Feeding.{IsFetchedFrom, IsFedFrom}
 use Rattle.dispatcher.specs.Known.{first_missing}
-use Rattle.dispatcher.specs.Replay.{frames_at, replayed}
+use Rattle.dispatcher.specs.Listing.{frames_at, commits_in}
 use Rattle.dispatcher.specs.Replica.{Replica, Batch, Fetched}
 use Rattle.dispatcher.specs.Steps.{known, caught_up, lacks_frame, unless_lacking, ready_of}
+use Rattle.dispatcher.proofs.Seqs.{is_known-below}
 use Rattle.dispatcher.proofs.Streams.{count-is}
-use Rattle.dispatcher.proofs.Versions.{replayed-known}
+use Rattle.dispatcher.proofs.Versions.{commits-known, commits-between}
 
 -- ---- which replicas can answer
 
@@ -62,23 +65,32 @@ caught shape commits fetched r =
 -- catching up, by what it looks at
 abbrev caught_by : Replica → ℕ → ℕ → ℕ → Shape → Tables → Option Replica
 caught_by r version count applied shape tables =
-    cond (r.version + (count - applied) == version)
-    (option_map (λ tables. record r { tables = tables; version = version; applied = count })
-    (replayed shape tables r.version (frames_at r.frames applied (count - applied))))
-    None
+    option_and_then (λ commits. cond (r.version + length commits == version)
+    (option_map (λ tables. record r { tables = tables; version = version; applied = count }) (result_ok (commits_of shape tables commits)))
+    None)
+    (commits_in r.version (frames_at r.frames applied (count - applied)))
 
 caught-known : (shape : Shape) (commits : List Commit) (r : Replica) (version : ℕ) → IsFedFrom shape commits r → r.version ≤ version
-    → version ≤ first_missing (known r)
+    → version ≤ length commits → version ≤ first_missing (known r)
     → caught_by r version version r.version shape (tables_after shape commits r.version) ≡ Some
     (record r { tables = tables_after shape commits version; version = version; applied = version })
-caught-known shape commits r version fed above all =
+caught-known shape commits r version fed above below all =
     let end : r.version + (version - r.version) ≡ version = omega arith in
     let made = λ (tables : Tables). record r { tables = tables; version = version; applied = version } in
-    let replay = replayed-known shape commits r.frames r.version (version - r.version) fed.legal fed.frames_are (omega arith) in
-    ap (λ (b : Bool). cond b (option_map made
-    (replayed shape (tables_after shape commits r.version) r.version (frames_at r.frames r.version (version - r.version)))) None)
-    (eq-eqb (r.version + (version - r.version)) version end)
-    ∙ ap (option_map made) (replay ∙ ap (λ (v : ℕ). Some (tables_after shape commits v)) end)
+    let between = take (version - r.version) (drop r.version commits) in
+    let within : version - r.version ≤ length (drop r.version commits) = omega (arith, length-drop r.version commits) in
+    let reached : r.version + length between ≡ version =
+    omega (arith, length-take-le (version - r.version) (drop r.version commits) within) in
+    let listed = commits-known commits r.frames r.version (version - r.version) fed.legal.each fed.frames_are
+    (λ k l. is_known-below (length (known r)) 0 k (known r) (omega arith) (omega arith)) in
+    let changed =
+    commits-between shape commits r.version (version - r.version) fed.legal.defined
+    ∙ ap (λ (v : ℕ). Ok (tables_after shape commits v)) end in
+    ap (option_and_then (λ more. cond (r.version + length more == version)
+    (option_map made (result_ok (commits_of shape (tables_after shape commits r.version) more))) None)) listed
+    ∙ ap (λ (b : Bool). cond b (option_map made (result_ok (commits_of shape (tables_after shape commits r.version) between))) None)
+    (eq-eqb (r.version + length between) version reached)
+    ∙ ap (λ (changes : Result Tables Refusal). option_map made (result_ok changes)) changed
 
 -- its frame count is its version
 pub applied-version : (shape : Shape) (commits : List Commit) (r : Replica) → IsFedFrom shape commits r → r.applied ≡ r.version
@@ -101,4 +113,4 @@ catches-up shape commits r batch fetched fed can =
     ∙ ap (λ (a : ℕ). caught_by r fetched.version fetched.version a r.shape r.tables) (applied-version shape commits r fed)
     ∙ ap (λ (s : Shape). caught_by r fetched.version fetched.version r.version s r.tables) fed.shape_is
     ∙ ap (λ (t : Tables). caught_by r fetched.version fetched.version r.version shape t) (fed.tables_are can.whole)
-    ∙ caught-known shape commits r fetched.version fed is.above (omega arith)
+    ∙ caught-known shape commits r fetched.version fed is.above is.below (omega arith)

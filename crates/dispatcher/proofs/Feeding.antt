@@ -36,7 +36,7 @@ use Rattle.dispatcher.specs.Replica.{Replica, Batch, Fetched}
 use Rattle.dispatcher.specs.Steps.{asked_by, ask_for, with_batch, known, frame_comes, own_head_comes, datagram_comes, broken_of}
 use Rattle.dispatcher.proofs.CatchingUp.{CanAnswer, caught, count-fetched}
 use Rattle.dispatcher.proofs.Lists.{All-map}
-use Rattle.dispatcher.proofs.Places.{is_known-below}
+use Rattle.dispatcher.proofs.Seqs.{is_known-below}
 use Rattle.dispatcher.proofs.Stored.{known-insert, frames-insert}
 use Rattle.dispatcher.proofs.Streams.{stream-stays, count-stays, count-is}
 use Rattle.dispatcher.proofs.Versions.{tables-stay}

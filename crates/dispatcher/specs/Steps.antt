@@ -3,6 +3,7 @@ use Rattle.std.specs.Prelude.{◌≡◌, ℕ, ◌+◌, ◌-◌, List, [], ◌∷
 use Rattle.std.specs.Prelude.{◌==◌, ◌||◌, ◌&&◌, not, nat_lt, nat_le, if◌then◌else◌, is_ok, IsErr, IsOkAnd, slice_index, ◌⊎◌}
 use Rattle.std.specs.List.{list_all}
 use Rattle.std.specs.Option.{option_map, option_and_then}
+use Rattle.std.specs.Result.{result_ok}
 use Rattle.std.specs.Ordering.{nat_cmp}
 use Rattle.std.specs.BTreeMap.{insert_entry}
 use Rattle.rows.specs.Limits.{waiting_queries_max}
@@ -33,7 +34,7 @@ use Rattle.dispatcher.specs.declared.outcome.Run.{Run}
 use Rattle.dispatcher.specs.declared.outcome.Run.TheVariants as runs
 use Rattle.dispatcher.specs.Known.{known_of, is_known, is_ahead, first_missing}
 use Rattle.dispatcher.specs.Plans.{checked}
-use Rattle.dispatcher.specs.Replay.{frames_at, replayed}
+use Rattle.dispatcher.specs.Listing.{frames_at, commits_in}
 use Rattle.dispatcher.specs.Replica.{Replica, Batch, Fetched}
 use Rattle.dispatcher.specs.Report.{report_of}
 
@@ -137,14 +138,22 @@ received r bytes = if r.broken then (got.Broken, r) else datagram_comes r (readi
 abbrev pub broken_of : Replica → Replica
 broken_of r = record r { tables = []; broken = true }
 
+-- the commits above its version, which its frames up to what was fetched hold; none where these hold no commits in order
+abbrev pub commits_above : Replica → Fetched → Option (List Commit)
+commits_above r fetched = commits_in r.version (frames_at r.frames r.applied (slice_index fetched.counts 0 - r.applied))
+
+-- the replica at the version that was fetched, these commits applied; none where they do not lead to it, or are refused
+abbrev pub with_commits : Replica → Fetched → List Commit → Option Replica
+with_commits r fetched commits =
+    if r.version + length commits == fetched.version
+    then option_map (λ tables. record r { tables = tables; version = fetched.version; applied = slice_index fetched.counts 0 })
+    (result_ok (commits_of r.shape r.tables commits))
+    else None
+
 -- the replica with every commit up to what was fetched applied, its batch still there; none where its frames are not
 -- those of one list of commits
 abbrev pub caught_up : Replica → Fetched → Option Replica
-caught_up r fetched =
-    if r.version + (slice_index fetched.counts 0 - r.applied) == fetched.version
-    then option_map (λ tables. record r { tables = tables; version = fetched.version; applied = slice_index fetched.counts 0 })
-    (replayed r.shape r.tables r.version (frames_at r.frames r.applied (slice_index fetched.counts 0 - r.applied)))
-    else None
+caught_up r fetched = option_and_then (with_commits r fetched) (commits_above r fetched)
 
 -- the end of a batch
 abbrev pub finished : Replica → List Plan → Option Replica → Run × Replica

@@ -3,7 +3,7 @@
 ghost use Rattle.std.specs.Prelude.{◌≡◌, ◌+◌, ◌-◌, ◌<◌, ◌≤◌, ◌^◌, IfOk};
 ghost use Rattle.std.specs.Option.{option_map};
 ghost use Rattle.dispatcher.specs.Known.{known_of, first_missing};
-ghost use Rattle.dispatcher.specs.Replay.{frames_at, commits_in};
+ghost use Rattle.dispatcher.specs.Listing.{frames_at, commits_in};
 
 use crate::frame_map::FrameMap;
 use rows::{Commit, EntryList};
