@@ -134,6 +134,11 @@ datagram_comes r (Ok (datagrams.Want replica worker from)) = (got.Ignored, r)
 abbrev pub received : Replica → List ℕ → Got × Replica
 received r bytes = if r.broken then (got.Broken, r) else datagram_comes r (reading bytes)
 
+-- what taking a frame answers and leaves: want of memory is answered only where it would be stored, and nothing has changed
+abbrev pub TakesFrame : Replica → Frame → Got → Replica → Type 0
+TakesFrame old frame answer new =
+    ((answer ≡ got.Memory) × (new ≡ old) × ((frame_comes old frame).0 ≡ got.Stored)) ⊎ (frame_comes old frame ≡ (answer, new))
+
 -- the replica once it is broken
 abbrev pub broken_of : Replica → Replica
 broken_of r = record r { tables = []; broken = true }
