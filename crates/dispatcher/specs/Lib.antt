@@ -1,7 +1,7 @@
 pub mod Plans
 pub mod Report
 pub mod Known
-pub mod Replay
+pub mod Listing
 pub mod Replica
 pub mod Steps
 pub mod Core

@@ -23,6 +23,7 @@ mod listing;
 mod outcome;
 mod plan;
 mod replica_core;
+mod sending;
 
 pub use faults::{AskFault, OpenFault};
 pub use laws::fed_replicas_stay_fed;

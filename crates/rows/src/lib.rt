@@ -34,7 +34,7 @@ pub use commit::Commit;
 pub use entry::Entry;
 pub use entry_list::EntryList;
 pub use entry_ref::EntryRef;
-pub use fitting::{EntryFault, fits};
+pub use fitting::{EntryFault, fits, fits_lent};
 pub use kind::Kind;
 pub use kind_list::KindList;
 pub use octets::Octets;

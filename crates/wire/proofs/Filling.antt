@@ -1,14 +1,14 @@
 -- Entries that fill bytes: read one after the other, what is read is spelled so, and what is spelled so is read.
-use Rattle.std.proofs.Common.{◌≡◌, ℕ, zero, suc, ◌+◌, ◌-◌, ◌<◌, Bool, false, List, [], ◌∷◌, ◌++◌, length, drop, Option, Some, None, refl}
+use Rattle.std.proofs.Common.{◌≡◌, ℕ, zero, suc, ◌+◌, ◌-◌, ◌<◌, ◌≤◌, Bool, true, false, List, [], ◌∷◌, ◌++◌, length, drop, Option, Some, None, refl}
 use Rattle.std.proofs.Common.{sym, ap, subst, ◌∙◌, append_assoc, arith}
 use Rattle.std.specs.Prelude.{is_some}
 use Rattle.std.specs.Option.{option_map}
 use Rattle.std.proofs.lemmas.List.{drop_at}
-use Rattle.std.specs.List.{flat_map, AllByRecursion}
+use Rattle.std.specs.List.{flat_map, list_all, AllByRecursion}
 use Rattle.rows.specs.declared.entry.Entry.{Entry}
 use Rattle.rows.specs.Reading.{entry_at}
 use Rattle.rows.specs.Spelling.{AreBytes, HasSpelling, entry_spelling}
-use Rattle.wire.specs.Entries.{behind, entries_filling}
+use Rattle.wire.specs.Entries.{behind, entries_filling, or_none}
 use Rattle.wire.proofs.Bytes.{AreBytes-drop}
 use Rattle.wire.proofs.Entries.{IsSpelledAt, entry_at-spelled, entry_at-again}
 
@@ -58,6 +58,50 @@ pub gathered_not : (front : List Entry) (count i : ℕ) (bytes : List ℕ) (all 
     → all ≡ option_map (λ others. front ++ others) (entries_filling (count - i) bytes) → all ≡ None
 gathered_not front count i bytes all lt e so_far =
     so_far ∙ ap (option_map (λ (others : List Entry). front ++ others)) (filling_none count i bytes lt e)
+
+-- whether each entry that fills the bytes passes a test, as a loop finds out
+pub passed_first : (test : Entry → Bool) (all : Option (List Entry)) → is_some all ≡ true
+    → Some (list_all test (or_none all)) ≡ option_map (list_all test) all
+passed_first test None there = absurd cc
+passed_first test (Some entries) there = refl
+
+pub passed_more : (test : Entry → Bool) (count i : ℕ) (bytes : List ℕ) (found : Entry × ℕ) (answer : Bool) → i < count
+    → entry_at bytes ≡ Some found → test found.0 ≡ true → Some answer ≡ option_map (list_all test) (entries_filling (count - i) bytes)
+    → Some answer ≡ option_map (list_all test) (entries_filling (count - (i + 1)) (drop found.1 bytes))
+passed_more test count i bytes found answer lt e passes so_far =
+    so_far ∙ ap (option_map (list_all test)) (filling_more count i bytes found lt e)
+    ∙ by (entries_filling (count - (i + 1)) (drop found.1 bytes))
+  where
+    by : (o : Option (List Entry)) → option_map (list_all test) (option_map (λ others. found.0 ∷ others) o) ≡ option_map (list_all test) o
+    by None = refl
+    by (Some others) = rw passes refl
+
+pub passed_not : (test : Entry → Bool) (count i : ℕ) (bytes : List ℕ) (found : Entry × ℕ) (answer : Bool) → i < count
+    → entry_at bytes ≡ Some found → test found.0 ≡ false → Some answer ≡ option_map (list_all test) (entries_filling (count - i) bytes)
+    → false ≡ answer
+passed_not test count i bytes found answer lt e fails so_far =
+    by (entries_filling (count - (i + 1)) (drop found.1 bytes))
+    (so_far ∙ ap (option_map (list_all test)) (filling_more count i bytes found lt e))
+  where
+    by : (o : Option (List Entry)) → Some answer ≡ option_map (list_all test) (option_map (λ others. found.0 ∷ others) o) → false ≡ answer
+    by None h = absurd cc
+    by (Some others) h = (let fails_all : list_all test (found.0 ∷ others) ≡ false = rw fails refl in cc)
+
+pub passed_none : (test : Entry → Bool) (count i : ℕ) (bytes : List ℕ) (answer : Bool) → i < count → entry_at bytes ≡ None
+    → Some answer ≡ option_map (list_all test) (entries_filling (count - i) bytes) → ⊥
+passed_none test count i bytes answer lt e so_far =
+    let none = so_far ∙ ap (option_map (list_all test)) (filling_none count i bytes lt e) in
+    cc
+
+pub passed_all : (test : Entry → Bool) (count i : ℕ) (bytes : List ℕ) (answer : Bool) → count ≤ i
+    → Some answer ≡ option_map (list_all test) (entries_filling (count - i) bytes) → true ≡ answer
+passed_all test count i bytes answer past so_far =
+    let none_left : count - i ≡ 0 = omega arith in
+    by bytes (rw none_left at so_far)
+  where
+    by : (bytes : List ℕ) → Some answer ≡ option_map (list_all test) (entries_filling 0 bytes) → true ≡ answer
+    by [] h = cc
+    by (byte ∷ bytes) h = absurd cc
 
 -- as many entries as were asked for
 behind-length : (count : ℕ) (found : Option (Entry × ℕ)) (others : ℕ → Option (List Entry)) (entries : List Entry)
