@@ -91,7 +91,7 @@ abbrev pub row_in : Tables → ℕ → ℕ → Option (List Value)
 row_in tables table row = row_at (rows_of tables table) row
 
 -- at the opening no row is there
-opening-none : (shape : Shape) (table row : ℕ) → row_in (opening shape) table row ≡ None
+pub opening-none : (shape : Shape) (table row : ℕ) → row_in (opening shape) table row ≡ None
 opening-none [] table row = refl
 opening-none (kinds ∷ shape) zero row = refl
 opening-none (kinds ∷ shape) (suc table) row = opening-none shape table row

@@ -3,7 +3,7 @@ use Rattle.std.specs.Prelude.{◌≡◌, ℕ, List, Ok}
 use Rattle.rows.specs.declared.commit.Commit.{Commit}
 use Rattle.rows.specs.declared.entry.Entry.{Entry}
 use Rattle.rows.specs.Shape.{Shape}
-use Rattle.rows.specs.Tables.{Tables, shape_in, change_of, changes_of, applied}
+use Rattle.rows.specs.Tables.{Tables, shape_in, RowsAreOfKinds, change_of, changes_of, applied}
 use Rattle.rows.specs.Commits.{commits_of, tables_after, overlaps}
 
 -- an entry leaves the kinds of each table's columns
@@ -24,6 +24,20 @@ CommitsKeepKinds = (tables after : Tables) (commits : List Commit) → commits_o
 -- the tables at each version have the kinds that they were opened with
 abbrev pub VersionsKeepKinds : Type 0
 VersionsKeepKinds = (shape : Shape) (commits : List Commit) (version : ℕ) → shape_in (tables_after shape commits version) ≡ shape
+
+-- where each row has values of its columns' kinds, it still has after an entry
+abbrev pub EntryKeepsRows : Type 0
+EntryKeepsRows =
+    (tables after : Tables) (entry : Entry) → RowsAreOfKinds tables → change_of tables entry ≡ Ok after → RowsAreOfKinds after
+
+-- and after commits
+abbrev pub CommitsKeepRows : Type 0
+CommitsKeepRows =
+    (tables after : Tables) (commits : List Commit) → RowsAreOfKinds tables → commits_of tables commits ≡ Ok after → RowsAreOfKinds after
+
+-- so each row at each version has values of its columns' kinds
+abbrev pub VersionsAreOfKinds : Type 0
+VersionsAreOfKinds = (shape : Shape) (commits : List Commit) (version : ℕ) → RowsAreOfKinds (tables_after shape commits version)
 
 -- an entry overlaps with another where the other does with it
 abbrev pub IsSymmetric : Type 0

@@ -4,7 +4,7 @@
 -- its values: tables of the same kinds and rows are equal. An entry that fits and finds what it
 -- needs changes one row, and any other is refused.
 use Rattle.std.specs.Prelude.{ℕ, List, [], ◌∷◌, map, length, Bool, Option, None, Some, Result, Ok, Err, ◌==◌, not, if◌then◌else◌, slice_get}
-use Rattle.std.specs.Prelude.{slice_set, is_some, is_ok}
+use Rattle.std.specs.Prelude.{◌≡◌, true, slice_set, is_some, is_ok, IfSome}
 use Rattle.std.specs.List.{filter}
 use Rattle.std.specs.Result.{result_unwrap_or}
 use Rattle.std.specs.Ordering.{nat_cmp}
@@ -15,7 +15,7 @@ use Rattle.rows.specs.declared.entry.Entry.TheVariants.{Insert, Patch, Delete}
 use Rattle.rows.specs.declared.kind.Kind.{Kind}
 use Rattle.rows.specs.declared.value.Value.{Value}
 use Rattle.rows.specs.Shape.{Shape, kinds_in, column_at}
-use Rattle.rows.specs.Values.{value_of, values_of}
+use Rattle.rows.specs.Values.{value_of, values_of, are_of_kinds}
 use Rattle.rows.specs.Entries.{fitting}
 
 -- a table's rows in rising identifier, each with its values
@@ -62,6 +62,11 @@ is_present rows row = is_some (row_at rows row)
 -- whether the row of that table is there
 abbrev pub is_row_at : Tables → ℕ → ℕ → Bool
 is_row_at tables table row = is_present (rows_of tables table) row
+
+-- each row has a value for each of its table's columns, of the column's kind
+abbrev pub RowsAreOfKinds : Tables → Type 0
+RowsAreOfKinds tables =
+    (table row : ℕ) → IfSome (row_at (rows_of tables table) row) (λ values. are_of_kinds values (kinds_of tables table) ≡ true)
 
 -- these rows, with one more put in
 abbrev pub with_row : Rows → ℕ → List Value → Rows
