@@ -1,0 +1,20 @@
+//! Laws of the definitions.
+
+ghost use Rattle.rows.specs.Laws.{EntryKeepsKinds, EntriesKeepKinds, AppliedKeepKinds, CommitsKeepKinds, VersionsKeepKinds};
+ghost use Rattle.rows.specs.Laws.{IsSymmetric};
+
+/// Entries and commits leave the kinds of each table's columns. It does nothing: its contract is
+/// the law.
+pub fn changes_keep_kinds()
+    ensures entry { EntryKeepsKinds }
+    ensures entries { EntriesKeepKinds }
+    ensures applied { AppliedKeepKinds }
+    ensures commits { CommitsKeepKinds }
+    ensures versions { VersionsKeepKinds }
+{}
+
+/// Whether two entries conflict is told the same from either. It does nothing: its contract is
+/// the law.
+pub fn overlap_is_symmetric()
+    ensures { IsSymmetric }
+{}
