@@ -4,8 +4,7 @@ use Rattle.rows.specs.declared.commit.Commit.{Commit}
 use Rattle.rows.specs.declared.entry.Entry.{Entry}
 use Rattle.rows.specs.declared.kind.Kind.{Kind}
 use Rattle.rows.specs.Shape.{shape_of}
-use Rattle.rows.specs.Entries.{table_of, row_of}
-use Rattle.rows.specs.Tables.{Tables, changes_of, is_present, rows_of}
+use Rattle.rows.specs.Tables.{Tables, changes_of}
 use Rattle.rows.specs.Commits.{tables_after}
 
 pub record History : Type 0 where
@@ -18,8 +17,4 @@ tables_at versions version = tables_after (shape_of versions.schema) versions.co
 
 -- whether each of these entries is defined in its place on the rows at that version
 abbrev pub defined_at : History → ℕ → List Entry → Bool
-defined_at versions version entries = is_ok (changes_of (shape_of versions.schema) (tables_at versions version) entries)
-
--- whether the row of an entry is there at that version
-abbrev pub is_row_there : History → ℕ → Entry → Bool
-is_row_there versions version entry = is_present (rows_of (tables_at versions version) (table_of entry)) (row_of entry)
+defined_at versions version entries = is_ok (changes_of (tables_at versions version) entries)

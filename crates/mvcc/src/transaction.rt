@@ -1,7 +1,8 @@
 //! Transactions before their commit.
 
 ghost use Rattle.std.specs.Prelude.{◌≡◌, ◌<◌, ◌≤◌, [], ◌∷◌, ◌++◌, length, IfErr, Ok, Some, None, OnOk, OnErr, is_some};
-ghost use Rattle.std.specs.Prelude.{if◌then◌else◌};
+ghost use Rattle.std.specs.Prelude.{if◌then◌else◌, slice_get};
+ghost use Rattle.std.specs.Option.{option_map};
 ghost use Rattle.rows.specs.declared.entry.Entry.TheVariants.{Insert, Patch, Delete};
 ghost use Rattle.rows.specs.Faults.{IsFaultOf};
 ghost use Rattle.rows.specs.Shape.{shape_of};
@@ -11,14 +12,14 @@ ghost use Rattle.mvcc.specs.History.{tables_at};
 ghost use Rattle.mvcc.specs.Draft.{Draft};
 ghost use Rattle.mvcc.specs.Cells.{cell_of};
 ghost use Rattle.mvcc.specs.Transactions.{insert_answer, set_answer, delete_answer, get_answer, match_column, column_kind, column_offset};
-ghost use Rattle.mvcc.specs.Transactions.{seen_by, sees};
+ghost use Rattle.mvcc.specs.Transactions.{seen_by, seen_shape, sees};
 
 use crate::cells::cell_after;
 use crate::faults::TxFault;
 use crate::own_rows::{OwnRows, places_with};
 use crate::values::{is_value_of, matches_table};
 use crate::versions::Versions;
-use rows::{Entry, EntryList, RowId, Schema, Value, row_bytes, width_of_row};
+use rows::{Entry, EntryList, Kind, RowId, Schema, Value, row_bytes, width_of_row};
 use std::alloc::{AllocError, Global};
 use std::marker::Model;
 
@@ -112,7 +113,7 @@ impl Transaction {
         ensures refused { IfErr result (λ fault. (self.new ≡ self.old)
             × IsFaultOf (insert_answer (shape_of versions.now.schema) versions.now.commits self.old table row.0 values.now) TxFault.Memory fault) }
     {
-        if !matches_table(values, versions.schema().kinds(table as usize)) {
+        if !matches_table(values, self.kinds(versions, table)) {
             return Err(TxFault::Unfit);
         }
         if self.sees(versions, table, row) {
@@ -148,7 +149,7 @@ impl Transaction {
         ensures refused { IfErr result (λ fault. (self.new ≡ self.old)
             × IsFaultOf (set_answer (shape_of versions.now.schema) versions.now.commits self.old table row.0 column value) TxFault.Memory fault) }
     {
-        let Some(offset) = offset_for(versions.schema(), table, column, &value) else {
+        let Some(offset) = self.offset_for(versions, table, column, &value) else {
             return Err(TxFault::Unfit);
         };
         if self.cell(versions, table, row, column).is_none() {
@@ -176,7 +177,7 @@ impl Transaction {
         ensures refused { IfErr result (λ fault. (self.new ≡ self.old)
             × IsFaultOf (delete_answer (shape_of versions.now.schema) versions.now.commits self.old table row.0) TxFault.Memory fault) }
     {
-        if versions.schema().kinds(table as usize).is_none() {
+        if self.kinds(versions, table).is_none() {
             return Err(TxFault::Unfit);
         }
         if !self.sees(versions, table, row) {
@@ -206,13 +207,47 @@ impl Transaction {
         requires { self.now.snapshot ≤ length versions.now.commits }
         ensures { result ≡ get_answer (shape_of versions.now.schema) versions.now.commits self.now table row.0 column }
     {
-        if !has_column(versions.schema(), table, column) {
+        if !self.has_column(versions, table, column) {
             return Err(TxFault::Unfit);
         }
         match self.cell(versions, table, row, column) {
             Some(Some(value)) => Ok(value),
             Some(None) | None => Err(TxFault::Missing),
         }
+    }
+
+    /// The kinds of a table's columns, as the transaction sees them; `None` where there is no table
+    /// of that number.
+    fn kinds<'v>(&self, versions: &'v Versions, table: u8) -> Option<&'v [Kind]>
+        ensures { option_map (λ k. k.now) result
+            ≡ slice_get (seen_shape (shape_of versions.now.schema) versions.now.commits self.now) table }
+    {
+        versions.schema().kinds(table as usize)
+    }
+
+    /// Whether the table and the column are there, as the transaction sees them.
+    fn has_column(&self, versions: &Versions, table: u8, column: usize) -> bool
+        ensures { result ≡ is_some
+            (column_kind (seen_shape (shape_of versions.now.schema) versions.now.commits self.now) table column) }
+    {
+        has_column(versions.schema(), table, column)
+    }
+
+    /// Where the column begins among its row's bytes, as the transaction sees them; `None` where
+    /// the table or the column is not there, or the value is not of its kind.
+    fn offset_for(
+        &self,
+        versions: &Versions,
+        table: u8,
+        column: usize,
+        value: &Value,
+    ) -> Option<u16>
+        ensures { result ≡
+            (if match_column value.now (column_kind (seen_shape (shape_of versions.now.schema) versions.now.commits self.now) table column)
+            then Some (column_offset (seen_shape (shape_of versions.now.schema) versions.now.commits self.now) table column)
+            else None) }
+    {
+        offset_for(versions.schema(), table, column, value)
     }
 
     /// Whether the row is there, as the transaction sees it.

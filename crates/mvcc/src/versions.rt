@@ -3,7 +3,7 @@
 ghost use Rattle.std.specs.Prelude.{◌≡◌, ◌≤◌, ◌-◌, ◌∷◌, [], ◌++◌, ℕ, length, true, IfOk, OnOk, OnErr, slice_get, take, if◌then◌else◌, ◌==◌, None, IsOk};
 ghost use Rattle.std.specs.Option.{option_map};
 ghost use Rattle.rows.specs.Shape.{shape_of};
-ghost use Rattle.rows.specs.Tables.{opening, is_present, rows_of};
+ghost use Rattle.rows.specs.Tables.{opening, is_row_at};
 ghost use Rattle.rows.specs.Commits.{commits_of, last_touching};
 ghost use Rattle.mvcc.specs.History.{defined_at, tables_at};
 ghost use Rattle.mvcc.specs.Newest.{newest_of};
@@ -56,9 +56,9 @@ impl Versions {
     /// Each entry of the commits is defined in its place, in all of them and in the first of them
     /// up to any version. It does nothing: its contract is the law.
     pub fn keeps_defined(&self)
-        ensures all { IsOk (commits_of (shape_of self.now.schema) (opening (shape_of self.now.schema)) self.now.commits) }
+        ensures all { IsOk (commits_of (opening (shape_of self.now.schema)) self.now.commits) }
         ensures first { (version : ℕ)
-            → IsOk (commits_of (shape_of self.now.schema) (opening (shape_of self.now.schema)) (take version self.now.commits)) }
+            → IsOk (commits_of (opening (shape_of self.now.schema)) (take version self.now.commits)) }
     {
         // A look at a field brings the invariant to the proof.
         let _ = &self.chains;
@@ -122,7 +122,7 @@ impl Versions {
     /// Whether the row is there at that version.
     pub fn is_present(&self, version: u64, table: u8, row: RowId) -> bool
         requires { version ≤ length self.now.commits }
-        ensures { result ≡ is_present (rows_of (tables_at self.now version) table) row.0 }
+        ensures { result ≡ is_row_at (tables_at self.now version) table row.0 }
     {
         values_at(self.chains.as_slice(), version, table, row).is_some()
     }

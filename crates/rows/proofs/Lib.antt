@@ -6,3 +6,4 @@ pub mod TableLaws
 pub mod RowLaws
 pub mod Columns
 pub mod ValueKinds
+pub mod Keys

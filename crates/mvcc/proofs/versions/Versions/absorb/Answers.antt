@@ -2,6 +2,7 @@
 use Rattle.std.proofs.Common.{◌≡◌, true, [], ◌∷◌, ◌++◌, length, drop, subst, sym, ap, ◌∙◌}
 use Rattle.rows.specs.Shape.{shape_of}
 use Rattle.rows.specs.Commits.{tables_after}
+use Rattle.rows.proofs.TableLaws.{shape-at}
 use Rattle.mvcc.specs.History.{History, defined_at}
 use Rattle.mvcc.specs.Chains.{and_entries, AreChains}
 use Rattle.mvcc.proofs.Keeping.{all_fit, versions-push, take_put}
@@ -15,7 +16,8 @@ link_commit-requires-clause-fit c =
     (length inside.commits.items) c.args.commit.now.entries ≡ true =
     subst (λ (v : History). defined_at v (length v.commits) c.args.commit.now.entries ≡ true) (sym c.self.view_is) c.requires in
     rw c.as_slice-2.ensures (all_fit shape
-    (tables_after shape inside.commits.items (length inside.commits.items)) c.args.commit.now.entries defined)
+    (tables_after shape inside.commits.items (length inside.commits.items)) c.args.commit.now.entries
+    (shape-at shape inside.commits.items (length inside.commits.items)) defined)
 
 pub invariant_of-self-2 : goal.invariant_of-self-2
 invariant_of-self-2 c =
