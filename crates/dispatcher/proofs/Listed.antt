@@ -11,7 +11,8 @@ use Rattle.dispatcher.specs.declared.catch_up_fault.CatchUpFault.{CatchUpFault}
 use Rattle.dispatcher.specs.declared.catch_up_fault.CatchUpFault.TheVariants.{Inconsistent, Memory, Broken}
 use Rattle.dispatcher.specs.Listing.{frames_at, commits_in}
 use Rattle.dispatcher.specs.Replica.{Replica, Fetched}
-use Rattle.dispatcher.specs.Steps.{ready_of, with_commits, caught_up, CatchesUp, Applies}
+use Rattle.dispatcher.specs.Steps.{ready_of, with_commits, caught_up}
+use Rattle.dispatcher.specs.Inner.Parts.{CatchesUp, Applies}
 use Rattle.dispatcher.proofs.CatchingUp.{ready-parts}
 use Rattle.dispatcher.proofs.Commits.{frames_at-length, commits_in-length}
 

@@ -14,7 +14,8 @@ use Rattle.dispatcher.specs.declared.outcome.Run.TheVariants as runs
 use Rattle.dispatcher.specs.Known.{first_missing}
 use Rattle.dispatcher.specs.Replica.{Replica, Batch, Fetched}
 use Rattle.dispatcher.specs.Steps.{known, unless_lacking, ready_of, ran, ran_by, lacks_frame, commits_above, with_commits}
-use Rattle.dispatcher.specs.Steps.{caught_up, finished, answered_by, MayRun}
+use Rattle.dispatcher.specs.Steps.{caught_up, finished, MayRun}
+use Rattle.dispatcher.specs.Inner.Parts.{answered_by}
 
 -- catching up leaves the batch
 same_batch : (r after : Replica) (fetched : Fetched) (listed : Option (List Commit))

@@ -5,7 +5,8 @@ ghost use Rattle.rows.specs.Shape.{shape_of};
 ghost use Rattle.rows.specs.Tables.{opening};
 ghost use Rattle.dispatcher.specs.Replica.{Replica};
 ghost use Rattle.dispatcher.specs.Steps.{started, opened, asked, received, frame_comes, own_head_comes, ready_of};
-ghost use Rattle.dispatcher.specs.Steps.{TakesFrame, CatchesUp, Applies, answered_by, MayRun};
+ghost use Rattle.dispatcher.specs.Steps.{MayRun};
+ghost use Rattle.dispatcher.specs.Inner.Parts.{TakesFrame, CatchesUp, Applies, answered_by};
 
 use crate::answering::report;
 use crate::batch::{Batch, Fetched};
@@ -49,7 +50,7 @@ impl<S: ApplyStore + Sync> Model for ReplicaCore<S> {
 
     ghost Value = { Replica };
 
-    ghost use Rattle.dispatcher.specs.Core.{replica_of, IsCore};
+    ghost use Rattle.dispatcher.specs.Inner.Core.{replica_of, IsCore};
 
     ghost view = { replica_of S.tables };
 
