@@ -22,7 +22,7 @@ same_batch : (r after : Replica) (fetched : Fetched) (listed : Option (List Comm
     → option_and_then (with_commits r fetched) listed ≡ Some after → after.batch ≡ r.batch
 same_batch r after fetched None h = cc
 same_batch r after fetched (Some commits) h =
-    by (r.version + length commits == fetched.version) (result_ok (commits_of r.shape r.tables commits)) h
+    by (r.version + length commits == fetched.version) (result_ok (commits_of r.tables commits)) h
   where
     at : Tables → Replica
     at tables = record r { tables = tables; version = fetched.version; applied = slice_index fetched.counts 0 }

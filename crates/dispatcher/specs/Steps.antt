@@ -145,7 +145,7 @@ abbrev pub with_commits : Replica → Fetched → List Commit → Option Replica
 with_commits r fetched commits =
     if r.version + length commits == fetched.version
     then option_map (λ tables. record r { tables = tables; version = fetched.version; applied = slice_index fetched.counts 0 })
-    (result_ok (commits_of r.shape r.tables commits))
+    (result_ok (commits_of r.tables commits))
     else None
 
 -- the replica with every commit up to what was fetched applied, its batch still there; none where its frames are not

@@ -54,7 +54,7 @@ impl<S: ApplyStore + Sync> Model for ReplicaCore<S> {
 
     ghost view = { replica_of S.tables };
 
-    ghost invariant = { IsCore S.shape S.is_whole };
+    ghost invariant = { IsCore S.is_whole };
 }
 
 impl<S: ApplyStore + Sync> ReplicaCore<S> {
@@ -72,7 +72,6 @@ impl<S: ApplyStore + Sync> ReplicaCore<S> {
     where
         S: Drop,
         requires whole { S.is_whole store ≡ true }
-        requires shape { S.shape store ≡ shape_of schema.now }
         requires tables { S.tables store ≡ opening (shape_of schema.now) }
         requires workers { workers ≡ 1 }
         requires number { number < 16 }

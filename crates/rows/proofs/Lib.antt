@@ -5,3 +5,4 @@ pub mod Presence
 pub mod TableLaws
 pub mod RowLaws
 pub mod Columns
+pub mod ValueKinds

@@ -6,6 +6,7 @@ pub mod Values
 pub mod Entries
 pub mod Tables
 pub mod Commits
+pub mod Laws
 pub mod Presence
 pub mod RowAfter
 pub mod Spelling

@@ -18,6 +18,7 @@ mod entry_ref;
 mod fitting;
 mod kind;
 mod kind_list;
+pub mod laws;
 pub mod limits;
 mod octets;
 mod reading;

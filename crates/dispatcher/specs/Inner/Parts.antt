@@ -29,8 +29,8 @@ CatchesUp old fetched (Err Broken) new = new ≡ broken_of old
 -- what applying commits answers and leaves; it lists none, so that no memory is wanted before the first change
 abbrev pub Applies : Replica → List Commit → ℕ → ℕ → Result (Unit {0}) CatchUpFault → Replica → Type 0
 Applies old commits version count (Ok done) new =
-    IsOkAnd (commits_of old.shape old.tables commits) (λ tables. new ≡ record old { tables = tables; version = version; applied = count })
-Applies old commits version count (Err Inconsistent) new = IsErr (commits_of old.shape old.tables commits) × (new ≡ broken_of old)
+    IsOkAnd (commits_of old.tables commits) (λ tables. new ≡ record old { tables = tables; version = version; applied = count })
+Applies old commits version count (Err Inconsistent) new = IsErr (commits_of old.tables commits) × (new ≡ broken_of old)
 Applies old commits version count (Err Memory) new = ⊥
 Applies old commits version count (Err Broken) new = new ≡ broken_of old
 
