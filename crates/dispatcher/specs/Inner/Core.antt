@@ -1,4 +1,4 @@
--- Only for proofs: how the parts of a replica's core are seen, and what holds of them.
+-- How the fields of a replica's core make the state that its contracts speak of, and what holds of them.
 use Rattle.std.specs.Prelude.{◌≡◌, ℕ, ◌<◌, ◌≤◌, [], length, Bool, true, false, Option, None, Some, if◌then◌else◌, slice_index, IfSome}
 use Rattle.std.specs.Option.{option_map}
 use Rattle.dispatcher.specs.declared.batch.Batch.{Batch as HeldBatch}
