@@ -63,16 +63,16 @@ caught shape commits fetched r =
     record r { tables = tables_after shape commits fetched.version; version = fetched.version; applied = fetched.version }
 
 -- catching up, by what it looks at
-abbrev caught_by : Replica → ℕ → ℕ → ℕ → Shape → Tables → Option Replica
-caught_by r version count applied shape tables =
+abbrev caught_by : Replica → ℕ → ℕ → ℕ → Tables → Option Replica
+caught_by r version count applied tables =
     option_and_then (λ commits. cond (r.version + length commits == version)
-    (option_map (λ tables. record r { tables = tables; version = version; applied = count }) (result_ok (commits_of shape tables commits)))
+    (option_map (λ tables. record r { tables = tables; version = version; applied = count }) (result_ok (commits_of tables commits)))
     None)
     (commits_in r.version (frames_at r.frames applied (count - applied)))
 
 caught-known : (shape : Shape) (commits : List Commit) (r : Replica) (version : ℕ) → IsFedFrom shape commits r → r.version ≤ version
     → version ≤ length commits → version ≤ first_missing (known r)
-    → caught_by r version version r.version shape (tables_after shape commits r.version) ≡ Some
+    → caught_by r version version r.version (tables_after shape commits r.version) ≡ Some
     (record r { tables = tables_after shape commits version; version = version; applied = version })
 caught-known shape commits r version fed above below all =
     let end : r.version + (version - r.version) ≡ version = omega arith in
@@ -87,8 +87,8 @@ caught-known shape commits r version fed above below all =
     commits-between shape commits r.version (version - r.version) fed.legal.defined
     ∙ ap (λ (v : ℕ). Ok (tables_after shape commits v)) end in
     ap (option_and_then (λ more. cond (r.version + length more == version)
-    (option_map made (result_ok (commits_of shape (tables_after shape commits r.version) more))) None)) listed
-    ∙ ap (λ (b : Bool). cond b (option_map made (result_ok (commits_of shape (tables_after shape commits r.version) between))) None)
+    (option_map made (result_ok (commits_of (tables_after shape commits r.version) more))) None)) listed
+    ∙ ap (λ (b : Bool). cond b (option_map made (result_ok (commits_of (tables_after shape commits r.version) between))) None)
     (eq-eqb (r.version + length between) version reached)
     ∙ ap (λ (changes : Result Tables Refusal). option_map made (result_ok changes)) changed
 
@@ -109,8 +109,7 @@ catches-up shape commits r batch fetched fed can =
     let is = fed.fetched_is batch fetched can.there can.has in
     let complete = can.complete in
     let count = count-fetched shape commits r.version fetched fed.legal is in
-    ap (λ (c : ℕ). caught_by r fetched.version c r.applied r.shape r.tables) count
-    ∙ ap (λ (a : ℕ). caught_by r fetched.version fetched.version a r.shape r.tables) (applied-version shape commits r fed)
-    ∙ ap (λ (s : Shape). caught_by r fetched.version fetched.version r.version s r.tables) fed.shape_is
-    ∙ ap (λ (t : Tables). caught_by r fetched.version fetched.version r.version shape t) (fed.tables_are can.whole)
+    ap (λ (c : ℕ). caught_by r fetched.version c r.applied r.tables) count
+    ∙ ap (λ (a : ℕ). caught_by r fetched.version fetched.version a r.tables) (applied-version shape commits r fed)
+    ∙ ap (λ (t : Tables). caught_by r fetched.version fetched.version r.version t) (fed.tables_are can.whole)
     ∙ caught-known shape commits r fetched.version fed is.above is.below (omega arith)

@@ -11,7 +11,8 @@ use Rattle.dispatcher.specs.declared.catch_up_fault.CatchUpFault.{CatchUpFault}
 use Rattle.dispatcher.specs.declared.catch_up_fault.CatchUpFault.TheVariants.{Inconsistent, Memory, Broken}
 use Rattle.dispatcher.specs.Listing.{frames_at, commits_in}
 use Rattle.dispatcher.specs.Replica.{Replica, Fetched}
-use Rattle.dispatcher.specs.Steps.{ready_of, with_commits, caught_up, CatchesUp, Applies}
+use Rattle.dispatcher.specs.Steps.{ready_of, with_commits, caught_up}
+use Rattle.dispatcher.specs.Inner.Parts.{CatchesUp, Applies}
 use Rattle.dispatcher.proofs.CatchingUp.{ready-parts}
 use Rattle.dispatcher.proofs.Commits.{frames_at-length, commits_in-length}
 
@@ -47,14 +48,14 @@ module _ (r : Replica) (version count : ℕ) (is_ready : ready_of r ≡ Some (re
       by None is = caught_up-unlisted is
       by (Some commits) is =
           ap (option_and_then (with_commits r fetched)) is
-          ∙ cond-false (r.version + length commits == version) (option_map at (result_ok (commits_of r.shape r.tables commits))) None
+          ∙ cond-false (r.version + length commits == version) (option_map at (result_ok (commits_of r.tables commits))) None
           (ap (λ (n : ℕ). r.version + n == version) (many commits is) ∙ unreached)
 
   caught_up-listed : (commits : List Commit) → (r.version + (count - r.applied) == version) ≡ true → found ≡ Some commits
-      → caught_up r fetched ≡ option_map at (result_ok (commits_of r.shape r.tables commits))
+      → caught_up r fetched ≡ option_map at (result_ok (commits_of r.tables commits))
   caught_up-listed commits reached is =
       ap (option_and_then (with_commits r fetched)) is
-      ∙ cond-true (r.version + length commits == version) (option_map at (result_ok (commits_of r.shape r.tables commits))) None
+      ∙ cond-true (r.version + length commits == version) (option_map at (result_ok (commits_of r.tables commits))) None
       (ap (λ (n : ℕ). r.version + n == version) (many commits is) ∙ reached)
 
   -- they do, and the commits were applied or refused
@@ -63,7 +64,7 @@ module _ (r : Replica) (version count : ℕ) (is_ready : ready_of r ≡ Some (re
       → Applies r commits version count result new → CatchesUp r fetched result new
   catches_up-applied commits result new reached is applies = by result applies
     where
-      listed : caught_up r fetched ≡ option_map at (result_ok (commits_of r.shape r.tables commits))
+      listed : caught_up r fetched ≡ option_map at (result_ok (commits_of r.tables commits))
       listed = caught_up-listed commits reached is
 
       ok : (changes : Result Tables Refusal) → IsOkAnd changes (λ tables. new ≡ at tables) → option_map at (result_ok changes) ≡ Some new
@@ -75,7 +76,7 @@ module _ (r : Replica) (version count : ℕ) (is_ready : ready_of r ≡ Some (re
       refused (Err refusal) h = cc
 
       by : (result : Result (Unit {0}) CatchUpFault) → Applies r commits version count result new → CatchesUp r fetched result new
-      by (Ok done) h = listed ∙ ok (commits_of r.shape r.tables commits) h
-      by (Err Inconsistent) h = (listed ∙ refused (commits_of r.shape r.tables commits) h.0, h.1)
+      by (Ok done) h = listed ∙ ok (commits_of r.tables commits) h
+      by (Err Inconsistent) h = (listed ∙ refused (commits_of r.tables commits) h.0, h.1)
       by (Err Memory) h = absurd h
       by (Err Broken) h = h

@@ -14,14 +14,15 @@ use Rattle.dispatcher.specs.declared.outcome.Run.TheVariants as runs
 use Rattle.dispatcher.specs.Known.{first_missing}
 use Rattle.dispatcher.specs.Replica.{Replica, Batch, Fetched}
 use Rattle.dispatcher.specs.Steps.{known, unless_lacking, ready_of, ran, ran_by, lacks_frame, commits_above, with_commits}
-use Rattle.dispatcher.specs.Steps.{caught_up, finished, answered_by, MayRun}
+use Rattle.dispatcher.specs.Steps.{caught_up, finished, MayRun}
+use Rattle.dispatcher.specs.Inner.Parts.{answered_by}
 
 -- catching up leaves the batch
 same_batch : (r after : Replica) (fetched : Fetched) (listed : Option (List Commit))
     → option_and_then (with_commits r fetched) listed ≡ Some after → after.batch ≡ r.batch
 same_batch r after fetched None h = cc
 same_batch r after fetched (Some commits) h =
-    by (r.version + length commits == fetched.version) (result_ok (commits_of r.shape r.tables commits)) h
+    by (r.version + length commits == fetched.version) (result_ok (commits_of r.tables commits)) h
   where
     at : Tables → Replica
     at tables = record r { tables = tables; version = fetched.version; applied = slice_index fetched.counts 0 }

@@ -20,16 +20,16 @@ use Rattle.dispatcher.specs.Listing.{frames_at, commits_in}
 use Rattle.dispatcher.proofs.Stored.{lookup-known}
 use Rattle.dispatcher.proofs.Streams.{whole_frame, frame-commit}
 
-commits_of-append : (shape : Shape) (tables : Tables) (before commits : List Commit)
-    → commits_of shape tables (before ++ commits) ≡ and_then (λ after. commits_of shape after commits) (commits_of shape tables before)
-commits_of-append shape tables [] commits = refl
-commits_of-append shape tables (commit ∷ before) commits =
-    by (λ after. commits_of-append shape after before commits) (changes_of shape tables commit.entries)
+commits_of-append : (tables : Tables) (before commits : List Commit)
+    → commits_of tables (before ++ commits) ≡ and_then (λ after. commits_of after commits) (commits_of tables before)
+commits_of-append tables [] commits = refl
+commits_of-append tables (commit ∷ before) commits =
+    by (λ after. commits_of-append after before commits) (changes_of tables commit.entries)
   where
-    by : ((after : Tables) → commits_of shape after (before ++ commits) ≡ and_then (λ after. commits_of shape after commits)
-        (commits_of shape after before)) → (first : Result Tables Refusal)
-        → and_then (λ after. commits_of shape after (before ++ commits)) first ≡ and_then (λ after. commits_of shape after commits)
-        (and_then (λ after. commits_of shape after before) first)
+    by : ((after : Tables) → commits_of after (before ++ commits) ≡ and_then (λ after. commits_of after commits) (commits_of after before))
+        → (first : Result Tables Refusal)
+        → and_then (λ after. commits_of after (before ++ commits)) first ≡ and_then (λ after. commits_of after commits)
+        (and_then (λ after. commits_of after before) first)
     by rest (Ok after) = rest after
     by rest (Err refusal) = refl
 
@@ -38,34 +38,34 @@ first-ok next (Ok after) h = refl
 first-ok next (Err refusal) h = h
 
 -- the beginnings of a list whose entries are defined are so too
-pub legal-left : (shape : Shape) (before commits : List Commit) → is_ok (commits_of shape (opening shape) (before ++ commits)) ≡ true
-    → is_ok (commits_of shape (opening shape) before) ≡ true
+pub legal-left : (shape : Shape) (before commits : List Commit) → is_ok (commits_of (opening shape) (before ++ commits)) ≡ true
+    → is_ok (commits_of (opening shape) before) ≡ true
 legal-left shape before commits h =
-    first-ok (λ after. commits_of shape after commits) (commits_of shape (opening shape) before)
-    (ap is_ok (sym (commits_of-append shape (opening shape) before commits)) ∙ h)
+    first-ok (λ after. commits_of after commits) (commits_of (opening shape) before)
+    (ap is_ok (sym (commits_of-append (opening shape) before commits)) ∙ h)
 
-at-version : (shape : Shape) (commits : List Commit) (version : ℕ) → is_ok (commits_of shape (opening shape) commits) ≡ true
-    → commits_of shape (opening shape) (take version commits) ≡ Ok (tables_after shape commits version)
+at-version : (shape : Shape) (commits : List Commit) (version : ℕ) → is_ok (commits_of (opening shape) commits) ≡ true
+    → commits_of (opening shape) (take version commits) ≡ Ok (tables_after shape commits version)
 at-version shape commits version legal =
-    by (commits_of shape (opening shape) (take version commits)) refl
+    by (commits_of (opening shape) (take version commits)) refl
     (legal-left shape (take version commits) (drop version commits)
-    (ap (λ l. is_ok (commits_of shape (opening shape) l)) (take-append-drop version commits) ∙ legal))
+    (ap (λ l. is_ok (commits_of (opening shape) l)) (take-append-drop version commits) ∙ legal))
   where
-    by : (made : Result Tables Refusal) → commits_of shape (opening shape) (take version commits) ≡ made → is_ok made ≡ true
+    by : (made : Result Tables Refusal) → commits_of (opening shape) (take version commits) ≡ made → is_ok made ≡ true
         → made ≡ Ok (tables_after shape commits version)
     by (Ok after) e h = rw e refl
     by (Err refusal) e h = absurd (false≢true h)
 
 -- and so are the commits behind a version of it, up to a later one
 pub commits-between : (shape : Shape) (commits : List Commit) (version count : ℕ)
-    → is_ok (commits_of shape (opening shape) commits) ≡ true
-    → commits_of shape (tables_after shape commits version) (take count (drop version commits)) ≡ Ok
+    → is_ok (commits_of (opening shape) commits) ≡ true
+    → commits_of (tables_after shape commits version) (take count (drop version commits)) ≡ Ok
     (tables_after shape commits (version + count))
 commits-between shape commits version count legal =
     let between = take count (drop version commits) in
-    ap (and_then (λ after. commits_of shape after between)) (sym (at-version shape commits version legal))
-    ∙ sym (commits_of-append shape (opening shape) (take version commits) between)
-    ∙ ap (commits_of shape (opening shape)) (sym (take-add version count commits))
+    ap (and_then (λ after. commits_of after between)) (sym (at-version shape commits version legal))
+    ∙ sym (commits_of-append (opening shape) (take version commits) between)
+    ∙ ap (commits_of (opening shape)) (sym (take-add version count commits))
     ∙ at-version shape commits (version + count) legal
 
 -- ---- the commits that known frames hold

@@ -4,5 +4,5 @@ pub mod Known
 pub mod Listing
 pub mod Replica
 pub mod Steps
-pub mod Core
 pub mod Feeding
+pub mod Inner

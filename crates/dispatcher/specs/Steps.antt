@@ -1,6 +1,6 @@
 -- One step of a replica: what each call answers, and what it leaves.
 use Rattle.std.specs.Prelude.{◌≡◌, ℕ, ◌+◌, ◌-◌, List, [], ◌∷◌, ◌++◌, length, Bool, true, false, Option, None, Some, Result, Ok, Err}
-use Rattle.std.specs.Prelude.{◌==◌, ◌||◌, ◌&&◌, not, nat_lt, nat_le, if◌then◌else◌, is_ok, IsErr, IsOkAnd, slice_index, ◌⊎◌}
+use Rattle.std.specs.Prelude.{◌==◌, ◌||◌, ◌&&◌, not, nat_lt, nat_le, if◌then◌else◌, is_ok, slice_index, ◌⊎◌}
 use Rattle.std.specs.List.{list_all}
 use Rattle.std.specs.Option.{option_map, option_and_then}
 use Rattle.std.specs.Result.{result_ok}
@@ -20,8 +20,6 @@ use Rattle.wire.specs.declared.out.Out.{Out}
 use Rattle.wire.specs.declared.out.To.TheVariants.{Primary}
 use Rattle.wire.specs.Spelling.{spelling}
 use Rattle.wire.specs.Reading.{reading}
-use Rattle.dispatcher.specs.declared.catch_up_fault.CatchUpFault.{CatchUpFault}
-use Rattle.dispatcher.specs.declared.catch_up_fault.CatchUpFault.TheVariants.{Inconsistent, Memory, Broken}
 use Rattle.dispatcher.specs.declared.faults.AskFault.{AskFault}
 use Rattle.dispatcher.specs.declared.faults.AskFault.TheVariants as asks
 use Rattle.dispatcher.specs.declared.faults.OpenFault.{OpenFault}
@@ -134,11 +132,6 @@ datagram_comes r (Ok (datagrams.Want replica worker from)) = (got.Ignored, r)
 abbrev pub received : Replica → List ℕ → Got × Replica
 received r bytes = if r.broken then (got.Broken, r) else datagram_comes r (reading bytes)
 
--- what taking a frame answers and leaves: want of memory is answered only where it would be stored, and nothing has changed
-abbrev pub TakesFrame : Replica → Frame → Got → Replica → Type 0
-TakesFrame old frame answer new =
-    ((answer ≡ got.Memory) × (new ≡ old) × ((frame_comes old frame).0 ≡ got.Stored)) ⊎ (frame_comes old frame ≡ (answer, new))
-
 -- the replica once it is broken
 abbrev pub broken_of : Replica → Replica
 broken_of r = record r { tables = []; broken = true }
@@ -152,7 +145,7 @@ abbrev pub with_commits : Replica → Fetched → List Commit → Option Replica
 with_commits r fetched commits =
     if r.version + length commits == fetched.version
     then option_map (λ tables. record r { tables = tables; version = fetched.version; applied = slice_index fetched.counts 0 })
-    (result_ok (commits_of r.shape r.tables commits))
+    (result_ok (commits_of r.tables commits))
     else None
 
 -- the replica with every commit up to what was fetched applied, its batch still there; none where its frames are not
@@ -203,27 +196,6 @@ abbrev pub WantsMemory : Replica → Run → Replica → Type 0
 WantsMemory old answer new =
     (fetched : Fetched) × (ready_of old ≡ Some fetched)
     × (((answer ≡ runs.Memory) × ((new ≡ old) ⊎ (caught_up old fetched ≡ Some new))) ⊎ ((answer ≡ runs.Broken) × (new ≡ broken_of old)))
-
--- what catching up answers and leaves: where memory is wanted before the first change, nothing has changed; where it is
--- wanted later, the replica is broken
-abbrev pub CatchesUp : Replica → Fetched → Result (Unit {0}) CatchUpFault → Replica → Type 0
-CatchesUp old fetched (Ok done) new = caught_up old fetched ≡ Some new
-CatchesUp old fetched (Err Inconsistent) new = (caught_up old fetched ≡ None) × (new ≡ broken_of old)
-CatchesUp old fetched (Err Memory) new = new ≡ old
-CatchesUp old fetched (Err Broken) new = new ≡ broken_of old
-
--- what applying commits answers and leaves; it lists none, so that no memory is wanted before the first change
-abbrev pub Applies : Replica → List Commit → ℕ → ℕ → Result (Unit {0}) CatchUpFault → Replica → Type 0
-Applies old commits version count (Ok done) new =
-    IsOkAnd (commits_of old.shape old.tables commits) (λ tables. new ≡ record old { tables = tables; version = version; applied = count })
-Applies old commits version count (Err Inconsistent) new = IsErr (commits_of old.shape old.tables commits) × (new ≡ broken_of old)
-Applies old commits version count (Err Memory) new = ⊥
-Applies old commits version count (Err Broken) new = new ≡ broken_of old
-
--- answering a batch on the tables as they are, which ends it
-abbrev pub answered_by : Replica → Option Batch → Run × Replica
-answered_by r None = (runs.NoBatch, r)
-answered_by r (Some batch) = (runs.Answered (report_of r.tables r.version batch.plans), record r { batch = None })
 
 -- what a run may answer and leave
 abbrev pub MayRun : Replica → Run → Replica → Type 0

@@ -5,7 +5,8 @@ ghost use Rattle.rows.specs.Shape.{shape_of};
 ghost use Rattle.rows.specs.Tables.{opening};
 ghost use Rattle.dispatcher.specs.Replica.{Replica};
 ghost use Rattle.dispatcher.specs.Steps.{started, opened, asked, received, frame_comes, own_head_comes, ready_of};
-ghost use Rattle.dispatcher.specs.Steps.{TakesFrame, CatchesUp, Applies, answered_by, MayRun};
+ghost use Rattle.dispatcher.specs.Steps.{MayRun};
+ghost use Rattle.dispatcher.specs.Inner.Parts.{TakesFrame, CatchesUp, Applies, answered_by};
 
 use crate::answering::report;
 use crate::batch::{Batch, Fetched};
@@ -49,11 +50,11 @@ impl<S: ApplyStore + Sync> Model for ReplicaCore<S> {
 
     ghost Value = { Replica };
 
-    ghost use Rattle.dispatcher.specs.Core.{replica_of, IsCore};
+    ghost use Rattle.dispatcher.specs.Inner.Core.{replica_of, IsCore};
 
     ghost view = { replica_of S.tables };
 
-    ghost invariant = { IsCore S.shape S.is_whole };
+    ghost invariant = { IsCore S.is_whole };
 }
 
 impl<S: ApplyStore + Sync> ReplicaCore<S> {
@@ -71,7 +72,6 @@ impl<S: ApplyStore + Sync> ReplicaCore<S> {
     where
         S: Drop,
         requires whole { S.is_whole store ≡ true }
-        requires shape { S.shape store ≡ shape_of schema.now }
         requires tables { S.tables store ≡ opening (shape_of schema.now) }
         requires workers { workers ≡ 1 }
         requires number { number < 16 }

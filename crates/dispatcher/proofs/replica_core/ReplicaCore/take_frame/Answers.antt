@@ -2,7 +2,7 @@
 use Rattle.std.proofs.Common.{inl, inr, refl, sym, ap, ◌∙◌, lt-ltb}
 use Rattle.wire.specs.declared.frame.Frame.{Frame}
 use Rattle.dispatcher.specs.declared.outcome.Got.{Got}
-use Rattle.dispatcher.specs.Core.{replica_of}
+use Rattle.dispatcher.specs.Inner.Core.{replica_of}
 use Rattle.dispatcher.specs.Replica.{Replica}
 use Rattle.dispatcher.proofs.Coming.{comes-unfit, comes-repeat, comes-ahead, comes-stored}
 use Rattle.dispatcher.proofs.replica_core.ReplicaCore.take_frame.Goals as goal

@@ -1,11 +1,11 @@
--- How the parts of a replica's core are seen, and what holds of them.
+-- How the fields of a replica's core make the state that its contracts speak of, and what holds of them.
 use Rattle.std.specs.Prelude.{◌≡◌, ℕ, ◌<◌, ◌≤◌, [], length, Bool, true, false, Option, None, Some, if◌then◌else◌, slice_index, IfSome}
 use Rattle.std.specs.Option.{option_map}
 use Rattle.dispatcher.specs.declared.batch.Batch.{Batch as HeldBatch}
 use Rattle.dispatcher.specs.declared.batch.Fetched.{Fetched as HeldFetched}
 use Rattle.dispatcher.specs.declared.replica_core.ReplicaCore.TheInside.{Inside}
 use Rattle.dispatcher.specs.Replica.{Replica, Batch, Fetched}
-use Rattle.rows.specs.Shape.{Shape, shape_of}
+use Rattle.rows.specs.Shape.{shape_of}
 use Rattle.rows.specs.Tables.{Tables}
 
 abbrev pub fetched_of : HeldFetched → Fetched
@@ -42,10 +42,9 @@ abbrev pub BatchGoesOn : ℕ → ℕ → Option HeldBatch → Type 0
 BatchGoesOn version applied None = Unit {0}
 BatchGoesOn version applied (Some batch) = IfSome batch.fetched (GoesOn version applied)
 
--- what holds of a replica on a store of this shape that is whole or not
-pub record IsCore {S Place Fault : Type 0} (shape : S → Shape) (is_whole : S → Bool) (a : Inside S Place Fault) : Type 0 where
+-- what holds of a replica on a store that is whole or not
+pub record IsCore {S Place Fault : Type 0} (is_whole : S → Bool) (a : Inside S Place Fault) : Type 0 where
   pub one_worker : a.workers ≡ 1
   pub number_below : a.number < 16
   pub store_whole : a.broken ≡ false → is_whole a.store ≡ true
-  pub store_shape : a.broken ≡ false → shape a.store ≡ shape_of a.schema
   pub fetched : BatchGoesOn a.version a.applied a.batch
