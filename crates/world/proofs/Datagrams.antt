@@ -43,13 +43,13 @@ entries_few (Delete table row ∷ entries) h =
     omega arith
 
 -- the frame of a small commit reads as itself
-pub frame-read : (place : ℕ) (commit : Commit) → IsSmall commit → place + 1 < 2 ^ 64
-    → reading (frame_spelling (whole_frame place commit)) ≡ Ok (datagrams.Frame commit.worker place (place + 1) true commit.entries)
-frame-read place commit small below =
+pub frame-read : (seq : ℕ) (commit : Commit) → IsSmall commit → seq + 1 < 2 ^ 64
+    → reading (frame_spelling (whole_frame seq commit)) ≡ Ok (datagrams.Frame commit.worker seq (seq + 1) true commit.entries)
+frame-read seq commit small below =
     let bytes = entries_few commit.entries small.spelled in
     let few = small.few in
     let worker = small.worker in
-    reading-again (datagrams.Frame commit.worker place (place + 1) true commit.entries) (record {
+    reading-again (datagrams.Frame commit.worker seq (seq + 1) true commit.entries) (record {
       worker_below = omega arith;
       seq_below = omega arith;
       commit_numbered = omega arith;

@@ -20,20 +20,20 @@ use Rattle.world.specs.World.{delivered, deliver_happens}
 use Rattle.world.specs.Inner.Steps.{HappensBeside, MayStep, with_replica, got_by, to_replica, come_by}
 use Rattle.world.proofs.Moving.{beside, replica_same}
 
-module _ (p old : Parts) (seen : p ≡ old) (place : ℕ) where
-  by_found : (found : Option (List ℕ)) (output : Output) (new : Parts) → slice_get p.sent place ≡ found
+module _ (p old : Parts) (seen : p ≡ old) (index : ℕ) where
+  by_found : (found : Option (List ℕ)) (output : Output) (new : Parts) → slice_get p.sent index ≡ found
       → deliver_happens (world_of p) nodes.Primary found ≡ (output, world_of new) → new.replicas ≡ p.replicas → new.asked_at ≡ p.asked_at
-      → HappensBeside old (Deliver place nodes.Primary) output new
+      → HappensBeside old (Deliver index nodes.Primary) output new
   by_found found output new at is replicas asked_at =
-      beside p old new (Deliver place nodes.Primary) output seen (ap (deliver_happens (world_of p) nodes.Primary) at ∙ is) replicas asked_at
+      beside p old new (Deliver index nodes.Primary) output seen (ap (deliver_happens (world_of p) nodes.Primary) at ∙ is) replicas asked_at
 
   -- nothing changes
-  by_same : (found : Option (List ℕ)) (output : Output) → slice_get p.sent place ≡ found
-      → deliver_happens (world_of p) nodes.Primary found ≡ (output, world_of p) → HappensBeside old (Deliver place nodes.Primary) output old
+  by_same : (found : Option (List ℕ)) (output : Output) → slice_get p.sent index ≡ found
+      → deliver_happens (world_of p) nodes.Primary found ≡ (output, world_of p) → HappensBeside old (Deliver index nodes.Primary) output old
   by_same found output at is =
-      subst (λ (x : Parts). HappensBeside old (Deliver place nodes.Primary) output x) seen (by_found found output p at is refl refl)
+      subst (λ (x : Parts). HappensBeside old (Deliver index nodes.Primary) output x) seen (by_found found output p at is refl refl)
 
-  module _ (bytes : List ℕ) (at : slice_get p.sent place ≡ Some bytes) where
+  module _ (bytes : List ℕ) (at : slice_get p.sent index ≡ Some bytes) where
     -- the primary's answers, all sent
     answered : (outs : List Out) → outs ≡ answers p.primary bytes
         → delivered (world_of p) bytes nodes.Primary
@@ -42,7 +42,7 @@ module _ (p old : Parts) (seen : p ≡ old) (place : ℕ) where
         ap (λ outs. (of_answers (length p.sent) outs, world_of (record p { sent = p.sent ++ packets_of outs }))) (sym is)
 
     pub nothing_sent : (outs : List Out) → outs ≡ answers p.primary bytes → length outs ≡ 0
-        → HappensBeside old (Deliver place nodes.Primary) outputs.Ignored old
+        → HappensBeside old (Deliver index nodes.Primary) outputs.Ignored old
     nothing_sent [] is none =
         by_same (Some bytes) outputs.Ignored at
         (answered [] is ∙ ap (λ (sent : List (List ℕ)). (outputs.Ignored, world_of (record p { sent = sent }))) (append-nil p.sent))
@@ -50,7 +50,7 @@ module _ (p old : Parts) (seen : p ≡ old) (place : ℕ) where
 
     pub all_sent : (outs : List Out) (list : List Sent) (sent : List (List ℕ)) → outs ≡ answers p.primary bytes → 0 < length outs
         → list ≡ sent_from (length p.sent) outs → sent ≡ p.sent ++ packets_of outs
-        → HappensBeside old (Deliver place nodes.Primary) (outputs.Sent list) (record p { sent = sent })
+        → HappensBeside old (Deliver index nodes.Primary) (outputs.Sent list) (record p { sent = sent })
     all_sent [] list sent is some list_is sent_is = absurd (omega arith)
     all_sent (out ∷ outs) list sent is some list_is sent_is =
         by_found (Some bytes) (outputs.Sent list) (record p { sent = sent }) at
@@ -58,10 +58,10 @@ module _ (p old : Parts) (seen : p ≡ old) (place : ℕ) where
         ∙ ap (λ (x : List Sent × List (List ℕ)). (outputs.Sent x.0, world_of (record p { sent = x.1 }))) (sym cc)) refl refl
 
     pub came_to : (number : ℕ) (before after : Replica) (got : Got) → slice_get p.replicas number ≡ Some before
-        → ((got ≡ gots.Memory) × (after ≡ before)) ⊎ (received before bytes ≡ (got, after))
-        → MayStep old (Deliver place (nodes.Replica number)) (of_got got) (with_replica p number after)
+        → ((got ≡ gots.Memory) × (after ≡ before) × ((received before bytes).0 ≡ gots.Stored)) ⊎ (received before bytes ≡ (got, after))
+        → MayStep old (Deliver index (nodes.Replica number)) (of_got got) (with_replica p number after)
     came_to number before after got there (inl memory) =
         inr (ap of_got memory.0, sym (replica_same p old seen number before after there memory.1) ∙ seen)
     came_to number before after got there (inr came) =
-        subst (λ (x : Parts). MayStep x (Deliver place (nodes.Replica number)) (of_got got) (with_replica p number after)) seen
+        subst (λ (x : Parts). MayStep x (Deliver index (nodes.Replica number)) (of_got got) (with_replica p number after)) seen
         (inl (ap (come_by p number) at ∙ ap (to_replica p number bytes) there ∙ ap (got_by p number) came))

@@ -6,13 +6,13 @@ use Rattle.std.proofs.lemmas.List.{length-append, length-set, take-append-drop}
 use Rattle.std.proofs.lemmas.Option.{none-some, same_Some}
 use Rattle.rows.specs.declared.commit.Commit.{Commit}
 use Rattle.rows.specs.declared.limits.TheConstants.{REPLICAS_MAX}
-use Rattle.rows.specs.Shape.{Shape}
 use Rattle.wire.specs.declared.datagram.Datagram.{Datagram}
 use Rattle.wire.specs.declared.datagram.Datagram.TheVariants as datagrams
 use Rattle.wire.specs.declared.fault.WireFault.{WireFault}
 use Rattle.wire.specs.Reading.{reading}
 use Rattle.mvcc.specs.Draft.{Draft}
 use Rattle.primary.specs.Primary.{committed, flushed}
+use Rattle.script.specs.declared.setup.Setup.{Setup}
 use Rattle.world.specs.World.{World, Member, Batch, fresh, fresh_from, opening_world, with_member}
 use Rattle.world.specs.Inner.Fresh.{IsFreshBatch, IsFreshMember, IsFreshHead, IsFreshReading, Fresh}
 use Rattle.world.proofs.Lists.{get-set, get-append, All-get}
@@ -169,22 +169,22 @@ started-fresh : (number count i : ℕ) (m : Member) → slice_get (fresh_from nu
 started-fresh number zero i m here = absurd (none-some m here)
 started-fresh number (suc count) zero m here =
     let same : fresh number ≡ m = same_Some (fresh number) m here in
-    let place : number ≡ number + 0 = omega arith in
+    let index : number ≡ number + 0 = omega arith in
     subst (IsFreshMember [] (number + 0)) same
-    (record { number_is = place; boot_is = refl; batch_is = λ batch has. absurd (none-some batch has) })
+    (record { number_is = index; boot_is = refl; batch_is = λ batch has. absurd (none-some batch has) })
 started-fresh number (suc count) (suc i) m here =
-    let place : suc number + i ≡ number + suc i = omega arith in
-    subst (λ (n : ℕ). IsFreshMember [] n m) place (started-fresh (suc number) count i m here)
+    let index : suc number + i ≡ number + suc i = omega arith in
+    subst (λ (n : ℕ). IsFreshMember [] n m) index (started-fresh (suc number) count i m here)
 
 length-fresh : (number count : ℕ) → length (fresh_from number count) ≡ count
 length-fresh number zero = refl
 length-fresh number (suc count) = ap suc (length-fresh (suc number) count)
 
-pub opening-fresh : (shape : Shape) (workers replicas : ℕ) → replicas ≤ REPLICAS_MAX → Fresh (opening_world shape workers replicas)
-opening-fresh shape workers replicas few = record {
+pub opening-fresh : (setup : Setup) → setup.replicas ≤ REPLICAS_MAX → Fresh (opening_world setup)
+opening-fresh setup few = record {
   numbered = omega arith;
-  few = omega (arith, length-fresh 0 replicas);
-  members_are = λ i m here. let place : 0 + i ≡ i =
-      omega arith in subst (λ (n : ℕ). IsFreshMember [] n m) place (started-fresh 0 replicas i m here);
+  few = omega (arith, length-fresh 0 setup.replicas);
+  members_are = λ i m here. let index : 0 + i ≡ i =
+      omega arith in subst (λ (n : ℕ). IsFreshMember [] n m) index (started-fresh 0 setup.replicas i m here);
   sent_is = λ i bytes here. absurd (none-some bytes here);
 }

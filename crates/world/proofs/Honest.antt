@@ -1,6 +1,6 @@
 -- In the world what is durable stays, and nothing is damaged.
 use Rattle.std.proofs.Common.{◌≡◌, ℕ, ◌+◌, ◌^◌, Bool, true, false, cond, not, ◌||◌, ◌&&◌, ◌==◌, List, [], ◌∷◌, length, take}
-use Rattle.std.proofs.Common.{Option, Some, None, Result, Ok, Err, nat_lt, nat_le, refl, sym, ap, subst, ◌∙◌, inl, inr, arith}
+use Rattle.std.proofs.Common.{◌++◌, Option, Some, None, Result, Ok, Err, nat_lt, nat_le, refl, sym, ap, subst, ◌∙◌, inl, inr, arith}
 use Rattle.std.specs.List.{slice_get, slice_set, list_all}
 use Rattle.std.specs.Result.{is_ok}
 use Rattle.std.specs.BTreeSet.{insert_key}
@@ -11,10 +11,10 @@ use Rattle.std.proofs.lemmas.Option.{none-some, same_Some}
 use Rattle.rows.specs.declared.entry.Entry.{Entry}
 use Rattle.rows.specs.declared.limits.TheConstants.{WAITING_QUERIES_MAX}
 use Rattle.rows.specs.declared.value.Value.{Value}
-use Rattle.rows.specs.Shape.{Shape}
+use Rattle.rows.specs.Shape.{Shape, shape_of}
 use Rattle.rows.specs.Entries.{fitting}
 use Rattle.rows.specs.Tables.{changes_of}
-use Rattle.rows.specs.Commits.{tables_after}
+use Rattle.rows.specs.Commits.{tables_after, last_touching}
 use Rattle.wire.specs.declared.datagram.Datagram.{Datagram}
 use Rattle.wire.specs.declared.datagram.Datagram.TheVariants as datagrams
 use Rattle.wire.specs.declared.fault.WireFault.{WireFault}
@@ -26,13 +26,15 @@ use Rattle.primary.specs.declared.faults.CommitFault.{CommitFault}
 use Rattle.primary.specs.declared.faults.CommitFault.TheVariants as faults
 use Rattle.mvcc.specs.Draft.{Draft}
 use Rattle.mvcc.specs.Transactions.{insert_answer, set_answer, delete_answer, get_answer}
-use Rattle.primary.specs.Primary.{commit_answer, committed, flushed, is_foreign, last_writer, next_number}
+use Rattle.primary.specs.Primary.{commit_answer, committed, flushed, is_foreign, next_number}
 use Rattle.primary.specs.Sending.{pushed, answers}
 use Rattle.primary.specs.State.{Primary}
 use Rattle.dispatcher.specs.declared.plan.Plan.{Plan}
 use Rattle.dispatcher.specs.declared.plan.PlanFault.{PlanFault}
 use Rattle.dispatcher.specs.Known.{is_known, is_ahead, first_missing}
 use Rattle.dispatcher.specs.Plans.{checked}
+use Rattle.dispatcher.specs.Report.{report_of}
+use Rattle.dispatcher.specs.Steps.{lacks_frame}
 use Rattle.dispatcher.specs.Replica.{Fetched}
 use Rattle.dispatcher.proofs.Versions.{tables-stay}
 use Rattle.script.specs.declared.event.Event.{Event}
@@ -41,12 +43,13 @@ use Rattle.script.specs.declared.event.Node.{Node}
 use Rattle.script.specs.declared.event.Node.TheVariants as nodes
 use Rattle.script.specs.declared.output.Output.{Output}
 use Rattle.script.specs.declared.output.Output.TheVariants as outputs
+use Rattle.script.specs.declared.setup.Setup.{Setup}
 use Rattle.world.specs.Outputs.{of_change, of_look, of_commit, of_answers}
 use Rattle.world.specs.Theorem.{IsBeginning, IsFaultless}
 use Rattle.world.specs.World.{World, Member, Batch, open_draft, happens, opening_world, with_member, send, on_draft, change_happens}
 use Rattle.world.specs.World.{commit_happens, abort_happens, push_happens, head_happens, datagram_happens, on_member, member_output}
-use Rattle.world.specs.World.{deliver_happens, shown, open_happens, ask_happens, new_batch, ask_bytes, run_happens, lacks_frame}
-use Rattle.world.specs.World.{wait_happens, want_bytes, batch_report}
+use Rattle.world.specs.World.{deliver_happens, shown, open_happens, ask_happens, new_batch, ask_bytes, run_happens}
+use Rattle.world.specs.World.{wait_happens, want_bytes}
 use Rattle.world.specs.Inner.Honest.{IsBegun, IsHonest}
 use Rattle.world.specs.Allowed.{RunIsCut, RunIsCutAt, MayHappen}
 use Rattle.world.proofs.Lists.{get-set, get-append, get-one}
@@ -121,15 +124,15 @@ look-faultless (Err fault) = change-faultless fault
 
 -- a transaction that reads the same version, with entries that are defined there
 made-begun : (p : Primary) (draft new : Draft) → IsBegun p draft
-    → (is_ok (changes_of p.shape (tables_after p.shape p.durable draft.snapshot) draft.entries) ≡ true
-    → IsDefined p.shape p.durable draft new) → IsBegun p new
+    → (is_ok (changes_of (tables_after (shape_of p.schema) p.durable draft.snapshot) draft.entries) ≡ true
+    → IsDefined (shape_of p.schema) p.durable draft new) → IsBegun p new
 made-begun p draft new begun makes =
     let made = makes begun.defined in
     let known = begun.known in
     let same = made.reads in
     record {
       known = omega arith;
-      defined = ap (λ (n : ℕ). is_ok (changes_of p.shape (tables_after p.shape p.durable n) new.entries)) same ∙ made.defined;
+      defined = ap (λ (n : ℕ). is_ok (changes_of (tables_after (shape_of p.schema) p.durable n) new.entries)) same ∙ made.defined;
     }
 
 changed : (w : World) (number : ℕ) (answer : Result Draft TxFault) → (IsHonest w → (new : Draft) → answer ≡ Ok new → IsBegun w.primary new)
@@ -145,8 +148,8 @@ changed w number (Ok new) begun = record {
 change-fine : (w : World) (number : ℕ) (change : Draft → Result Draft TxFault) (found : Option Draft)
     → open_draft w.transactions number ≡ found
     → ((draft new : Draft) → change draft ≡ Ok new
-    → is_ok (changes_of w.primary.shape (tables_after w.primary.shape w.primary.durable draft.snapshot) draft.entries) ≡ true
-    → IsDefined w.primary.shape w.primary.durable draft new)
+    → is_ok (changes_of (tables_after (shape_of w.primary.schema) w.primary.durable draft.snapshot) draft.entries) ≡ true
+    → IsDefined (shape_of w.primary.schema) w.primary.durable draft new)
     → IsFine w (on_draft w found (λ draft. change_happens w number (change draft)))
 change-fine w number change None here makes = plain w w outputs.NoTx refl refl tt
 change-fine w number change (Some draft) here makes =
@@ -171,14 +174,14 @@ abort-fine w number (Some draft) = record {
 not-foreign : (p : Primary) (draft : Draft) → IsBegun p draft → is_foreign p draft ≡ false
 not-foreign p draft begun =
     or_from (nat_lt (length p.durable) draft.snapshot)
-    (not (is_ok (changes_of p.shape (tables_after p.shape p.durable draft.snapshot) draft.entries)))
+    (not (is_ok (changes_of (tables_after (shape_of p.schema) p.durable draft.snapshot) draft.entries)))
     (le-ltb (length p.durable) draft.snapshot begun.known) (not_from_true _ begun.defined)
 
 -- a refused commit, where the journal is whole and the transaction was begun here
 commit-faultless : (p : Primary) (draft : Draft) (fault : CommitFault) → p.failed ≡ false → is_foreign p draft ≡ false
     → commit_answer p draft ≡ Err fault → IsFaultless (of_commit fault)
 commit-faultless p draft fault whole known h =
-    by p.failed (length draft.entries == 0) (is_foreign p draft) (nat_lt draft.snapshot (last_writer p draft.entries))
+    by p.failed (length draft.entries == 0) (is_foreign p draft) (nat_lt draft.snapshot (last_touching draft.entries 0 (p.durable ++ p.pending)))
     (nat_lt (next_number p) (2 ^ 64)) whole known h
   where
     is : (other : CommitFault) → IsFaultless (of_commit other) → ◌≡◌ {A = Result ℕ CommitFault} (Err other) (Err fault)
@@ -187,13 +190,13 @@ commit-faultless p draft fault whole known h =
 
     by : (a b c d e : Bool) → a ≡ false → c ≡ false
         → cond a (Err faults.Failed) (cond b (Err faults.ReadOnly)
-        (cond c (Err faults.Foreign) (cond d (Err (faults.Conflict (last_writer p draft.entries)))
+        (cond c (Err faults.Foreign) (cond d (Err (faults.Conflict (last_touching draft.entries 0 (p.durable ++ p.pending))))
         (cond e (Ok (next_number p)) (Err faults.NumbersUsedUp))))) ≡ Err fault
         → IsFaultless (of_commit fault)
     by true b c d e q r h = absurd (true≢false q)
     by false true c d e q r h = is faults.ReadOnly tt h
     by false false true d e q r h = absurd (true≢false r)
-    by false false false true e q r h = is (faults.Conflict (last_writer p draft.entries)) tt h
+    by false false false true e q r h = is (faults.Conflict (last_touching draft.entries 0 (p.durable ++ p.pending))) tt h
     by false false false false true q r h = absurd (cc)
     by false false false false false q r h = is faults.NumbersUsedUp tt h
 
@@ -234,8 +237,8 @@ flushed-begun p count draft begun =
     record {
       known = omega (arith, length-append p.durable (take count p.pending));
       defined =
-          ap (λ t. is_ok (changes_of p.shape t draft.entries))
-          (tables-stay p.shape p.durable (take count p.pending) draft.snapshot begun.known) ∙ begun.defined;
+          ap (λ t. is_ok (changes_of t draft.entries))
+          (tables-stay (shape_of p.schema) p.durable (take count p.pending) draft.snapshot begun.known) ∙ begun.defined;
     }
 
 flush-fine : (w : World) (count : ℕ) (failed : Bool) → w.primary.failed ≡ failed
@@ -293,22 +296,22 @@ datagram-faultless shape workers m (Ok (datagrams.Head replica boot request vers
     head-faultless m version counts m.batch ((replica == m.number) && (boot == m.boot) && (request == m.request))
 datagram-faultless shape workers m (Ok (datagrams.Want replica worker from)) = tt
 
-answers-faultless : (place : ℕ) (outs : List Out) → IsFaultless (of_answers place outs)
-answers-faultless place [] = tt
-answers-faultless place (out ∷ outs) = tt
+answers-faultless : (index : ℕ) (outs : List Out) → IsFaultless (of_answers index outs)
+answers-faultless index [] = tt
+answers-faultless index (out ∷ outs) = tt
 
 bytes-fine : (w : World) (bytes : List ℕ) (found : Option Member)
     → IsFine w (on_member w found (λ m. cond m.broken (outputs.Broken, w)
-    (member_output w (datagram_happens w.primary.shape w.primary.workers m (reading bytes)))))
+    (member_output w (datagram_happens (shape_of w.primary.schema) w.primary.workers m (reading bytes)))))
 bytes-fine w bytes None = plain w w outputs.Ignored refl refl tt
 bytes-fine w bytes (Some m) = by m.broken
   where
     by : (b : Bool) → IsFine w (cond b (outputs.Broken, w)
-        (member_output w (datagram_happens w.primary.shape w.primary.workers m (reading bytes))))
+        (member_output w (datagram_happens (shape_of w.primary.schema) w.primary.workers m (reading bytes))))
     by true = plain w w outputs.Broken refl refl tt
     by false =
-        member-fine w (datagram_happens w.primary.shape w.primary.workers m (reading bytes))
-        (datagram-faultless w.primary.shape w.primary.workers m (reading bytes))
+        member-fine w (datagram_happens (shape_of w.primary.schema) w.primary.workers m (reading bytes))
+        (datagram-faultless (shape_of w.primary.schema) w.primary.workers m (reading bytes))
 
 deliver-fine : (w : World) (node : Node) (found : Option (List ℕ)) → IsFine w (deliver_happens w node found)
 deliver-fine w node None = plain w w outputs.NeverSent refl refl tt
@@ -324,9 +327,9 @@ show-fine w (Some bytes) = plain w w (outputs.Shown bytes) refl refl tt
 open-fine : (w : World) (plan : Plan) (found : Option Member)
     → IsFine w (on_member w found (λ m. cond m.broken (outputs.Broken, w)
     (cond (nat_le WAITING_QUERIES_MAX (length m.waiting)) (outputs.BatchFull, w)
-    (open_happens w m plan (checked w.primary.shape plan)))))
+    (open_happens w m plan (checked (shape_of w.primary.schema) plan)))))
 open-fine w plan None = plain w w outputs.Ignored refl refl tt
-open-fine w plan (Some m) = by m.broken (nat_le WAITING_QUERIES_MAX (length m.waiting)) (checked w.primary.shape plan)
+open-fine w plan (Some m) = by m.broken (nat_le WAITING_QUERIES_MAX (length m.waiting)) (checked (shape_of w.primary.schema) plan)
   where
     by : (a b : Bool) (check : Result (Unit {0}) PlanFault)
         → IsFine w (cond a (outputs.Broken, w) (cond b (outputs.BatchFull, w) (open_happens w m plan check)))
@@ -360,10 +363,10 @@ ask-fine w (Some m) = by m.broken
 run-fetched : (w : World) (m : Member) (plans : List Plan) (asked_at : ℕ) (fetched : Option Fetched)
     → IsFine w (run_happens w m (Some (record { plans = plans; asked_at = asked_at; fetched = fetched })))
 run-fetched w m plans asked_at None = plain w w outputs.WaitingHead refl refl tt
-run-fetched w m plans asked_at (Some fetched) = by (lacks_frame m fetched)
+run-fetched w m plans asked_at (Some fetched) = by (lacks_frame m.known fetched)
   where
     by : (b : Bool) → IsFine w (cond b (wait_happens w 0 (first_missing m.known) (want_bytes m 0 (first_missing m.known)))
-        (outputs.Report (batch_report w plans fetched.version), with_member w (record m { version = fetched.version; batch = None })))
+        (outputs.Report (report_of (tables_after (shape_of w.primary.schema) w.primary.durable fetched.version) fetched.version plans), with_member w (record m { version = fetched.version; batch = None })))
     by true = plain w _ _ refl refl tt
     by false = plain w _ _ refl refl tt
 
@@ -385,25 +388,25 @@ run-fine w (Some m) = by m.broken
 happens-fine : (w : World) (event : Event) → IsFine w (happens w event)
 happens-fine w events.Begin = begins w
 happens-fine w (events.Insert transaction table row values) =
-    change-fine w transaction (λ draft. insert_answer w.primary.shape w.primary.durable draft table row.0 values)
+    change-fine w transaction (λ draft. insert_answer (shape_of w.primary.schema) w.primary.durable draft table row.0 values)
     (open_draft w.transactions transaction) refl
-    (λ draft new h defined. insert-defined w.primary.shape w.primary.durable draft new defined table row.0 values h)
+    (λ draft new h defined. insert-defined (shape_of w.primary.schema) w.primary.durable draft new defined table row.0 values h)
 happens-fine w (events.Set transaction table row column value) =
-    change-fine w transaction (λ draft. set_answer w.primary.shape w.primary.durable draft table row.0 column value)
+    change-fine w transaction (λ draft. set_answer (shape_of w.primary.schema) w.primary.durable draft table row.0 column value)
     (open_draft w.transactions transaction) refl
-    (λ draft new h defined. set-defined w.primary.shape w.primary.durable draft new defined table row.0 column value h)
+    (λ draft new h defined. set-defined (shape_of w.primary.schema) w.primary.durable draft new defined table row.0 column value h)
 happens-fine w (events.Delete transaction table row) =
-    change-fine w transaction (λ draft. delete_answer w.primary.shape w.primary.durable draft table row.0)
+    change-fine w transaction (λ draft. delete_answer (shape_of w.primary.schema) w.primary.durable draft table row.0)
     (open_draft w.transactions transaction) refl
-    (λ draft new h defined. delete-defined w.primary.shape w.primary.durable draft new defined table row.0 h)
+    (λ draft new h defined. delete-defined (shape_of w.primary.schema) w.primary.durable draft new defined table row.0 h)
 happens-fine w (events.Get transaction table row column) =
-    look-fine w (λ draft. get_answer w.primary.shape w.primary.durable draft table row.0 column) (open_draft w.transactions transaction)
+    look-fine w (λ draft. get_answer (shape_of w.primary.schema) w.primary.durable draft table row.0 column) (open_draft w.transactions transaction)
 happens-fine w (events.Commit transaction worker) = commit-fine w transaction worker (open_draft w.transactions transaction) refl
 happens-fine w (events.Abort transaction) = abort-fine w transaction (open_draft w.transactions transaction)
 happens-fine w (events.Flush count) = flush-fine w count w.primary.failed refl
 happens-fine w (events.Push worker seq) = push-fine w (pushed w.primary worker seq)
-happens-fine w (events.Deliver place node) = deliver-fine w node (slice_get w.sent place)
-happens-fine w (events.Show place) = show-fine w (slice_get w.sent place)
+happens-fine w (events.Deliver index node) = deliver-fine w node (slice_get w.sent index)
+happens-fine w (events.Show index) = show-fine w (slice_get w.sent index)
 happens-fine w (events.Open replica plan) = open-fine w plan (slice_get w.members replica)
 happens-fine w (events.Ask replica) = ask-fine w (slice_get w.members replica)
 happens-fine w (events.Run replica) = run-fine w (slice_get w.members replica)
@@ -435,5 +438,5 @@ step-fine old event output new may = elim may [
 
 -- ---- the beginning
 
-pub opening-honest : (shape : Shape) (workers replicas : ℕ) → IsHonest (opening_world shape workers replicas)
-opening-honest shape workers replicas = record { whole = refl; begun = λ i draft here. absurd (none-some (Some draft) here) }
+pub opening-honest : (setup : Setup) → IsHonest (opening_world setup)
+opening-honest setup = record { whole = refl; begun = λ i draft here. absurd (none-some (Some draft) here) }

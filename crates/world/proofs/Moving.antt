@@ -47,7 +47,7 @@ beside_memory old new event output memory same = record {
 abbrev with_slots : Parts → List (Option Draft) → Parts
 with_slots p slots = record p { transactions = slots }
 
--- what stood at a place is put back there
+-- what stood in a slot is put back there
 put_same : (p : Parts) (number : ℕ) (slot : Option Draft) (left : List (Option Draft)) → open_draft p.transactions number ≡ slot
     → left ≡ slice_set p.transactions number slot → p ≡ with_slots p left
 put_same p number slot left at is = ap (with_slots p) (sym (is ∙ slot_same p.transactions number slot at))
@@ -57,7 +57,7 @@ abbrev change_in : World → ℕ → (Draft → Result Draft TxFault) → Option
 change_in w number change slot = on_draft w slot (λ draft. change_happens w number (change draft))
 
 module _ (p old : Parts) (seen : p ≡ old) (number : ℕ) where
-  -- a change of a transaction, which is taken out of its place, changed or not, and put back
+  -- a change of a transaction, which is taken out of its slot, changed or not, and put back
   module _ (event : Event) (change : Draft → Result Draft TxFault)
       (is_change : happens (world_of p) event ≡ change_in (world_of p) number change (open_draft p.transactions number)) where
     by_slot : (slot : Option Draft) (output : Output) (left : List (Option Draft)) → open_draft p.transactions number ≡ slot
@@ -121,7 +121,7 @@ module _ (p old : Parts) (seen : p ≡ old) (number : ℕ) where
   looked event look is_look draft seen at is =
       look_done event look is_look (Some draft) (of_look seen) at (ap (λ answer. (of_look answer, world_of p)) is)
 
-  -- a transaction is taken out of its place for good
+  -- a transaction is taken out of its slot for good
   pub gave_up : (slot : Option Draft) (left : List (Option Draft)) → open_draft p.transactions number ≡ slot
       → left ≡ slice_set p.transactions number None
       → HappensBeside old (events.Abort number) (on_draft (world_of p) slot (λ draft. abort_happens (world_of p) number)).0

@@ -3,18 +3,20 @@ use Rattle.std.proofs.Common.{ℕ, List, [], ◌∷◌, ◌++◌, map, sym, ap, 
 use Rattle.std.specs.List.{AllByRecursion}
 use Rattle.std.proofs.lemmas.List.{append-nil, append_assoc}
 use Rattle.rows.specs.declared.commit.Commit.{Commit}
-use Rattle.rows.specs.Shape.{Shape}
+use Rattle.rows.specs.Shape.{shape_of}
 use Rattle.rows.specs.Tables.{Tables}
-use Rattle.dispatcher.specs.Plans.{plain_answer}
-use Rattle.dispatcher.specs.Report.{report_text}
+use Rattle.rows.specs.Commits.{tables_after}
+use Rattle.dispatcher.specs.Feeding.{IsFedFrom}
+use Rattle.dispatcher.specs.Report.{report_of}
 use Rattle.dispatcher.proofs.Versions.{tables-stay}
 use Rattle.script.specs.declared.event.Event.{Event}
 use Rattle.script.specs.declared.output.Output.{Output}
 use Rattle.script.specs.declared.output.Output.TheVariants as outputs
+use Rattle.script.specs.declared.setup.Setup.{Setup}
 use Rattle.world.specs.Parts.{Parts, parts_started}
 use Rattle.world.specs.World.{World, opening_world}
 use Rattle.world.specs.Allowed.{MayHappen, RunsBy, Runs, Allowed}
-use Rattle.world.specs.Standing.{world_of}
+use Rattle.world.specs.Standing.{world_of, AreFed, TablesAgree}
 use Rattle.world.specs.Theorem.{ReportsItsBatch, IsBeginning, IsFaultless, IsStep, IsCoreStep, OfEachRun, HasExactReports}
 use Rattle.world.specs.Theorem.{HasGrowingList, HasLegalList, HasNoFault, CoresStand, AllowedRunsAreExact}
 use Rattle.world.specs.Inner.Fresh.{Fresh}
@@ -22,6 +24,7 @@ use Rattle.world.specs.Inner.Honest.{IsHonest}
 use Rattle.world.proofs.Fresh.{opening-fresh}
 use Rattle.world.proofs.Freshness.{step-serves}
 use Rattle.world.proofs.Honest.{step-fine, opening-honest}
+use Rattle.world.proofs.Lists.{All-get}
 use Rattle.world.proofs.Worlds.{world-started}
 
 -- ---- one list
@@ -35,7 +38,7 @@ report-stays : (more : List Commit) (old : World) (event : Event) (output : Outp
     → ReportsItsBatch (old.primary.durable ++ more) old event output
 report-stays more old event (outputs.Report text) h =
     let version = h.6.0.version in
-    let same = tables-stay old.primary.shape old.primary.durable more version h.6.3 in (
+    let same = tables-stay (shape_of old.primary.schema) old.primary.durable more version h.6.3 in (
       h.0,
       h.1,
       h.2,
@@ -47,7 +50,7 @@ report-stays more old event (outputs.Report text) h =
         h.6.1,
         h.6.2,
         h.6.3,
-        h.6.4 ∙ ap (λ (tables : Tables). report_text version (map (plain_answer tables) h.2.plans)) (sym same),
+        h.6.4 ∙ ap (λ (tables : Tables). report_of tables version h.2.plans) (sym same),
       ),
     )
 report-stays more old event other h = tt
@@ -96,9 +99,9 @@ runs-exact old end (event ∷ todo) (output ∷ done) honest fresh run =
     )
 
 pub allowed-exact : AllowedRunsAreExact
-allowed-exact shape workers replicas todo done end few run =
-    runs-exact (opening_world shape workers replicas) end todo done (opening-honest shape workers replicas)
-    (opening-fresh shape workers replicas few) run
+allowed-exact setup todo done end few run =
+    runs-exact (opening_world setup) end todo done (opening-honest setup)
+    (opening-fresh setup few) run
 
 -- ---- what follows of a run of the cores
 
@@ -114,43 +117,43 @@ run-seen see Step As sees old end (event ∷ todo) (output ∷ done) run =
     (see run.0, sees old event output run.0 run.1, run-seen see Step As sees run.0 end todo done run.2)
 
 -- the same from the opening world on
-world-seen : (shape : Shape) (workers replicas : ℕ) (commits : List Commit) (As : World → Event → Output → World → Type 0)
+world-seen : (setup : Setup) (commits : List Commit) (As : World → Event → Output → World → Type 0)
     → ((old : World) (event : Event) (output : Output) (new : World) → IsStep commits old event output new → As old event output new)
     → (end : Parts) (todo : List Event) (done : List Output)
-    → RunsBy (IsCoreStep commits) (parts_started shape workers replicas) todo done end
-    → RunsBy As (opening_world shape workers replicas) todo done (world_of end)
-world-seen shape workers replicas commits As sees end todo done run =
-    subst (λ (w : World). RunsBy As w todo done (world_of end)) (world-started shape workers replicas)
+    → RunsBy (IsCoreStep commits) (parts_started setup) todo done end
+    → RunsBy As (opening_world setup) todo done (world_of end)
+world-seen setup commits As sees end todo done run =
+    subst (λ (w : World). RunsBy As w todo done (world_of end)) (world-started setup)
     (run-seen world_of (IsCoreStep commits) As (λ old event output new step. sees (world_of old) event output (world_of new) step.0)
-    (parts_started shape workers replicas) end todo done run)
+    (parts_started setup) end todo done run)
 
-allowed-to : (shape : Shape) (workers replicas : ℕ) (commits : List Commit) (end : Parts) (todo : List Event) (done : List Output)
-    → RunsBy (IsCoreStep commits) (parts_started shape workers replicas) todo done end
-    → Runs (opening_world shape workers replicas) todo done (world_of end)
-allowed-to shape workers replicas commits end todo done run =
-    world-seen shape workers replicas commits MayHappen (λ old event output new step. step.happens) end todo done run
+allowed-to : (setup : Setup) (commits : List Commit) (end : Parts) (todo : List Event) (done : List Output)
+    → RunsBy (IsCoreStep commits) (parts_started setup) todo done end
+    → Runs (opening_world setup) todo done (world_of end)
+allowed-to setup commits end todo done run =
+    world-seen setup commits MayHappen (λ old event output new step. step.happens) end todo done run
 
 pub run-allowed : OfEachRun Allowed
-run-allowed shape workers replicas todo done run =
-    (world_of run.end, allowed-to shape workers replicas run.end.primary.durable run.end todo done run.steps)
+run-allowed setup todo done run =
+    (world_of run.end, allowed-to setup run.end.primary.durable run.end todo done run.steps)
 
 pub run-reports : OfEachRun HasExactReports
-run-reports shape workers replicas todo done run = (
+run-reports setup todo done run = (
   world_of run.end,
-  world-seen shape workers replicas run.end.primary.durable _ (λ old event output new step. (step.happens, step.reports)) run.end todo done
+  world-seen setup run.end.primary.durable _ (λ old event output new step. (step.happens, step.reports)) run.end todo done
       run.steps,
 )
 
 pub run-growing : OfEachRun HasGrowingList
-run-growing shape workers replicas todo done run = (
+run-growing setup todo done run = (
   world_of run.end,
-  world-seen shape workers replicas run.end.primary.durable _ (λ old event output new step. (step.happens, step.durable)) run.end todo done
+  world-seen setup run.end.primary.durable _ (λ old event output new step. (step.happens, step.durable)) run.end todo done
       run.steps,
 )
 
 pub run-legal : OfEachRun HasLegalList
-run-legal shape workers replicas todo done run =
-    (world_of run.end, allowed-to shape workers replicas run.end.primary.durable run.end todo done run.steps, run.legal)
+run-legal setup todo done run =
+    (world_of run.end, allowed-to setup run.end.primary.durable run.end todo done run.steps, run.legal)
 
 steps-faultless : (commits : List Commit) (old end : Parts) (todo : List Event) (done : List Output)
     → RunsBy (IsCoreStep commits) old todo done end → AllByRecursion IsFaultless done
@@ -161,13 +164,21 @@ steps-faultless commits old end (event ∷ todo) (output ∷ done) run =
     (run.1.0.faultless, steps-faultless commits run.0 end todo done run.2)
 
 pub run-faultless : OfEachRun HasNoFault
-run-faultless shape workers replicas todo done run =
-    steps-faultless run.end.primary.durable (parts_started shape workers replicas) run.end todo done run.steps
+run-faultless setup todo done run =
+    steps-faultless run.end.primary.durable (parts_started setup) run.end todo done run.steps
+
+-- what is held at a version is told by the one list
+agree : (p : Parts) → AreFed p → TablesAgree p
+agree p fed i j r other here there whole sound same =
+    let shape = shape_of p.primary.schema in
+    let first = All-get (IsFedFrom shape p.primary.durable) p.replicas fed i r here in
+    let second = All-get (IsFedFrom shape p.primary.durable) p.replicas fed j other there in
+    first.tables_are whole ∙ ap (tables_after shape p.primary.durable) same ∙ sym (second.tables_are sound)
 
 pub run-stands : OfEachRun CoresStand
-run-stands shape workers replicas todo done run = (
-  world-started shape workers replicas,
+run-stands setup todo done run = (
+  world-started setup,
   run.end,
-  run-seen (λ (p : Parts). p) (IsCoreStep run.end.primary.durable) _ (λ old event output new step. (step.0.happens, step.1))
-      (parts_started shape workers replicas) run.end todo done run.steps,
+  run-seen (λ (p : Parts). p) (IsCoreStep run.end.primary.durable) _ (λ old event output new step. (step.0.happens, step.1, agree new step.1))
+      (parts_started setup) run.end todo done run.steps,
 )

@@ -6,7 +6,7 @@ use Rattle.std.specs.Result.{is_ok}
 use Rattle.std.proofs.lemmas.List.{append-nil, length-append, length-set}
 use Rattle.rows.specs.declared.limits.TheConstants.{WAITING_QUERIES_MAX}
 use Rattle.rows.specs.Entries.{fitting}
-use Rattle.rows.specs.Shape.{Shape}
+use Rattle.rows.specs.Shape.{Shape, shape_of}
 use Rattle.wire.specs.declared.datagram.Datagram.{Datagram}
 use Rattle.wire.specs.declared.datagram.Datagram.TheVariants as datagrams
 use Rattle.wire.specs.declared.fault.WireFault.{WireFault}
@@ -20,6 +20,9 @@ use Rattle.dispatcher.specs.declared.plan.Plan.{Plan}
 use Rattle.dispatcher.specs.declared.plan.PlanFault.{PlanFault}
 use Rattle.dispatcher.specs.Known.{is_known, is_ahead, first_missing}
 use Rattle.dispatcher.specs.Plans.{checked}
+use Rattle.dispatcher.specs.Report.{report_of}
+use Rattle.dispatcher.specs.Steps.{lacks_frame}
+use Rattle.rows.specs.Commits.{tables_after}
 use Rattle.dispatcher.specs.Replica.{Replica, Fetched}
 use Rattle.script.specs.declared.event.Event.{Event}
 use Rattle.script.specs.declared.event.Event.TheVariants as events
@@ -27,12 +30,13 @@ use Rattle.script.specs.declared.event.Node.{Node}
 use Rattle.script.specs.declared.event.Node.TheVariants as nodes
 use Rattle.script.specs.declared.output.Output.{Output}
 use Rattle.script.specs.declared.output.Output.TheVariants as outputs
+use Rattle.script.specs.declared.setup.Setup.{Setup}
 use Rattle.world.specs.Outputs.{packets_of}
 use Rattle.world.specs.Parts.{Parts}
 use Rattle.world.specs.World.{World, Member, Batch, fresh_from, opening_world, open_draft, happens, with_member, on_draft}
 use Rattle.world.specs.World.{change_happens, commit_happens, push_happens, head_happens, datagram_happens, on_member}
-use Rattle.world.specs.World.{deliver_happens, open_happens, ask_happens, new_batch, ask_bytes, run_happens, lacks_frame}
-use Rattle.world.specs.World.{want_bytes, batch_report}
+use Rattle.world.specs.World.{deliver_happens, open_happens, ask_happens, new_batch, ask_bytes, run_happens}
+use Rattle.world.specs.World.{want_bytes}
 use Rattle.world.specs.Allowed.{RunIsCut, MayHappen}
 use Rattle.world.specs.Standing.{world_of, members_of}
 use Rattle.world.specs.Inner.Sound.{IsSmallDraft}
@@ -40,6 +44,7 @@ use Rattle.world.specs.Inner.Kept.{IsReady, IsRequested, IsKept}
 use Rattle.world.proofs.Slots.{all_at, all_set, all_weaker}
 
 pub record Counts (old : World) (answer : Output × World) : Type 0 where
+  pub schema : answer.1.primary.schema ≡ old.primary.schema
   pub workers : answer.1.primary.workers ≡ old.primary.workers
   pub members : length answer.1.members ≡ length old.members
   pub requested : IsRequested old → IsRequested answer.1
@@ -48,29 +53,32 @@ pub record Counts (old : World) (answer : Output × World) : Type 0 where
 
 module _ (w : World) where
   -- the replicas stay, and datagrams are sent
-  counts_sent : (new : World) (output : Output) (more : List (List ℕ)) → new.primary.workers ≡ w.primary.workers
+  counts_sent : (new : World) (output : Output) (more : List (List ℕ))
+      → (new.primary.schema ≡ w.primary.schema) × (new.primary.workers ≡ w.primary.workers)
       → new.members ≡ w.members → new.sent ≡ w.sent ++ more → Counts w (output, new)
-  counts_sent new output more workers members sent = record {
-    workers = workers;
+  counts_sent new output more setup members sent = record {
+    schema = setup.0;
+    workers = setup.1;
     members = ap length members;
     requested = λ requested. subst (AllByRecursion (λ (m : Member). m.request ≤ length new.sent)) (sym members)
         (all_weaker _ _ w.members (λ m within. omega (arith, length-append w.sent more, ap length sent)) requested);
   }
 
   -- nothing of the replicas and the datagrams changes
-  counts_same : (new : World) (output : Output) → new.primary.workers ≡ w.primary.workers → new.members ≡ w.members → new.sent ≡ w.sent
+  counts_same : (new : World) (output : Output) → (new.primary.schema ≡ w.primary.schema) × (new.primary.workers ≡ w.primary.workers)
+      → new.members ≡ w.members → new.sent ≡ w.sent
       → Counts w (output, new)
-  counts_same new output workers members sent =
-      counts_sent new output [] workers members (sent ∙ sym (append-nil w.sent))
+  counts_same new output setup members sent = counts_sent new output [] setup members (sent ∙ sym (append-nil w.sent))
 
   unchanged : (output : Output) → Counts w (output, w)
-  unchanged output = counts_same w output refl refl refl
+  unchanged output = counts_same w output (refl, refl) refl refl
 
   -- one replica changes, and makes no more requests than datagrams are sent
   counts_member : (i : ℕ) (m new : Member) (output : Output) (more : List (List ℕ)) → slice_get w.members i ≡ Some m
       → new.request ≤ m.request + length more
       → Counts w (output, record (with_member w new) { sent = w.sent ++ more })
   counts_member i m new output more here within = record {
+    schema = refl;
     workers = refl;
     members = length-set w.members new.number new;
     requested = λ requested.
@@ -89,7 +97,7 @@ module _ (w : World) where
   -- ---- transactions and commits
 
   changing : (number : ℕ) (answer : Result Draft TxFault) → Counts w (change_happens w number answer)
-  changing number (Ok draft) = counts_same _ _ refl refl refl
+  changing number (Ok draft) = counts_same _ _ (refl, refl) refl refl
   changing number (Err fault) = unchanged _
 
   on_drafts : (found : Option Draft) (next : Draft → Output × World) → ((draft : Draft) → Counts w (next draft))
@@ -98,17 +106,17 @@ module _ (w : World) where
   on_drafts (Some draft) next counts = counts draft
 
   committing : (number worker : ℕ) (draft : Draft) (answer : Result ℕ CommitFault) → Counts w (commit_happens w number worker draft answer)
-  committing number worker draft (Ok ticket) = counts_same _ _ refl refl refl
-  committing number worker draft (Err fault) = counts_same _ _ refl refl refl
+  committing number worker draft (Ok ticket) = counts_same _ _ (refl, refl) refl refl
+  committing number worker draft (Err fault) = counts_same _ _ (refl, refl) refl refl
 
   flushing : (count : ℕ) (failed : Bool) (refused answered : Output)
       → Counts w (cond {A = Output × World} failed (refused, w) (answered, record w { primary = flushed w.primary count }))
   flushing count true refused answered = unchanged _
-  flushing count false refused answered = counts_same _ _ refl refl refl
+  flushing count false refused answered = counts_same _ _ (refl, refl) refl refl
 
   pushing : (found : Option (List ℕ)) → Counts w (push_happens w found)
   pushing None = unchanged _
-  pushing (Some bytes) = counts_sent _ _ (bytes ∷ []) refl refl refl
+  pushing (Some bytes) = counts_sent _ _ (bytes ∷ []) (refl, refl) refl refl
 
   -- ---- replicas
 
@@ -150,10 +158,10 @@ module _ (w : World) where
 
   delivering : (node : Node) (found : Option (List ℕ)) → Counts w (deliver_happens w node found)
   delivering node None = unchanged _
-  delivering nodes.Primary (Some bytes) = counts_sent _ _ (packets_of (answers w.primary bytes)) refl refl refl
+  delivering nodes.Primary (Some bytes) = counts_sent _ _ (packets_of (answers w.primary bytes)) (refl, refl) refl refl
   delivering (nodes.Replica number) (Some bytes) =
       on_members number (slice_get w.members number) _ refl
-      (λ m here. counts_stays number m _ _ here (datagram_stays w.primary.shape w.primary.workers m (reading bytes)))
+      (λ m here. counts_stays number m _ _ here (datagram_stays (shape_of w.primary.schema) w.primary.workers m (reading bytes)))
 
   opening : (i : ℕ) (m : Member) (plan : Plan) (check : Result (Unit {0}) PlanFault) → slice_get w.members i ≡ Some m
       → Counts w (cond (nat_le WAITING_QUERIES_MAX (length m.waiting)) (outputs.BatchFull, w) (open_happens w m plan check))
@@ -177,7 +185,7 @@ module _ (w : World) where
   asking i m (Some batch) here = by batch.fetched
     where
       by : (fetched : Option Fetched) → Counts w (ask_happens w m (Some (record batch { fetched = fetched })))
-      by None = counts_sent _ _ (ask_bytes m m.request ∷ []) refl refl refl
+      by None = counts_sent _ _ (ask_bytes m m.request ∷ []) (refl, refl) refl refl
       by (Some fetched) = unchanged _
 
   running : (i : ℕ) (m : Member) (batch : Option Batch) → slice_get w.members i ≡ Some m → Counts w (run_happens w m batch)
@@ -189,15 +197,15 @@ module _ (w : World) where
             (record { place = length w.sent; len = length (want_bytes m 0 (first_missing m.known)) }),
         record w { sent = w.sent ++ want_bytes m 0 (first_missing m.known) ∷ [] },
       ) (
-        outputs.Report (batch_report w batch.plans fetched.version),
+        outputs.Report (report_of (tables_after (shape_of w.primary.schema) w.primary.durable fetched.version) fetched.version batch.plans),
         with_member w (record m { version = fetched.version; batch = None }),
       ))
-      on true fetched = counts_sent _ _ (want_bytes m 0 (first_missing m.known) ∷ []) refl refl refl
+      on true fetched = counts_sent _ _ (want_bytes m 0 (first_missing m.known) ∷ []) (refl, refl) refl refl
       on false fetched = counts_stays i m _ _ here refl
 
       by : (fetched : Option Fetched) → Counts w (run_happens w m (Some (record batch { fetched = fetched })))
       by None = unchanged _
-      by (Some fetched) = on (lacks_frame m fetched) fetched
+      by (Some fetched) = on (lacks_frame m.known fetched) fetched
 
   cutting : (i : ℕ) (found : Option Member) (output : Output) (new : World) → slice_get w.members i ≡ found → RunIsCut w found output new
       → Counts w (output, new)
@@ -210,7 +218,7 @@ module _ (w : World) where
   -- ---- any event
 
   happening : (event : Event) → Counts w (happens w event)
-  happening events.Begin = counts_same _ _ refl refl refl
+  happening events.Begin = counts_same _ _ (refl, refl) refl refl
   happening (events.Insert transaction table row values) =
       on_drafts (open_draft w.transactions transaction) _ (λ draft. changing transaction _)
   happening (events.Set transaction table row column value) =
@@ -222,19 +230,20 @@ module _ (w : World) where
   happening (events.Commit transaction worker) =
       on_drafts (open_draft w.transactions transaction) _ (λ draft. committing transaction worker draft (commit_answer w.primary draft))
   happening (events.Abort transaction) =
-      on_drafts (open_draft w.transactions transaction) _ (λ draft. counts_same _ _ refl refl refl)
+      on_drafts (open_draft w.transactions transaction) _ (λ draft. counts_same _ _ (refl, refl) refl refl)
   happening (events.Flush count) = flushing count w.primary.failed _ _
   happening (events.Push worker seq) = pushing (pushed w.primary worker seq)
-  happening (events.Deliver place node) = delivering node (slice_get w.sent place)
-  happening (events.Show place) = unchanged _
+  happening (events.Deliver index node) = delivering node (slice_get w.sent index)
+  happening (events.Show index) = unchanged _
   happening (events.Open replica plan) =
-      on_members replica (slice_get w.members replica) _ refl (λ m here. opening replica m plan (checked w.primary.shape plan) here)
+      on_members replica (slice_get w.members replica) _ refl (λ m here. opening replica m plan (checked (shape_of w.primary.schema) plan) here)
   happening (events.Ask replica) = on_members replica (slice_get w.members replica) _ refl (λ m here. asking replica m m.batch here)
   happening (events.Run replica) = on_members replica (slice_get w.members replica) _ refl (λ m here. running replica m m.batch here)
 
   pub step-counts : (event : Event) (output : Output) (new : World) → MayHappen w event output new → Counts w (output, new)
   step-counts event output new (inl made) = subst (Counts w) made (happening event)
-  step-counts event output new (inr (inl memory)) = counts_same new output (ap (λ (v : World). v.primary.workers) memory.1)
+  step-counts event output new (inr (inl memory)) = counts_same new output
+      (ap (λ (v : World). v.primary.schema) memory.1, ap (λ (v : World). v.primary.workers) memory.1)
       (ap (λ (v : World). v.members) memory.1) (ap (λ (v : World). v.sent) memory.1)
   step-counts (events.Run replica) output new (inr (inr cut)) = cutting replica (slice_get w.members replica) output new refl cut
   step-counts other output new (inr (inr cut)) = absurd cut
@@ -245,8 +254,8 @@ none_asked : (number count : ℕ) → AllByRecursion (λ (m : Member). m.request
 none_asked number zero = tt
 none_asked number (suc count) = (omega arith, none_asked (suc number) count)
 
-pub opening-requested : (shape : Shape) (workers replicas : ℕ) → IsRequested (opening_world shape workers replicas)
-opening-requested shape workers replicas = none_asked 0 replicas
+pub opening-requested : (setup : Setup) → IsRequested (opening_world setup)
+opening-requested setup = none_asked 0 setup.replicas
 
 -- ---- the parts
 

@@ -1,6 +1,7 @@
 -- The parts at the beginning: what is still to be made.
 use Rattle.std.proofs.Common.{◌≡◌, ℕ, zero, suc, ◌+◌, ◌-◌, ◌<◌, ◌∷◌, length, refl, ap, arith, add-one}
-use Rattle.rows.specs.Shape.{Shape}
+use Rattle.rows.specs.Shape.{Shape, shape_of}
+use Rattle.script.specs.declared.setup.Setup.{Setup}
 use Rattle.dispatcher.specs.Steps.{started}
 use Rattle.world.specs.Parts.{replicas_from, zeros, parts_started}
 
@@ -20,5 +21,5 @@ length-replicas_from : (shape : Shape) (workers number count : ℕ) → length (
 length-replicas_from shape workers number zero = refl
 length-replicas_from shape workers number (suc count) = ap suc (length-replicas_from shape workers (suc number) count)
 
-pub as_many : (shape : Shape) (workers count : ℕ) → length (parts_started shape workers count).replicas ≡ count
-as_many shape workers count = length-replicas_from shape workers 0 count
+pub as_many : (setup : Setup) → length (parts_started setup).replicas ≡ setup.replicas
+as_many setup = length-replicas_from (shape_of setup.schema) setup.workers 0 setup.replicas

@@ -1,11 +1,11 @@
 -- Each step of sound parts is one of their world, and leaves the parts of one.
 use Rattle.std.proofs.Common.{◌≡◌, ℕ, zero, suc, ◌+◌, ◌≤◌, List, [], ◌∷◌, length, Option, Some, None, refl, sym}
-use Rattle.std.proofs.Common.{ap, subst, ◌∙◌, inl, inr, arith}
+use Rattle.std.proofs.Common.{◌++◌, ap, subst, ◌∙◌, inl, inr, arith}
 use Rattle.std.specs.List.{slice_get, slice_index, AllByRecursion}
 use Rattle.std.specs.Option.{option_map}
 use Rattle.std.proofs.lemmas.Option.{none-some}
 use Rattle.rows.specs.declared.limits.TheConstants.{REPLICAS_MAX}
-use Rattle.rows.specs.Shape.{Shape, AreTables}
+use Rattle.rows.specs.Shape.{Shape, AreTables, shape_of}
 use Rattle.rows.specs.Commits.{IsLegal}
 use Rattle.wire.specs.Streams.{stream_of}
 use Rattle.dispatcher.specs.Replica.{Replica}
@@ -17,6 +17,7 @@ use Rattle.script.specs.declared.event.Event.{Event}
 use Rattle.script.specs.declared.event.Event.TheVariants as events
 use Rattle.script.specs.declared.event.Node.TheVariants as nodes
 use Rattle.script.specs.declared.output.Output.{Output}
+use Rattle.script.specs.declared.setup.Setup.{Setup}
 use Rattle.world.specs.Parts.{Parts, parts_started, replicas_from, zeros}
 use Rattle.world.specs.Inner.Steps.{HappensBeside, MayAnswer, MayStep, come_by, open_by, ask_by, run_by}
 use Rattle.script.specs.Events.{IsPossible}
@@ -29,7 +30,7 @@ use Rattle.world.specs.Inner.Honest.{IsHonest}
 use Rattle.world.specs.Inner.Fresh.{Fresh}
 use Rattle.world.specs.Inner.Kept.{IsRequested, IsKept}
 use Rattle.world.proofs.Worlds.{beside_of, members-get, world-started}
-use Rattle.world.proofs.Moves.{Follows, legal-durable}
+use Rattle.world.proofs.Moves.{Follows}
 use Rattle.world.proofs.Fresh.{opening-fresh}
 use Rattle.world.proofs.Freshness.{step-serves}
 use Rattle.world.proofs.Honest.{step-fine, opening-honest}
@@ -50,16 +51,16 @@ found-member : (shape : Shape) (p : Parts) (i : ℕ) (next : Member → Output �
 found-member shape p i next here follows =
     (ap (λ (found : Option Member). on_member (world_of p) found next) (members-get p.replicas p.asked_at i) ∙ follows.0, follows.1)
 
-bytes-delivered : (shape : Shape) (p : Parts) (place number : ℕ) (found : Option (List ℕ)) → Sound shape p
-    → slice_get p.sent place ≡ found
+bytes-delivered : (shape : Shape) (p : Parts) (index number : ℕ) (found : Option (List ℕ)) → Sound shape p
+    → slice_get p.sent index ≡ found
     → Follows shape (deliver_happens (world_of p) (nodes.Replica number) found) (come_by p number found)
-bytes-delivered shape p place number None sound here = (refl, sound)
-bytes-delivered shape p place number (Some bytes) sound here =
+bytes-delivered shape p index number None sound here = (refl, sound)
+bytes-delivered shape p index number (Some bytes) sound here =
     found-member shape p number _ _
-    (bytes-come shape p number bytes (slice_get p.replicas number) sound (sound.sent_is place bytes here) refl)
+    (bytes-come shape p number bytes (slice_get p.replicas number) sound (sound.sent_is index bytes here) refl)
 
 -- the primary's tables are those of the shape
-own-tables : (shape : Shape) (p : Parts) → AreTables shape → Sound shape p → AreTables p.primary.shape
+own-tables : (shape : Shape) (p : Parts) → AreTables shape → Sound shape p → AreTables (shape_of p.primary.schema)
 own-tables shape p tables sound = subst AreTables (sym sound.primary_is.shape_is) tables
 
 -- ---- what may happen
@@ -107,75 +108,76 @@ run-follows shape p i output new sound (inr cut) =
     let follows = run-cut shape p i (slice_get p.replicas i) output new sound refl cut in
     (cut-member p i output (world_of new) follows.0, follows.1)
 
-may-follow : (shape : Shape) (p : Parts) (replicas : ℕ) (event : Event) (output : Output) (new : Parts) → AreTables shape → Sound shape p
+may-follow : (shape : Shape) (p : Parts) (replicas : ℕ) (event : Event) (output : Output) (new : Parts) → AreTables shape
+    → IsLegal shape 1 (p.primary.durable ++ p.primary.pending) → Sound shape p
     → IsPossible 1 replicas event → MayStep p event output new
     → Happens shape p event output new
-may-follow shape p replicas events.Begin output new tables sound possible may =
+may-follow shape p replicas events.Begin output new tables legal sound possible may =
     happens-beside shape p _ output new sound (λ cut. cut) may (drafts-begun shape p sound)
-may-follow shape p replicas (events.Insert transaction table row values) output new tables sound possible may =
+may-follow shape p replicas (events.Insert transaction table row values) output new tables legal sound possible may =
     happens-beside shape p _ output new sound (λ cut. cut) may
-    (change-sound shape p transaction (λ draft. insert_answer p.primary.shape p.primary.durable draft table row.0 values)
+    (change-sound shape p transaction (λ draft. insert_answer (shape_of p.primary.schema) p.primary.durable draft table row.0 values)
     (open_draft p.transactions transaction) sound
-    (λ draft after small h. insert-small p.primary.shape p.primary.durable draft table row.0 after
+    (λ draft after small h. insert-small (shape_of p.primary.schema) p.primary.durable draft table row.0 after
     (own-tables shape p tables sound) possible.0 small values possible.1 h) refl)
-may-follow shape p replicas (events.Set transaction table row column value) output new tables sound possible may =
+may-follow shape p replicas (events.Set transaction table row column value) output new tables legal sound possible may =
     happens-beside shape p _ output new sound (λ cut. cut) may
-    (change-sound shape p transaction (λ draft. set_answer p.primary.shape p.primary.durable draft table row.0 column value)
+    (change-sound shape p transaction (λ draft. set_answer (shape_of p.primary.schema) p.primary.durable draft table row.0 column value)
     (open_draft p.transactions transaction) sound
-    (λ draft after small h. set-small p.primary.shape p.primary.durable draft table row.0 after
+    (λ draft after small h. set-small (shape_of p.primary.schema) p.primary.durable draft table row.0 after
     (own-tables shape p tables sound) possible.0 small column value possible.1 h) refl)
-may-follow shape p replicas (events.Delete transaction table row) output new tables sound possible may =
+may-follow shape p replicas (events.Delete transaction table row) output new tables legal sound possible may =
     happens-beside shape p _ output new sound (λ cut. cut) may
-    (change-sound shape p transaction (λ draft. delete_answer p.primary.shape p.primary.durable draft table row.0)
+    (change-sound shape p transaction (λ draft. delete_answer (shape_of p.primary.schema) p.primary.durable draft table row.0)
     (open_draft p.transactions transaction) sound
-    (λ draft after small h. delete-small p.primary.shape p.primary.durable draft table row.0 after
+    (λ draft after small h. delete-small (shape_of p.primary.schema) p.primary.durable draft table row.0 after
     (own-tables shape p tables sound) possible small h) refl)
-may-follow shape p replicas (events.Get transaction table row column) output new tables sound possible may =
+may-follow shape p replicas (events.Get transaction table row column) output new tables legal sound possible may =
     happens-beside shape p _ output new sound (λ cut. cut) may
-    (look-sound shape p (λ draft. get_answer p.primary.shape p.primary.durable draft table row.0 column)
+    (look-sound shape p (λ draft. get_answer (shape_of p.primary.schema) p.primary.durable draft table row.0 column)
     (open_draft p.transactions transaction) sound)
-may-follow shape p replicas (events.Commit transaction worker) output new tables sound possible may =
+may-follow shape p replicas (events.Commit transaction worker) output new tables legal sound possible may =
     happens-beside shape p _ output new sound (λ cut. cut) may
     (commit-sound shape p transaction worker (open_draft p.transactions transaction) sound possible refl)
-may-follow shape p replicas (events.Abort transaction) output new tables sound possible may =
+may-follow shape p replicas (events.Abort transaction) output new tables legal sound possible may =
     happens-beside shape p _ output new sound (λ cut. cut) may
     (abort-sound shape p transaction (open_draft p.transactions transaction) sound)
-may-follow shape p replicas (events.Flush count) output new tables sound possible may =
-    happens-beside shape p _ output new sound (λ cut. cut) may (flush-sound shape p count p.primary.failed _ _ sound)
-may-follow shape p replicas (events.Push worker seq) output new tables sound possible may =
+may-follow shape p replicas (events.Flush count) output new tables legal sound possible may =
+    happens-beside shape p _ output new sound (λ cut. cut) may (flush-sound shape p count p.primary.failed _ _ legal sound)
+may-follow shape p replicas (events.Push worker seq) output new tables legal sound possible may =
     happens-beside shape p _ output new sound (λ cut. cut) may
     (push-sound shape p worker seq (slice_get (stream_of p.primary.durable worker) seq) sound possible refl)
-may-follow shape p replicas (events.Deliver place nodes.Primary) output new tables sound possible may =
-    happens-beside shape p _ output new sound (λ cut. cut) may (deliver-sound shape p place (slice_get p.sent place) sound refl)
-may-follow shape p replicas (events.Deliver place (nodes.Replica number)) output new tables sound possible may =
-    happens-called shape p (events.Deliver place (nodes.Replica number)) (come_by p number (slice_get p.sent place)) output new sound
-    (bytes-delivered shape p place number (slice_get p.sent place) sound refl) may
-may-follow shape p replicas (events.Show place) output new tables sound possible may =
+may-follow shape p replicas (events.Deliver index nodes.Primary) output new tables legal sound possible may =
+    happens-beside shape p _ output new sound (λ cut. cut) may (deliver-sound shape p index (slice_get p.sent index) sound refl)
+may-follow shape p replicas (events.Deliver index (nodes.Replica number)) output new tables legal sound possible may =
+    happens-called shape p (events.Deliver index (nodes.Replica number)) (come_by p number (slice_get p.sent index)) output new sound
+    (bytes-delivered shape p index number (slice_get p.sent index) sound refl) may
+may-follow shape p replicas (events.Show index) output new tables legal sound possible may =
     happens-beside shape p _ output new sound (λ cut. cut) may sound
-may-follow shape p replicas (events.Open replica plan) output new tables sound possible may =
+may-follow shape p replicas (events.Open replica plan) output new tables legal sound possible may =
     happens-called shape p (events.Open replica plan) (open_by p replica plan (slice_get p.replicas replica)) output new sound
     (found-member shape p replica _ _ (query-opens shape p replica plan (slice_get p.replicas replica) sound refl)) may
-may-follow shape p replicas (events.Ask replica) output new tables sound possible may =
+may-follow shape p replicas (events.Ask replica) output new tables legal sound possible may =
     happens-called shape p (events.Ask replica) (ask_by p replica (slice_get p.replicas replica)) output new sound
     (found-member shape p replica _ _ (version-asked shape p replica (slice_get p.replicas replica) sound refl)) may
-may-follow shape p replicas (events.Run replica) output new tables sound possible may =
+may-follow shape p replicas (events.Run replica) output new tables legal sound possible may =
     run-follows shape p replica output new sound may
 
 -- ---- the beginning
 
 started-fed : (shape : Shape) (number : ℕ) → IsFed shape [] number (started shape 1 number 1)
-started-fed shape number = record { feeding = fresh-fed shape [] number 1; number_is = refl; boot_is = refl }
+started-fed shape number = record { feeding = fresh-fed shape [] number 1 (record { each = tt; defined = refl }); number_is = refl; boot_is = refl }
 
 replicas-fed : (shape : Shape) (number count i : ℕ) (r : Replica) → slice_get (replicas_from shape 1 number count) i ≡ Some r
     → IsFed shape [] (number + i) r
 replicas-fed shape number zero i r h = absurd (none-some r h)
 replicas-fed shape number (suc count) zero r h =
     let same : started shape 1 number 1 ≡ r = cc in
-    let place : number ≡ number + 0 = omega arith in
-    subst (λ (n : ℕ). IsFed shape [] n r) place (subst (IsFed shape [] number) same (started-fed shape number))
+    let index : number ≡ number + 0 = omega arith in
+    subst (λ (n : ℕ). IsFed shape [] n r) index (subst (IsFed shape [] number) same (started-fed shape number))
 replicas-fed shape number (suc count) (suc i) r h =
-    let place : suc number + i ≡ number + suc i = omega arith in
-    subst (λ (n : ℕ). IsFed shape [] n r) place (replicas-fed shape (suc number) count i r h)
+    let index : suc number + i ≡ number + suc i = omega arith in
+    subst (λ (n : ℕ). IsFed shape [] n r) index (replicas-fed shape (suc number) count i r h)
 
 length-replicas : (shape : Shape) (number count : ℕ) → length (replicas_from shape 1 number count) ≡ count
 length-replicas shape number zero = refl
@@ -185,16 +187,20 @@ length-zeros : (count : ℕ) → length (zeros count) ≡ count
 length-zeros zero = refl
 length-zeros (suc count) = ap suc (length-zeros count)
 
-parts-sound : (shape : Shape) (replicas : ℕ) → replicas ≤ REPLICAS_MAX → Sound shape (parts_started shape 1 replicas)
-parts-sound shape replicas few = record {
-  primary_is = record { shape_is = refl; workers_are = refl; legal = refl; small = tt; numbered = omega arith };
-  drafts_are = λ i draft here. absurd (none-some (Some draft) here);
-  asked_there = length-zeros replicas ∙ sym (length-replicas shape 0 replicas);
-  few = omega (arith, length-replicas shape 0 replicas);
-  fed = λ i r here. let place : 0 + i ≡ i =
-      omega arith in subst (λ (n : ℕ). IsFed shape [] n r) place (replicas-fed shape 0 replicas i r here);
-  sent_is = λ i bytes here. absurd (none-some bytes here);
-}
+parts-sound : (setup : Setup) → setup.replicas ≤ REPLICAS_MAX
+    → Sound (shape_of setup.schema) (parts_started (record setup { workers = 1 }))
+parts-sound setup few =
+    let shape = shape_of setup.schema in
+    let count = setup.replicas in
+    record {
+      primary_is = record { shape_is = refl; workers_are = refl; small = tt; numbered = omega arith };
+      drafts_are = λ i draft here. absurd (none-some (Some draft) here);
+      asked_there = length-zeros count ∙ sym (length-replicas shape 0 count);
+      few = omega (arith, length-replicas shape 0 count);
+      fed = λ i r here. let index : 0 + i ≡ i =
+          omega arith in subst (λ (n : ℕ). IsFed shape [] n r) index (replicas-fed shape 0 count i r here);
+      sent_is = λ i bytes here. absurd (none-some bytes here);
+    }
 
 -- ---- where the cores stand
 
@@ -203,38 +209,43 @@ all-from-get P [] each = tt
 all-from-get P (x ∷ xs) each = (each 0 x refl, all-from-get P xs (λ i y here. each (suc i) y here))
 
 -- each replica of sound parts is fed from what is durable
-fed-sound : (p : Parts) → Sound p.primary.shape p → AreFed p
+fed-sound : (p : Parts) → Sound (shape_of p.primary.schema) p → AreFed p
 fed-sound p sound =
-    all-from-get (IsFedFrom p.primary.shape p.primary.durable) p.replicas (λ i r here. (sound.fed i r here).feeding)
+    all-from-get (IsFedFrom (shape_of p.primary.schema) p.primary.durable) p.replicas (λ i r here. (sound.fed i r here).feeding)
 
 -- ---- what every world keeps
 
-pub started-kept : (shape : Shape) (workers replicas : ℕ) → AreTables shape → workers ≡ 1 → replicas ≤ REPLICAS_MAX
-    → IsKept (parts_started shape workers replicas)
-started-kept shape workers replicas tables one few =
-    subst (λ (n : ℕ). IsKept (parts_started shape n replicas)) (sym one) (record {
+pub started-kept : (setup : Setup) → AreTables (shape_of setup.schema) → setup.workers ≡ 1 → setup.replicas ≤ REPLICAS_MAX
+    → IsKept (parts_started setup)
+started-kept setup tables one few =
+    let only : Setup = record setup { workers = 1 } in
+    subst (λ (n : ℕ). IsKept (parts_started (record setup { workers = n }))) (sym one) (record {
       tables = tables;
-      sound = parts-sound shape replicas few;
-      requested = subst IsRequested (sym (world-started shape 1 replicas)) (opening-requested shape 1 replicas);
-      honest = subst IsHonest (sym (world-started shape 1 replicas)) (opening-honest shape 1 replicas);
-      fresh = subst Fresh (sym (world-started shape 1 replicas)) (opening-fresh shape 1 replicas few);
+      sound = parts-sound setup few;
+      requested = subst IsRequested (sym (world-started only)) (opening-requested only);
+      honest = subst IsHonest (sym (world-started only)) (opening-honest only);
+      fresh = subst Fresh (sym (world-started only)) (opening-fresh only few);
     })
 
 -- what a step of the parts of a world is, and that it leaves the parts of one
 pub record IsKeptStep (old : Parts) (event : Event) (output : Output) (new : Parts) : Type 0 where
   pub step : IsStep old.primary.durable (world_of old) event output (world_of new)
   pub fed : AreFed new
-  pub shape : new.primary.shape ≡ old.primary.shape
+  pub schema : new.primary.schema ≡ old.primary.schema
   pub workers : new.primary.workers ≡ old.primary.workers
   pub replicas : length new.replicas ≡ length old.replicas
   pub kept : IsKept new
 
 pub step-keeps : (old : Parts) (event : Event) (output : Output) (new : Parts) → IsKept old
+    → IsLegal (shape_of old.primary.schema) old.primary.workers (old.primary.durable ++ old.primary.pending)
     → IsPossible old.primary.workers (length old.replicas) event → MayStep old event output new → IsKeptStep old event output new
-step-keeps old event output new kept possible may =
+step-keeps old event output new kept legal possible may =
+    let shape = shape_of old.primary.schema in
     let count = length old.replicas in
-    let only = subst (λ (n : ℕ). IsPossible n count event) kept.sound.primary_is.workers_are possible in
-    let first = may-follow old.primary.shape old count event output new kept.tables kept.sound only may in
+    let one = kept.sound.primary_is.workers_are in
+    let only = subst (λ (n : ℕ). IsPossible n count event) one possible in
+    let list = subst (λ (n : ℕ). IsLegal shape n (old.primary.durable ++ old.primary.pending)) one legal in
+    let first = may-follow shape old count event output new kept.tables list kept.sound only may in
     let same = first.1.primary_is.shape_is in
     let sound = subst (λ (s : Shape). Sound s new) (sym same) first.1 in
     let fine = step-fine (world_of old) event output (world_of new) first.0 in
@@ -243,7 +254,7 @@ step-keeps old event output new kept possible may =
     record {
       step = record { happens = first.0; reports = serves.reports; durable = fine.grows; faultless = fine.output kept.honest };
       fed = fed-sound new sound;
-      shape = same;
+      schema = stays.schema;
       workers = stays.workers;
       replicas = sym (as-many new) ∙ stays.members ∙ as-many old;
       kept = record {
@@ -254,8 +265,3 @@ step-keeps old event output new kept possible may =
         fresh = serves.fresh;
       };
     }
-
-pub kept-legal : (p : Parts) → IsKept p → IsLegal p.primary.shape p.primary.workers p.primary.durable
-kept-legal p kept =
-    subst (λ (n : ℕ). IsLegal p.primary.shape n p.primary.durable) (sym kept.sound.primary_is.workers_are)
-    (legal-durable p.primary.shape p kept.sound)

@@ -4,7 +4,8 @@ use Rattle.std.specs.List.{slice_get, slice_set, slice_index}
 use Rattle.std.specs.Option.{option_map}
 use Rattle.dispatcher.specs.Replica.{Replica}
 use Rattle.dispatcher.specs.Steps.{started}
-use Rattle.rows.specs.Shape.{Shape}
+use Rattle.rows.specs.Shape.{Shape, shape_of}
+use Rattle.script.specs.declared.setup.Setup.{Setup}
 use Rattle.script.specs.declared.output.Output.{Output}
 use Rattle.world.specs.Parts.{Parts, replicas_from, zeros, parts_started}
 use Rattle.world.specs.Inner.Steps.{with_replica}
@@ -59,8 +60,7 @@ members-started shape workers number zero = refl
 members-started shape workers number (suc count) =
     ap (λ l. member_of 0 (started shape workers number 1) ∷ l) (members-started shape workers (suc number) count)
 
-pub world-started : (shape : Shape) (workers replicas : ℕ)
-    → world_of (parts_started shape workers replicas) ≡ opening_world shape workers replicas
-world-started shape workers replicas =
-    let w = opening_world shape workers replicas in
-    ap (λ (members : List Member). record w { members = members }) (members-started shape workers 0 replicas)
+pub world-started : (setup : Setup) → world_of (parts_started setup) ≡ opening_world setup
+world-started setup =
+    let w = opening_world setup in
+    ap (λ (members : List Member). record w { members = members }) (members-started (shape_of setup.schema) setup.workers 0 setup.replicas)

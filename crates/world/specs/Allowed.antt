@@ -1,24 +1,18 @@
 -- Which outputs are allowed for a list of events, want of memory included.
-use Rattle.std.specs.Prelude.{◌≡◌, ℕ, List, [], ◌∷◌, true, Option, None, Some, slice_get, ◌⊎◌, if◌then◌else◌}
-use Rattle.rows.specs.Shape.{Shape}
+use Rattle.std.specs.Prelude.{◌≡◌, List, [], ◌∷◌, true, Option, None, Some, slice_get, ◌⊎◌}
+use Rattle.std.specs.Option.{option_and_then}
 use Rattle.dispatcher.specs.Replica.{Fetched}
+use Rattle.dispatcher.specs.Steps.{ready}
 use Rattle.script.specs.declared.event.Event.{Event}
 use Rattle.script.specs.declared.event.Event.TheVariants as events
 use Rattle.script.specs.declared.output.Output.{Output}
 use Rattle.script.specs.declared.output.Output.TheVariants as outputs
-use Rattle.world.specs.World.{World, Member, Batch, opening_world, happens, with_member, lacks_frame}
+use Rattle.script.specs.declared.setup.Setup.{Setup}
+use Rattle.world.specs.World.{World, Member, Batch, opening_world, happens, with_member}
 
 -- what was fetched for the batch of a replica of which no frame is missing
-abbrev pub ready_batch : Member → Option Batch → Option Fetched
-ready_batch m None = None
-ready_batch m (Some batch) = unless_lacking batch.fetched
-  where
-    unless_lacking : Option Fetched → Option Fetched
-    unless_lacking None = None
-    unless_lacking (Some fetched) = if lacks_frame m fetched then None else Some fetched
-
 abbrev pub ready_member : Member → Option Fetched
-ready_member m = if m.broken then None else ready_batch m m.batch
+ready_member m = ready m.broken m.known (option_and_then (λ (batch : Batch). batch.fetched) m.batch)
 
 -- a run that lacks memory at a replica that has fetched a version and lacks no frame: it stands at the old version or
 -- at the fetched one and may run again, or it is broken
@@ -51,5 +45,5 @@ abbrev pub Runs : World → List Event → List Output → World → Type 0
 Runs old events outputs new = RunsBy MayHappen old events outputs new
 
 -- the outputs that are allowed for the events, from the opening world on
-abbrev pub Allowed : Shape → ℕ → ℕ → List Event → List Output → Type 0
-Allowed shape workers replicas events outputs = (end : World) × Runs (opening_world shape workers replicas) events outputs end
+abbrev pub Allowed : Setup → List Event → List Output → Type 0
+Allowed setup events outputs = (end : World) × Runs (opening_world setup) events outputs end

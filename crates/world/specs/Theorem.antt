@@ -1,21 +1,21 @@
 -- The theorem: what one step of the world keeps, and what a run of it is. And the promises that follow of each run.
-use Rattle.std.specs.Prelude.{◌≡◌, ℕ, ◌≤◌, List, ◌++◌, length, map, Some, slice_get}
+use Rattle.std.specs.Prelude.{◌≡◌, ℕ, ◌≤◌, List, ◌++◌, length, Some, slice_get}
 use Rattle.std.specs.List.{AllByRecursion}
 use Rattle.rows.specs.declared.commit.Commit.{Commit}
 use Rattle.rows.specs.Limits.{replicas_max}
-use Rattle.rows.specs.Shape.{Shape}
+use Rattle.rows.specs.Shape.{shape_of}
 use Rattle.rows.specs.Commits.{IsLegal, tables_after}
-use Rattle.dispatcher.specs.Plans.{plain_answer}
 use Rattle.dispatcher.specs.Replica.{Fetched}
-use Rattle.dispatcher.specs.Report.{report_text}
+use Rattle.dispatcher.specs.Report.{report_of}
 use Rattle.script.specs.declared.event.Event.{Event}
 use Rattle.script.specs.declared.event.Event.TheVariants as events
 use Rattle.script.specs.declared.output.Output.{Output}
 use Rattle.script.specs.declared.output.Output.TheVariants as outputs
+use Rattle.script.specs.declared.setup.Setup.{Setup}
 use Rattle.world.specs.Parts.{Parts, parts_started}
 use Rattle.world.specs.World.{World, Member, Batch, opening_world}
 use Rattle.world.specs.Allowed.{MayHappen, RunsBy, Runs}
-use Rattle.world.specs.Standing.{world_of, AreFed}
+use Rattle.world.specs.Standing.{world_of, AreFed, TablesAgree}
 
 -- ---- what a step keeps
 
@@ -26,7 +26,7 @@ abbrev pub IsReportOf : List Commit → World → Batch → List ℕ → Type 0
 IsReportOf commits w batch text =
     (fetched : Fetched) × (batch.fetched ≡ Some fetched)
     × (batch.asked_at ≤ fetched.version) × (fetched.version ≤ length w.primary.durable)
-    × (text ≡ report_text fetched.version (map (plain_answer (tables_after w.primary.shape commits fetched.version)) batch.plans))
+    × (text ≡ report_of (tables_after (shape_of w.primary.schema) commits fetched.version) fetched.version batch.plans)
 
 -- a report that is answered is that of the batch of the replica that ran
 abbrev pub ReportsItsBatch : List Commit → World → Event → Output → Type 0
@@ -63,57 +63,56 @@ abbrev pub IsCoreStep : List Commit → Parts → Event → Output → Parts →
 IsCoreStep commits old event output new = IsStep commits (world_of old) event output (world_of new) × AreFed new
 
 -- a run of the cores from their start on: all its steps are by the one list that is durable at its end, and that is legal
-pub record IsRun (shape : Shape) (workers replicas : ℕ) (events : List Event) (outputs : List Output) : Type 0 where
+pub record IsRun (setup : Setup) (events : List Event) (outputs : List Output) : Type 0 where
   pub end : Parts
-  pub legal : IsLegal shape workers end.primary.durable
-  pub steps : RunsBy (IsCoreStep end.primary.durable) (parts_started shape workers replicas) events outputs end
+  pub legal : IsLegal (shape_of setup.schema) setup.workers end.primary.durable
+  pub steps : RunsBy (IsCoreStep end.primary.durable) (parts_started setup) events outputs end
 
 -- ---- what follows of a run
 
 -- a fact of the outputs of each run
-abbrev pub OfEachRun : (Shape → ℕ → ℕ → List Event → List Output → Type 0) → Type 0
-OfEachRun Fact =
-    (shape : Shape) (workers replicas : ℕ) (events : List Event) (outputs : List Output) → IsRun shape workers replicas events outputs
-    → Fact shape workers replicas events outputs
+abbrev pub OfEachRun : (Setup → List Event → List Output → Type 0) → Type 0
+OfEachRun Fact = (setup : Setup) (events : List Event) (outputs : List Output) → IsRun setup events outputs → Fact setup events outputs
 
 -- a run of the world from its beginning on, at each step of which something holds besides, by the list that is durable at
 -- its end
-abbrev pub RunsWith : (List Commit → World → Event → Output → World → Type 0) → Shape → ℕ → ℕ → List Event → List Output → Type 0
-RunsWith Fact shape workers replicas events outputs =
+abbrev pub RunsWith : (List Commit → World → Event → Output → World → Type 0) → Setup → List Event → List Output → Type 0
+RunsWith Fact setup events outputs =
     (end : World)
     × RunsBy (λ old event output new. MayHappen old event output new × Fact end.primary.durable old event output new)
-    (opening_world shape workers replicas) events outputs end
+    (opening_world setup) events outputs end
 
 -- each report is exact by the one list that is durable at the end, and no older than its batch
-abbrev pub HasExactReports : Shape → ℕ → ℕ → List Event → List Output → Type 0
-HasExactReports shape workers replicas events outputs =
-    RunsWith (λ commits old event output new. ReportsItsBatch commits old event output) shape workers replicas events outputs
+abbrev pub HasExactReports : Setup → List Event → List Output → Type 0
+HasExactReports setup events outputs =
+    RunsWith (λ commits old event output new. ReportsItsBatch commits old event output) setup events outputs
 
 -- each step keeps what is durable
-abbrev pub HasGrowingList : Shape → ℕ → ℕ → List Event → List Output → Type 0
-HasGrowingList shape workers replicas events outputs =
-    RunsWith (λ commits old event output new. IsBeginning old.primary.durable new.primary.durable) shape workers replicas events outputs
+abbrev pub HasGrowingList : Setup → List Event → List Output → Type 0
+HasGrowingList setup events outputs =
+    RunsWith (λ commits old event output new. IsBeginning old.primary.durable new.primary.durable) setup events outputs
 
 -- the one list is legal
-abbrev pub HasLegalList : Shape → ℕ → ℕ → List Event → List Output → Type 0
-HasLegalList shape workers replicas events outputs =
-    (end : World) × Runs (opening_world shape workers replicas) events outputs end × IsLegal shape workers end.primary.durable
+abbrev pub HasLegalList : Setup → List Event → List Output → Type 0
+HasLegalList setup events outputs =
+    (end : World) × Runs (opening_world setup) events outputs end × IsLegal (shape_of setup.schema) setup.workers end.primary.durable
 
 -- no output speaks of damage
-abbrev pub HasNoFault : Shape → ℕ → ℕ → List Event → List Output → Type 0
-HasNoFault shape workers replicas events outputs = AllByRecursion IsFaultless outputs
+abbrev pub HasNoFault : Setup → List Event → List Output → Type 0
+HasNoFault setup events outputs = AllByRecursion IsFaultless outputs
 
--- the cores stand where the world does from the beginning on, and every replica is fed from what is durable there
-abbrev pub CoresStand : Shape → ℕ → ℕ → List Event → List Output → Type 0
-CoresStand shape workers replicas events outputs =
-    (world_of (parts_started shape workers replicas) ≡ opening_world shape workers replicas)
+-- the cores stand where the world does from the beginning on, every replica is fed from what is durable there, and those
+-- at one version hold the same tables
+abbrev pub CoresStand : Setup → List Event → List Output → Type 0
+CoresStand setup events outputs =
+    (world_of (parts_started setup) ≡ opening_world setup)
     × (end : Parts)
-    × RunsBy (λ old event output new. MayHappen (world_of old) event output (world_of new) × AreFed new)
-    (parts_started shape workers replicas) events outputs end
+    × RunsBy (λ old event output new. MayHappen (world_of old) event output (world_of new) × AreFed new × TablesAgree new)
+    (parts_started setup) events outputs end
 
 -- and each run of the world itself, whoever makes it, is by the one list that is durable at its end
 abbrev pub AllowedRunsAreExact : Type 0
 AllowedRunsAreExact =
-    (shape : Shape) (workers replicas : ℕ) (events : List Event) (outputs : List Output) (end : World) → replicas ≤ replicas_max
-    → Runs (opening_world shape workers replicas) events outputs end
-    → RunsBy (IsStep end.primary.durable) (opening_world shape workers replicas) events outputs end
+    (setup : Setup) (events : List Event) (outputs : List Output) (end : World) → setup.replicas ≤ replicas_max
+    → Runs (opening_world setup) events outputs end
+    → RunsBy (IsStep end.primary.durable) (opening_world setup) events outputs end

@@ -2,7 +2,6 @@
 
 ghost use Rattle.std.specs.Prelude.{◌≡◌, ◌≤◌, IfOk};
 ghost use Rattle.std.specs.List.{AllByRecursion};
-ghost use Rattle.rows.specs.Shape.{shape_of};
 ghost use Rattle.script.specs.Events.{IsPossible};
 ghost use Rattle.world.specs.Theorem.{IsRun};
 
@@ -24,8 +23,7 @@ pub fn run(alloc: Global, setup: &Setup, events: &[Event]) -> Result<Vec<Output>
     requires workers { setup.now.workers ≡ 1 }
     requires replicas { setup.now.replicas ≤ 16 }
     requires possible { AllByRecursion (IsPossible setup.now.workers setup.now.replicas) events.now }
-    ensures { IfOk result (λ outputs.
-        IsRun (shape_of setup.now.schema) setup.now.workers setup.now.replicas events.now outputs.items) }
+    ensures { IfOk result (λ outputs. IsRun setup.now events.now outputs.items) }
 {
     let mut world = World::new(alloc, setup)?;
     let mut outputs = Vec::new(alloc);

@@ -102,23 +102,23 @@ impl Cores {
         }
     }
 
-    fn deliver(&mut self, place: u64, node: Node) -> Output
+    fn deliver(&mut self, index: u64, node: Node) -> Output
         requires { IsThere (length self.old.replicas) node }
-        ensures { MayStep self.old (Event.Deliver place node) result self.new }
+        ensures { MayStep self.old (Event.Deliver index node) result self.new }
     {
         match node {
-            Node::Primary => self.deliver_to_primary(place),
-            Node::Replica(number) => self.deliver_to_replica(place, number),
+            Node::Primary => self.deliver_to_primary(index),
+            Node::Replica(number) => self.deliver_to_replica(index, number),
         }
     }
 
-    fn deliver_to_primary(&mut self, place: u64) -> Output
-        ensures { HappensBeside self.old (Event.Deliver place Node.Primary) result self.new }
+    fn deliver_to_primary(&mut self, index: u64) -> Output
+        ensures { HappensBeside self.old (Event.Deliver index Node.Primary) result self.new }
     {
-        if place >= self.sent.len() as u64 {
+        if index >= self.sent.len() as u64 {
             return Output::NeverSent;
         }
-        let Ok(outs) = self.primary.on_bytes(self.sent[place as usize].bytes()) else {
+        let Ok(outs) = self.primary.on_bytes(self.sent[index as usize].bytes()) else {
             return Output::Memory;
         };
         if outs.is_empty() {
@@ -130,25 +130,25 @@ impl Cores {
         }
     }
 
-    fn deliver_to_replica(&mut self, place: u64, number: u8) -> Output
+    fn deliver_to_replica(&mut self, index: u64, number: u8) -> Output
         requires { number < length self.old.replicas }
-        ensures { MayStep self.old (Event.Deliver place (Node.Replica number)) result self.new }
+        ensures { MayStep self.old (Event.Deliver index (Node.Replica number)) result self.new }
     {
-        if place >= self.sent.len() as u64 {
+        if index >= self.sent.len() as u64 {
             return Output::NeverSent;
         }
-        let bytes = self.sent[place as usize].bytes();
+        let bytes = self.sent[index as usize].bytes();
         let replica = &mut self.replicas[number as usize];
         got_output(replica.on_bytes(bytes))
     }
 
-    fn show(&self, place: u64) -> Output
-        ensures { HappensBeside self.now (Event.Show place) result self.now }
+    fn show(&self, index: u64) -> Output
+        ensures { HappensBeside self.now (Event.Show index) result self.now }
     {
-        if place >= self.sent.len() as u64 {
+        if index >= self.sent.len() as u64 {
             return Output::NeverSent;
         }
-        match Vec::from_slice(self.alloc, self.sent[place as usize].bytes()) {
+        match Vec::from_slice(self.alloc, self.sent[index as usize].bytes()) {
             Ok(bytes) => Output::Shown(ByteList::from_vec(bytes)),
             Err(_) => Output::Memory,
         }
@@ -195,8 +195,8 @@ impl Cores {
         }
     }
 
-    /// Runs a batch. A place for the datagram that it may send is taken first, since the run
-    /// cannot be taken back.
+    /// Runs a batch. Room for the datagram that it may send is taken first, since the run cannot
+    /// be taken back.
     fn run(&mut self, number: u8) -> Output
         requires { number < length self.old.replicas }
         ensures { MayStep self.old (Event.Run number) result self.new }
@@ -235,14 +235,14 @@ fn send_all(alloc: Global, sent: &mut Vec<Packet>, outs: Vec<Out>) -> Result<Sen
         × (sent.new.items ≡ sent.old.items ++ packets_of outs.items)) }
     ensures err { OnErr result (sent.new.items ≡ sent.old.items) }
 {
-    let list = places_of(alloc, sent.as_slice(), outs.as_slice())?;
+    let list = sent_behind(alloc, sent.as_slice(), outs.as_slice())?;
     let mut packets = packets_in(alloc, outs)?;
     sent.append(&mut packets)?;
     Ok(SentList::from_vec(list))
 }
 
-/// Where datagrams are found that are sent behind these.
-fn places_of(alloc: Global, sent: &[Packet], outs: &[Out]) -> Result<Vec<Sent>, AllocError>
+/// The indices and lengths of datagrams that are sent behind these.
+fn sent_behind(alloc: Global, sent: &[Packet], outs: &[Out]) -> Result<Vec<Sent>, AllocError>
     ensures { IfOk result (λ list. list.items ≡ sent_from (length sent.now) outs.now) }
 {
     let mut list = Vec::new(alloc);

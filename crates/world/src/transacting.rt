@@ -130,7 +130,7 @@ fn find_open(transactions: &[Option<Transaction>], number: u64) -> Option<&Trans
     }
 }
 
-/// Takes the open transaction of that number out of its place, where there is one.
+/// Takes the open transaction of that number out of its slot, where there is one.
 fn take_open(transactions: &mut Vec<Option<Transaction>>, number: u64) -> Option<Transaction>
     ensures taken { result ≡ open_draft transactions.old.items number }
     ensures left { transactions.new.items ≡ slice_set transactions.old.items number None }
@@ -142,7 +142,7 @@ fn take_open(transactions: &mut Vec<Option<Transaction>>, number: u64) -> Option
     std::mem::replace(&mut transactions[number as usize], None)
 }
 
-/// Puts a transaction back into its place.
+/// Puts a transaction back into its slot.
 fn put_back(transactions: &mut Vec<Option<Transaction>>, number: u64, transaction: Transaction)
     requires { number < vec_len transactions.old }
     ensures { transactions.new.items ≡ slice_set transactions.old.items number (Some transaction) }

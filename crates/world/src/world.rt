@@ -39,11 +39,10 @@ impl World {
     pub fn new(alloc: Global, setup: &Setup) -> Result<World, AllocError>
         requires workers { setup.now.workers ≡ 1 }
         requires replicas { setup.now.replicas ≤ 16 }
-        ensures { IfOk result (λ world.
-            world ≡ parts_started (shape_of setup.now.schema) setup.now.workers setup.now.replicas) }
+        ensures { IfOk result (λ world. world ≡ parts_started setup.now) }
     {
         setup.schema.keeps_limits();
-        let cores = Cores::start(alloc, &setup.schema, setup.workers, setup.replicas)?;
+        let cores = Cores::start(alloc, setup)?;
         Ok(World { cores })
     }
 
@@ -56,17 +55,18 @@ impl World {
         ensures durable { IsBeginning self.old.primary.durable self.new.primary.durable }
         ensures fed { AreFed self.new }
         ensures faultless { IsFaultless result }
-        ensures shape { self.new.primary.shape ≡ self.old.primary.shape }
+        ensures schema { self.new.primary.schema ≡ self.old.primary.schema }
         ensures workers { self.new.primary.workers ≡ self.old.primary.workers }
         ensures replicas { length self.new.replicas ≡ length self.old.replicas }
     {
+        self.cores.keeps_legal();
         self.cores.happen(event)
     }
 
     /// What is durable is a legal list for its workers.
     pub fn keeps_legal(&self)
-        ensures { IsLegal self.now.primary.shape self.now.primary.workers self.now.primary.durable }
+        ensures { IsLegal (shape_of self.now.primary.schema) self.now.primary.workers self.now.primary.durable }
     {
-        let _ = &self.cores;
+        self.cores.keeps_legal();
     }
 }

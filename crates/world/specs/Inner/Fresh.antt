@@ -17,7 +17,7 @@ pub record IsFreshBatch (durable : List Commit) (batch : Batch) : Type 0 where
   pub fetched_is : (fetched : Fetched) → batch.fetched ≡ Some fetched → (batch.asked_at ≤ fetched.version)
       × (fetched.version ≤ length durable)
 
--- a replica at its place, with a fresh batch
+-- a replica of its number, with a fresh batch
 pub record IsFreshMember (durable : List Commit) (number : ℕ) (m : Member) : Type 0 where
   pub number_is : m.number ≡ number
   pub boot_is : m.boot ≡ 1

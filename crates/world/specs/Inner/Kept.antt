@@ -1,7 +1,7 @@
 -- Only for proofs: what every world keeps.
 use Rattle.std.specs.Prelude.{◌≡◌, ◌≤◌, length, IfSome}
 use Rattle.std.specs.List.{AllByRecursion}
-use Rattle.rows.specs.Shape.{AreTables}
+use Rattle.rows.specs.Shape.{AreTables, shape_of}
 use Rattle.dispatcher.specs.Replica.{Replica}
 use Rattle.world.specs.Parts.{Parts}
 use Rattle.world.specs.World.{World, Member}
@@ -24,8 +24,8 @@ IsRequested w = AllByRecursion (λ (m : Member). m.request ≤ length w.sent) w.
 -- the parts of every world: its tables are in their limits, the cores are sound, each request was sent, nothing is damaged,
 -- and what was fetched is no older than its batch
 pub record IsKept (p : Parts) : Type 0 where
-  pub tables : AreTables p.primary.shape
-  pub sound : Sound p.primary.shape p
+  pub tables : AreTables (shape_of p.primary.schema)
+  pub sound : Sound (shape_of p.primary.schema) p
   pub requested : IsRequested (world_of p)
   pub honest : IsHonest (world_of p)
   pub fresh : Fresh (world_of p)

@@ -1,13 +1,11 @@
 -- Only for proofs: what is true of the parts at each step, and what makes them a world.
 use Rattle.std.specs.Prelude.{◌≡◌, ℕ, ◌+◌, ◌^◌, ◌<◌, ◌≤◌, List, ◌++◌, length, Bool, true, false, Option, None, Some, Result, Ok, Err}
-use Rattle.std.specs.Prelude.{slice_get, is_ok, is_none}
+use Rattle.std.specs.Prelude.{slice_get, is_none}
 use Rattle.std.specs.List.{AllByRecursion}
 use Rattle.rows.specs.declared.commit.Commit.{Commit}
 use Rattle.rows.specs.declared.limits.TheConstants.{REPLICAS_MAX}
-use Rattle.rows.specs.Shape.{Shape}
+use Rattle.rows.specs.Shape.{Shape, shape_of}
 use Rattle.rows.specs.Spelling.{HasSpelling}
-use Rattle.rows.specs.Tables.{opening}
-use Rattle.rows.specs.Commits.{commits_of}
 use Rattle.wire.specs.declared.datagram.Datagram.{Datagram}
 use Rattle.wire.specs.declared.datagram.Datagram.TheVariants as datagrams
 use Rattle.wire.specs.declared.fault.WireFault.{WireFault}
@@ -17,7 +15,7 @@ use Rattle.mvcc.specs.declared.transaction.TheConstants.{TRANSACTION_ENTRIES_MAX
 use Rattle.mvcc.specs.Draft.{Draft}
 use Rattle.primary.specs.State.{Primary}
 use Rattle.dispatcher.specs.Feeding.{IsFedFrom, Tells}
-use Rattle.dispatcher.specs.Replica.{Replica, Queries}
+use Rattle.dispatcher.specs.Replica.{Replica, Batch as ReplicaBatch}
 use Rattle.world.specs.Parts.{Parts}
 
 -- a commit of the only worker, with one or two entries, each of which has a spelling
@@ -34,9 +32,8 @@ pub record IsSmallDraft (durable : ℕ) (draft : Draft) : Type 0 where
   pub spelled : AllByRecursion HasSpelling draft.entries
 
 pub record IsSoundPrimary (shape : Shape) (p : Primary) : Type 0 where
-  pub shape_is : p.shape ≡ shape
+  pub shape_is : shape_of p.schema ≡ shape
   pub workers_are : p.workers ≡ 1
-  pub legal : is_ok (commits_of shape (opening shape) (p.durable ++ p.pending)) ≡ true
   pub small : AllByRecursion IsSmall (p.durable ++ p.pending)
   pub numbered : length p.durable + length p.pending < 2 ^ 64
 
@@ -47,7 +44,7 @@ pub record IsFed (shape : Shape) (durable : List Commit) (number : ℕ) (r : Rep
   pub boot_is : r.boot ≡ 1
 
 -- whether a replica waits for a Head
-abbrev pub awaits_by : Option Queries → Bool
+abbrev pub awaits_by : Option ReplicaBatch → Bool
 awaits_by None = false
 awaits_by (Some queries) = is_none queries.fetched
 

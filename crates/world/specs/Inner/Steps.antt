@@ -8,7 +8,7 @@ use Rattle.dispatcher.specs.declared.faults.AskFault.{AskFault}
 use Rattle.dispatcher.specs.declared.outcome.Got.{Got}
 use Rattle.dispatcher.specs.declared.outcome.Run.{Run}
 use Rattle.dispatcher.specs.declared.outcome.Run.TheVariants as runs
-use Rattle.dispatcher.specs.Replica.{Replica, Queries}
+use Rattle.dispatcher.specs.Replica.{Replica, Batch as ReplicaBatch}
 use Rattle.dispatcher.specs.Steps.{opened, asked, received, ran, WantsMemory}
 use Rattle.script.specs.declared.event.Event.{Event}
 use Rattle.script.specs.declared.event.Event.TheVariants as events
@@ -61,11 +61,11 @@ open_by p number plan None = (outputs.Ignored, p)
 open_by p number plan (Some replica) = opening_query p number (opened replica plan)
 
 -- an ask that makes a batch notes what is durable at it; one that repeats a batch's Ask leaves that note
-abbrev pub asked_durable : Parts → ℕ → Option Queries → List ℕ
+abbrev pub asked_durable : Parts → ℕ → Option ReplicaBatch → List ℕ
 asked_durable p number None = slice_set p.asked_at number (length p.primary.durable)
 asked_durable p number (Some batch) = p.asked_at
 
-abbrev pub asking : Parts → ℕ → Option Queries → Result (Out × Replica) AskFault → Output × Parts
+abbrev pub asking : Parts → ℕ → Option ReplicaBatch → Result (Out × Replica) AskFault → Output × Parts
 asking p number batch (Ok asked) = (
   sent_one p asked.0.packet,
   record p {
@@ -110,8 +110,8 @@ abbrev pub MayAnswer : Parts → Output × Parts → Output → Parts → Type 0
 MayAnswer old answer output new = (answer ≡ (output, new)) ⊎ ((output ≡ outputs.Memory) × (new ≡ old))
 
 abbrev pub MayStep : Parts → Event → Output → Parts → Type 0
-MayStep old (events.Deliver place (nodes.Replica number)) output new =
-    MayAnswer old (come_by old number (slice_get old.sent place)) output new
+MayStep old (events.Deliver index (nodes.Replica number)) output new =
+    MayAnswer old (come_by old number (slice_get old.sent index)) output new
 MayStep old (events.Open replica plan) output new = MayAnswer old (open_by old replica plan (slice_get old.replicas replica)) output new
 MayStep old (events.Ask replica) output new = MayAnswer old (ask_by old replica (slice_get old.replicas replica)) output new
 MayStep old (events.Run replica) output new =

@@ -2,7 +2,6 @@
 use Rattle.std.proofs.Common.{[], ◌∷◌, refl, append_assoc}
 use Rattle.std.proofs.lemmas.List.{append-nil}
 use Rattle.std.proofs.lemmas.Option.{slice_get_read}
-use Rattle.rows.specs.Shape.{shape_of}
 use Rattle.script.specs.Events.{IsPossible}
 use Rattle.world.proofs.Continuing.{step_first, none_left}
 use Rattle.world.proofs.Slots.{all_at}
@@ -13,9 +12,9 @@ pub loop-event-init : goal.loop-event-init
 loop-event-init c =
     let setup = c.args.setup.now in
     record {
-      shape = rw c.in_ok-world.ensures refl;
+      schema = rw c.in_ok-world.ensures refl;
       workers = rw c.in_ok-world.ensures refl;
-      replicas = rw c.in_ok-world.ensures (as_many (shape_of setup.schema) setup.workers setup.replicas);
+      replicas = rw c.in_ok-world.ensures (as_many setup);
       behind = λ more end steps. rw c.new-outputs.ensures.items (rw c.in_ok-world.ensures at steps);
     }
 
@@ -23,7 +22,7 @@ pub loop-event-preserved : goal.loop-event-preserved
 loop-event-preserved c =
     let done = c.step-output.ensures in
     record {
-      shape = cc;
+      schema = cc;
       workers = cc;
       replicas = cc;
       behind = λ more end steps. rw (c.in_ok-push.ensures.items, append_assoc)
@@ -50,6 +49,6 @@ returns c =
     let run = c.loop-event.invariant.behind [] end (none_left end c.args.events.now c.loop-event.event-index c.loop-event-test.false) in
     record {
       end = end;
-      legal = rw (← c.loop-event.invariant.shape, ← c.loop-event.invariant.workers) c.keeps_legal.ensures;
+      legal = rw (← c.loop-event.invariant.schema, ← c.loop-event.invariant.workers) c.keeps_legal.ensures;
       steps = rw append-nil at run;
     }

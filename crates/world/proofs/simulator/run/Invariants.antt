@@ -1,6 +1,5 @@
 -- Whatever run is still to come is, behind the outputs so far, a run of all events.
 use Rattle.std.proofs.Common.{◌≡◌, ◌++◌, List, length, drop}
-use Rattle.rows.specs.Shape.{shape_of}
 use Rattle.script.specs.declared.output.Output.{Output}
 use Rattle.world.specs.Parts.{Parts, parts_started}
 use Rattle.world.specs.Allowed.{RunsBy}
@@ -9,10 +8,10 @@ use Rattle.world.proofs.simulator.run.Given as goal
 
 abbrev pub invariant-loop-event : goal.invariant-loop-event
 invariant-loop-event l = record {
-  shape : l.world.primary.shape ≡ shape_of l.setup.schema;
+  schema : l.world.primary.schema ≡ l.setup.schema;
   workers : l.world.primary.workers ≡ l.setup.workers;
   replicas : length l.world.replicas ≡ l.setup.replicas;
   behind : (more : List Output) (end : Parts) → RunsBy (IsCoreStep end.primary.durable) l.world (drop l.event-index l.events) more end
-      → RunsBy (IsCoreStep end.primary.durable) (parts_started (shape_of l.setup.schema) l.setup.workers l.setup.replicas) l.events
+      → RunsBy (IsCoreStep end.primary.durable) (parts_started l.setup) l.events
       (l.outputs.items ++ more) end;
 }

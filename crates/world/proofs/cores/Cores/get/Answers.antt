@@ -1,5 +1,6 @@
 -- The transaction reads a durable version, and looks at it.
 use Rattle.std.proofs.Common.{◌≤◌, length, refl, sym, arith, length-append}
+use Rattle.rows.specs.Shape.{shape_of}
 use Rattle.mvcc.specs.Draft.{Draft}
 use Rattle.mvcc.specs.Transactions.{get_answer}
 use Rattle.script.specs.declared.event.Event.TheVariants.{Get}
@@ -13,7 +14,7 @@ returns-in-None c =
     let primary = c.self.inside.primary in
     let there = rw (c.as_slice.ensures.value, c.in-None.is) at c.find_open.ensures in
     look_nothing _ _ c.self.view_is c.args.number (Get c.args.number c.args.table c.args.row c.args.column)
-    (λ draft. get_answer primary.shape primary.durable draft c.args.table c.args.row.0 c.args.column) refl (sym there)
+    (λ draft. get_answer (shape_of primary.schema) primary.durable draft c.args.table c.args.row.0 c.args.column) refl (sym there)
 
 pub get-requires : goal.get-requires
 get-requires c =
@@ -34,7 +35,7 @@ returns-in-Some c =
     let within =
     slot_at (λ (draft : Draft). draft.snapshot ≤ length primary.durable) c.self.inside.transactions.items c.args.number
     draft (sym there) snapshots in
-    let told = sym (get-told primary.shape primary.durable primary.pending draft c.args.table c.args.row.0 within c.args.column) in
+    let told = sym (get-told (shape_of primary.schema) primary.durable primary.pending draft c.args.table c.args.row.0 within c.args.column) in
     rw (c.look_output.ensures, c.get.ensures, c.versions.ensures)
     (looked _ _ c.self.view_is c.args.number (Get c.args.number c.args.table c.args.row c.args.column)
-    (λ draft. get_answer primary.shape primary.durable draft c.args.table c.args.row.0 c.args.column) refl draft _ (sym there) told)
+    (λ draft. get_answer (shape_of primary.schema) primary.durable draft c.args.table c.args.row.0 c.args.column) refl draft _ (sym there) told)

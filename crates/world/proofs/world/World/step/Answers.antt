@@ -11,13 +11,13 @@ happen-requires c = record {
 
 pub invariant_of-self : goal.invariant_of-self
 invariant_of-self c =
-    (step-keeps c.self.inside.cores c.args.event.now c.happen.result c.happen.new.self c.self.invariant
+    (step-keeps c.self.inside.cores c.args.event.now c.happen.result c.happen.new.self c.self.invariant c.keeps_legal.ensures.all
     (rw (← c.self.view_is) at c.requires.possible) c.happen.ensures).kept
 
 pub returns : goal.returns
 returns c =
     let done =
-    step-keeps c.self.inside.cores c.args.event.now c.happen.result c.happen.new.self c.self.invariant
+    step-keeps c.self.inside.cores c.args.event.now c.happen.result c.happen.new.self c.self.invariant c.keeps_legal.ensures.all
     (rw (← c.self.view_is) at c.requires.possible) c.happen.ensures in
     rw (← c.self.view_is) (record {
       happens = done.step.happens;
@@ -25,7 +25,7 @@ returns c =
       durable = done.step.durable;
       fed = done.fed;
       faultless = done.step.faultless;
-      shape = done.shape;
+      schema = done.schema;
       workers = done.workers;
       replicas = done.replicas;
     })
