@@ -6,3 +6,5 @@ pub mod TableLaws
 pub mod RowLaws
 pub mod Columns
 pub mod ValueKinds
+pub mod Bytes
+pub mod EntryReading

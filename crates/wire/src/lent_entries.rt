@@ -6,7 +6,7 @@ ghost use Rattle.rows.specs.Reading.{entry_of};
 ghost use Rattle.rows.specs.Spelling.{entry_spelling};
 ghost use Rattle.wire.specs.Entries.{entries_filling};
 
-use rows::{ByteList, Entry, EntryList, EntryRef, read_entry};
+use rows::{ByteList, Entry, EntryList, EntryRef, laws, read_entry};
 use std::alloc::{AllocError, Global};
 use std::marker::Model;
 
@@ -55,6 +55,7 @@ impl<'a> LentEntries<'a> {
     pub fn as_bytes(&self) -> &'a [u8]
         ensures { result.now ≡ flat_map entry_spelling self.now }
     {
+        laws::entries_are_read_as_spelled();
         self.bytes
     }
 
