@@ -7,3 +7,5 @@ pub mod RowLaws
 pub mod Columns
 pub mod ValueKinds
 pub mod Keys
+pub mod Bytes
+pub mod EntryReading

@@ -1,10 +1,12 @@
--- Laws of the definitions: what changes leave as it is, and which entries conflict.
-use Rattle.std.specs.Prelude.{◌≡◌, ℕ, List, Ok}
+-- Laws of the definitions: what changes leave as it is, how an entry is read, and which entries conflict.
+use Rattle.std.specs.Prelude.{◌≡◌, ℕ, List, ◌++◌, length, Ok, Some}
 use Rattle.rows.specs.declared.commit.Commit.{Commit}
 use Rattle.rows.specs.declared.entry.Entry.{Entry}
 use Rattle.rows.specs.Shape.{Shape}
 use Rattle.rows.specs.Tables.{Tables, shape_in, RowsAreOfKinds, change_of, changes_of, applied}
 use Rattle.rows.specs.Commits.{commits_of, tables_after, overlaps}
+use Rattle.rows.specs.Spelling.{AreBytes, HasSpelling, entry_spelling}
+use Rattle.rows.specs.Reading.{entry_at, IsSpelledAt}
 
 -- an entry leaves the kinds of each table's columns
 abbrev pub EntryKeepsKinds : Type 0
@@ -38,6 +40,16 @@ CommitsKeepRows =
 -- so each row at each version has values of its columns' kinds
 abbrev pub VersionsAreOfKinds : Type 0
 VersionsAreOfKinds = (shape : Shape) (commits : List Commit) (version : ℕ) → RowsAreOfKinds (tables_after shape commits version)
+
+-- an entry that is read at the front of bytes is spelled there
+abbrev pub FoundIsSpelled : Type 0
+FoundIsSpelled = (bytes : List ℕ) (found : Entry × ℕ) → AreBytes bytes → entry_at bytes ≡ Some found → IsSpelledAt bytes found
+
+-- and an entry that is spelled there is read, whatever stands behind it
+abbrev pub SpelledIsFound : Type 0
+SpelledIsFound =
+    (entry : Entry) (rest : List ℕ) → HasSpelling entry
+    → entry_at (entry_spelling entry ++ rest) ≡ Some (entry, length (entry_spelling entry))
 
 -- an entry overlaps with another where the other does with it
 abbrev pub IsSymmetric : Type 0

@@ -1,7 +1,7 @@
 //! Laws of the definitions.
 
 ghost use Rattle.rows.specs.Laws.{EntryKeepsKinds, EntriesKeepKinds, AppliedKeepKinds, CommitsKeepKinds, VersionsKeepKinds};
-ghost use Rattle.rows.specs.Laws.{EntryKeepsRows, CommitsKeepRows, VersionsAreOfKinds, IsSymmetric};
+ghost use Rattle.rows.specs.Laws.{EntryKeepsRows, CommitsKeepRows, VersionsAreOfKinds, FoundIsSpelled, SpelledIsFound, IsSymmetric};
 
 /// Entries and commits leave the kinds of each table's columns. It does nothing: its contract is
 /// the law.
@@ -19,6 +19,13 @@ pub fn rows_are_of_kinds()
     ensures entry { EntryKeepsRows }
     ensures commits { CommitsKeepRows }
     ensures versions { VersionsAreOfKinds }
+{}
+
+/// An entry that is read at the front of bytes is spelled there, and one that is spelled there is
+/// read. It does nothing: its contract is the law.
+pub fn entries_are_read_as_spelled()
+    ensures found { FoundIsSpelled }
+    ensures spelled { SpelledIsFound }
 {}
 
 /// Whether two entries conflict is told the same from either. It does nothing: its contract is

@@ -6,11 +6,11 @@ use Rattle.std.specs.Option.{option_map}
 use Rattle.std.proofs.lemmas.List.{drop_at}
 use Rattle.std.specs.List.{flat_map, list_all, AllByRecursion}
 use Rattle.rows.specs.declared.entry.Entry.{Entry}
-use Rattle.rows.specs.Reading.{entry_at}
+use Rattle.rows.specs.Reading.{entry_at, IsSpelledAt}
 use Rattle.rows.specs.Spelling.{AreBytes, HasSpelling, entry_spelling}
+use Rattle.rows.specs.Laws.{FoundIsSpelled, SpelledIsFound}
 use Rattle.wire.specs.Entries.{behind, entries_filling, or_none}
-use Rattle.wire.proofs.Bytes.{AreBytes-drop}
-use Rattle.wire.proofs.Entries.{IsSpelledAt, entry_at-spelled, entry_at-again}
+use Rattle.rows.proofs.Bytes.{AreBytes-drop}
 
 some_option_map : {A B : Type 0} (f : A → B) (o : Option A) → is_some (option_map f o) ≡ is_some o
 some_option_map f None = refl
@@ -124,16 +124,17 @@ filling-length (suc count) bytes entries e =
     (λ len rest. filling-length count (drop len bytes) rest) e
 
 -- what is read is spelled so
-behind-spelled : (count : ℕ) (bytes : List ℕ) (found : Option (Entry × ℕ)) (entries : List Entry) → AreBytes bytes → entry_at bytes ≡ found
+behind-spelled : (law : FoundIsSpelled) (count : ℕ) (bytes : List ℕ) (found : Option (Entry × ℕ)) (entries : List Entry)
+    → AreBytes bytes → entry_at bytes ≡ found
     → ((len : ℕ) (others : List Entry) → entries_filling count (drop len bytes) ≡ Some others → AllByRecursion HasSpelling others
     × (drop len bytes ≡ flat_map entry_spelling others))
     → behind found (λ len. entries_filling count (drop len bytes)) ≡ Some entries → AllByRecursion HasSpelling entries
     × (bytes ≡ flat_map entry_spelling entries)
-behind-spelled count bytes None entries fits is h e = absurd cc
-behind-spelled count bytes (Some found) entries fits is h e = mapped (entries_filling count (drop found.1 bytes)) (h found.1) e
+behind-spelled law count bytes None entries fits is h e = absurd cc
+behind-spelled law count bytes (Some found) entries fits is h e = mapped (entries_filling count (drop found.1 bytes)) (h found.1) e
   where
     first : IsSpelledAt bytes found
-    first = entry_at-spelled bytes found fits is
+    first = law bytes found fits is
 
     mapped : (o : Option (List Entry))
         → ((others : List Entry) → o ≡ Some others → AllByRecursion HasSpelling others
@@ -145,26 +146,27 @@ behind-spelled count bytes (Some found) entries fits is h e = mapped (entries_fi
         let same : (found.0 ∷ others) ≡ entries = cc in
         let rest = h others refl in
         subst (λ (es : List Entry). AllByRecursion HasSpelling es × (bytes ≡ flat_map entry_spelling es)) same
-        ((first.spelled, rest.0), first.parts ∙ ap (λ (t : List ℕ). entry_spelling found.0 ++ t) rest.1)
+        ((first.spelled, rest.0), first.front ∙ ap (λ (t : List ℕ). entry_spelling found.0 ++ t) rest.1)
 
-pub filling-spelled : (count : ℕ) (bytes : List ℕ) (entries : List Entry) → AreBytes bytes → entries_filling count bytes ≡ Some entries
+pub filling-spelled : (law : FoundIsSpelled) (count : ℕ) (bytes : List ℕ) (entries : List Entry) → AreBytes bytes
+    → entries_filling count bytes ≡ Some entries
     → AllByRecursion HasSpelling entries × (bytes ≡ flat_map entry_spelling entries)
-filling-spelled zero [] entries fits e =
+filling-spelled law zero [] entries fits e =
     let same : [] ≡ entries = cc in
     subst (λ (es : List Entry). AllByRecursion HasSpelling es × ([] ≡ flat_map entry_spelling es)) same (tt, refl)
-filling-spelled zero (byte ∷ bytes) entries fits e = absurd cc
-filling-spelled (suc count) bytes entries fits e =
-    behind-spelled count bytes (entry_at bytes) entries fits refl
-    (λ len others is. filling-spelled count (drop len bytes) others (AreBytes-drop len bytes fits) is) e
+filling-spelled law zero (byte ∷ bytes) entries fits e = absurd cc
+filling-spelled law (suc count) bytes entries fits e =
+    behind-spelled law count bytes (entry_at bytes) entries fits refl
+    (λ len others is. filling-spelled law count (drop len bytes) others (AreBytes-drop len bytes fits) is) e
 
 -- what is spelled so is read
-pub filling-again : (entries : List Entry) → AllByRecursion HasSpelling entries
+pub filling-again : (law : SpelledIsFound) (entries : List Entry) → AllByRecursion HasSpelling entries
     → entries_filling (length entries) (flat_map entry_spelling entries) ≡ Some entries
-filling-again [] fits = refl
-filling-again (entry ∷ entries) fits =
+filling-again law [] fits = refl
+filling-again law (entry ∷ entries) fits =
     let rest = flat_map entry_spelling entries in
     ap (λ (o : Option (Entry × ℕ)). behind o (λ len. entries_filling (length entries) (drop len (entry_spelling entry ++ rest))))
-    (entry_at-again entry rest fits.0)
+    (law entry rest fits.0)
     ∙ ap (λ (t : List ℕ). option_map (λ others. entry ∷ others) (entries_filling (length entries) t))
     (drop_at (entry_spelling entry) rest (length (entry_spelling entry)) refl)
-    ∙ ap (option_map (λ (others : List Entry). entry ∷ others)) (filling-again entries fits.1)
+    ∙ ap (option_map (λ (others : List Entry). entry ∷ others)) (filling-again law entries fits.1)

@@ -8,7 +8,7 @@ ghost use Rattle.rows.specs.Shape.{shape_of};
 ghost use Rattle.rows.specs.Spelling.{entry_spelling};
 ghost use Rattle.wire.specs.Entries.{entries_filling, or_none};
 
-use rows::{ByteList, Entry, EntryList, EntryRef, Schema, fits_lent, read_entry};
+use rows::{ByteList, Entry, EntryList, EntryRef, Schema, fits_lent, laws, read_entry};
 use std::alloc::{AllocError, Global};
 use std::marker::Model;
 
@@ -57,6 +57,7 @@ impl<'a> LentEntries<'a> {
     pub fn as_bytes(&self) -> &'a [u8]
         ensures { result.now ≡ flat_map entry_spelling self.now }
     {
+        laws::entries_are_read_as_spelled();
         self.bytes
     }
 

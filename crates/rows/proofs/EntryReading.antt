@@ -1,6 +1,7 @@
 -- An entry at the front of bytes: what is read is spelled so, and what is spelled so is read.
 use Rattle.std.proofs.Common.{◌≡◌, ℕ, ◌+◌, ◌^◌, ◌<◌, ◌≤◌, ◌⊎◌, inl, inr, Bool, true, false, cond, eqb, ltb, not, ◌||◌, List, ◌∷◌, ◌++◌}
 use Rattle.std.proofs.Common.{length, get_or, take, drop, Option, Some, None, refl, sym, ap, subst, ◌∙◌, arith}
+use Rattle.std.specs.Option.{option_map, IfSome}
 use Rattle.std.proofs.lemmas.Bool.{ltb-false, le-ltb, eqb-true, cond-false}
 use Rattle.std.proofs.lemmas.Bool.Decides.{nat_tests}
 use Rattle.std.proofs.lemmas.List.{length-take, length-drop, length-append, take-append-drop, drop-drop, take_at}
@@ -9,12 +10,17 @@ use Rattle.byteorder.specs.Numbers.{big_number-reads_back}
 use Rattle.rows.specs.declared.entry.Entry.{Entry}
 use Rattle.rows.specs.declared.entry.Entry.TheVariants.{Insert, Patch, Delete}
 use Rattle.rows.specs.declared.limits.TheConstants.{TABLES_MAX, ROW_WIDTH_MAX, OCTETS_MAX}
-use Rattle.rows.specs.Reading.{entry_at, entry_behind, insert_at, patch_at}
+use Rattle.rows.specs.declared.entry_ref.EntryRef.{EntryRef}
+use Rattle.rows.specs.Reading.{entry_at, entry_behind, insert_at, patch_at, seen, IsSpelledAt}
+use Rattle.rows.specs.Laws.{FoundIsSpelled, SpelledIsFound}
 use Rattle.rows.specs.Spelling.{AreBytes, HasSpelling, entry_front, entry_spelling}
-use Rattle.wire.proofs.Passing.{guarded}
-use Rattle.wire.proofs.Bytes.{AreBytes-drop, AreBytes-take, cut_1, cut_2, cut_8, number_fits}
+use Rattle.rows.proofs.Bytes.{AreBytes-drop, AreBytes-take, cut_1, cut_2, cut_8, number_fits}
 
 -- ---- what the tests of an entry let through
+
+guarded : {A : Type 0} (b : Bool) (o : Option A) (y : A) → cond b None o ≡ Some y → (b ≡ false) × (o ≡ Some y)
+guarded true o y e = absurd cc
+guarded false o y e = (refl, e)
 
 abbrev insert_of : ℕ → ℕ → List ℕ → Entry × ℕ
 insert_of table row rest = (Insert table (record { 0 = row }) (take (big_number 2 rest) (drop 2 rest)), 12 + big_number 2 rest)
@@ -110,7 +116,7 @@ entry_at-only bytes found e =
     (ltb-false _ _ tested.0, grind (arith, nat_tests), by_op-only op table row (drop 10 bytes) found known.1)
 
 -- what an entry takes is there
-pub entry_at-within : (bytes : List ℕ) (found : Entry × ℕ) → entry_at bytes ≡ Some found → found.1 ≤ length bytes
+entry_at-within : (bytes : List ℕ) (found : Entry × ℕ) → entry_at bytes ≡ Some found → found.1 ≤ length bytes
 entry_at-within bytes found e =
     let only = entry_at-only bytes found e in
     let rest = drop 10 bytes in
@@ -124,9 +130,9 @@ entry_at-within bytes found e =
 
 -- ---- what is read is spelled so
 
-pub record IsSpelledAt (bytes : List ℕ) (found : Entry × ℕ) : Type 0 where
+record IsSpelledHere (bytes : List ℕ) (found : Entry × ℕ) : Type 0 where
   pub spelled : HasSpelling found.0
-  pub parts : bytes ≡ entry_spelling found.0 ++ drop found.1 bytes
+  pub front : bytes ≡ entry_spelling found.0 ++ drop found.1 bytes
 
 -- data behind its size in two bytes
 sized_data : (k : ℕ) (rest : List ℕ) → k + 2 ≤ length rest → AreBytes rest → big_number 2 (drop k rest) ≤ length (drop (k + 2) rest)
@@ -152,14 +158,14 @@ behind_front op table row n size rest is =
 
 module _ (table row : ℕ) (rest : List ℕ) (found : Entry × ℕ) (below : table < TABLES_MAX) (row_below : row < 2 ^ 64)
     (fits : AreBytes rest) where
-  insert-spelled : IsInsertAt table row rest found → IsSpelledAt (entry_front 1 table row ++ rest) found
+  insert-spelled : IsInsertAt table row rest found → IsSpelledHere (entry_front 1 table row ++ rest) found
   insert-spelled is =
       let size = big_number 2 rest in
       let content = take size (drop 2 rest) in
       let whole = sized_data 0 rest is.long fits is.within in
       let behind : drop (12 + size) (entry_front 1 table row ++ rest) ≡ drop (2 + size) rest =
       behind_front 1 table row (12 + size) (2 + size) rest (omega arith) in
-      let made : IsSpelledAt (entry_front 1 table row ++ rest) (insert_of table row rest) = record {
+      let made : IsSpelledHere (entry_front 1 table row ++ rest) (insert_of table row rest) = record {
         spelled =
             record {
               table_below = below;
@@ -168,21 +174,21 @@ module _ (table row : ℕ) (rest : List ℕ) (found : Entry × ℕ) (below : tab
               few = omega (arith, is.few, whole.0);
               are_bytes = AreBytes-take size (drop 2 rest) (AreBytes-drop 2 rest fits);
             };
-        parts = rw behind (ap (λ (t : List ℕ). entry_front 1 table row ++ t) whole.1);
+        front = rw behind (ap (λ (t : List ℕ). entry_front 1 table row ++ t) whole.1);
       } in
-      subst (IsSpelledAt (entry_front 1 table row ++ rest)) is.same made
+      subst (IsSpelledHere (entry_front 1 table row ++ rest)) is.same made
 
-  patch-spelled : IsPatchAt table row rest found → IsSpelledAt (entry_front 2 table row ++ rest) found
+  patch-spelled : IsPatchAt table row rest found → IsSpelledHere (entry_front 2 table row ++ rest) found
   patch-spelled is =
       let offset = big_number 2 rest in
       let size = big_number 2 (drop 2 rest) in
       let content = take size (drop 4 rest) in
       let whole = sized_data 2 rest is.long fits is.within in
-      let front : rest ≡ big_bytes 2 offset ++ (big_bytes 2 (length content) ++ (content ++ drop (4 + size) rest)) =
+      let whole_rest : rest ≡ big_bytes 2 offset ++ (big_bytes 2 (length content) ++ (content ++ drop (4 + size) rest)) =
       sym (cut_2 0 rest (omega (arith, is.long)) fits) ∙ ap (λ (t : List ℕ). big_bytes 2 offset ++ t) whole.1 in
       let behind : drop (14 + size) (entry_front 2 table row ++ rest) ≡ drop (4 + size) rest =
       behind_front 2 table row (14 + size) (4 + size) rest (omega arith) in
-      let made : IsSpelledAt (entry_front 2 table row ++ rest) (patch_of table row rest) = record {
+      let made : IsSpelledHere (entry_front 2 table row ++ rest) (patch_of table row rest) = record {
         spelled =
             record {
               table_below = below;
@@ -192,18 +198,18 @@ module _ (table row : ℕ) (rest : List ℕ) (found : Entry × ℕ) (below : tab
               within = omega (arith, is.inside, whole.0);
               are_bytes = AreBytes-take size (drop 4 rest) (AreBytes-drop 4 rest fits);
             };
-        parts = rw behind (ap (λ (t : List ℕ). entry_front 2 table row ++ t) front);
+        front = rw behind (ap (λ (t : List ℕ). entry_front 2 table row ++ t) whole_rest);
       } in
-      subst (IsSpelledAt (entry_front 2 table row ++ rest)) is.same made
+      subst (IsSpelledHere (entry_front 2 table row ++ rest)) is.same made
 
-  delete-spelled : delete_of table row ≡ found → IsSpelledAt (entry_front 3 table row ++ rest) found
+  delete-spelled : delete_of table row ≡ found → IsSpelledHere (entry_front 3 table row ++ rest) found
   delete-spelled same =
-      let made : IsSpelledAt (entry_front 3 table row ++ rest) (delete_of table row) =
-      record { spelled = record { table_below = below; row_below = row_below }; parts = refl } in
-      subst (IsSpelledAt (entry_front 3 table row ++ rest)) same made
+      let made : IsSpelledHere (entry_front 3 table row ++ rest) (delete_of table row) =
+      record { spelled = record { table_below = below; row_below = row_below }; front = refl } in
+      subst (IsSpelledHere (entry_front 3 table row ++ rest)) same made
 
-pub entry_at-spelled : (bytes : List ℕ) (found : Entry × ℕ) → AreBytes bytes → entry_at bytes ≡ Some found → IsSpelledAt bytes found
-entry_at-spelled bytes found fits e =
+spelled_here : (bytes : List ℕ) (found : Entry × ℕ) → AreBytes bytes → entry_at bytes ≡ Some found → IsSpelledHere bytes found
+spelled_here bytes found fits e =
     let op = get_or bytes 0 0 in
     let table = get_or bytes 1 0 in
     let row = big_number 8 (drop 2 bytes) in
@@ -217,14 +223,32 @@ entry_at-spelled bytes found fits e =
     ap (λ (t : List ℕ). op ∷ table ∷ t) at_2 ∙ ap (λ (t : List ℕ). op ∷ t) at_1 ∙ at_0 in
     let row_below : row < 2 ^ 64 = number_fits 8 2 bytes fits in
     let rest_fits = AreBytes-drop 10 bytes fits in
-    let at : (n : ℕ) → op ≡ n → IsSpelledAt (entry_front n table row ++ rest) found → IsSpelledAt bytes found =
-    λ n is spelled. subst (λ (t : List ℕ). IsSpelledAt t found)
+    let at : (n : ℕ) → op ≡ n → IsSpelledHere (entry_front n table row ++ rest) found → IsSpelledHere bytes found =
+    λ n is spelled. subst (λ (t : List ℕ). IsSpelledHere t found)
     (ap (λ (o : ℕ). entry_front o table row ++ rest) (sym is) ∙ front) spelled in
     elim only.2 [
       | inl h ↦ at 1 h.0 (insert-spelled table row rest found only.1 row_below rest_fits h.1)
       | inr (inl h) ↦ at 2 h.0 (patch-spelled table row rest found only.1 row_below rest_fits h.1)
       | inr (inr h) ↦ at 3 h.0 (delete-spelled table row rest found only.1 row_below rest_fits h.1)
     ]
+
+pub entry_at-spelled : FoundIsSpelled
+entry_at-spelled bytes found fits e =
+    let here = spelled_here bytes found fits e in
+    let within = entry_at-within bytes found e in
+    let joined = ap length here.front in
+    record {
+      spelled = here.spelled;
+      size =
+          omega (arith, joined, within, length-append (entry_spelling found.0) (drop found.1 bytes), length-drop found.1 bytes);
+      front = here.front;
+    }
+
+-- the same of what a reader found
+pub found-spelled : (bytes : List ℕ) (result : Option (EntryRef × ℕ)) → AreBytes bytes → option_map seen result ≡ entry_at bytes
+    → IfSome result (λ found. IsSpelledAt bytes (seen found))
+found-spelled bytes None fits is = tt
+found-spelled bytes (Some found) fits is = entry_at-spelled bytes (seen found) fits (sym is)
 
 -- ---- what is spelled so is read, whatever stands behind it
 
@@ -267,8 +291,7 @@ patch_at-again table row offset content rest some few within =
     let whole = take_at content rest (length content) refl in
     rw (short, offset_is, size_is, tested, whole) refl
 
-pub entry_at-again : (entry : Entry) (rest : List ℕ) → HasSpelling entry
-    → entry_at (entry_spelling entry ++ rest) ≡ Some (entry, length (entry_spelling entry))
+pub entry_at-again : SpelledIsFound
 entry_at-again (Insert table row content) rest fits =
     front-again 1 table row.0 (big_bytes 2 (length content) ++ (content ++ rest)) fits.table_below fits.row_below
     ∙ insert_at-again table row.0 content rest fits.some fits.few
