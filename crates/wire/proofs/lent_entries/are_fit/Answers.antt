@@ -13,7 +13,7 @@ pub unreachable-requires : goal.unreachable-requires
 unreachable-requires c =
     passed_none (λ (entry : Entry). is_ok (fitting (shape_of c.args.schema.now) entry)) c.args.count c.loop.counter c.loop.rest.now
     (list_all (λ (entry : Entry). is_ok (fitting (shape_of c.args.schema.now) entry))
-    (or_none (entries_filling c.args.count c.args.bytes.now))) c.loop-test.true (sym c.in-None.ensures) c.loop.invariant
+    (or_none (entries_filling c.args.count c.args.bytes.now))) c.loop-test.true (sym c.in-None.ensures.exact) c.loop.invariant
 
 pub returns-then-is_err : goal.returns-then-is_err
 returns-then-is_err c =
@@ -22,7 +22,7 @@ returns-then-is_err c =
     passed_not (λ (entry : Entry). is_ok (fitting (shape_of c.args.schema.now) entry)) c.args.count c.loop.counter c.loop.rest.now
     (seen (c.in-Some.entry, c.in-Some.len))
     (list_all (λ (entry : Entry). is_ok (fitting (shape_of c.args.schema.now) entry))
-    (or_none (entries_filling c.args.count c.args.bytes.now))) c.loop-test.true (sym c.in-Some.ensures) fails c.loop.invariant
+    (or_none (entries_filling c.args.count c.args.bytes.now))) c.loop-test.true (sym c.in-Some.ensures.exact) fails c.loop.invariant
 
 pub loop-preserved : goal.loop-preserved
 loop-preserved c =
@@ -31,4 +31,4 @@ loop-preserved c =
     rw c.split_at.ensures.back (passed_more (λ (entry : Entry). is_ok (fitting (shape_of c.args.schema.now) entry)) c.args.count
     c.loop.counter c.loop.rest.now (seen (c.in-Some.entry, c.in-Some.len))
     (list_all (λ (entry : Entry). is_ok (fitting (shape_of c.args.schema.now) entry))
-    (or_none (entries_filling c.args.count c.args.bytes.now))) c.loop-test.true (sym c.in-Some.ensures) passes c.loop.invariant)
+    (or_none (entries_filling c.args.count c.args.bytes.now))) c.loop-test.true (sym c.in-Some.ensures.exact) passes c.loop.invariant)
