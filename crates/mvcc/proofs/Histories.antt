@@ -56,8 +56,11 @@ chain-newest shape t r before was (commit ∷ commits) last =
         (last_where (writes t r) (before + 1) commits == 0) last (last_where (writes t r) (before + 1) commits))
         → newest_from last (cond b (record { version = before + 1; values = row_after shape t r commit.entries was } ∷ []) []
         ++ chain_behind shape t r (before + 1) (row_after shape t r commit.entries was) commits)
-        ≡ cond (cond (last_where (writes t r) (before + 1) commits == 0) (cond b (before + 1) 0) (last_where (writes t r) (before + 1) commits) == 0)
-        last (cond (last_where (writes t r) (before + 1) commits == 0) (cond b (before + 1) 0) (last_where (writes t r) (before + 1) commits))
+        ≡ cond
+        (cond (last_where (writes t r) (before + 1) commits == 0) (cond b (before + 1) 0) (last_where (writes t r) (before + 1) commits)
+        == 0)
+        last
+        (cond (last_where (writes t r) (before + 1) commits == 0) (cond b (before + 1) 0) (last_where (writes t r) (before + 1) commits))
     by true rest = rest (before + 1) ∙ grind (arith, nat_tests)
     by false rest = rest last ∙ grind (arith, nat_tests)
 
@@ -66,8 +69,8 @@ newest-le t r before [] = omega arith
 newest-le t r before (commit ∷ commits) = by (writes t r commit) (newest-le t r (before + 1) commits)
   where
     by : (b : Bool) → last_where (writes t r) (before + 1) commits ≤ before + 1 + length commits
-        → cond (last_where (writes t r) (before + 1) commits == 0) (cond b (before + 1) 0) (last_where (writes t r) (before + 1) commits) ≤ before + suc
-        (length commits)
+        → cond (last_where (writes t r) (before + 1) commits == 0) (cond b (before + 1) 0) (last_where (writes t r) (before + 1) commits)
+        ≤ before + suc (length commits)
     by true h = grind (arith, nat_tests)
     by false h = grind (arith, nat_tests)
 

@@ -111,7 +111,8 @@ impl Transaction {
         ensures ok { OnOk result
             (insert_answer (shape_of versions.now.schema) versions.now.commits self.old table row.0 values.now ≡ Ok self.new) }
         ensures refused { IfErr result (λ fault. (self.new ≡ self.old)
-            × IsFaultOf (insert_answer (shape_of versions.now.schema) versions.now.commits self.old table row.0 values.now) TxFault.Memory fault) }
+            × IsFaultOf (insert_answer (shape_of versions.now.schema) versions.now.commits self.old table row.0 values.now)
+            TxFault.Memory fault) }
     {
         if !matches_table(values, self.kinds(versions, table)) {
             return Err(TxFault::Unfit);
@@ -147,7 +148,8 @@ impl Transaction {
         ensures ok { OnOk result
             (set_answer (shape_of versions.now.schema) versions.now.commits self.old table row.0 column value ≡ Ok self.new) }
         ensures refused { IfErr result (λ fault. (self.new ≡ self.old)
-            × IsFaultOf (set_answer (shape_of versions.now.schema) versions.now.commits self.old table row.0 column value) TxFault.Memory fault) }
+            × IsFaultOf (set_answer (shape_of versions.now.schema) versions.now.commits self.old table row.0 column value)
+            TxFault.Memory fault) }
     {
         let Some(offset) = self.offset_for(versions, table, column, &value) else {
             return Err(TxFault::Unfit);

@@ -17,14 +17,16 @@ use Rattle.primary.specs.RowsTold.{Told, there_in, IsToldAfter}
 pub defined_at_push : (versions : History) (version : ℕ) (before : List Entry) (entry : Entry) → defined_at versions version before ≡ true
     → defined_at versions version (before ++ entry ∷ [])
     ≡ (is_ok (fitting (shape_of versions.schema) entry)
-    && stands_for entry (is_there_after (table_of entry) (row_of entry) before (is_row_at (tables_at versions version) (table_of entry) (row_of entry))))
+    && stands_for entry (is_there_after (table_of entry) (row_of entry) before
+    (is_row_at (tables_at versions version) (table_of entry) (row_of entry))))
 defined_at_push versions version before entry h = defined_behind (shape_of versions.schema) versions.commits version before entry h
 
 -- the next entry is defined behind those before it where it fits, and its row stands as it needs it
 pub defined-more : (versions : History) (version : ℕ) (entries : List Entry) (i : ℕ) (entry : Entry) (there : Bool) → i < length entries
     → entry ≡ get_or entries i entry
     → defined_at versions version (take i entries) ≡ true
-    → there ≡ is_there_after (table_of entry) (row_of entry) (take i entries) (is_row_at (tables_at versions version) (table_of entry) (row_of entry))
+    → there ≡ is_there_after (table_of entry) (row_of entry) (take i entries)
+    (is_row_at (tables_at versions version) (table_of entry) (row_of entry))
     → defined_at versions version (take (i + 1) entries) ≡ (is_ok (fitting (shape_of versions.schema) entry) && stands_for entry there)
 defined-more versions version entries i entry there h e defined is_there =
     let front : take (i + 1) entries ≡ take i entries ++ entry ∷ [] =
@@ -37,7 +39,8 @@ defined-more versions version entries i entry there h e defined is_there =
 pub not_defined-more : (versions : History) (version : ℕ) (entries : List Entry) (i : ℕ) (entry : Entry) (there : Bool) → i < length entries
     → entry ≡ get_or entries i entry
     → defined_at versions version (take i entries) ≡ true
-    → there ≡ is_there_after (table_of entry) (row_of entry) (take i entries) (is_row_at (tables_at versions version) (table_of entry) (row_of entry))
+    → there ≡ is_there_after (table_of entry) (row_of entry) (take i entries)
+    (is_row_at (tables_at versions version) (table_of entry) (row_of entry))
     → false ≡ (is_ok (fitting (shape_of versions.schema) entry) && stands_for entry there) → false ≡ defined_at versions version entries
 not_defined-more versions version entries i entry there h e defined is_there none =
     let tables = tables_at versions version in
@@ -50,7 +53,8 @@ not_defined-more versions version entries i entry there h e defined is_there non
 pub told-there : (versions : History) (version : ℕ) (entries : List Entry) (told : Told) (entry : Entry) (there : Bool)
     → IsToldAfter versions version entries told
     → there ≡ there_in told (table_of entry) (row_of entry) (is_row_at (tables_at versions version) (table_of entry) (row_of entry))
-    → there ≡ is_there_after (table_of entry) (row_of entry) entries (is_row_at (tables_at versions version) (table_of entry) (row_of entry))
+    → there ≡ is_there_after (table_of entry) (row_of entry) entries
+    (is_row_at (tables_at versions version) (table_of entry) (row_of entry))
 told-there versions version entries told entry there are is_there = is_there ∙ are.each (table_of entry) (row_of entry)
 
 -- the spellings of those before the next entry, and its own

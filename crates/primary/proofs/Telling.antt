@@ -45,7 +45,8 @@ told-more versions version entries i entry there before after h e told was_there
         let table : table_of entry ≡ t = eqb-true (table_of entry) t parts.0 in
         let row : row_of entry ≡ r = eqb-true (row_of entry) r parts.1 in
         let same : there_in before (table_of entry) (row_of entry)
-        (is_row_at (tables_at versions version) (table_of entry) (row_of entry)) ≡ there_in before t r (is_row_at (tables_at versions version) t r) =
+        (is_row_at (tables_at versions version) (table_of entry) (row_of entry))
+        ≡ there_in before t r (is_row_at (tables_at versions version) t r) =
         ap (λ t. there_in before t (row_of entry) (is_row_at (tables_at versions version) t (row_of entry))) table
         ∙ ap (λ r. there_in before t r (is_row_at (tables_at versions version) t r)) row in
         ap (left_by entry) (was_there ∙ same)

@@ -7,7 +7,7 @@ ghost use Rattle.rows.specs.Faults.{IsFaultOf};
 ghost use Rattle.rows.specs.Shape.{shape_of};
 ghost use Rattle.rows.specs.Commits.{IsLegal};
 ghost use Rattle.mvcc.specs.History.{defined_at};
-ghost use Rattle.primary.specs.Places.{ArePlaces};
+ghost use Rattle.primary.specs.StreamNumbers.{AreStreams};
 ghost use Rattle.primary.specs.State.{Primary};
 ghost use Rattle.primary.specs.Primary.{started, commit_answer, committed, flushed};
 ghost use Rattle.primary.specs.Sending.{pushed, head_for, answers};
@@ -18,8 +18,8 @@ ghost use Rattle.primary.specs.Journal.{records_from};
 use crate::faults::{CommitFault, FlushFault};
 use crate::journal::{header_bytes, records};
 use crate::judging::judge;
-use crate::places::Places;
 use crate::sending::{counts, frame_packet};
+use crate::stream_numbers::StreamNumbers;
 use crate::ticket::Ticket;
 use mvcc::{Transaction, Versions};
 use rows::{Commit, Entry, EntryList, Schema};
@@ -35,7 +35,7 @@ use wire::{Datagram, Out, Packet, To, read};
 pub struct PrimaryCore {
     alloc: Global,
     versions: Versions,
-    places: Places,
+    streams: StreamNumbers,
     durable: usize,
     workers: u8,
     failed: bool,
@@ -51,7 +51,7 @@ impl Model for PrimaryCore {
 
     ghost view = { λ p. primary_of p.versions p.durable p.workers p.failed };
 
-    ghost invariant = { λ p. IsCore p.versions p.places p.durable p.workers p.journal.items };
+    ghost invariant = { λ p. IsCore p.versions p.streams p.durable p.workers p.journal.items };
 }
 
 impl PrimaryCore {
@@ -65,7 +65,7 @@ impl PrimaryCore {
         Ok(PrimaryCore {
             alloc,
             versions: Versions::new(alloc, schema)?,
-            places: Places::start(alloc, workers)?,
+            streams: StreamNumbers::start(alloc, workers)?,
             durable: 0,
             workers,
             failed: false,
@@ -136,7 +136,7 @@ impl PrimaryCore {
         let kept = keep(
             self.alloc,
             &mut self.versions,
-            &mut self.places,
+            &mut self.streams,
             worker,
             transaction.entries(),
         );
@@ -177,14 +177,14 @@ impl PrimaryCore {
         }
     }
 
-    /// The packet of place `seq` of the worker's stream of the durable list, where the stream
-    /// has that place. Takes no memory.
+    /// The packet of that `seq` of the worker's stream of the durable list, where the stream has
+    /// it. Takes no memory.
     pub fn push(&self, worker: u8, seq: u64) -> Option<Packet>
         requires { worker < self.now.workers }
         ensures { result ≡ pushed self.now worker seq }
     {
         let durable = self.durable as u64;
-        frame_packet(&self.versions, &self.places, durable, worker, seq)
+        frame_packet(&self.versions, &self.streams, durable, worker, seq)
     }
 
     /// What the primary sends for bytes that came: to an Ask, one Head with what is durable and
@@ -223,7 +223,7 @@ impl PrimaryCore {
             boot,
             request,
             version,
-            counts: counts(&self.places, version, self.workers),
+            counts: counts(&self.streams, version, self.workers),
         };
         Out {
             to: To::Replica(replica),
@@ -232,21 +232,22 @@ impl PrimaryCore {
     }
 }
 
-/// Adds the next commit, of these entries, to the versions and to the places. All memory is taken
-/// before anything changes: fails for want of memory alone, and then no commit has been added.
+/// Adds the next commit, of these entries, to the versions and to its worker's numbers. All memory
+/// is taken before anything changes: fails for want of memory alone, and then no commit has been
+/// added.
 fn keep(
     alloc: Global,
     versions: &mut Versions,
-    places: &mut Places,
+    streams: &mut StreamNumbers,
     worker: u8,
     entries: &[Entry],
 ) -> Result<(), AllocError>
     requires defined { defined_at versions.old (length versions.old.commits) entries.now ≡ true }
     requires numbered { length versions.old.commits + 1 < 2 ^ 64 }
-    requires there { worker < length places.old }
-    requires placed { ArePlaces places.old versions.old.commits }
-    ensures workers { length places.new ≡ length places.old }
-    ensures placed { ArePlaces places.new versions.new.commits }
+    requires there { worker < length streams.old }
+    requires listed { AreStreams streams.old versions.old.commits }
+    ensures workers { length streams.new ≡ length streams.old }
+    ensures listed { AreStreams streams.new versions.new.commits }
     ensures ok { OnOk result
         (versions.new ≡ record versions.old { commits = versions.old.commits ++ record { worker = worker; entries = entries.now } ∷ [] }) }
     ensures err { OnErr result (versions.new ≡ versions.old) }
@@ -255,10 +256,10 @@ fn keep(
         worker,
         entries: copied(alloc, entries)?,
     };
-    places.reserve(worker)?;
+    streams.reserve(worker)?;
     let number = versions.len() + 1;
     versions.absorb(&commit)?;
-    places.add(worker, number);
+    streams.add(worker, number);
     Ok(())
 }
 

@@ -14,7 +14,8 @@ returns-then-not-is_defined-clause-answer c =
     not_defined-more versions c.args.version c.args.entries.now c.loop-index.index entry c.is_row_there_after-there.result
     c.loop-index-test.true c.index-entries-index.is c.loop-index.invariant.defined
     (c.is_row_there_after-there.ensures
-    ∙ ap (λ before. is_there_after (table_of entry) (row_of entry) before (is_row_at (tables_at versions c.args.version) (table_of entry) (row_of entry)))
+    ∙ ap (λ before. is_there_after (table_of entry) (row_of entry) before
+    (is_row_at (tables_at versions c.args.version) (table_of entry) (row_of entry)))
     c.split_at.ensures.front) c.if-not-is_defined.ensures.answer
 
 pub loop-index-preserved : goal.loop-index-preserved
@@ -26,7 +27,8 @@ loop-index-preserved c =
           defined-more versions c.args.version c.args.entries.now c.loop-index.index entry c.is_row_there_after-there.result
           c.loop-index-test.true c.index-entries-index.is c.loop-index.invariant.defined
           (c.is_row_there_after-there.ensures
-          ∙ ap (λ before. is_there_after (table_of entry) (row_of entry) before (is_row_at (tables_at versions c.args.version) (table_of entry) (row_of entry)))
+          ∙ ap (λ before. is_there_after (table_of entry) (row_of entry) before
+          (is_row_at (tables_at versions c.args.version) (table_of entry) (row_of entry)))
           c.split_at.ensures.front)
           ∙ sym c.if-not-is_defined.ensures.answer;
       spelled =

@@ -20,8 +20,8 @@ invariant_of-self c =
       numbered = kept.numbered;
       each = kept.each;
       kept = kept.kept;
-      all_placed = kept.all_placed;
-      placed = kept.placed;
+      all_listed = kept.all_listed;
+      listed = kept.listed;
       text =
           moved_text inside.workers (shape_of inside.versions.schema) inside.versions.commits c.commits.result.now inside.durable
           c.min-moved.result inside.journal.items c.append.new.journal.items

@@ -1,7 +1,7 @@
 -- Each list so far is empty.
 use Rattle.std.proofs.Common.{◌≡◌, ℕ, [], length}
-use Rattle.primary.specs.Places.{numbers_at}
-use Rattle.primary.proofs.places.Places.start.Given as goal
+use Rattle.primary.specs.StreamNumbers.{numbers_at}
+use Rattle.primary.proofs.stream_numbers.StreamNumbers.start.Given as goal
 
 abbrev pub invariant-loop : goal.invariant-loop
 invariant-loop l = record {
