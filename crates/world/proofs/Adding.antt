@@ -1,5 +1,6 @@
 -- A change of a transaction that is taken adds one entry, and its row stands as the entry needs it.
-use Rattle.std.proofs.Common.{◌≡◌, ℕ, ◌<◌, Bool, true, false, cond, not, List, [], ◌∷◌, ◌++◌, length, Ok, Err, nat_lt, refl, sym, ap, subst, ◌∙◌}
+use Rattle.std.proofs.Common.{◌≡◌, ℕ, ◌<◌, Bool, true, false, cond, not, List, [], ◌∷◌, ◌++◌, length, Ok, Err, nat_lt, refl, sym, ap}
+use Rattle.std.proofs.Common.{subst, ◌∙◌}
 use Rattle.std.specs.List.{slice_get}
 use Rattle.std.specs.Option.{is_some}
 use Rattle.std.proofs.lemmas.Bool.{ltb-true}
@@ -15,7 +16,8 @@ use Rattle.mvcc.specs.declared.faults.TxFault.TheVariants.{Exists, Missing, Unfi
 use Rattle.mvcc.specs.declared.transaction.TheConstants.{TRANSACTION_ENTRIES_MAX}
 use Rattle.mvcc.specs.Draft.{Draft}
 use Rattle.mvcc.proofs.Seen.{seen-shape}
-use Rattle.mvcc.specs.Transactions.{match_table, match_column, column_kind, column_offset, seen_shape, sees, draft_with, insert_answer, set_answer}
+use Rattle.mvcc.specs.Transactions.{match_table, match_column, column_kind, column_offset, seen_shape, sees, draft_with, insert_answer}
+use Rattle.mvcc.specs.Transactions.{set_answer}
 use Rattle.mvcc.specs.Transactions.{delete_answer}
 
 -- the transaction with this entry behind its others
@@ -72,7 +74,8 @@ module _ (shape : Shape) (commits : List Commit) (draft : Draft) (table row : �
       entry : Entry
       entry = Patch table (record { 0 = row }) (column_offset (seen_shape shape commits draft) table column) (value_bytes value)
 
-      by : (a b : Bool) → match_column value (column_kind (seen_shape shape commits draft) table column) ≡ a → sees shape commits draft table row ≡ b
+      by : (a b : Bool) → match_column value (column_kind (seen_shape shape commits draft) table column) ≡ a
+          → sees shape commits draft table row ≡ b
           → cond (not a) (Err Unfit) (cond (not b) (Err Missing) (draft_with draft entry)) ≡ Ok new
           → (match_column value (column_kind shape table column) ≡ true)
           × IsAdded shape commits draft (Patch table (record { 0 = row }) (column_offset shape table column) (value_bytes value)) new

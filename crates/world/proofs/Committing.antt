@@ -114,7 +114,8 @@ pub record IsTaken (p : Primary) (draft : Draft) : Type 0 where
 
 pub commit-taken : (p : Primary) (draft : Draft) (number : ℕ) → commit_answer p draft ≡ Ok number → IsTaken p draft
 commit-taken p draft number h =
-    by p.failed (length draft.entries == 0) (is_foreign p draft) (nat_lt draft.snapshot (last_touching draft.entries 0 (p.durable ++ p.pending)))
+    by p.failed (length draft.entries == 0) (is_foreign p draft)
+    (nat_lt draft.snapshot (last_touching draft.entries 0 (p.durable ++ p.pending)))
     (nat_lt (next_number p) (2 ^ 64)) refl refl h
   where
     by : (a b c d e : Bool) → (length draft.entries == 0) ≡ b → nat_lt (next_number p) (2 ^ 64) ≡ e

@@ -164,7 +164,8 @@ datagram-takes durable shape workers members i m here is (Ok (datagrams.Want rep
 bytes-serve : (w : World) (event : Event) (bytes : List ℕ) (i : ℕ) (found : Option Member) → Fresh w → slice_get w.members i ≡ found
     → IsFreshReading w.primary.durable w.members (reading bytes)
     → Serves w event (on_member w found
-    (λ m. cond m.broken (outputs.Broken, w) (member_output w (datagram_happens (shape_of w.primary.schema) w.primary.workers m (reading bytes)))))
+    (λ m. cond m.broken (outputs.Broken, w)
+    (member_output w (datagram_happens (shape_of w.primary.schema) w.primary.workers m (reading bytes)))))
 bytes-serve w event bytes i None h here told = quiet w event (outputs.Ignored, w) h tt
 bytes-serve w event bytes i (Some m) h here told = by m.broken
   where

@@ -38,7 +38,8 @@ open-serves : (w : World) (event : Event) (plan : Plan) (i : ℕ) (found : Optio
     (cond (nat_le WAITING_QUERIES_MAX (length m.waiting)) (outputs.BatchFull, w)
     (open_happens w m plan (checked (shape_of w.primary.schema) plan)))))
 open-serves w event plan i None h here = quiet w event (outputs.Ignored, w) h tt
-open-serves w event plan i (Some m) h here = by m.broken (nat_le WAITING_QUERIES_MAX (length m.waiting)) (checked (shape_of w.primary.schema) plan)
+open-serves w event plan i (Some m) h here = by m.broken (nat_le WAITING_QUERIES_MAX (length m.waiting))
+    (checked (shape_of w.primary.schema) plan)
   where
     by : (a b : Bool) (check : Result (Unit {0}) PlanFault)
         → Serves w event (cond a (outputs.Broken, w) (cond b (outputs.BatchFull, w) (open_happens w m plan check)))
@@ -133,8 +134,11 @@ fetched-serves w i m plans asked_at (Some fetched) h here has = by (lacks_frame 
     batch : Batch
     batch = record { plans = plans; asked_at = asked_at; fetched = Some fetched }
 
-    by : (b : Bool) → Serves w (events.Run i) (cond b (wait_happens w 0 (first_missing m.known) (want_bytes m 0 (first_missing m.known)))
-        (outputs.Report (report_of (tables_after (shape_of w.primary.schema) w.primary.durable fetched.version) fetched.version plans), with_member w (record m { version = fetched.version; batch = None })))
+    by : (b : Bool) → Serves w (events.Run i) (cond b (wait_happens w 0 (first_missing m.known) (want_bytes m 0 (first_missing m.known))) (
+      outputs.Report (report_of (tables_after (shape_of w.primary.schema) w.primary.durable fetched.version) fetched.version
+          plans),
+      with_member w (record m { version = fetched.version; batch = None }),
+    ))
     by true = quiet w (events.Run i) _ (Fresh-sent w (want_bytes m 0 (first_missing m.known) ∷ []) h (tt, tt)) tt
     by false =
         let is = ((h.members_are i m here).batch_is batch has).fetched_is fetched refl in

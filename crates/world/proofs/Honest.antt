@@ -181,7 +181,8 @@ not-foreign p draft begun =
 commit-faultless : (p : Primary) (draft : Draft) (fault : CommitFault) → p.failed ≡ false → is_foreign p draft ≡ false
     → commit_answer p draft ≡ Err fault → IsFaultless (of_commit fault)
 commit-faultless p draft fault whole known h =
-    by p.failed (length draft.entries == 0) (is_foreign p draft) (nat_lt draft.snapshot (last_touching draft.entries 0 (p.durable ++ p.pending)))
+    by p.failed (length draft.entries == 0) (is_foreign p draft)
+    (nat_lt draft.snapshot (last_touching draft.entries 0 (p.durable ++ p.pending)))
     (nat_lt (next_number p) (2 ^ 64)) whole known h
   where
     is : (other : CommitFault) → IsFaultless (of_commit other) → ◌≡◌ {A = Result ℕ CommitFault} (Err other) (Err fault)
@@ -365,8 +366,11 @@ run-fetched : (w : World) (m : Member) (plans : List Plan) (asked_at : ℕ) (fet
 run-fetched w m plans asked_at None = plain w w outputs.WaitingHead refl refl tt
 run-fetched w m plans asked_at (Some fetched) = by (lacks_frame m.known fetched)
   where
-    by : (b : Bool) → IsFine w (cond b (wait_happens w 0 (first_missing m.known) (want_bytes m 0 (first_missing m.known)))
-        (outputs.Report (report_of (tables_after (shape_of w.primary.schema) w.primary.durable fetched.version) fetched.version plans), with_member w (record m { version = fetched.version; batch = None })))
+    by : (b : Bool) → IsFine w (cond b (wait_happens w 0 (first_missing m.known) (want_bytes m 0 (first_missing m.known))) (
+      outputs.Report (report_of (tables_after (shape_of w.primary.schema) w.primary.durable fetched.version) fetched.version
+          plans),
+      with_member w (record m { version = fetched.version; batch = None }),
+    ))
     by true = plain w _ _ refl refl tt
     by false = plain w _ _ refl refl tt
 
@@ -400,7 +404,8 @@ happens-fine w (events.Delete transaction table row) =
     (open_draft w.transactions transaction) refl
     (λ draft new h defined. delete-defined (shape_of w.primary.schema) w.primary.durable draft new defined table row.0 h)
 happens-fine w (events.Get transaction table row column) =
-    look-fine w (λ draft. get_answer (shape_of w.primary.schema) w.primary.durable draft table row.0 column) (open_draft w.transactions transaction)
+    look-fine w (λ draft. get_answer (shape_of w.primary.schema) w.primary.durable draft table row.0 column)
+    (open_draft w.transactions transaction)
 happens-fine w (events.Commit transaction worker) = commit-fine w transaction worker (open_draft w.transactions transaction) refl
 happens-fine w (events.Abort transaction) = abort-fine w transaction (open_draft w.transactions transaction)
 happens-fine w (events.Flush count) = flush-fine w count w.primary.failed refl

@@ -76,7 +76,8 @@ query-opens shape p i plan (Some r) sound here =
     there : Output × World
     there =
         cond r.broken (outputs.Broken, w)
-        (cond (nat_le WAITING_QUERIES_MAX (length r.waiting)) (outputs.BatchFull, w) (open_happens w m plan (checked (shape_of p.primary.schema) plan)))
+        (cond (nat_le WAITING_QUERIES_MAX (length r.waiting)) (outputs.BatchFull, w)
+        (open_happens w m plan (checked (shape_of p.primary.schema) plan)))
 
     fed : IsFed shape p.primary.durable i r
     fed = sound.fed i r here

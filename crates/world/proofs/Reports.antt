@@ -179,6 +179,7 @@ pub run-stands : OfEachRun CoresStand
 run-stands setup todo done run = (
   world-started setup,
   run.end,
-  run-seen (λ (p : Parts). p) (IsCoreStep run.end.primary.durable) _ (λ old event output new step. (step.0.happens, step.1, agree new step.1))
+  run-seen (λ (p : Parts). p) (IsCoreStep run.end.primary.durable) _
+      (λ old event output new step. (step.0.happens, step.1, agree new step.1))
       (parts_started setup) run.end todo done run.steps,
 )

@@ -236,7 +236,8 @@ module _ (w : World) where
   happening (events.Deliver index node) = delivering node (slice_get w.sent index)
   happening (events.Show index) = unchanged _
   happening (events.Open replica plan) =
-      on_members replica (slice_get w.members replica) _ refl (λ m here. opening replica m plan (checked (shape_of w.primary.schema) plan) here)
+      on_members replica (slice_get w.members replica) _ refl
+      (λ m here. opening replica m plan (checked (shape_of w.primary.schema) plan) here)
   happening (events.Ask replica) = on_members replica (slice_get w.members replica) _ refl (λ m here. asking replica m m.batch here)
   happening (events.Run replica) = on_members replica (slice_get w.members replica) _ refl (λ m here. running replica m m.batch here)
 

@@ -37,11 +37,13 @@ use Rattle.world.proofs.Replicas.{Follows-goes}
 -- ---- what a run makes of a replica
 
 -- a batch for which something was fetched waits for nothing
-waits-not : (batch : Option ReplicaBatch) (queries : ReplicaBatch) (fetched : Fetched) → batch ≡ Some queries → queries.fetched ≡ Some fetched
+waits-not : (batch : Option ReplicaBatch) (queries : ReplicaBatch) (fetched : Fetched) → batch ≡ Some queries → queries.fetched
+    ≡ Some fetched
     → awaits_by batch ≡ false
 waits-not batch queries fetched e f = ap awaits_by e ∙ ap is_none f
 
-module _ (shape : Shape) (durable : List Commit) (r : Replica) (queries : ReplicaBatch) (fetched : Fetched) (fed : IsFedFrom shape durable r)
+module _ (shape : Shape) (durable : List Commit) (r : Replica) (queries : ReplicaBatch) (fetched : Fetched)
+    (fed : IsFedFrom shape durable r)
     (can : CanAnswer r queries fetched) where
   -- it stands at the version that was fetched, its batch still there
   caught-goes : Goes shape durable r (caught shape durable fetched r)
@@ -89,7 +91,8 @@ module _ (shape : Shape) (p : Parts) (i : ℕ) (r : Replica) (sound : Sound shap
 
   run-finishes : (queries : ReplicaBatch) (fetched : Fetched) → CanAnswer r queries fetched
       → Follows shape (
-        outputs.Report (report_of (tables_after (shape_of p.primary.schema) p.primary.durable fetched.version) fetched.version queries.plans),
+        outputs.Report (report_of (tables_after (shape_of p.primary.schema) p.primary.durable fetched.version) fetched.version
+            queries.plans),
         with_member (world_of p) (record (member_of (slice_index p.asked_at i) r) { version = fetched.version; batch = None }),
       )
       (run_output p i (finished r queries.plans (caught_up r fetched)))
@@ -101,12 +104,14 @@ module _ (shape : Shape) (p : Parts) (i : ℕ) (r : Replica) (sound : Sound shap
       let text =
       λ (shape : Shape). report_of (tables_after shape durable fetched.version) fetched.version queries.plans in
       let there : Output × World = (
-        outputs.Report (report_of (tables_after (shape_of p.primary.schema) p.primary.durable fetched.version) fetched.version queries.plans),
+        outputs.Report (report_of (tables_after (shape_of p.primary.schema) p.primary.durable fetched.version) fetched.version
+            queries.plans),
         with_member (world_of p) (record (member_of at r) { version = fetched.version; batch = None }),
       ) in
       subst (λ (o : Option Replica). Follows shape there (run_output p i (finished r queries.plans o)))
       (sym (catches-up shape durable r queries fetched fed can))
-      (Follows-goes shape p i r (outputs.Report (text (shape_of p.primary.schema)), member_of at after) (outputs.Report (text shape)) after sound here
+      (Follows-goes shape p i r (outputs.Report (text (shape_of p.primary.schema)), member_of at after)
+      (outputs.Report (text shape)) after sound here
       (ap (λ (s : Shape). (outputs.Report (text s), member_of at after)) sound.primary_is.shape_is)
       (finished-goes shape durable r queries fetched fed can))
 

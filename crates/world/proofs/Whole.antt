@@ -166,7 +166,11 @@ may-follow shape p replicas (events.Run replica) output new tables legal sound p
 -- ---- the beginning
 
 started-fed : (shape : Shape) (number : ℕ) → IsFed shape [] number (started shape 1 number 1)
-started-fed shape number = record { feeding = fresh-fed shape [] number 1 (record { each = tt; defined = refl }); number_is = refl; boot_is = refl }
+started-fed shape number = record {
+  feeding = fresh-fed shape [] number 1 (record { each = tt; defined = refl });
+  number_is = refl;
+  boot_is = refl;
+}
 
 replicas-fed : (shape : Shape) (number count i : ℕ) (r : Replica) → slice_get (replicas_from shape 1 number count) i ≡ Some r
     → IsFed shape [] (number + i) r

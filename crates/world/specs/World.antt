@@ -164,7 +164,8 @@ delivered w bytes nodes.Primary =
     (of_answers (length w.sent) (answers w.primary bytes), record w { sent = w.sent ++ packets_of (answers w.primary bytes) })
 delivered w bytes (nodes.Replica number) =
     on_member w (slice_get w.members number)
-    (λ m. if m.broken then (outputs.Broken, w) else member_output w (datagram_happens (shape_of w.primary.schema) w.primary.workers m (reading bytes)))
+    (λ m. if m.broken then (outputs.Broken, w) else member_output w
+    (datagram_happens (shape_of w.primary.schema) w.primary.workers m (reading bytes)))
 
 abbrev pub deliver_happens : World → Node → Option (List ℕ) → Output × World
 deliver_happens w node None = (outputs.NeverSent, w)
@@ -220,7 +221,8 @@ run_happens w m (Some batch) = on batch.fetched
         if lacks_frame m.known fetched
         then wait_happens w 0 (first_missing m.known) (want_bytes m 0 (first_missing m.known))
         else (
-          outputs.Report (report_of (tables_after (shape_of w.primary.schema) w.primary.durable fetched.version) fetched.version batch.plans),
+          outputs.Report (report_of (tables_after (shape_of w.primary.schema) w.primary.durable fetched.version) fetched.version
+              batch.plans),
           with_member w (record m { version = fetched.version; batch = None }),
         )
 

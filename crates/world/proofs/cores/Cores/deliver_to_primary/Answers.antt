@@ -12,7 +12,8 @@ returns-then-is_empty c =
     let there : c.args.index < length c.self.inside.sent.items = omega arith in
     let at = slice_get_read c.self.inside.sent.items _ c.args.index c.index.result.now refl there c.index.ensures in
     let none : length c.in-Ok.outs.items ≡ 0 = grind (arith, nat_tests) in
-    nothing_sent _ _ c.self.view_is c.args.index c.index.result.now at c.in-Ok.outs.items (rw c.bytes.ensures.bytes at c.in-Ok.ensures.ok) none
+    nothing_sent _ _ c.self.view_is c.args.index c.index.result.now at c.in-Ok.outs.items
+    (rw c.bytes.ensures.bytes at c.in-Ok.ensures.ok) none
 
 pub returns : goal.returns
 returns c =

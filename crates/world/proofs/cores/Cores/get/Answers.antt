@@ -35,7 +35,9 @@ returns-in-Some c =
     let within =
     slot_at (λ (draft : Draft). draft.snapshot ≤ length primary.durable) c.self.inside.transactions.items c.args.number
     draft (sym there) snapshots in
-    let told = sym (get-told (shape_of primary.schema) primary.durable primary.pending draft c.args.table c.args.row.0 within c.args.column) in
+    let told = sym (get-told (shape_of primary.schema) primary.durable primary.pending draft c.args.table c.args.row.0 within
+    c.args.column) in
     rw (c.look_output.ensures, c.get.ensures, c.versions.ensures)
     (looked _ _ c.self.view_is c.args.number (Get c.args.number c.args.table c.args.row c.args.column)
-    (λ draft. get_answer (shape_of primary.schema) primary.durable draft c.args.table c.args.row.0 c.args.column) refl draft _ (sym there) told)
+    (λ draft. get_answer (shape_of primary.schema) primary.durable draft c.args.table c.args.row.0 c.args.column) refl draft _
+    (sym there) told)

@@ -30,7 +30,8 @@ pub returns : goal.returns
 returns c =
     let primary = c.self.inside.primary in
     let event = Insert c.args.number c.args.table c.args.row c.args.values.now in
-    let change = λ (draft : Draft). insert_answer (shape_of primary.schema) primary.durable draft c.args.table c.args.row.0 c.args.values.now in
+    let change = λ (draft : Draft). insert_answer
+    (shape_of primary.schema) primary.durable draft c.args.table c.args.row.0 c.args.values.now in
     let draft = c.in-Some.transaction in
     let after = c.insert-inserted.new.self in
     let there = sym c.take_open.ensures.taken ∙ c.in-Some.is in
@@ -39,7 +40,8 @@ returns c =
     let within : draft.snapshot ≤ length primary.durable =
     slot_at (λ (draft : Draft). draft.snapshot ≤ length primary.durable) c.self.inside.transactions.items c.args.number
     draft there snapshots in
-    let told = sym (insert-told (shape_of primary.schema) primary.durable primary.pending draft c.args.table c.args.row.0 within c.args.values.now) in
+    let told = sym (insert-told (shape_of primary.schema) primary.durable primary.pending draft c.args.table c.args.row.0 within
+    c.args.values.now) in
     elim c.match-inserted.branch [
       | in-Ok w ↦ rw w.result-is (changed _ _ c.self.view_is c.args.number event change refl draft after _ there left
           (told ∙ (rw (c.versions.ensures, c.as_slice-values.ensures) at w.in-Ok.ensures.ok)))

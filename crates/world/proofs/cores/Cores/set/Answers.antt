@@ -30,7 +30,8 @@ pub returns : goal.returns
 returns c =
     let primary = c.self.inside.primary in
     let event = Set c.args.number c.args.table c.args.row c.args.column c.args.value in
-    let change = λ (draft : Draft). set_answer (shape_of primary.schema) primary.durable draft c.args.table c.args.row.0 c.args.column c.args.value in
+    let change = λ (draft : Draft). set_answer
+    (shape_of primary.schema) primary.durable draft c.args.table c.args.row.0 c.args.column c.args.value in
     let draft = c.in-Some.transaction in
     let after = c.set-set.new.self in
     let there = sym c.take_open.ensures.taken ∙ c.in-Some.is in
@@ -40,7 +41,8 @@ returns c =
     slot_at (λ (draft : Draft). draft.snapshot ≤ length primary.durable) c.self.inside.transactions.items c.args.number
     draft there snapshots in
     let told =
-    sym (set-told (shape_of primary.schema) primary.durable primary.pending draft c.args.table c.args.row.0 within c.args.column c.args.value) in
+    sym (set-told (shape_of primary.schema) primary.durable primary.pending draft c.args.table c.args.row.0 within c.args.column
+    c.args.value) in
     elim c.match-set.branch [
       | in-Ok w ↦ rw w.result-is (changed _ _ c.self.view_is c.args.number event change refl draft after _ there left
           (told ∙ (rw (c.versions.ensures) at w.in-Ok.ensures.ok)))

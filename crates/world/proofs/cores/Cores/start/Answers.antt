@@ -7,7 +7,8 @@ use Rattle.world.proofs.cores.Cores.start.Goals as goal
 
 pub loop-number-preserved : goal.loop-number-preserved
 loop-number-preserved c =
-    let next = replicas_left (shape_of c.args.setup.now.schema) c.args.setup.now.workers c.loop-number.number c.args.setup.now.replicas (omega arith) in
+    let next = replicas_left (shape_of c.args.setup.now.schema) c.args.setup.now.workers c.loop-number.number
+    c.args.setup.now.replicas (omega arith) in
     record {
       made = rw (c.in_ok-push.ensures.items, c.in_ok-start.ensures, append_assoc) (rw next at c.loop-number.invariant.made);
       noted =
