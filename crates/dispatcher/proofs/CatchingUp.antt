@@ -1,26 +1,28 @@
--- A replica that is fed from a legal list and lacks no frame catches up with the version that was fetched for its batch.
-use Rattle.std.proofs.Common.{◌≡◌, ℕ, ◌+◌, ◌-◌, ◌≤◌, Bool, true, false, cond, ◌==◌, List, Option, Some, None, slice_index, refl, sym, ap}
-use Rattle.std.proofs.Common.{◌∙◌, arith}
-use Rattle.std.specs.Option.{option_map}
+-- A replica that is fed from a list and lacks no frame catches up with the version that was fetched for its batch.
+use Rattle.std.proofs.Common.{◌≡◌, ℕ, ◌+◌, ◌-◌, ◌≤◌, Bool, true, false, cond, ◌==◌, List, length, take, drop, Option, Some, None, refl}
+use Rattle.std.proofs.Common.{sym, ap, Result, Ok, slice_index, ◌∙◌, arith}
+use Rattle.std.specs.Option.{option_map, option_and_then}
+use Rattle.std.specs.Result.{result_ok}
 use Rattle.std.proofs.lemmas.Bool.{eq-eqb, ltb-false}
+use Rattle.std.proofs.lemmas.List.{length-drop, length-take-le}
 use Rattle.std.proofs.lemmas.Option.{none-some, same_Some}
 use Rattle.rows.specs.declared.commit.Commit.{Commit}
 use Rattle.rows.specs.Shape.{Shape}
-use Rattle.rows.specs.Tables.{Tables}
-use Rattle.rows.specs.Commits.{tables_after, IsLegal}
-use Rattle.dispatcher.specs.declared.plan.Plan.{Plan}
+use Rattle.rows.specs.Tables.{Tables, Refusal}
+use Rattle.rows.specs.Commits.{commits_of, tables_after, IsLegal}
 use Rattle.dispatcher.specs.Feeding.{IsFetchedFrom, IsFedFrom}
 use Rattle.dispatcher.specs.Known.{first_missing}
-use Rattle.dispatcher.specs.Replay.{frames_at, replayed}
-use Rattle.dispatcher.specs.Replica.{Replica, Queries, Fetched}
-use Rattle.dispatcher.specs.Steps.{known, caught_up, is_waiting, ready, ready_by}
+use Rattle.dispatcher.specs.Listing.{frames_at, commits_in}
+use Rattle.dispatcher.specs.Replica.{Replica, Batch, Fetched}
+use Rattle.dispatcher.specs.Steps.{known, caught_up, lacks_frame, unless_lacking, ready_of}
+use Rattle.dispatcher.proofs.Seqs.{is_known-below}
 use Rattle.dispatcher.proofs.Streams.{count-is}
-use Rattle.dispatcher.proofs.Versions.{replayed-known}
+use Rattle.dispatcher.proofs.Versions.{commits-known, commits-between}
 
 -- ---- which replicas can answer
 
 -- a replica that can answer its batch: a version was fetched for it, and no frame below the count at it is missing
-pub record CanAnswer (r : Replica) (batch : Queries) (fetched : Fetched) : Type 0 where
+pub record CanAnswer (r : Replica) (batch : Batch) (fetched : Fetched) : Type 0 where
   pub whole : r.broken ≡ false
   pub there : r.batch ≡ Some batch
   pub has : batch.fetched ≡ Some fetched
@@ -30,27 +32,27 @@ unless : {A : Type 0} (b : Bool) (o : Option A) (x : A) → cond b None o ≡ So
 unless true o x e = absurd (none-some x e)
 unless false o x e = (refl, e)
 
-ready-fetched : (r : Replica) (plans : List Plan) (found : Option Fetched) (fetched : Fetched)
-    → ready_by r (Some (record { plans = plans; fetched = found })) ≡ Some fetched
-    → (found ≡ Some fetched) × (slice_index fetched.counts 0 ≤ first_missing (known r))
-ready-fetched r plans None fetched e = absurd (none-some fetched e)
-ready-fetched r plans (Some found) fetched e =
-    let parts = unless (is_waiting r found) (Some found) fetched e in (
+ready-fetched : (known : List ℕ) (found : Option Fetched) (fetched : Fetched) → unless_lacking known found ≡ Some fetched
+    → (found ≡ Some fetched) × (slice_index fetched.counts 0 ≤ first_missing known)
+ready-fetched known None fetched e = absurd (none-some fetched e)
+ready-fetched known (Some found) fetched e =
+    let parts = unless (lacks_frame known found) (Some found) fetched e in (
       parts.1,
-      ltb-false (first_missing (known r)) (slice_index fetched.counts 0)
-          (ap (is_waiting r) (sym (same_Some found fetched parts.1)) ∙ parts.0),
+      ltb-false (first_missing known) (slice_index fetched.counts 0)
+          (ap (lacks_frame known) (sym (same_Some found fetched parts.1)) ∙ parts.0),
     )
 
-ready-batch : (r : Replica) (batch : Option Queries) (fetched : Fetched) → r.broken ≡ false → r.batch ≡ batch
-    → ready_by r batch ≡ Some fetched → (queries : Queries) × CanAnswer r queries fetched
+ready-batch : (r : Replica) (batch : Option Batch) (fetched : Fetched) → r.broken ≡ false → r.batch ≡ batch
+    → unless_lacking (known r) (option_and_then (λ batch. batch.fetched) batch) ≡ Some fetched
+    → (queries : Batch) × CanAnswer r queries fetched
 ready-batch r None fetched whole there e = absurd (none-some fetched e)
 ready-batch r (Some batch) fetched whole there e =
-    let parts = ready-fetched r batch.plans batch.fetched fetched e in
+    let parts = ready-fetched (known r) batch.fetched fetched e in
     (batch, record { whole = whole; there = there; has = parts.0; complete = parts.1 })
 
-pub ready-parts : (r : Replica) (fetched : Fetched) → ready r ≡ Some fetched → (batch : Queries) × CanAnswer r batch fetched
+pub ready-parts : (r : Replica) (fetched : Fetched) → ready_of r ≡ Some fetched → (batch : Batch) × CanAnswer r batch fetched
 ready-parts r fetched e =
-    let parts = unless r.broken (ready_by r r.batch) fetched e in
+    let parts = unless r.broken (unless_lacking (known r) (option_and_then (λ batch. batch.fetched) r.batch)) fetched e in
     ready-batch r r.batch fetched parts.0 refl parts.1
 
 -- ---- catching up
@@ -61,30 +63,38 @@ caught shape commits fetched r =
     record r { tables = tables_after shape commits fetched.version; version = fetched.version; applied = fetched.version }
 
 -- catching up, by what it looks at
-abbrev caught_by : Replica → ℕ → ℕ → ℕ → Shape → Tables → Option Replica
-caught_by r version count applied shape tables =
-    cond (r.version + (count - applied) == version)
-    (option_map (λ tables. record r { tables = tables; version = version; applied = count })
-    (replayed shape tables r.version (frames_at r.frames applied (count - applied))))
-    None
+abbrev caught_by : Replica → ℕ → ℕ → ℕ → Tables → Option Replica
+caught_by r version count applied tables =
+    option_and_then (λ commits. cond (r.version + length commits == version)
+    (option_map (λ tables. record r { tables = tables; version = version; applied = count }) (result_ok (commits_of tables commits)))
+    None)
+    (commits_in r.version (frames_at r.frames applied (count - applied)))
 
-caught-known : (shape : Shape) (commits : List Commit) (r : Replica) (version : ℕ) → IsLegal shape 1 commits → IsFedFrom shape commits r
-    → r.version ≤ version → version ≤ first_missing (known r)
-    → caught_by r version version r.version shape (tables_after shape commits r.version) ≡ Some
+caught-known : (shape : Shape) (commits : List Commit) (r : Replica) (version : ℕ) → IsFedFrom shape commits r → r.version ≤ version
+    → version ≤ length commits → version ≤ first_missing (known r)
+    → caught_by r version version r.version (tables_after shape commits r.version) ≡ Some
     (record r { tables = tables_after shape commits version; version = version; applied = version })
-caught-known shape commits r version legal fed above all =
+caught-known shape commits r version fed above below all =
     let end : r.version + (version - r.version) ≡ version = omega arith in
     let made = λ (tables : Tables). record r { tables = tables; version = version; applied = version } in
-    let replay = replayed-known shape commits r.frames r.version (version - r.version) legal fed.frames_are (omega arith) in
-    ap (λ (b : Bool). cond b (option_map made
-    (replayed shape (tables_after shape commits r.version) r.version (frames_at r.frames r.version (version - r.version)))) None)
-    (eq-eqb (r.version + (version - r.version)) version end)
-    ∙ ap (option_map made) (replay ∙ ap (λ (v : ℕ). Some (tables_after shape commits v)) end)
+    let between = take (version - r.version) (drop r.version commits) in
+    let within : version - r.version ≤ length (drop r.version commits) = omega (arith, length-drop r.version commits) in
+    let reached : r.version + length between ≡ version =
+    omega (arith, length-take-le (version - r.version) (drop r.version commits) within) in
+    let listed = commits-known commits r.frames r.version (version - r.version) fed.legal.each fed.frames_are
+    (λ k l. is_known-below (length (known r)) 0 k (known r) (omega arith) (omega arith)) in
+    let changed =
+    commits-between shape commits r.version (version - r.version) fed.legal.defined
+    ∙ ap (λ (v : ℕ). Ok (tables_after shape commits v)) end in
+    ap (option_and_then (λ more. cond (r.version + length more == version)
+    (option_map made (result_ok (commits_of (tables_after shape commits r.version) more))) None)) listed
+    ∙ ap (λ (b : Bool). cond b (option_map made (result_ok (commits_of (tables_after shape commits r.version) between))) None)
+    (eq-eqb (r.version + length between) version reached)
+    ∙ ap (λ (changes : Result Tables Refusal). option_map made (result_ok changes)) changed
 
 -- its frame count is its version
-pub applied-version : (shape : Shape) (commits : List Commit) (r : Replica) → IsLegal shape 1 commits → IsFedFrom shape commits r
-    → r.applied ≡ r.version
-applied-version shape commits r legal fed = fed.applied_is ∙ count-is commits r.version legal.each fed.below
+pub applied-version : (shape : Shape) (commits : List Commit) (r : Replica) → IsFedFrom shape commits r → r.applied ≡ r.version
+applied-version shape commits r fed = fed.applied_is ∙ count-is commits r.version fed.legal.each fed.below
 
 -- and so is the count that was fetched
 pub count-fetched : (shape : Shape) (commits : List Commit) (version : ℕ) (fetched : Fetched) → IsLegal shape 1 commits
@@ -92,15 +102,14 @@ pub count-fetched : (shape : Shape) (commits : List Commit) (version : ℕ) (fet
 count-fetched shape commits version fetched legal is =
     ap (λ (l : List ℕ). slice_index l 0) is.counts_are ∙ count-is commits fetched.version legal.each is.below
 
-pub catches-up : (shape : Shape) (commits : List Commit) (r : Replica) (batch : Queries) (fetched : Fetched) → IsLegal shape 1 commits
-    → IsFedFrom shape commits r → CanAnswer r batch fetched
+pub catches-up : (shape : Shape) (commits : List Commit) (r : Replica) (batch : Batch) (fetched : Fetched) → IsFedFrom shape commits r
+    → CanAnswer r batch fetched
     → caught_up r fetched ≡ Some (caught shape commits fetched r)
-catches-up shape commits r batch fetched legal fed can =
+catches-up shape commits r batch fetched fed can =
     let is = fed.fetched_is batch fetched can.there can.has in
     let complete = can.complete in
-    let count = count-fetched shape commits r.version fetched legal is in
-    ap (λ (c : ℕ). caught_by r fetched.version c r.applied r.shape r.tables) count
-    ∙ ap (λ (a : ℕ). caught_by r fetched.version fetched.version a r.shape r.tables) (applied-version shape commits r legal fed)
-    ∙ ap (λ (s : Shape). caught_by r fetched.version fetched.version r.version s r.tables) fed.shape_is
-    ∙ ap (λ (t : Tables). caught_by r fetched.version fetched.version r.version shape t) (fed.tables_are can.whole)
-    ∙ caught-known shape commits r fetched.version legal fed is.above (omega arith)
+    let count = count-fetched shape commits r.version fetched fed.legal is in
+    ap (λ (c : ℕ). caught_by r fetched.version c r.applied r.tables) count
+    ∙ ap (λ (a : ℕ). caught_by r fetched.version fetched.version a r.tables) (applied-version shape commits r fed)
+    ∙ ap (λ (t : Tables). caught_by r fetched.version fetched.version r.version t) (fed.tables_are can.whole)
+    ∙ caught-known shape commits r fetched.version fed is.above is.below (omega arith)

@@ -12,7 +12,7 @@ use Rattle.rows.specs.declared.commit.Commit.{Commit}
 use Rattle.rows.specs.declared.limits.TheConstants.{WAITING_QUERIES_MAX}
 use Rattle.rows.specs.Shape.{Shape}
 use Rattle.rows.specs.Entries.{fitting}
-use Rattle.rows.specs.Commits.{IsLegal, tables_after}
+use Rattle.rows.specs.Commits.{tables_after}
 use Rattle.wire.specs.declared.datagram.Datagram.{Datagram}
 use Rattle.wire.specs.declared.datagram.Datagram.TheVariants as datagrams
 use Rattle.wire.specs.declared.fault.WireFault.{WireFault}
@@ -32,11 +32,11 @@ use Rattle.dispatcher.specs.Feeding.{IsFetchedFrom, IsFedFrom, Tells, FreshIsFed
 use Rattle.dispatcher.specs.Feeding.{VersionTellsTables}
 use Rattle.dispatcher.specs.Known.{is_known, is_ahead}
 use Rattle.dispatcher.specs.Plans.{checked}
-use Rattle.dispatcher.specs.Replica.{Replica, Queries, Fetched}
+use Rattle.dispatcher.specs.Replica.{Replica, Batch, Fetched}
 use Rattle.dispatcher.specs.Steps.{asked_by, ask_for, with_batch, known, frame_comes, own_head_comes, datagram_comes, broken_of}
 use Rattle.dispatcher.proofs.CatchingUp.{CanAnswer, caught, count-fetched}
 use Rattle.dispatcher.proofs.Lists.{All-map}
-use Rattle.dispatcher.proofs.Places.{is_known-below}
+use Rattle.dispatcher.proofs.Seqs.{is_known-below}
 use Rattle.dispatcher.proofs.Stored.{known-insert, frames-insert}
 use Rattle.dispatcher.proofs.Streams.{stream-stays, count-stays, count-is}
 use Rattle.dispatcher.proofs.Versions.{tables-stay}
@@ -44,7 +44,8 @@ use Rattle.dispatcher.proofs.Versions.{tables-stay}
 -- ---- the beginning
 
 pub fresh-fed : FreshIsFed
-fresh-fed shape commits number boot = record {
+fresh-fed shape commits number boot legal = record {
+  legal = legal;
   shape_is = refl;
   workers_are = refl;
   frames_are = tt;
@@ -68,9 +69,10 @@ fetched-stays commits more version fetched is =
     }
 
 pub commits-feed : CommitsKeepFed
-commits-feed shape commits more r fed =
+commits-feed shape commits more r legal fed =
     let below = fed.below in
     record {
+      legal = legal;
       shape_is = fed.shape_is;
       workers_are = fed.workers_are;
       frames_are =
@@ -101,6 +103,7 @@ stored-fed : (shape : Shape) (commits : List Commit) (r : Replica) (frame : Fram
     → slice_get (stream_of commits 0) frame.seq ≡ Some frame
     → IsFedFrom shape commits (record r { frames = insert_entry nat_cmp r.frames frame.seq frame })
 stored-fed shape commits r frame fed is = record {
+  legal = fed.legal;
   shape_is = fed.shape_is;
   workers_are = fed.workers_are;
   frames_are =
@@ -146,17 +149,18 @@ frame-feeds shape commits r frame fed is =
 -- ---- a Head
 
 -- one thing is fetched for a batch
-same-fetched : (batch : Option Queries) (queries other : Queries) (fetched found : Fetched) → batch ≡ Some queries
+same-fetched : (batch : Option Batch) (queries other : Batch) (fetched found : Fetched) → batch ≡ Some queries
     → queries.fetched ≡ Some fetched → batch ≡ Some other → other.fetched ≡ Some found → fetched ≡ found
 same-fetched batch queries other fetched found e f g h =
     let same : queries ≡ other = same_Some queries other (sym e ∙ g) in
-    same_Some fetched found (sym f ∙ ap (λ (queries : Queries). queries.fetched) same ∙ h)
+    same_Some fetched found (sym f ∙ ap (λ (queries : Batch). queries.fetched) same ∙ h)
 
 -- the same replica, for whose batch this was fetched
 fetched-fed : (shape : Shape) (commits : List Commit) (r : Replica) (plans : List Plan) (found : Fetched) → IsFedFrom shape commits r
     → IsFetchedFrom commits r.version found
     → IsFedFrom shape commits (record r { batch = Some (record { plans = plans; fetched = Some found }) })
 fetched-fed shape commits r plans found fed is = record {
+  legal = fed.legal;
   shape_is = fed.shape_is;
   workers_are = fed.workers_are;
   frames_are = fed.frames_are;
@@ -165,7 +169,7 @@ fetched-fed shape commits r plans found fed is = record {
   below = fed.below;
   tables_are = fed.tables_are;
   fetched_is = λ batch fetched there has.
-      let made : Queries = record { plans = plans; fetched = Some found } in
+      let made : Batch = record { plans = plans; fetched = Some found } in
       subst (IsFetchedFrom commits r.version) (same-fetched (Some made) made batch found fetched refl refl there has) is;
 }
 
@@ -174,12 +178,12 @@ head-feeds : (shape : Shape) (commits : List Commit) (r : Replica) (version : �
 head-feeds shape commits r version counts fed below are =
     by (not (length counts == r.workers)) (nat_lt version r.version) (nat_lt (slice_index counts 0) r.applied) r.batch refl
   where
-    taken : Queries → Option Fetched → Got × Replica
+    taken : Batch → Option Fetched → Got × Replica
     taken batch None =
         (got.Head version, record r { batch = Some (record batch { fetched = Some (record { version = version; counts = counts }) }) })
     taken batch (Some fetched) = (got.Ignored, r)
 
-    by_batch : Option Queries → Got × Replica
+    by_batch : Option Batch → Got × Replica
     by_batch None = (got.Ignored, r)
     by_batch (Some batch) = taken batch batch.fetched
 
@@ -190,7 +194,7 @@ head-feeds shape commits r version counts fed below are =
         fetched-fed shape commits r plans (record { version = version; counts = counts }) fed
         (record { above = fresh; below = below; counts_are = are })
 
-    by : (a b c : Bool) (batch : Option Queries) → nat_lt version r.version ≡ b
+    by : (a b c : Bool) (batch : Option Batch) → nat_lt version r.version ≡ b
         → IsFedFrom shape commits (cond {A = Got × Replica} (a || b || c) (got.Ignored, r) (by_batch batch)).1
     by true b c batch e = fed
     by false true c batch e = fed
@@ -230,6 +234,7 @@ left {A = A} a b r new h =
 pub plan-fed : (shape : Shape) (commits : List Commit) (r : Replica) (plan : Plan) → IsFedFrom shape commits r
     → IsFedFrom shape commits (record r { waiting = r.waiting ++ plan ∷ [] })
 plan-fed shape commits r plan fed = record {
+  legal = fed.legal;
   shape_is = fed.shape_is;
   workers_are = fed.workers_are;
   frames_are = fed.frames_are;
@@ -261,6 +266,7 @@ open-feeds shape commits r plan count new fed h = by r.broken (nat_le WAITING_QU
 -- a batch is made, for which nothing was fetched
 pub batch-fed : (shape : Shape) (commits : List Commit) (r : Replica) → IsFedFrom shape commits r → IsFedFrom shape commits (with_batch r)
 batch-fed shape commits r fed = record {
+  legal = fed.legal;
   shape_is = fed.shape_is;
   workers_are = fed.workers_are;
   frames_are = fed.frames_are;
@@ -271,10 +277,10 @@ batch-fed shape commits r fed = record {
   fetched_is = λ batch fetched there has. absurd (none-fetched r.waiting batch fetched there has);
 }
   where
-    none-fetched : (plans : List Plan) (batch : Queries) (fetched : Fetched)
-        → ◌≡◌ {A = Option Queries} (Some (record { plans = plans; fetched = None })) (Some batch) → batch.fetched ≡ Some fetched → ⊥
+    none-fetched : (plans : List Plan) (batch : Batch) (fetched : Fetched)
+        → ◌≡◌ {A = Option Batch} (Some (record { plans = plans; fetched = None })) (Some batch) → batch.fetched ≡ Some fetched → ⊥
     none-fetched plans batch fetched e f =
-        none-some fetched (ap (λ (batch : Queries). batch.fetched) (same_Some (record { plans = plans; fetched = None }) batch e) ∙ f)
+        none-some fetched (ap (λ (batch : Batch). batch.fetched) (same_Some (record { plans = plans; fetched = None }) batch e) ∙ f)
 
 pub ask-feeds : AskKeepsFed
 ask-feeds shape commits r out new fed h = by r.broken r.batch h
@@ -291,7 +297,7 @@ ask-feeds shape commits r out new fed h = by r.broken r.batch h
         subst (IsFedFrom shape commits) (left (ask_for r.number r.boot (r.request + 1)) out (with_batch r) new h)
         (batch-fed shape commits r fed)
 
-    by : (broken : Bool) (batch : Option Queries) → cond broken (Err asks.Broken) (asked_by r batch) ≡ Ok (out, new)
+    by : (broken : Bool) (batch : Option Batch) → cond broken (Err asks.Broken) (asked_by r batch) ≡ Ok (out, new)
         → IsFedFrom shape commits new
     by true batch h = absurd (cc)
     by false None h = first (length r.waiting == 0) h
@@ -302,6 +308,7 @@ ask-feeds shape commits r out new fed h = by r.broken r.batch h
 -- it is broken
 pub broken-fed : (shape : Shape) (commits : List Commit) (r : Replica) → IsFedFrom shape commits r → IsFedFrom shape commits (broken_of r)
 broken-fed shape commits r fed = record {
+  legal = fed.legal;
   shape_is = fed.shape_is;
   workers_are = fed.workers_are;
   frames_are = fed.frames_are;
@@ -312,15 +319,14 @@ broken-fed shape commits r fed = record {
   fetched_is = fed.fetched_is;
 }
 
-module _ (shape : Shape) (commits : List Commit) (r : Replica) (batch : Queries) (fetched : Fetched) (legal : IsLegal shape 1 commits)
-    (fed : IsFedFrom shape commits r)
-    (can : CanAnswer r batch fetched) where
+module _ (shape : Shape) (commits : List Commit) (r : Replica) (batch : Batch) (fetched : Fetched)
+    (fed : IsFedFrom shape commits r) (can : CanAnswer r batch fetched) where
   is-fetched : IsFetchedFrom commits r.version fetched
   is-fetched = fed.fetched_is batch fetched can.there can.has
 
   caught-known : (seq : ℕ) → seq < fetched.version → is_known (known r) seq ≡ true
   caught-known seq below =
-      let count = count-fetched shape commits r.version fetched legal is-fetched in
+      let count = count-fetched shape commits r.version fetched fed.legal is-fetched in
       let complete = can.complete in
       is_known-below (length (known r)) 0 seq (known r) (omega arith) (omega arith)
 
@@ -329,10 +335,11 @@ module _ (shape : Shape) (commits : List Commit) (r : Replica) (batch : Queries)
   caught-fed =
       let is = is-fetched in
       record {
+        legal = fed.legal;
         shape_is = fed.shape_is;
         workers_are = fed.workers_are;
         frames_are = fed.frames_are;
-        applied_is = sym (count-is commits fetched.version legal.each is.below);
+        applied_is = sym (count-is commits fetched.version fed.legal.each is.below);
         applied_known = caught-known;
         below = is.below;
         tables_are = λ whole. refl;
@@ -347,10 +354,11 @@ module _ (shape : Shape) (commits : List Commit) (r : Replica) (batch : Queries)
   finished-fed =
       let is = is-fetched in
       record {
+        legal = fed.legal;
         shape_is = fed.shape_is;
         workers_are = fed.workers_are;
         frames_are = fed.frames_are;
-        applied_is = sym (count-is commits fetched.version legal.each is.below);
+        applied_is = sym (count-is commits fetched.version fed.legal.each is.below);
         applied_known = caught-known;
         below = is.below;
         tables_are = λ whole. refl;

@@ -1,5 +1,5 @@
-pub mod Places
-pub mod Replaying
+pub mod Seqs
+pub mod Commits
 pub mod Listed
 pub mod Coming
 pub mod Running

@@ -1,8 +1,8 @@
--- What stands at a place of lists that are joined, and facts that hold of each element.
+-- What stands at an index of lists that are joined, and facts that hold of each element.
 use Rattle.std.proofs.Common.{◌≡◌, ℕ, zero, suc, List, [], ◌∷◌, ◌++◌, take, Some}
 use Rattle.std.specs.List.{slice_get, AllByRecursion}
 
--- what stood at a place stays there
+-- what stood at an index stays there
 pub get-append_left : {A : Type 0} (xs ys : List A) (i : ℕ) (x : A) → slice_get xs i ≡ Some x → slice_get (xs ++ ys) i ≡ Some x
 get-append_left [] ys i x h = absurd cc
 get-append_left (y ∷ xs) ys zero x h = h

@@ -1,18 +1,19 @@
--- What a run of a replica that is fed from a legal list answers, and that it stays fed by it.
+-- What a run of a replica that is fed from a list answers, and that it stays fed by it.
 use Rattle.std.proofs.Common.{◌≡◌, ℕ, Bool, true, false, cond, List, Option, Some, None, slice_index, refl, sym, ap, subst, ◌∙◌, ◌⊎◌, inl}
 use Rattle.std.proofs.Common.{inr}
 use Rattle.std.proofs.lemmas.Bool.{ltb-false}
 use Rattle.std.proofs.lemmas.Option.{same_Some}
 use Rattle.rows.specs.declared.commit.Commit.{Commit}
 use Rattle.rows.specs.Shape.{Shape}
-use Rattle.rows.specs.Commits.{IsLegal}
+use Rattle.rows.specs.Commits.{tables_after}
 use Rattle.dispatcher.specs.declared.outcome.Run.{Run}
 use Rattle.dispatcher.specs.declared.outcome.Run.TheVariants as runs
 use Rattle.dispatcher.specs.declared.plan.Plan.{Plan}
-use Rattle.dispatcher.specs.Feeding.{IsFedFrom, report_at, RunKeepsFed, RunIsConsistent, AnswerIsReport, ReadyIsAnswered}
+use Rattle.dispatcher.specs.Feeding.{IsFedFrom, RunKeepsFed, RunIsConsistent, AnswerIsReport, ReadyIsAnswered}
 use Rattle.dispatcher.specs.Known.{first_missing}
-use Rattle.dispatcher.specs.Replica.{Replica, Queries, Fetched}
-use Rattle.dispatcher.specs.Steps.{known, caught_up, finished, is_waiting, ran, ran_by, want_for, WantsMemory}
+use Rattle.dispatcher.specs.Replica.{Replica, Batch, Fetched}
+use Rattle.dispatcher.specs.Report.{report_of}
+use Rattle.dispatcher.specs.Steps.{known, caught_up, finished, lacks_frame, ran, ran_by, want_for, WantsMemory}
 use Rattle.dispatcher.proofs.CatchingUp.{CanAnswer, ready-parts, caught, catches-up}
 use Rattle.dispatcher.proofs.Feeding.{broken-fed, caught-fed, finished-fed}
 use Rattle.dispatcher.proofs.Running.{ran-ready}
@@ -26,13 +27,15 @@ record IsIdle (r : Replica) (answer : Run × Replica) : Type 0 where
   no_report : (text : List ℕ) → answer.0 ≡ runs.Answered text → ⊥
 
 -- the end of a batch
-abbrev reported : Shape → List Commit → Replica → Queries → Fetched → Run × Replica
-reported shape commits r batch fetched =
-    (runs.Answered (report_at shape commits fetched.version batch.plans), record (caught shape commits fetched r) { batch = None })
+abbrev reported : Shape → List Commit → Replica → Batch → Fetched → Run × Replica
+reported shape commits r batch fetched = (
+  runs.Answered (report_of (tables_after shape commits fetched.version) fetched.version batch.plans),
+  record (caught shape commits fetched r) { batch = None },
+)
 
 -- a run that answers one
 record IsReport (shape : Shape) (commits : List Commit) (r : Replica) (answer : Run × Replica) : Type 0 where
-  batch : Queries
+  batch : Batch
   fetched : Fetched
   can : CanAnswer r batch fetched
   is : answer ≡ reported shape commits r batch fetched
@@ -40,20 +43,20 @@ record IsReport (shape : Shape) (commits : List Commit) (r : Replica) (answer : 
 abbrev Ran : Shape → List Commit → Replica → Run × Replica → Type 0
 Ran shape commits r answer = IsIdle r answer ⊎ IsReport shape commits r answer
 
-module _ (shape : Shape) (commits : List Commit) (r : Replica) (legal : IsLegal shape 1 commits) (fed : IsFedFrom shape commits r) where
-  finished-reports : (batch : Queries) (fetched : Fetched) → CanAnswer r batch fetched
+module _ (shape : Shape) (commits : List Commit) (r : Replica) (fed : IsFedFrom shape commits r) where
+  finished-reports : (batch : Batch) (fetched : Fetched) → CanAnswer r batch fetched
       → finished r batch.plans (caught_up r fetched) ≡ reported shape commits r batch fetched
-  finished-reports batch fetched is = ap (finished r batch.plans) (catches-up shape commits r batch fetched legal fed is)
+  finished-reports batch fetched is = ap (finished r batch.plans) (catches-up shape commits r batch fetched fed is)
 
   ran-fetched : (plans : List Plan) (found : Option Fetched) → r.broken ≡ false → r.batch ≡ Some (record { plans = plans; fetched = found })
       → Ran shape commits r (ran_by r (Some (record { plans = plans; fetched = found })))
   ran-fetched plans None whole there = inl (record { same = refl; consistent = λ e. cc; no_report = λ text e. cc })
-  ran-fetched plans (Some fetched) whole there = by (is_waiting r fetched) refl
+  ran-fetched plans (Some fetched) whole there = by (lacks_frame (known r) fetched) refl
     where
-      batch : Queries
+      batch : Batch
       batch = record { plans = plans; fetched = Some fetched }
 
-      by : (waits : Bool) → is_waiting r fetched ≡ waits
+      by : (waits : Bool) → lacks_frame (known r) fetched ≡ waits
           → Ran shape commits r (cond waits (runs.Waiting 0 (first_missing (known r)) (want_for r.number 0 (first_missing (known r))), r)
           (finished r plans (caught_up r fetched)))
       by true e = inl (record { same = refl; consistent = λ e. cc; no_report = λ text e. cc })
@@ -67,7 +70,7 @@ module _ (shape : Shape) (commits : List Commit) (r : Replica) (legal : IsLegal 
           } in
           inr (record { batch = batch; fetched = fetched; can = is; is = finished-reports batch fetched is })
 
-  ran-batch : (batch : Option Queries) → r.broken ≡ false → r.batch ≡ batch → Ran shape commits r (ran_by r batch)
+  ran-batch : (batch : Option Batch) → r.broken ≡ false → r.batch ≡ batch → Ran shape commits r (ran_by r batch)
   ran-batch None whole there = inl (record { same = refl; consistent = λ e. cc; no_report = λ text e. cc })
   ran-batch (Some batch) whole there = ran-fetched batch.plans batch.fetched whole there
 
@@ -80,9 +83,9 @@ module _ (shape : Shape) (commits : List Commit) (r : Replica) (legal : IsLegal 
 
   -- ---- it stays fed
 
-  reported-fed : (batch : Queries) (fetched : Fetched) → CanAnswer r batch fetched
+  reported-fed : (batch : Batch) (fetched : Fetched) → CanAnswer r batch fetched
       → IsFedFrom shape commits (reported shape commits r batch fetched).1
-  reported-fed batch fetched is = finished-fed shape commits r batch fetched legal fed is
+  reported-fed batch fetched is = finished-fed shape commits r batch fetched fed is
 
   ran-fed : (answer : Run × Replica) → Ran shape commits r answer → IsFedFrom shape commits answer.1
   ran-fed answer (inl idle) = subst (IsFedFrom shape commits) (sym idle.same) fed
@@ -99,17 +102,17 @@ module _ (shape : Shape) (commits : List Commit) (r : Replica) (legal : IsLegal 
         | inl memory ↦ elim memory.1 [
           | inl same ↦ subst (IsFedFrom shape commits) (sym same) fed
           | inr reached ↦ subst (IsFedFrom shape commits)
-              (same_Some (caught shape commits fetched r) new (sym (catches-up shape commits r parts.0 fetched legal fed is) ∙ reached))
-              (caught-fed shape commits r parts.0 fetched legal fed is)
+              (same_Some (caught shape commits fetched r) new (sym (catches-up shape commits r parts.0 fetched fed is) ∙ reached))
+              (caught-fed shape commits r parts.0 fetched fed is)
         ]
         | inr broken ↦ subst (IsFedFrom shape commits) (sym broken.1) (broken-fed shape commits r fed)
       ]
 
 pub run-feeds : RunKeepsFed
-run-feeds shape commits r answer new legal fed (inl is) =
+run-feeds shape commits r answer new fed (inl is) =
     subst (λ (answer : Run × Replica). IsFedFrom shape commits answer.1) is
-    (ran-fed shape commits r legal fed (ran r) (ran-parts shape commits r legal fed))
-run-feeds shape commits r answer new legal fed (inr wants) = cut-fed shape commits r legal fed answer new wants
+    (ran-fed shape commits r fed (ran r) (ran-parts shape commits r fed))
+run-feeds shape commits r answer new fed (inr wants) = cut-fed shape commits r fed answer new wants
 
 -- ---- what it answers
 
@@ -117,7 +120,8 @@ ran-consistent : (shape : Shape) (commits : List Commit) (r : Replica) (answer :
     → answer.0 ≡ runs.Inconsistent → ⊥
 ran-consistent shape commits r answer (inl idle) e = idle.consistent e
 ran-consistent shape commits r answer (inr report) e =
-    let is : answer.0 ≡ runs.Answered (report_at shape commits report.fetched.version report.batch.plans) =
+    let is : answer.0 ≡ runs.Answered
+    (report_of (tables_after shape commits report.fetched.version) report.fetched.version report.batch.plans) =
     ap (λ (answer : Run × Replica). answer.0) report.is in
     cc
 
@@ -128,14 +132,14 @@ cut-consistent r answer new wants e = elim wants.2 [
 ]
 
 pub run-consistent : RunIsConsistent
-run-consistent shape commits r answer new legal fed (inl is) e =
-    ran-consistent shape commits r (ran r) (ran-parts shape commits r legal fed) (ap (λ (answer : Run × Replica). answer.0) is ∙ e)
-run-consistent shape commits r answer new legal fed (inr wants) e = cut-consistent r answer new wants e
+run-consistent shape commits r answer new fed (inl is) e =
+    ran-consistent shape commits r (ran r) (ran-parts shape commits r fed) (ap (λ (answer : Run × Replica). answer.0) is ∙ e)
+run-consistent shape commits r answer new fed (inr wants) e = cut-consistent r answer new wants e
 
 abbrev Answers : Shape → List Commit → Replica → List ℕ → Replica → Type 0
 Answers shape commits r text new =
-    (batch : Queries) × (fetched : Fetched) × (r.batch ≡ Some batch) × (batch.fetched ≡ Some fetched)
-    × (text ≡ report_at shape commits fetched.version batch.plans) × (new.version ≡ fetched.version)
+    (batch : Batch) × (fetched : Fetched) × (r.batch ≡ Some batch) × (batch.fetched ≡ Some fetched)
+    × (text ≡ report_of (tables_after shape commits fetched.version) fetched.version batch.plans) × (new.version ≡ fetched.version)
 
 ran-answers : (shape : Shape) (commits : List Commit) (r : Replica) (answer : Run × Replica) (text : List ℕ) (new : Replica)
     → Ran shape commits r answer → answer ≡ (runs.Answered text, new)
@@ -145,24 +149,25 @@ ran-answers shape commits r answer text new (inr report) e =
     let is = report.can in
     let same : ◌≡◌ {A = Run × Replica} (runs.Answered text, new) (reported shape commits r report.batch report.fetched) =
     sym e ∙ report.is in
-    let answered : runs.Answered text ≡ runs.Answered (report_at shape commits report.fetched.version report.batch.plans) =
+    let answered : runs.Answered text ≡ runs.Answered
+    (report_of (tables_after shape commits report.fetched.version) report.fetched.version report.batch.plans) =
     ap (λ (answer : Run × Replica). answer.0) same in
     (report.batch, report.fetched, is.there, is.has, cc answered, ap (λ (answer : Run × Replica). answer.1.version) same)
 
 pub answer-reports : AnswerIsReport
-answer-reports shape commits r text new legal fed (inl is) =
-    ran-answers shape commits r (ran r) text new (ran-parts shape commits r legal fed) is
-answer-reports shape commits r text new legal fed (inr wants) = elim wants.2 [
+answer-reports shape commits r text new fed (inl is) =
+    ran-answers shape commits r (ran r) text new (ran-parts shape commits r fed) is
+answer-reports shape commits r text new fed (inr wants) = elim wants.2 [
   | inl memory ↦ (let is = memory.0 in absurd (cc))
   | inr broken ↦ (let is = broken.0 in absurd (cc))
 ]
 
 pub ready-answers : ReadyIsAnswered
-ready-answers shape commits r batch fetched legal fed there e =
+ready-answers shape commits r batch fetched fed there e =
     let parts = ready-parts r fetched e in
     let same : parts.0 ≡ batch = same_Some parts.0 batch (sym parts.1.there ∙ there) in
-    let is : CanAnswer r batch fetched = subst (λ (batch : Queries). CanAnswer r batch fetched) same parts.1 in
+    let is : CanAnswer r batch fetched = subst (λ (batch : Batch). CanAnswer r batch fetched) same parts.1 in
     let run =
     ran-ready r batch.plans fetched is.whole
     (there ∙ ap (λ (found : Option Fetched). Some (record { plans = batch.plans; fetched = found })) is.has) is.complete in
-    ap (λ (answer : Run × Replica). answer.0) (run ∙ finished-reports shape commits r legal fed batch fetched is)
+    ap (λ (answer : Run × Replica). answer.0) (run ∙ finished-reports shape commits r fed batch fetched is)

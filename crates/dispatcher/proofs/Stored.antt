@@ -66,14 +66,15 @@ is_at-other k l h = grind (arith, nat_tests)
 any-tail : (a b : Bool) → a ≡ false → (a || b) ≡ true → b ≡ true
 any-tail a b e h = cc
 
--- a frame that is known is found, and is the one of its place
-pub lookup-known : (placed : ℕ → Option Frame) (frames : List (ℕ × Frame)) (k : ℕ)
-    → AllByRecursion (λ entry. placed entry.0 ≡ Some entry.1) frames → is_known (keys_of frames) k ≡ true
-    → (frame : Frame) × (lookup (is_at (nat_cmp k)) frames ≡ Some frame) × (placed k ≡ Some frame)
-lookup-known placed [] k are h = absurd (false≢true h)
-lookup-known placed (e ∷ frames) k are h = elim (cases_eq e.0 k) [
-  | inl same ↦ (e.1, ap (λ b. cond b (Some e.1) (lookup (is_at (nat_cmp k)) frames)) (is_at-same k e.0 same), ap placed (sym same) ∙ are.0)
+-- a frame that is known is found, and is the one of its seq
+pub lookup-known : (frame_at : ℕ → Option Frame) (frames : List (ℕ × Frame)) (k : ℕ)
+    → AllByRecursion (λ entry. frame_at entry.0 ≡ Some entry.1) frames → is_known (keys_of frames) k ≡ true
+    → (frame : Frame) × (lookup (is_at (nat_cmp k)) frames ≡ Some frame) × (frame_at k ≡ Some frame)
+lookup-known frame_at [] k are h = absurd (false≢true h)
+lookup-known frame_at (e ∷ frames) k are h = elim (cases_eq e.0 k) [
+  | inl same ↦
+      (e.1, ap (λ b. cond b (Some e.1) (lookup (is_at (nat_cmp k)) frames)) (is_at-same k e.0 same), ap frame_at (sym same) ∙ are.0)
   | inr other ↦
-      let found = lookup-known placed frames k are.1 (any-tail (e.0 == k) (is_known (keys_of frames) k) (ne_eqb e.0 k other) h) in
+      let found = lookup-known frame_at frames k are.1 (any-tail (e.0 == k) (is_known (keys_of frames) k) (ne_eqb e.0 k other) h) in
       (found.0, ap (λ b. cond b (Some e.1) (lookup (is_at (nat_cmp k)) frames)) (is_at-other k e.0 other) ∙ found.1, found.2)
 ]

@@ -25,11 +25,11 @@ stream_from-more worker before first (commit ∷ commits) more =
     )
 
 -- a frame that is there stays
-pub stream-stays : (commits more : List Commit) (worker place : ℕ) (frame : Frame) → slice_get (stream_of commits worker) place ≡ Some frame
-    → slice_get (stream_of (commits ++ more) worker) place ≡ Some frame
-stream-stays commits more worker place frame h =
+pub stream-stays : (commits more : List Commit) (worker seq : ℕ) (frame : Frame) → slice_get (stream_of commits worker) seq ≡ Some frame
+    → slice_get (stream_of (commits ++ more) worker) seq ≡ Some frame
+stream-stays commits more worker seq frame h =
     let rest = stream_from-more worker 0 0 commits more in
-    ap (λ (l : List Frame). slice_get l place) rest.1 ∙ get-append_left (stream_of commits worker) rest.0 place frame h
+    ap (λ (l : List Frame). slice_get l seq) rest.1 ∙ get-append_left (stream_of commits worker) rest.0 seq frame h
 
 -- and so does the count at a version that is there
 pub count-stays : (commits more : List Commit) (worker version : ℕ) → version ≤ length commits
@@ -38,50 +38,50 @@ count-stays commits more worker version h = rw take-append-le refl
 
 -- ---- of the only worker
 
--- the frame at a place of its stream: the whole of a commit
+-- the frame of a seq of its stream: the whole of a commit
 abbrev pub whole_frame : ℕ → Commit → Frame
-whole_frame place commit = record { worker = commit.worker; seq = place; commit = place + 1; last = true; entries = commit.entries }
+whole_frame seq commit = record { worker = commit.worker; seq = seq; commit = seq + 1; last = true; entries = commit.entries }
 
-abbrev pub frame_of_place : List Commit → ℕ → Option Frame
-frame_of_place commits place = option_map (whole_frame place) (slice_get commits place)
+abbrev pub frame_of_seq : List Commit → ℕ → Option Frame
+frame_of_seq commits seq = option_map (whole_frame seq) (slice_get commits seq)
 
--- the frame at a place of the rest of a stream
+-- the frame at an index of the rest of a stream
 abbrev frame_behind : ℕ → ℕ → ℕ → Commit → Frame
-frame_behind before first place commit =
-    record { worker = commit.worker; seq = first + place; commit = before + place + 1; last = true; entries = commit.entries }
+frame_behind before first index commit =
+    record { worker = commit.worker; seq = first + index; commit = before + index + 1; last = true; entries = commit.entries }
 
-frame_behind-next : (before first place : ℕ) (found : Option Commit)
-    → option_map (frame_behind (before + 1) (first + 1) place) found ≡ option_map (frame_behind before first (suc place)) found
-frame_behind-next before first place None = refl
-frame_behind-next before first place (Some commit) =
-    let seq : first + 1 + place ≡ first + suc place = omega arith in
-    let number : before + 1 + place + 1 ≡ before + suc place + 1 = omega arith in
+frame_behind-next : (before first index : ℕ) (found : Option Commit)
+    → option_map (frame_behind (before + 1) (first + 1) index) found ≡ option_map (frame_behind before first (suc index)) found
+frame_behind-next before first index None = refl
+frame_behind-next before first index (Some commit) =
+    let same : first + 1 + index ≡ first + suc index = omega arith in
+    let number : before + 1 + index + 1 ≡ before + suc index + 1 = omega arith in
     cc
 
-frame_behind-first : (place : ℕ) (found : Option Commit) → option_map (frame_behind 0 0 place) found ≡ option_map (whole_frame place) found
-frame_behind-first place None = refl
-frame_behind-first place (Some commit) =
-    let seq : 0 + place ≡ place = omega arith in
-    let number : 0 + place + 1 ≡ place + 1 = omega arith in
+frame_behind-first : (index : ℕ) (found : Option Commit) → option_map (frame_behind 0 0 index) found ≡ option_map (whole_frame index) found
+frame_behind-first index None = refl
+frame_behind-first index (Some commit) =
+    let same : 0 + index ≡ index = omega arith in
+    let number : 0 + index + 1 ≡ index + 1 = omega arith in
     cc
 
 only-worker : (commit : Commit) → IsCommit 1 commit → (commit.worker == 0) ≡ true
 only-worker commit is = let below = is.worker in eq-eqb commit.worker 0 (omega arith)
 
-stream_from-place : (before first : ℕ) (commits : List Commit) (place : ℕ) → AllByRecursion (IsCommit 1) commits
-    → slice_get (stream_from 0 before first commits) place ≡ option_map (frame_behind before first place) (slice_get commits place)
-stream_from-place before first [] place each = refl
-stream_from-place before first (commit ∷ commits) zero each =
+stream_from-index : (before first : ℕ) (commits : List Commit) (index : ℕ) → AllByRecursion (IsCommit 1) commits
+    → slice_get (stream_from 0 before first commits) index ≡ option_map (frame_behind before first index) (slice_get commits index)
+stream_from-index before first [] index each = refl
+stream_from-index before first (commit ∷ commits) zero each =
     let seq : first ≡ first + 0 = omega arith in
     let number : before + 1 ≡ before + 0 + 1 = omega arith in
     rw (only-worker commit each.0) (cc)
-stream_from-place before first (commit ∷ commits) (suc place) each =
+stream_from-index before first (commit ∷ commits) (suc index) each =
     rw (only-worker commit each.0)
-    (stream_from-place (before + 1) (first + 1) commits place each.1 ∙ frame_behind-next before first place (slice_get commits place))
+    (stream_from-index (before + 1) (first + 1) commits index each.1 ∙ frame_behind-next before first index (slice_get commits index))
 
-pub stream-place : (commits : List Commit) (place : ℕ) → AllByRecursion (IsCommit 1) commits
-    → slice_get (stream_of commits 0) place ≡ frame_of_place commits place
-stream-place commits place each = stream_from-place 0 0 commits place each ∙ frame_behind-first place (slice_get commits place)
+pub stream-seq : (commits : List Commit) (seq : ℕ) → AllByRecursion (IsCommit 1) commits
+    → slice_get (stream_of commits 0) seq ≡ frame_of_seq commits seq
+stream-seq commits seq each = stream_from-index 0 0 commits seq each ∙ frame_behind-first seq (slice_get commits seq)
 
 stream_from-length : (before first : ℕ) (commits : List Commit) → AllByRecursion (IsCommit 1) commits
     → length (stream_from 0 before first commits) ≡ length commits
@@ -101,8 +101,8 @@ mapped f None y h = absurd cc
 mapped f (Some x) y h = (x, refl, cc)
 
 -- the commit that a frame of the stream is the whole of
-pub frame-commit : (commits : List Commit) (place : ℕ) (frame : Frame) → AllByRecursion (IsCommit 1) commits
-    → slice_get (stream_of commits 0) place ≡ Some frame
-    → (commit : Commit) × (slice_get commits place ≡ Some commit) × (whole_frame place commit ≡ frame)
-frame-commit commits place frame each h =
-    mapped (whole_frame place) (slice_get commits place) frame (sym (stream-place commits place each) ∙ h)
+pub frame-commit : (commits : List Commit) (seq : ℕ) (frame : Frame) → AllByRecursion (IsCommit 1) commits
+    → slice_get (stream_of commits 0) seq ≡ Some frame
+    → (commit : Commit) × (slice_get commits seq ≡ Some commit) × (whole_frame seq commit ≡ frame)
+frame-commit commits seq frame each h =
+    mapped (whole_frame seq) (slice_get commits seq) frame (sym (stream-seq commits seq each) ∙ h)

@@ -1,6 +1,6 @@
--- A replica that is fed from a list of commits: all that it knows is of that list. And the laws of what keeps it so, and
--- of what its runs answer then.
-use Rattle.std.specs.Prelude.{◌≡◌, ℕ, ◌<◌, ◌≤◌, List, [], ◌∷◌, ◌++◌, length, map, true, false, Some, Result, Ok, Err, slice_get}
+-- A replica that is fed from a list of commits: the list is one that a primary may have, and all that the replica knows is
+-- of it. And the laws of what keeps it so, and of what its runs answer then.
+use Rattle.std.specs.Prelude.{◌≡◌, ℕ, ◌<◌, ◌≤◌, List, [], ◌∷◌, ◌++◌, length, true, false, Some, Result, Ok, Err, slice_get}
 use Rattle.std.specs.List.{AllByRecursion}
 use Rattle.rows.specs.declared.commit.Commit.{Commit}
 use Rattle.rows.specs.Shape.{Shape}
@@ -15,10 +15,9 @@ use Rattle.dispatcher.specs.declared.outcome.Run.{Run}
 use Rattle.dispatcher.specs.declared.outcome.Run.TheVariants as runs
 use Rattle.dispatcher.specs.declared.plan.Plan.{Plan}
 use Rattle.dispatcher.specs.Known.{is_known}
-use Rattle.dispatcher.specs.Plans.{plain_answer}
-use Rattle.dispatcher.specs.Replica.{Replica, Queries, Fetched}
-use Rattle.dispatcher.specs.Report.{report_text}
-use Rattle.dispatcher.specs.Steps.{started, known, received, opened, asked, ready, ran, MayRun}
+use Rattle.dispatcher.specs.Replica.{Replica, Batch, Fetched}
+use Rattle.dispatcher.specs.Report.{report_of}
+use Rattle.dispatcher.specs.Steps.{started, known, received, opened, asked, ready_of, ran, MayRun}
 
 -- a version of the list, fetched by a replica at this version, with the frame count at it
 pub record IsFetchedFrom (commits : List Commit) (version : ℕ) (fetched : Fetched) : Type 0 where
@@ -27,16 +26,17 @@ pub record IsFetchedFrom (commits : List Commit) (version : ℕ) (fetched : Fetc
   pub counts_are : fetched.counts ≡ frame_count commits 0 fetched.version ∷ []
 
 pub record IsFedFrom (shape : Shape) (commits : List Commit) (r : Replica) : Type 0 where
+  pub legal : IsLegal shape 1 commits
   pub shape_is : r.shape ≡ shape
   pub workers_are : r.workers ≡ 1
-  -- each known frame is the one of its place
+  -- each known frame is the one of its seq
   pub frames_are : AllByRecursion (λ entry. slice_get (stream_of commits 0) entry.0 ≡ Some entry.1) r.frames
   -- the frames that its tables have are those of the commits up to its version, and all are known
   pub applied_is : r.applied ≡ frame_count commits 0 r.version
   pub applied_known : (seq : ℕ) → seq < r.applied → is_known (known r) seq ≡ true
   pub below : r.version ≤ length commits
   pub tables_are : r.broken ≡ false → r.tables ≡ tables_after shape commits r.version
-  pub fetched_is : (batch : Queries) (fetched : Fetched) → r.batch ≡ Some batch → batch.fetched ≡ Some fetched
+  pub fetched_is : (batch : Batch) (fetched : Fetched) → r.batch ≡ Some batch → batch.fetched ≡ Some fetched
       → IsFetchedFrom commits r.version fetched
 
 -- what a datagram says is true of the list; an Ask, a Want and bytes that are no datagram say nothing of it
@@ -51,14 +51,17 @@ Tells commits (Ok (datagrams.Want replica worker from)) = Unit {0}
 
 -- ---- what keeps it fed
 
--- a fresh replica is fed from every list
+-- a fresh replica is fed from every legal list
 abbrev pub FreshIsFed : Type 0
-FreshIsFed = (shape : Shape) (commits : List Commit) (number boot : ℕ) → IsFedFrom shape commits (started shape 1 number boot)
+FreshIsFed =
+    (shape : Shape) (commits : List Commit) (number boot : ℕ) → IsLegal shape 1 commits
+    → IsFedFrom shape commits (started shape 1 number boot)
 
--- fed from a list, it is fed from each list that goes on from it
+-- fed from a list, it is fed from each legal list that goes on from it
 abbrev pub CommitsKeepFed : Type 0
 CommitsKeepFed =
-    (shape : Shape) (commits more : List Commit) (r : Replica) → IsFedFrom shape commits r → IsFedFrom shape (commits ++ more) r
+    (shape : Shape) (commits more : List Commit) (r : Replica) → IsLegal shape 1 (commits ++ more) → IsFedFrom shape commits r
+    → IsFedFrom shape (commits ++ more) r
 
 -- it stays fed by bytes that tell the truth of the list
 abbrev pub BytesKeepFed : Type 0
@@ -78,42 +81,35 @@ AskKeepsFed =
     (shape : Shape) (commits : List Commit) (r : Replica) (out : Out) (new : Replica) → IsFedFrom shape commits r
     → asked r ≡ Ok (out, new) → IsFedFrom shape commits new
 
--- fed from a legal list, it stays fed by a run, also where memory is wanted
+-- it stays fed by a run, also where memory is wanted
 abbrev pub RunKeepsFed : Type 0
 RunKeepsFed =
-    (shape : Shape) (commits : List Commit) (r : Replica) (answer : Run) (new : Replica) → IsLegal shape 1 commits
-    → IsFedFrom shape commits r
+    (shape : Shape) (commits : List Commit) (r : Replica) (answer : Run) (new : Replica) → IsFedFrom shape commits r
     → MayRun r answer new → IsFedFrom shape commits new
 
 -- ---- what its runs answer
 
--- the report of queries on the tables after the first `version` commits
-abbrev pub report_at : Shape → List Commit → ℕ → List Plan → List ℕ
-report_at shape commits version plans = report_text version (map (plain_answer (tables_after shape commits version)) plans)
-
--- a run of a replica that is fed from a legal list never finds that its frames are not those of one list
+-- a run of a replica that is fed from a list never finds that its frames are not those of one list
 abbrev pub RunIsConsistent : Type 0
 RunIsConsistent =
-    (shape : Shape) (commits : List Commit) (r : Replica) (answer : Run) (new : Replica) → IsLegal shape 1 commits
-    → IsFedFrom shape commits r
+    (shape : Shape) (commits : List Commit) (r : Replica) (answer : Run) (new : Replica) → IsFedFrom shape commits r
     → MayRun r answer new → answer ≡ runs.Inconsistent → ⊥
 
 -- where it answers its batch, the answer is the report on the tables after exactly the commits up to the version that was
 -- fetched for it, which is its version from then on
 abbrev pub AnswerIsReport : Type 0
 AnswerIsReport =
-    (shape : Shape) (commits : List Commit) (r : Replica) (text : List ℕ) (new : Replica) → IsLegal shape 1 commits
-    → IsFedFrom shape commits r
+    (shape : Shape) (commits : List Commit) (r : Replica) (text : List ℕ) (new : Replica) → IsFedFrom shape commits r
     → MayRun r (runs.Answered text) new
-    → (batch : Queries) × (fetched : Fetched) × (r.batch ≡ Some batch) × (batch.fetched ≡ Some fetched)
-    × (text ≡ report_at shape commits fetched.version batch.plans) × (new.version ≡ fetched.version)
+    → (batch : Batch) × (fetched : Fetched) × (r.batch ≡ Some batch) × (batch.fetched ≡ Some fetched)
+    × (text ≡ report_of (tables_after shape commits fetched.version) fetched.version batch.plans) × (new.version ≡ fetched.version)
 
 -- and where a version was fetched and no frame is missing, its run is that report
 abbrev pub ReadyIsAnswered : Type 0
 ReadyIsAnswered =
-    (shape : Shape) (commits : List Commit) (r : Replica) (batch : Queries) (fetched : Fetched) → IsLegal shape 1 commits
-    → IsFedFrom shape commits r
-    → r.batch ≡ Some batch → ready r ≡ Some fetched → (ran r).0 ≡ runs.Answered (report_at shape commits fetched.version batch.plans)
+    (shape : Shape) (commits : List Commit) (r : Replica) (batch : Batch) (fetched : Fetched) → IsFedFrom shape commits r
+    → r.batch ≡ Some batch → ready_of r ≡ Some fetched
+    → (ran r).0 ≡ runs.Answered (report_of (tables_after shape commits fetched.version) fetched.version batch.plans)
 
 -- ---- what two of them hold
 

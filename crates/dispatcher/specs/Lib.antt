@@ -1,8 +1,8 @@
 pub mod Plans
 pub mod Report
 pub mod Known
-pub mod Replay
+pub mod Listing
 pub mod Replica
 pub mod Steps
-pub mod Core
 pub mod Feeding
+pub mod Inner

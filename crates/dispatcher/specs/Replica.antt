@@ -11,7 +11,7 @@ pub record Fetched : Type 0 where
   pub counts : List ℕ
 
 -- the queries that are answered together, and what was fetched for them
-pub record Queries : Type 0 where
+pub record Batch : Type 0 where
   pub plans : List Plan
   pub fetched : Option Fetched
 
@@ -22,7 +22,7 @@ pub record Replica : Type 0 where
   pub boot : ℕ
   -- how many requests it has made
   pub request : ℕ
-  -- the known frames of its worker, in rising place
+  -- the known frames of its worker, in rising seq
   pub frames : List (ℕ × Frame)
   -- how many of them its tables have
   pub applied : ℕ
@@ -31,5 +31,5 @@ pub record Replica : Type 0 where
   pub version : ℕ
   -- the queries that wait for the next batch
   pub waiting : List Plan
-  pub batch : Option Queries
+  pub batch : Option Batch
   pub broken : Bool

@@ -1,10 +1,10 @@
 -- One step of a replica: what each call answers, and what it leaves.
-use Rattle.std.specs.Prelude.{◌≡◌, ℕ, ◌+◌, ◌-◌, List, [], ◌∷◌, ◌++◌, length, map, Bool, true, false, Option, None, Some, Result, Ok, Err}
-use Rattle.std.specs.Prelude.{◌==◌, ◌||◌, ◌&&◌, not, nat_lt, nat_le, if◌then◌else◌, is_ok, IsErr, IsOkAnd, slice_index, ◌⊎◌}
+use Rattle.std.specs.Prelude.{◌≡◌, ℕ, ◌+◌, ◌-◌, List, [], ◌∷◌, ◌++◌, length, Bool, true, false, Option, None, Some, Result, Ok, Err}
+use Rattle.std.specs.Prelude.{◌==◌, ◌||◌, ◌&&◌, not, nat_lt, nat_le, if◌then◌else◌, is_ok, slice_index, ◌⊎◌}
 use Rattle.std.specs.List.{list_all}
-use Rattle.std.specs.Option.{option_map}
+use Rattle.std.specs.Option.{option_map, option_and_then}
+use Rattle.std.specs.Result.{result_ok}
 use Rattle.std.specs.Ordering.{nat_cmp}
-use Rattle.std.specs.Map.{keys_of}
 use Rattle.std.specs.BTreeMap.{insert_entry}
 use Rattle.rows.specs.Limits.{waiting_queries_max}
 use Rattle.rows.specs.declared.commit.Commit.{Commit}
@@ -20,8 +20,6 @@ use Rattle.wire.specs.declared.out.Out.{Out}
 use Rattle.wire.specs.declared.out.To.TheVariants.{Primary}
 use Rattle.wire.specs.Spelling.{spelling}
 use Rattle.wire.specs.Reading.{reading}
-use Rattle.dispatcher.specs.declared.catch_up_fault.CatchUpFault.{CatchUpFault}
-use Rattle.dispatcher.specs.declared.catch_up_fault.CatchUpFault.TheVariants.{Inconsistent, Memory, Broken}
 use Rattle.dispatcher.specs.declared.faults.AskFault.{AskFault}
 use Rattle.dispatcher.specs.declared.faults.AskFault.TheVariants as asks
 use Rattle.dispatcher.specs.declared.faults.OpenFault.{OpenFault}
@@ -32,11 +30,11 @@ use Rattle.dispatcher.specs.declared.outcome.Got.{Got}
 use Rattle.dispatcher.specs.declared.outcome.Got.TheVariants as got
 use Rattle.dispatcher.specs.declared.outcome.Run.{Run}
 use Rattle.dispatcher.specs.declared.outcome.Run.TheVariants as runs
-use Rattle.dispatcher.specs.Known.{is_known, is_ahead, first_missing}
-use Rattle.dispatcher.specs.Plans.{checked, plain_answer}
-use Rattle.dispatcher.specs.Replay.{frames_at, replayed}
-use Rattle.dispatcher.specs.Replica.{Replica, Queries, Fetched}
-use Rattle.dispatcher.specs.Report.{report_text}
+use Rattle.dispatcher.specs.Known.{known_of, is_known, is_ahead, first_missing}
+use Rattle.dispatcher.specs.Plans.{checked}
+use Rattle.dispatcher.specs.Listing.{frames_at, commits_in}
+use Rattle.dispatcher.specs.Replica.{Replica, Batch, Fetched}
+use Rattle.dispatcher.specs.Report.{report_of}
 
 -- a replica fresh from its start
 abbrev pub started : Shape → ℕ → ℕ → ℕ → Replica
@@ -70,7 +68,7 @@ opened r plan =
 abbrev pub ask_for : ℕ → ℕ → ℕ → Out
 ask_for number boot request = record { to = Primary; packet = spelling (datagrams.Ask number boot request) }
 
--- the Want of a worker's frames from a place on
+-- the Want of a worker's frames from a seq on
 abbrev pub want_for : ℕ → ℕ → ℕ → Out
 want_for number worker from = record { to = Primary; packet = spelling (datagrams.Want number worker from) }
 
@@ -79,7 +77,7 @@ abbrev pub with_batch : Replica → Replica
 with_batch r = record r { request = r.request + 1; waiting = []; batch = Some (record { plans = r.waiting; fetched = None }) }
 
 -- asking for a version: the Ask and the replica after it, or the first refusal
-abbrev pub asked_by : Replica → Option Queries → Result (Out × Replica) AskFault
+abbrev pub asked_by : Replica → Option Batch → Result (Out × Replica) AskFault
 asked_by r None =
     if length r.waiting == 0 then Err asks.Empty else Ok (ask_for r.number r.boot (r.request + 1), with_batch r)
 asked_by r (Some batch) = again batch.fetched
@@ -91,9 +89,9 @@ asked_by r (Some batch) = again batch.fetched
 abbrev pub asked : Replica → Result (Out × Replica) AskFault
 asked r = if r.broken then Err asks.Broken else asked_by r r.batch
 
--- the places of the known frames
+-- the seqs that it knows
 abbrev pub known : Replica → List ℕ
-known r = keys_of r.frames
+known r = known_of r.frames
 
 -- a frame that comes
 abbrev pub frame_comes : Replica → Frame → Got × Replica
@@ -111,12 +109,12 @@ own_head_comes r version counts =
     if not (length counts == r.workers) || nat_lt version r.version || nat_lt (slice_index counts 0) r.applied then (got.Ignored, r) else
     by_batch r.batch
   where
-    taken : Queries → Option Fetched → Got × Replica
+    taken : Batch → Option Fetched → Got × Replica
     taken batch None =
         (got.Head version, record r { batch = Some (record batch { fetched = Some (record { version = version; counts = counts }) }) })
     taken batch (Some fetched) = (got.Ignored, r)
 
-    by_batch : Option Queries → Got × Replica
+    by_batch : Option Batch → Got × Replica
     by_batch None = (got.Ignored, r)
     by_batch (Some batch) = taken batch batch.fetched
 
@@ -138,36 +136,40 @@ received r bytes = if r.broken then (got.Broken, r) else datagram_comes r (readi
 abbrev pub broken_of : Replica → Replica
 broken_of r = record r { tables = []; broken = true }
 
+-- the commits above its version, which its frames up to what was fetched hold; none where these hold no commits in order
+abbrev pub commits_above : Replica → Fetched → Option (List Commit)
+commits_above r fetched = commits_in r.version (frames_at r.frames r.applied (slice_index fetched.counts 0 - r.applied))
+
+-- the replica at the version that was fetched, these commits applied; none where they do not lead to it, or are refused
+abbrev pub with_commits : Replica → Fetched → List Commit → Option Replica
+with_commits r fetched commits =
+    if r.version + length commits == fetched.version
+    then option_map (λ tables. record r { tables = tables; version = fetched.version; applied = slice_index fetched.counts 0 })
+    (result_ok (commits_of r.tables commits))
+    else None
+
 -- the replica with every commit up to what was fetched applied, its batch still there; none where its frames are not
 -- those of one list of commits
 abbrev pub caught_up : Replica → Fetched → Option Replica
-caught_up r fetched =
-    if r.version + (slice_index fetched.counts 0 - r.applied) == fetched.version
-    then option_map (λ tables. record r { tables = tables; version = fetched.version; applied = slice_index fetched.counts 0 })
-    (replayed r.shape r.tables r.version (frames_at r.frames r.applied (slice_index fetched.counts 0 - r.applied)))
-    else None
-
--- the report of a batch on the tables of a replica that has caught up
-abbrev pub report_of : Replica → List Plan → List ℕ
-report_of r plans = report_text r.version (map (plain_answer r.tables) plans)
+caught_up r fetched = option_and_then (with_commits r fetched) (commits_above r fetched)
 
 -- the end of a batch
 abbrev pub finished : Replica → List Plan → Option Replica → Run × Replica
 finished r plans None = (runs.Inconsistent, broken_of r)
-finished r plans (Some after) = (runs.Answered (report_of after plans), record after { batch = None })
+finished r plans (Some after) = (runs.Answered (report_of after.tables after.version plans), record after { batch = None })
 
--- a frame below what was fetched is not known
-abbrev pub is_waiting : Replica → Fetched → Bool
-is_waiting r fetched = nat_lt (first_missing (known r)) (slice_index fetched.counts 0)
+-- whether a frame below what was fetched is not known
+abbrev pub lacks_frame : List ℕ → Fetched → Bool
+lacks_frame known fetched = nat_lt (first_missing known) (slice_index fetched.counts 0)
 
-abbrev pub ran_by : Replica → Option Queries → Run × Replica
+abbrev pub ran_by : Replica → Option Batch → Run × Replica
 ran_by r None = (runs.NoBatch, r)
 ran_by r (Some batch) = on batch.fetched
   where
     on : Option Fetched → Run × Replica
     on None = (runs.WaitingHead, r)
     on (Some fetched) =
-        if is_waiting r fetched
+        if lacks_frame (known r) fetched
         then (runs.Waiting 0 (first_missing (known r)) (want_for r.number 0 (first_missing (known r))), r)
         else finished r batch.plans (caught_up r fetched)
 
@@ -175,45 +177,25 @@ ran_by r (Some batch) = on batch.fetched
 abbrev pub ran : Replica → Run × Replica
 ran r = if r.broken then (runs.Broken, r) else ran_by r r.batch
 
--- what was fetched for a batch of which no frame is missing
-abbrev pub ready_by : Replica → Option Queries → Option Fetched
-ready_by r None = None
-ready_by r (Some batch) = unless_waiting batch.fetched
-  where
-    unless_waiting : Option Fetched → Option Fetched
-    unless_waiting None = None
-    unless_waiting (Some fetched) = if is_waiting r fetched then None else Some fetched
+-- what was fetched, where no frame below it is missing
+abbrev pub unless_lacking : List ℕ → Option Fetched → Option Fetched
+unless_lacking known None = None
+unless_lacking known (Some fetched) = if lacks_frame known fetched then None else Some fetched
 
-abbrev pub ready : Replica → Option Fetched
-ready r = if r.broken then None else ready_by r r.batch
+-- what was fetched for a batch that a replica, broken or not, may answer: of these known frames none below it is missing
+abbrev pub ready : Bool → List ℕ → Option Fetched → Option Fetched
+ready broken known fetched = if broken then None else unless_lacking known fetched
+
+-- what was fetched for a replica's batch, where it may be answered
+abbrev pub ready_of : Replica → Option Fetched
+ready_of r = ready r.broken (known r) (option_and_then (λ batch. batch.fetched) r.batch)
 
 -- what a run may answer and leave for want of memory, where a version was fetched and no frame is missing: `Memory`,
 -- the tables at the old version or at the one that was fetched; or `Broken`
 abbrev pub WantsMemory : Replica → Run → Replica → Type 0
 WantsMemory old answer new =
-    (fetched : Fetched) × (ready old ≡ Some fetched)
+    (fetched : Fetched) × (ready_of old ≡ Some fetched)
     × (((answer ≡ runs.Memory) × ((new ≡ old) ⊎ (caught_up old fetched ≡ Some new))) ⊎ ((answer ≡ runs.Broken) × (new ≡ broken_of old)))
-
--- what catching up answers and leaves: where memory is wanted before the first change, nothing has changed; where it is
--- wanted later, the replica is broken
-abbrev pub CatchesUp : Replica → Fetched → Result (Unit {0}) CatchUpFault → Replica → Type 0
-CatchesUp old fetched (Ok done) new = caught_up old fetched ≡ Some new
-CatchesUp old fetched (Err Inconsistent) new = (caught_up old fetched ≡ None) × (new ≡ broken_of old)
-CatchesUp old fetched (Err Memory) new = new ≡ old
-CatchesUp old fetched (Err Broken) new = new ≡ broken_of old
-
--- what applying commits answers and leaves; it lists none, so that no memory is wanted before the first change
-abbrev pub Applies : Replica → List Commit → ℕ → ℕ → Result (Unit {0}) CatchUpFault → Replica → Type 0
-Applies old commits version count (Ok done) new =
-    IsOkAnd (commits_of old.shape old.tables commits) (λ tables. new ≡ record old { tables = tables; version = version; applied = count })
-Applies old commits version count (Err Inconsistent) new = IsErr (commits_of old.shape old.tables commits) × (new ≡ broken_of old)
-Applies old commits version count (Err Memory) new = ⊥
-Applies old commits version count (Err Broken) new = new ≡ broken_of old
-
--- answering a batch on the tables as they are, which ends it
-abbrev pub answered_by : Replica → Option Queries → Run × Replica
-answered_by r None = (runs.NoBatch, r)
-answered_by r (Some batch) = (runs.Answered (report_of r batch.plans), record r { batch = None })
 
 -- what a run may answer and leave
 abbrev pub MayRun : Replica → Run → Replica → Type 0

@@ -1,9 +1,8 @@
 //! Answering a batch, and the text of its report.
 
-ghost use Rattle.std.specs.Prelude.{◌≡◌, ◌∷◌, [], ◌++◌, true, IfOk, OnOk, map};
+ghost use Rattle.std.specs.Prelude.{◌≡◌, ◌∷◌, [], ◌++◌, true, IfOk, OnOk};
 ghost use Rattle.std.specs.String.{string_bytes};
-ghost use Rattle.dispatcher.specs.Plans.{plain_answer};
-ghost use Rattle.dispatcher.specs.Report.{report_text, query_text};
+ghost use Rattle.dispatcher.specs.Report.{report_of, query_text};
 
 use crate::plan::Plan;
 use rows::ByteList;
@@ -19,7 +18,7 @@ pub fn report<S: Store>(
     plans: &[Plan],
 ) -> Result<ByteList, AllocError>
     requires { S.is_whole store.now ≡ true }
-    ensures { IfOk result (λ text. text ≡ report_text version (map (plain_answer (S.tables store.now)) plans.now)) }
+    ensures { IfOk result (λ text. text ≡ report_of (S.tables store.now) version plans.now) }
 {
     let mut text = String::new(alloc);
     let queries = plans.len();

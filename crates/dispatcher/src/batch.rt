@@ -3,14 +3,14 @@ use wire::Counts;
 
 /// The version that was fetched for a batch, and each worker's frame count at it.
 #[derive(Debug, Drop)]
-pub struct TakenHead {
+pub struct Fetched {
     pub version: u64,
     pub counts: Counts,
 }
 
-/// The queries that are answered together, and the Head that was taken for them.
+/// The queries that are answered together, and what was fetched for them.
 #[derive(Debug, Drop)]
 pub struct Batch {
     pub plans: Vec<Plan>,
-    pub head: Option<TakenHead>,
+    pub fetched: Option<Fetched>,
 }

@@ -3,10 +3,10 @@
 ghost use Rattle.dispatcher.specs.Feeding.{FreshIsFed, CommitsKeepFed, BytesKeepFed, OpenKeepsFed, AskKeepsFed, RunKeepsFed};
 ghost use Rattle.dispatcher.specs.Feeding.{RunIsConsistent, AnswerIsReport, ReadyIsAnswered, VersionTellsTables};
 
-/// A replica is fed from a list of commits where all that it knows is of that list: its frames,
-/// its tables, and the version that it fetched. A fresh one is, each step keeps it so where what
-/// comes is true of the list, and its runs report on rows of the list. Two of them at one version
-/// hold the same tables. It does nothing: its contract is the laws.
+/// A replica is fed from a legal list of commits where all that it knows is of that list: its
+/// frames, its tables, and the version that it fetched. A fresh one is, each step keeps it so where
+/// what comes is true of the list, and its runs report on rows of the list. Two of them at one
+/// version hold the same tables. It does nothing: its contract is the laws.
 pub fn fed_replicas_stay_fed()
     ensures fresh { FreshIsFed }
     ensures commits { CommitsKeepFed }

@@ -6,7 +6,7 @@
 //! to which lists of commits can be applied. `specs/` says which frames are known and which is the
 //! first that is missing (`Known.antt`), what each call answers and leaves (`Steps.antt`), the
 //! plain answer of a query (`Plans.antt`), the text of a report (`Report.antt`), and when all that
-//! a replica knows is of one list of commits (`Feeding.antt`).
+//! a replica knows is of one list of commits (`Feeding.antt`). `Inner` only helps proofs.
 //!
 //! Promised: each call is exact, want of memory aside. `fed_replicas_stay_fed` says that a replica
 //! to which only what is true of a legal list of commits comes reports on rows of that list.
@@ -23,6 +23,7 @@ mod listing;
 mod outcome;
 mod plan;
 mod replica_core;
+mod sending;
 
 pub use faults::{AskFault, OpenFault};
 pub use laws::fed_replicas_stay_fed;

@@ -1,16 +1,15 @@
 //! The commits that frames hold.
 
 ghost use Rattle.std.specs.Prelude.{◌≡◌, ◌+◌, ◌-◌, ◌<◌, ◌≤◌, ◌^◌, IfOk};
-ghost use Rattle.std.specs.Map.{keys_of};
 ghost use Rattle.std.specs.Option.{option_map};
-ghost use Rattle.dispatcher.specs.Known.{first_missing};
-ghost use Rattle.dispatcher.specs.Replay.{frames_at, commits_in};
+ghost use Rattle.dispatcher.specs.Known.{known_of, first_missing};
+ghost use Rattle.dispatcher.specs.Listing.{frames_at, commits_in};
 
 use crate::frame_map::FrameMap;
 use rows::{Commit, EntryList};
 use std::alloc::{AllocError, Global};
 
-/// The commits of the frames at the places from `first` to before `end`, of which none is missing;
+/// The commits of the frames of the seqs from `first` to before `end`, of which none is missing;
 /// `None` where one of them does not hold the whole of the next commit behind `version`. Fails for
 /// want of memory alone.
 pub fn commits_at(
@@ -20,7 +19,7 @@ pub fn commits_at(
     first: u64,
     end: u64,
 ) -> Result<Option<Vec<Commit>>, AllocError>
-    requires known { end ≤ first_missing (keys_of frames.now) }
+    requires known { end ≤ first_missing (known_of frames.now) }
     requires numbered { version + (end - first) < 2 ^ 64 }
     ensures { IfOk result (λ commits. option_map (λ list. list.items) commits ≡ commits_in version
         (frames_at frames.now first (end - first))) }

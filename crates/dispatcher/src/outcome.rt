@@ -27,7 +27,7 @@ pub enum Run {
     NoBatch,
     /// The batch has no version yet.
     WaitingHead,
-    /// The worker's frame at place `seq` is missing; `want` asks for it.
+    /// The worker's frame of that seq is missing; `want` asks for it.
     Waiting { worker: u8, seq: u64, want: Out },
     /// The report; the batch has ended.
     Answered(ByteList),

@@ -1,28 +1,28 @@
 //! The replica's core: bytes and values in, bytes and values out.
 
-ghost use Rattle.std.specs.Prelude.{◌≡◌, ◌<◌, ◌≤◌, ◌^◌, ◌+◌, ◌-◌, ◌==◌, ◌∷◌, [], Some, true, false, Ok, Err, IfOk, IfErr, IsOk, is_ok, ◌⊎◌};
+ghost use Rattle.std.specs.Prelude.{◌≡◌, ◌<◌, ◌≤◌, ◌^◌, ◌+◌, ◌-◌, ◌==◌, ◌∷◌, [], Some, true, false, Ok, Err, IfOk, IfErr, IsOk, ◌⊎◌};
 ghost use Rattle.rows.specs.Shape.{shape_of};
 ghost use Rattle.rows.specs.Tables.{opening};
 ghost use Rattle.dispatcher.specs.Replica.{Replica};
-ghost use Rattle.std.specs.List.{list_all};
-ghost use Rattle.rows.specs.Entries.{fitting};
-ghost use Rattle.dispatcher.specs.Steps.{started, opened, asked, received, frame_comes, own_head_comes, ask_for, want_for, ready};
-ghost use Rattle.dispatcher.specs.Steps.{CatchesUp, Applies, answered_by, MayRun};
+ghost use Rattle.dispatcher.specs.Steps.{started, opened, asked, received, frame_comes, own_head_comes, ready_of};
+ghost use Rattle.dispatcher.specs.Steps.{MayRun};
+ghost use Rattle.dispatcher.specs.Inner.Parts.{TakesFrame, CatchesUp, Applies, answered_by};
 
 use crate::answering::report;
-use crate::batch::{Batch, TakenHead};
+use crate::batch::{Batch, Fetched};
 use crate::catch_up_fault::CatchUpFault;
 use crate::faults::{AskFault, OpenFault};
 use crate::frame_map::FrameMap;
 use crate::listing::commits_at;
 use crate::outcome::{Got, Run};
 use crate::plan::Plan;
+use crate::sending::{ask_out, want_out};
 use rows::limits::WAITING_QUERIES_MAX;
-use rows::{Commit, Entry, Schema, fits};
+use rows::{Commit, Schema};
 use std::alloc::{AllocError, Global};
 use std::marker::{Model, Sync};
 use store::{ApplyFault, ApplyStore};
-use wire::{Counts, Datagram, Frame, LentEntries, Out, Packet, To, read};
+use wire::{Counts, Datagram, Frame, LentEntries, Out, read};
 
 /// A replica of one primary, on a store of its own.
 ///
@@ -50,11 +50,11 @@ impl<S: ApplyStore + Sync> Model for ReplicaCore<S> {
 
     ghost Value = { Replica };
 
-    ghost use Rattle.dispatcher.specs.Core.{replica_of, IsCore};
+    ghost use Rattle.dispatcher.specs.Inner.Core.{replica_of, IsCore};
 
     ghost view = { replica_of S.tables };
 
-    ghost invariant = { IsCore S.shape S.is_whole };
+    ghost invariant = { IsCore S.is_whole };
 }
 
 impl<S: ApplyStore + Sync> ReplicaCore<S> {
@@ -72,7 +72,6 @@ impl<S: ApplyStore + Sync> ReplicaCore<S> {
     where
         S: Drop,
         requires whole { S.is_whole store ≡ true }
-        requires shape { S.shape store ≡ shape_of schema.now }
         requires tables { S.tables store ≡ opening (shape_of schema.now) }
         requires workers { workers ≡ 1 }
         requires number { number < 16 }
@@ -134,11 +133,11 @@ impl<S: ApplyStore + Sync> ReplicaCore<S> {
     }
 
     /// Asks for the newest durable version. With no batch it makes one of all queries that wait
-    /// and counts the request up; while the batch waits for its Head it asks the same again.
+    /// and counts the request up; while nothing was fetched for the batch it asks the same again.
     /// Takes no memory.
     ///
     /// Fails with the first of these, and changes nothing: `Broken`; `Busy`, the batch has its
-    /// Head; `Empty`, there is no batch and no query waits.
+    /// version; `Empty`, there is no batch and no query waits.
     pub fn ask(&mut self) -> Result<Out, AskFault>
         requires { self.old.request < 2 ^ 64 - 1 }
         ensures ok { IfOk result (λ out. asked self.old ≡ Ok (out, self.new)) }
@@ -149,7 +148,7 @@ impl<S: ApplyStore + Sync> ReplicaCore<S> {
         }
         match &self.batch {
             Some(batch) => {
-                if batch.head.is_some() {
+                if batch.fetched.is_some() {
                     return Err(AskFault::Busy);
                 }
             }
@@ -159,7 +158,10 @@ impl<S: ApplyStore + Sync> ReplicaCore<S> {
                 }
                 let plans = std::mem::replace(&mut self.waiting, Vec::new(self.alloc));
                 self.request += 1;
-                self.batch = Some(Batch { plans, head: None });
+                self.batch = Some(Batch {
+                    plans,
+                    fetched: None,
+                });
             }
         }
         Ok(ask_out(self.number, self.boot, self.request))
@@ -168,9 +170,11 @@ impl<S: ApplyStore + Sync> ReplicaCore<S> {
     /// Takes bytes that came. A frame of a worker that is there, whose entries fit, is kept where
     /// it is not known and not 4096 or more past the first that is missing. A Head is taken where
     /// the batch waits for one, replica, boot, request and the number of workers are its own, and
-    /// neither its version nor a count goes back. All else is ignored.
+    /// neither its version nor a count goes back. All else is ignored. `Memory` is answered only
+    /// where a frame would be kept.
     pub fn on_bytes(&mut self, bytes: &[u8]) -> Got
-        ensures { ((result ≡ Got.Memory) × (self.new ≡ self.old)) ⊎ (received self.old bytes.now ≡ (result, self.new)) }
+        ensures { ((result ≡ Got.Memory) × (self.new ≡ self.old) × ((received self.old bytes.now).0 ≡ Got.Stored))
+            ⊎ (received self.old bytes.now ≡ (result, self.new)) }
     {
         if self.broken {
             return Got::Broken;
@@ -218,11 +222,11 @@ impl<S: ApplyStore + Sync> ReplicaCore<S> {
         let Some(batch) = &self.batch else {
             return Run::NoBatch;
         };
-        let Some(head) = &batch.head else {
+        let Some(fetched) = &batch.fetched else {
             return Run::WaitingHead;
         };
-        let version = head.version;
-        let count = head.counts.as_slice()[0];
+        let version = fetched.version;
+        let count = fetched.counts.as_slice()[0];
         let missing = self.frames.first_missing();
         if missing < count {
             return Run::Waiting {
@@ -249,17 +253,13 @@ impl<S: ApplyStore + Sync> ReplicaCore<S> {
         entries: &LentEntries<'_>,
     ) -> Got
         requires { self.old.broken ≡ false }
-        ensures { ((result ≡ Got.Memory) × (self.new ≡ self.old))
-            ⊎ (frame_comes self.old (record { worker = worker; seq = seq; commit = commit; last = last; entries = entries.now })
-            ≡ (result, self.new)) }
+        ensures { TakesFrame self.old (record { worker = worker; seq = seq; commit = commit; last = last; entries = entries.now })
+            result self.new }
     {
         if worker >= self.workers {
             return Got::Ignored;
         }
-        let Ok(entries) = entries.to_list(self.alloc) else {
-            return Got::Memory;
-        };
-        if !all_fit(&self.schema, entries.as_slice()) {
+        if !entries.fit(&self.schema) {
             return Got::Ignored;
         }
         if self.frames.contains(seq) {
@@ -268,6 +268,9 @@ impl<S: ApplyStore + Sync> ReplicaCore<S> {
         if self.frames.is_ahead(seq) {
             return Got::Ahead;
         }
+        let Ok(entries) = entries.to_list(self.alloc) else {
+            return Got::Memory;
+        };
         let frame = Frame {
             worker,
             seq,
@@ -294,10 +297,10 @@ impl<S: ApplyStore + Sync> ReplicaCore<S> {
         }
         match &mut self.batch {
             Some(batch) => {
-                if batch.head.is_some() {
+                if batch.fetched.is_some() {
                     return Got::Ignored;
                 }
-                batch.head = Some(TakenHead { version, counts });
+                batch.fetched = Some(Fetched { version, counts });
                 Got::Head(version)
             }
             None => Got::Ignored,
@@ -308,7 +311,7 @@ impl<S: ApplyStore + Sync> ReplicaCore<S> {
     /// is at `version` then. They are listed before the first change: where memory is wanted for
     /// the list nothing has changed.
     fn catch_up(&mut self, version: u64, count: u64) -> Result<(), CatchUpFault>
-        requires { ready self.old ≡ Some (record { version = version; counts = count ∷ [] }) }
+        requires { ready_of self.old ≡ Some (record { version = version; counts = count ∷ [] }) }
         ensures { CatchesUp self.old (record { version = version; counts = count ∷ [] }) result self.new }
     {
         if !is_reached(self.version, version, self.applied, count) {
@@ -328,7 +331,7 @@ impl<S: ApplyStore + Sync> ReplicaCore<S> {
     /// Applies commits, and is at `version` then, with as many frames applied. Where that fails,
     /// it is broken.
     fn apply(&mut self, commits: &[Commit], version: u64, count: u64) -> Result<(), CatchUpFault>
-        requires { ready self.old ≡ Some (record { version = version; counts = count ∷ [] }) }
+        requires { ready_of self.old ≡ Some (record { version = version; counts = count ∷ [] }) }
         ensures { Applies self.old commits.now version count result self.new }
     {
         let applied = self.store.apply_all(commits);
@@ -370,42 +373,4 @@ fn is_reached(version: u64, wanted: u64, applied: u64, count: u64) -> bool
     ensures { result ≡ (version + (count - applied) == wanted) }
 {
     wanted - version == count - applied
-}
-
-/// The Ask of a request, on its way to the primary.
-fn ask_out(replica: u8, boot: u64, request: u64) -> Out
-    requires { replica < 16 }
-    ensures { result ≡ ask_for replica boot request }
-{
-    Out {
-        to: To::Primary,
-        packet: Packet::of(&Datagram::Ask {
-            replica,
-            boot,
-            request,
-        }),
-    }
-}
-
-/// The Want of a worker's frames from a place on, on its way to the primary.
-fn want_out(replica: u8, worker: u8, from: u64) -> Out
-    requires replica { replica < 16 }
-    requires worker { worker < 16 }
-    ensures { result ≡ want_for replica worker from }
-{
-    Out {
-        to: To::Primary,
-        packet: Packet::of(&Datagram::Want {
-            replica,
-            worker,
-            from,
-        }),
-    }
-}
-
-/// Whether every entry fits the schema.
-fn all_fit(schema: &Schema, entries: &[Entry]) -> bool
-    ensures { result ≡ list_all (λ entry. is_ok (fitting (shape_of schema.now) entry)) entries.now }
-{
-    entries.iter().all(|entry| fits(schema, entry).is_ok())
 }

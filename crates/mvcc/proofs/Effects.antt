@@ -13,10 +13,10 @@ use Rattle.rows.specs.declared.fitting.EntryFault.{EntryFault}
 use Rattle.rows.specs.declared.kind.Kind.{Kind}
 use Rattle.rows.specs.declared.row_id.RowId.{RowId}
 use Rattle.rows.specs.declared.value.Value.{Value}
-use Rattle.rows.specs.Shape.{Shape, row_width, column_at}
+use Rattle.rows.specs.Shape.{kinds_in, Shape, row_width, column_at}
 use Rattle.rows.specs.Values.{value_of}
 use Rattle.rows.specs.Entries.{table_of, row_of, fitting}
-use Rattle.rows.specs.Tables.{kinds_of, patched_row}
+use Rattle.rows.specs.Tables.{patched_row}
 use Rattle.rows.specs.Commits.{is_of}
 use Rattle.rows.specs.RowAfter.{inserted_row, row_after_one, row_after_entry, row_after_fit}
 use Rattle.rows.proofs.RowLaws.{row_after_fit-push}
@@ -66,24 +66,24 @@ fits-patch kinds offset bytes fault was = by (column_at kinds offset (length byt
 
 -- the effect of an entry is what it makes of its row where it fits
 fits-effect : (shape : Shape) (entry : Entry) (was : Option (List Value))
-    → cond (is_ok (fitting shape entry)) (row_after_one (kinds_of shape (table_of entry)) entry was) was ≡ effect
+    → cond (is_ok (fitting shape entry)) (row_after_one (kinds_in shape (table_of entry)) entry was) was ≡ effect
     (slice_get shape (table_of entry)) entry was
 fits-effect shape entry was = by (slice_get shape (table_of entry)) refl
   where
     of_kinds : (kinds : List Kind) (entry : Entry) → slice_get shape (table_of entry) ≡ Some kinds
-        → cond (is_ok (fitting shape entry)) (row_after_one (kinds_of shape (table_of entry)) entry was) was ≡ effect (Some kinds) entry was
+        → cond (is_ok (fitting shape entry)) (row_after_one (kinds_in shape (table_of entry)) entry was) was ≡ effect (Some kinds) entry was
     of_kinds kinds (Insert table row bytes) e = rw e (tested (length bytes == row_width kinds) _ (inserted_row kinds bytes was) was)
     of_kinds kinds (Patch table row offset bytes) e = rw e (fits-patch kinds offset bytes _ was)
     of_kinds kinds (Delete table row) e = rw e refl
 
     of_none : (entry : Entry) → slice_get shape (table_of entry) ≡ None
-        → cond (is_ok (fitting shape entry)) (row_after_one (kinds_of shape (table_of entry)) entry was) was ≡ was
+        → cond (is_ok (fitting shape entry)) (row_after_one (kinds_in shape (table_of entry)) entry was) was ≡ was
     of_none (Insert table row bytes) e = rw e refl
     of_none (Patch table row offset bytes) e = rw e refl
     of_none (Delete table row) e = rw e refl
 
     by : (found : Option (List Kind)) → slice_get shape (table_of entry) ≡ found
-        → cond (is_ok (fitting shape entry)) (row_after_one (kinds_of shape (table_of entry)) entry was) was ≡ effect
+        → cond (is_ok (fitting shape entry)) (row_after_one (kinds_in shape (table_of entry)) entry was) was ≡ effect
         (slice_get shape (table_of entry)) entry was
     by None e = of_none entry e ∙ ap (λ found. effect found entry was) (sym e)
     by (Some kinds) e = of_kinds kinds entry e ∙ ap (λ found. effect found entry was) (sym e)
@@ -99,7 +99,7 @@ step-is shape table row entry was = by (is_of table row entry) refl
     by true e =
         let same : table_of entry ≡ table = eqb-true _ _ (and_parts (table_of entry == table) (row_of entry == row) e).0 in
         let here =
-        subst (λ table. cond (is_ok (fitting shape entry)) (row_after_one (kinds_of shape table) entry was) was ≡ effect
+        subst (λ table. cond (is_ok (fitting shape entry)) (row_after_one (kinds_in shape table) entry was) was ≡ effect
         (slice_get shape table) entry was) same (fits-effect shape entry was) in
         rw e here
 

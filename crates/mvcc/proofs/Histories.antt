@@ -12,13 +12,12 @@ use Rattle.std.proofs.lemmas.Bool.Decides.{nat_tests}
 use Rattle.rows.specs.declared.commit.Commit.{Commit}
 use Rattle.rows.specs.declared.entry.Entry.{Entry}
 use Rattle.rows.specs.declared.value.Value.{Value}
-use Rattle.rows.specs.Shape.{Shape}
-use Rattle.rows.specs.Tables.{kinds_of}
-use Rattle.rows.specs.Commits.{is_of}
+use Rattle.rows.specs.Shape.{Shape, kinds_in}
+use Rattle.rows.specs.Commits.{is_of, last_where}
 use Rattle.rows.specs.RowAfter.{row_after_one, row_after, row_after_commits}
 use Rattle.rows.proofs.RowLaws.{row_after-push, row_after_commits-push, row_after-unnamed}
 use Rattle.mvcc.specs.declared.link.Link.{Link}
-use Rattle.mvcc.specs.Newest.{writes, newest_behind, newest_of}
+use Rattle.mvcc.specs.Newest.{writes, newest_of}
 use Rattle.mvcc.specs.Chains.{link_of, chain_behind, chain_of, newest_from, newest_in, latest_from, latest_in, values_from, values_at}
 use Rattle.mvcc.specs.Chains.{cut_at, linked, and_entries}
 use Rattle.mvcc.proofs.Links.{newest-push}
@@ -46,29 +45,32 @@ chain-push shape t r before was (first ∷ commits) commit =
 
 -- the version of the last link is the last commit that wrote the row
 pub chain-newest : (shape : Shape) (t r before : ℕ) (was : Option (List Value)) (commits : List Commit) (last : ℕ)
-    → newest_from last (chain_behind shape t r before was commits) ≡ cond (newest_behind t r before commits == 0) last
-    (newest_behind t r before commits)
+    → newest_from last (chain_behind shape t r before was commits) ≡ cond (last_where (writes t r) before commits == 0) last
+    (last_where (writes t r) before commits)
 chain-newest shape t r before was [] last = refl
 chain-newest shape t r before was (commit ∷ commits) last =
     by (writes t r commit) (chain-newest shape t r (before + 1) (row_after shape t r commit.entries was) commits)
   where
     by : (b : Bool) → ((last : ℕ) → newest_from last
         (chain_behind shape t r (before + 1) (row_after shape t r commit.entries was) commits) ≡ cond
-        (newest_behind t r (before + 1) commits == 0) last (newest_behind t r (before + 1) commits))
+        (last_where (writes t r) (before + 1) commits == 0) last (last_where (writes t r) (before + 1) commits))
         → newest_from last (cond b (record { version = before + 1; values = row_after shape t r commit.entries was } ∷ []) []
         ++ chain_behind shape t r (before + 1) (row_after shape t r commit.entries was) commits)
-        ≡ cond (cond (newest_behind t r (before + 1) commits == 0) (cond b (before + 1) 0) (newest_behind t r (before + 1) commits) == 0)
-        last (cond (newest_behind t r (before + 1) commits == 0) (cond b (before + 1) 0) (newest_behind t r (before + 1) commits))
+        ≡ cond
+        (cond (last_where (writes t r) (before + 1) commits == 0) (cond b (before + 1) 0) (last_where (writes t r) (before + 1) commits)
+        == 0)
+        last
+        (cond (last_where (writes t r) (before + 1) commits == 0) (cond b (before + 1) 0) (last_where (writes t r) (before + 1) commits))
     by true rest = rest (before + 1) ∙ grind (arith, nat_tests)
     by false rest = rest last ∙ grind (arith, nat_tests)
 
-newest-le : (t r before : ℕ) (commits : List Commit) → newest_behind t r before commits ≤ before + length commits
+newest-le : (t r before : ℕ) (commits : List Commit) → last_where (writes t r) before commits ≤ before + length commits
 newest-le t r before [] = omega arith
 newest-le t r before (commit ∷ commits) = by (writes t r commit) (newest-le t r (before + 1) commits)
   where
-    by : (b : Bool) → newest_behind t r (before + 1) commits ≤ before + 1 + length commits
-        → cond (newest_behind t r (before + 1) commits == 0) (cond b (before + 1) 0) (newest_behind t r (before + 1) commits) ≤ before + suc
-        (length commits)
+    by : (b : Bool) → last_where (writes t r) (before + 1) commits ≤ before + 1 + length commits
+        → cond (last_where (writes t r) (before + 1) commits == 0) (cond b (before + 1) 0) (last_where (writes t r) (before + 1) commits)
+        ≤ before + suc (length commits)
     by true h = grind (arith, nat_tests)
     by false h = grind (arith, nat_tests)
 
@@ -269,20 +271,20 @@ latest-and_entries shape t r commits entries =
 entry-linked : (shape : Shape) (t r : ℕ) (commits : List Commit) (entries : List Entry) (entry : Entry) (named here : Bool)
     → list_any (is_of t r) entries ≡ named
     → chain_of shape t r commits ++ link_if (named || here) (length commits + 1)
-    (cond here (row_after_one (kinds_of shape t) entry (row_after shape t r entries (row_after_commits shape t r commits None)))
+    (cond here (row_after_one (kinds_in shape t) entry (row_after shape t r entries (row_after_commits shape t r commits None)))
     (row_after shape t r entries (row_after_commits shape t r commits None)))
-    ≡ cond here (linked (kinds_of shape t) (length commits + 1) entry (chain_of shape t r (and_entries commits entries)))
+    ≡ cond here (linked (kinds_in shape t) (length commits + 1) entry (chain_of shape t r (and_entries commits entries)))
     (chain_of shape t r (and_entries commits entries))
 entry-linked shape t r commits entries entry named true e =
     ap (λ b. chain_of shape t r commits
     ++ link_if b (length commits + 1)
-    (row_after_one (kinds_of shape t) entry (row_after shape t r entries (row_after_commits shape t r commits None)))) (surely named)
+    (row_after_one (kinds_in shape t) entry (row_after shape t r entries (row_after_commits shape t r commits None)))) (surely named)
     ∙ ap (λ values. chain_of shape t r commits
-    ++ record { version = length commits + 1; values = row_after_one (kinds_of shape t) entry values } ∷ [])
+    ++ record { version = length commits + 1; values = row_after_one (kinds_in shape t) entry values } ∷ [])
     (sym (latest-and_entries shape t r commits entries))
     ∙ ap (λ links. links ++ record {
       version = length commits + 1;
-      values = row_after_one (kinds_of shape t) entry (latest_in (chain_of shape t r (and_entries commits entries)));
+      values = row_after_one (kinds_in shape t) entry (latest_in (chain_of shape t r (and_entries commits entries)));
     } ∷ [])
     (sym (cut-and_entries shape t r commits entries))
   where
@@ -301,7 +303,7 @@ entry-linked shape t r commits entries entry named false e =
 -- one more entry of that commit
 pub and_entries-push : (shape : Shape) (t r : ℕ) (commits : List Commit) (entries : List Entry) (entry : Entry)
     → chain_of shape t r (and_entries commits (entries ++ entry ∷ []))
-    ≡ cond (is_of t r entry) (linked (kinds_of shape t) (length commits + 1) entry (chain_of shape t r (and_entries commits entries)))
+    ≡ cond (is_of t r entry) (linked (kinds_in shape t) (length commits + 1) entry (chain_of shape t r (and_entries commits entries)))
     (chain_of shape t r (and_entries commits entries))
 and_entries-push shape t r commits entries entry =
     let number = length commits + 1 in

@@ -10,14 +10,13 @@ use Rattle.std.proofs.lemmas.List.{take_more, length-set, length-replicate}
 use Rattle.std.proofs.Math.Seq.{take-append_seam}
 use Rattle.rows.specs.declared.commit.Commit.{Commit}
 use Rattle.rows.specs.declared.entry.Entry.{Entry}
-use Rattle.rows.specs.Shape.{Shape}
+use Rattle.rows.specs.Shape.{Shape, kinds_in}
 use Rattle.rows.specs.Entries.{table_of, fitting}
-use Rattle.rows.specs.Tables.{Tables, opening, rows_of, row_at, kinds_of, change_of, changes_of}
+use Rattle.rows.specs.Tables.{Tables, shape_in, opening, rows_of, row_at, change_of, changes_of}
 use Rattle.rows.specs.Commits.{commits_of, tables_after, is_of}
 use Rattle.rows.proofs.Presence.{fitting-within, change_of-parts, and_then-parts}
-use Rattle.rows.proofs.TableLaws.{from_is_ok, commits_of-push}
+use Rattle.rows.proofs.TableLaws.{from_is_ok, commits_of-push, entry-kinds}
 use Rattle.rows.proofs.RowLaws.{row-at}
-use Rattle.mvcc.specs.History.{defined_at}
 use Rattle.mvcc.specs.declared.link.Link.{Link}
 use Rattle.mvcc.specs.Newest.{newest_of}
 use Rattle.mvcc.specs.Chains.{Chains, chain_of, newest_in, values_at, cut_at, linked, links_at, tables_linked, tables_cut, tables_cut_all}
@@ -32,17 +31,17 @@ on_err (Ok x) p = tt
 on_err (Err e) p = p
 
 -- each entry of a commit that is defined fits
-pub all_fit : (shape : Shape) (tables : Tables) (entries : List Entry) → is_ok (changes_of shape tables entries) ≡ true
+pub all_fit : (shape : Shape) (tables : Tables) (entries : List Entry) → shape_in tables ≡ shape → is_ok (changes_of tables entries) ≡ true
     → All (λ entry. is_ok (fitting shape entry) ≡ true) entries
-all_fit shape tables [] h k d below = absurd (omega arith)
-all_fit shape tables (entry ∷ entries) h zero d below =
+all_fit shape tables [] same h k d below = absurd (omega arith)
+all_fit shape tables (entry ∷ entries) same h zero d below =
     let all = from_is_ok _ h in
-    let parts = and_then-parts _ (change_of shape tables entry) all.0 all.1 in
-    (change_of-parts shape tables parts.0 entry parts.1).0
-all_fit shape tables (entry ∷ entries) h (suc k) d below =
+    let parts = and_then-parts _ (change_of tables entry) all.0 all.1 in
+    ap (λ shape. is_ok (fitting shape entry)) (sym same) ∙ (change_of-parts tables parts.0 entry parts.1).0
+all_fit shape tables (entry ∷ entries) same h (suc k) d below =
     let all = from_is_ok _ h in
-    let parts = and_then-parts _ (change_of shape tables entry) all.0 all.1 in
-    all_fit shape parts.0 entries (ap is_ok parts.2) k d (omega arith)
+    let parts = and_then-parts _ (change_of tables entry) all.0 all.1 in
+    all_fit shape parts.0 entries (entry-kinds tables parts.0 entry parts.1 ∙ same) (ap is_ok parts.2) k d (omega arith)
 
 -- tables without chains are those of no commits
 pub kept-none : (shape : Shape) (count : ℕ) → AreChains shape [] (replicate count [])
@@ -66,7 +65,7 @@ kept-linked shape commits tables entries i entry counted h e fits kept t r =
     let more : take (i + 1) entries ≡ take i entries ++ entry ∷ [] =
     take_more entries i entry h ∙ ap (λ x. take i entries ++ x ∷ []) (sym e) in
     links_at-linked shape (length commits + 1) tables entry t r within
-    ∙ ap (λ links. cond (is_of t r entry) (linked (kinds_of shape t) (length commits + 1) entry links) links) (kept t r)
+    ∙ ap (λ links. cond (is_of t r entry) (linked (kinds_in shape t) (length commits + 1) entry links) links) (kept t r)
     ∙ sym (ap (λ entries. chain_of shape t r (and_entries commits entries)) more
     ∙ and_entries-push shape t r commits (take i entries) entry)
 
@@ -125,14 +124,14 @@ pub newest-at : (shape : Shape) (commits : List Commit) (tables : List Chains) (
 newest-at shape commits tables t r kept = ap newest_in (kept t r) ∙ chain-newest_of shape t r commits
 
 pub row-kept : (shape : Shape) (commits : List Commit) (tables : List Chains) (version t r : ℕ)
-    → is_ok (commits_of shape (opening shape) commits) ≡ true → AreChains shape commits tables
+    → is_ok (commits_of (opening shape) commits) ≡ true → AreChains shape commits tables
     → values_at version (links_at tables t r) ≡ row_at (rows_of (tables_after shape commits version) t) r
 row-kept shape commits tables version t r legal kept =
     ap (values_at version) (kept t r) ∙ chain-at shape t r version commits ∙ sym (row-at shape commits version t r legal)
 
 -- with one more commit
 pub versions-push : (shape : Shape) (commits : List Commit) (before after : List Chains) (commit : Commit)
-    → AreVersions shape commits before → defined_at (record { shape = shape; commits = commits }) (length commits) commit.entries ≡ true
+    → AreVersions shape commits before → is_ok (changes_of (tables_after shape commits (length commits)) commit.entries) ≡ true
     → length after ≡ length before → AreChains shape (and_entries commits commit.entries) after
     → AreVersions shape (commits ++ commit ∷ []) after
 versions-push shape commits before after commit versions defined counted kept = record {

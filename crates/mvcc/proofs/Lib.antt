@@ -6,3 +6,4 @@ pub mod Effects
 pub mod OwnRows
 pub mod CellLaws
 pub mod Columns
+pub mod Seen

@@ -11,9 +11,8 @@ use Rattle.std.proofs.lemmas.Bool.{eq-eqb, ne_eqb, cases_eq}
 use Rattle.rows.specs.declared.entry.Entry.{Entry}
 use Rattle.rows.specs.declared.kind.Kind.{Kind}
 use Rattle.rows.specs.declared.value.Value.{Value}
-use Rattle.rows.specs.Shape.{Shape}
+use Rattle.rows.specs.Shape.{Shape, kinds_in}
 use Rattle.rows.specs.Entries.{table_of, row_of}
-use Rattle.rows.specs.Tables.{kinds_of}
 use Rattle.rows.specs.Commits.{is_of}
 use Rattle.rows.proofs.RowLaws.{lookup-insert_entry, lookup-set_value}
 use Rattle.mvcc.specs.declared.link.Link.{Link}
@@ -163,10 +162,10 @@ links_at-set tables table row chains change t r h made = elim (cases_eq t table)
 
 pub links_at-linked : (shape : Shape) (number : ℕ) (tables : List Chains) (entry : Entry) (t r : ℕ) → table_of entry < length tables
     → links_at (tables_linked shape number tables entry) t r ≡ cond (is_of t r entry)
-    (linked (kinds_of shape t) number entry (links_at tables t r)) (links_at tables t r)
+    (linked (kinds_in shape t) number entry (links_at tables t r)) (links_at tables t r)
 links_at-linked shape number tables entry t r h =
-    links_at-set tables (table_of entry) (row_of entry) _ (λ t. linked (kinds_of shape t) number entry) t r h
-    (links_in-with_link (kinds_of shape (table_of entry)) number entry (chains_of tables (table_of entry)) r)
+    links_at-set tables (table_of entry) (row_of entry) _ (λ t. linked (kinds_in shape t) number entry) t r h
+    (links_in-with_link (kinds_in shape (table_of entry)) number entry (chains_of tables (table_of entry)) r)
 
 pub links_at-cut : (number : ℕ) (tables : List Chains) (entry : Entry) (t r : ℕ) → table_of entry < length tables
     → links_at (tables_cut number tables entry) t r ≡ cond (is_of t r entry) (cut_at number (links_at tables t r)) (links_at tables t r)

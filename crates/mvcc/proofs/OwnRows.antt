@@ -3,61 +3,39 @@ use Rattle.std.proofs.Common.{◌≡◌, ℕ, zero, suc, ◌+◌, ◌<◌, Bool,
 use Rattle.std.proofs.Common.{None, Some, slice_get, refl, sym, ap, ◌∙◌, arith}
 use Rattle.std.specs.List.{filter, AllByRecursion}
 use Rattle.std.specs.Map.{lookup}
-use Rattle.std.specs.BTreeMap.{is_at}
-use Rattle.std.specs.Ordering.{nat_cmp, ordering_then}
-use Rattle.std.specs.declared.cmp.Ordering.{Ordering}
 use Rattle.std.proofs.lemmas.Bool.{and_parts, eqb-true}
-use Rattle.std.proofs.lemmas.Bool.Decides.{nat_tests}
 use Rattle.std.proofs.lemmas.List.{length_push}
 use Rattle.rows.specs.declared.entry.Entry.{Entry}
 use Rattle.rows.specs.declared.value.Value.{Value}
 use Rattle.rows.specs.Shape.{Shape}
 use Rattle.rows.specs.Entries.{table_of, row_of}
 use Rattle.rows.specs.Commits.{is_of}
+use Rattle.rows.specs.Keys.{is_key_of}
 use Rattle.rows.specs.RowAfter.{row_after_fit}
 use Rattle.rows.proofs.RowLaws.{row_after_fit-push}
-use Rattle.mvcc.specs.OwnRows.{Index, is_key_of, places_at, picked, supersedes, is_superseded, kept_places, IsIndexOf}
+use Rattle.mvcc.specs.OwnRows.{Index, places_at, picked, supersedes, is_superseded, kept_places, IsIndexOf}
 use Rattle.mvcc.proofs.Effects.{step, superseded, other_row}
-
--- how the map of places compares its keys
-abbrev pub key_cmp : ℕ × ℕ → ℕ × ℕ → Ordering
-key_cmp x y = ordering_then (nat_cmp x.0 y.0) (nat_cmp x.1 y.1)
-
--- two tests that answer alike find the same
-lookup-alike : {K X : Type 0} (f g : K → Bool) (es : List (K × X)) → ((k : K) → f k ≡ g k) → lookup f es ≡ lookup g es
-lookup-alike f g [] h = refl
-lookup-alike f g (e ∷ es) h = ap (λ b. cond b (Some e.1) (lookup f es)) (h e.0) ∙ ap (cond (g e.0) (Some e.1)) (lookup-alike f g es h)
-
-is_key-cmp : (table row : ℕ) (key : ℕ × ℕ) → is_at (key_cmp (table, row)) key ≡ is_key_of table row key
-is_key-cmp table row key = grind (arith, nat_tests)
 
 abbrev or_none : Option (List ℕ) → List ℕ
 or_none None = []
 or_none (Some places) = places
 
--- the places of a row, as the map finds them
-places-get : (index : Index) (table row : ℕ) → places_at index table row ≡ or_none (lookup (is_at (key_cmp (table, row))) index)
-places-get index table row =
-    by (lookup (is_key_of table row) index) refl
-    ∙ ap or_none (lookup-alike (is_key_of table row) (is_at (key_cmp (table, row))) index (λ key. sym (is_key-cmp table row key)))
+places-get : (index : Index) (table row : ℕ) → places_at index table row ≡ or_none (lookup (is_key_of table row) index)
+places-get index table row = by (lookup (is_key_of table row) index) refl
   where
     by : (found : Option (List ℕ)) → lookup (is_key_of table row) index ≡ found
         → places_at index table row ≡ or_none (lookup (is_key_of table row) index)
     by None e = rw e refl
     by (Some places) e = rw e refl
 
-same_key : (table row t r : ℕ) → is_at (key_cmp (table, row)) (t, r) ≡ ((table == t) && (row == r))
-same_key table row t r = grind (arith, nat_tests)
-
 -- the places of a row once those of one row were replaced in the map
 pub places-put : (index after : Index) (table row : ℕ) (places : List ℕ)
-    → ((key : ℕ × ℕ) → lookup (is_at (key_cmp key)) after ≡ cond (is_at (key_cmp (table, row)) key) (Some places)
-    (lookup (is_at (key_cmp key)) index))
+    → ((t r : ℕ) → lookup (is_key_of t r) after ≡ cond ((table == t) && (row == r)) (Some places) (lookup (is_key_of t r) index))
     → (t r : ℕ) → places_at after t r ≡ cond ((table == t) && (row == r)) places (places_at index t r)
 places-put index after table row places h t r =
     places-get after t r
-    ∙ ap or_none (h (t, r) ∙ ap (λ here. cond here (Some places) (lookup (is_at (key_cmp (t, r))) index)) (same_key table row t r))
-    ∙ by ((table == t) && (row == r)) (lookup (is_at (key_cmp (t, r))) index)
+    ∙ ap or_none (h t r)
+    ∙ by ((table == t) && (row == r)) (lookup (is_key_of t r) index)
     ∙ ap (cond ((table == t) && (row == r)) places) (sym (places-get index t r))
   where
     by : (here : Bool) (found : Option (List ℕ)) → or_none (cond here (Some places) found) ≡ cond here places (or_none found)

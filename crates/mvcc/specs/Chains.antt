@@ -10,9 +10,9 @@ use Rattle.rows.specs.declared.entry.Entry.{Entry}
 use Rattle.rows.specs.declared.entry.Entry.TheVariants.{Insert, Patch, Delete}
 use Rattle.rows.specs.declared.kind.Kind.{Kind}
 use Rattle.rows.specs.declared.value.Value.{Value}
-use Rattle.rows.specs.Shape.{Shape, row_width}
+use Rattle.rows.specs.Shape.{Shape, kinds_in, row_width}
 use Rattle.rows.specs.Entries.{table_of, row_of}
-use Rattle.rows.specs.Tables.{opening, kinds_of}
+use Rattle.rows.specs.Tables.{opening}
 use Rattle.rows.specs.Commits.{commits_of, is_of}
 use Rattle.rows.specs.RowAfter.{row_after_one, row_after}
 use Rattle.mvcc.specs.declared.link.Link.{Link}
@@ -110,7 +110,7 @@ with_cut number row chains = put (lookup (is_at (nat_cmp row)) chains)
 -- the chains of all tables once an entry was linked, or cut
 abbrev pub tables_linked : Shape → ℕ → List Chains → Entry → List Chains
 tables_linked shape number tables entry =
-    slice_set tables (table_of entry) (with_link (kinds_of shape (table_of entry)) number entry (chains_of tables (table_of entry)))
+    slice_set tables (table_of entry) (with_link (kinds_in shape (table_of entry)) number entry (chains_of tables (table_of entry)))
 
 abbrev pub tables_cut : ℕ → List Chains → Entry → List Chains
 tables_cut number tables entry = slice_set tables (table_of entry) (with_cut number (row_of entry) (chains_of tables (table_of entry)))
@@ -141,6 +141,6 @@ pub record AreChainsCut (shape : Shape) (commits : List Commit) (entries : List 
 
 -- commits whose entries are defined in their place, with the chains of their rows
 pub record AreVersions (shape : Shape) (commits : List Commit) (tables : List Chains) : Type 0 where
-  pub legal : is_ok (commits_of shape (opening shape) commits) ≡ true
+  pub legal : is_ok (commits_of (opening shape) commits) ≡ true
   pub counted : length tables ≡ length shape
   pub kept : AreChains shape commits tables

@@ -7,15 +7,12 @@ use Rattle.rows.specs.declared.entry.Entry.{Entry}
 use Rattle.rows.specs.declared.entry.Entry.TheVariants.{Insert, Patch, Delete}
 use Rattle.rows.specs.declared.value.Value.{Value}
 use Rattle.rows.specs.Shape.{Shape}
+use Rattle.rows.specs.Keys.{is_key_of}
 use Rattle.rows.specs.RowAfter.{row_after_fit}
 
 -- the places of entries, by table and row
 abbrev pub Index : Type 0
 Index = List ((ℕ × ℕ) × List ℕ)
-
--- whether a key is that of the row
-abbrev pub is_key_of : ℕ → ℕ → ℕ × ℕ → Bool
-is_key_of table row key = (key.0 == table) && (key.1 == row)
 
 -- the places of a row
 abbrev pub places_at : Index → ℕ → ℕ → List ℕ

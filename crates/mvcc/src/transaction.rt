@@ -1,23 +1,25 @@
 //! Transactions before their commit.
 
-ghost use Rattle.std.specs.Prelude.{◌≡◌, ◌<◌, ◌≤◌, [], ◌∷◌, ◌++◌, length, IfErr, Ok, Err, Some, None, OnOk, OnErr, ◌⊎◌, IsOk, is_some};
-ghost use Rattle.std.specs.Prelude.{if◌then◌else◌};
+ghost use Rattle.std.specs.Prelude.{◌≡◌, ◌<◌, ◌≤◌, [], ◌∷◌, ◌++◌, length, IfErr, Ok, Some, None, OnOk, OnErr, is_some};
+ghost use Rattle.std.specs.Prelude.{if◌then◌else◌, slice_get};
+ghost use Rattle.std.specs.Option.{option_map};
 ghost use Rattle.rows.specs.declared.entry.Entry.TheVariants.{Insert, Patch, Delete};
+ghost use Rattle.rows.specs.Faults.{IsFaultOf};
 ghost use Rattle.rows.specs.Shape.{shape_of};
 ghost use Rattle.rows.specs.Values.{bytes_of, value_bytes};
 ghost use Rattle.rows.specs.Tables.{rows_of, row_at};
-ghost use Rattle.rows.specs.Commits.{tables_after};
+ghost use Rattle.mvcc.specs.History.{tables_at};
 ghost use Rattle.mvcc.specs.Draft.{Draft};
 ghost use Rattle.mvcc.specs.Cells.{cell_of};
 ghost use Rattle.mvcc.specs.Transactions.{insert_answer, set_answer, delete_answer, get_answer, match_column, column_kind, column_offset};
-ghost use Rattle.mvcc.specs.Transactions.{seen_by, sees};
+ghost use Rattle.mvcc.specs.Transactions.{seen_by, seen_shape, sees};
 
 use crate::cells::cell_after;
 use crate::faults::TxFault;
 use crate::own_rows::{OwnRows, places_with};
 use crate::values::{is_value_of, matches_table};
 use crate::versions::Versions;
-use rows::{Entry, EntryList, RowId, Schema, Value, row_bytes, width_of_row};
+use rows::{Entry, EntryList, Kind, RowId, Schema, Value, row_bytes, width_of_row};
 use std::alloc::{AllocError, Global};
 use std::marker::Model;
 
@@ -106,12 +108,13 @@ impl Transaction {
     ) -> Result<(), TxFault>
         requires { self.old.snapshot ≤ length versions.now.commits }
         ensures same_snapshot { self.new.snapshot ≡ self.old.snapshot }
-        ensures ok { OnOk result (insert_answer versions.now.shape versions.now.commits self.old table row.0 values.now ≡ Ok self.new) }
+        ensures ok { OnOk result
+            (insert_answer (shape_of versions.now.schema) versions.now.commits self.old table row.0 values.now ≡ Ok self.new) }
         ensures refused { IfErr result (λ fault. (self.new ≡ self.old)
-            × (((fault ≡ TxFault.Memory) × IsOk (insert_answer versions.now.shape versions.now.commits self.old table row.0 values.now))
-            ⊎ (insert_answer versions.now.shape versions.now.commits self.old table row.0 values.now ≡ Err fault))) }
+            × IsFaultOf (insert_answer (shape_of versions.now.schema) versions.now.commits self.old table row.0 values.now)
+            TxFault.Memory fault) }
     {
-        if !matches_table(values, versions.schema().kinds(table as usize)) {
+        if !matches_table(values, self.kinds(versions, table)) {
             return Err(TxFault::Unfit);
         }
         if self.sees(versions, table, row) {
@@ -142,12 +145,13 @@ impl Transaction {
     ) -> Result<(), TxFault>
         requires { self.old.snapshot ≤ length versions.now.commits }
         ensures same_snapshot { self.new.snapshot ≡ self.old.snapshot }
-        ensures ok { OnOk result (set_answer versions.now.shape versions.now.commits self.old table row.0 column value ≡ Ok self.new) }
+        ensures ok { OnOk result
+            (set_answer (shape_of versions.now.schema) versions.now.commits self.old table row.0 column value ≡ Ok self.new) }
         ensures refused { IfErr result (λ fault. (self.new ≡ self.old)
-            × (((fault ≡ TxFault.Memory) × IsOk (set_answer versions.now.shape versions.now.commits self.old table row.0 column value))
-            ⊎ (set_answer versions.now.shape versions.now.commits self.old table row.0 column value ≡ Err fault))) }
+            × IsFaultOf (set_answer (shape_of versions.now.schema) versions.now.commits self.old table row.0 column value)
+            TxFault.Memory fault) }
     {
-        let Some(offset) = offset_for(versions.schema(), table, column, &value) else {
+        let Some(offset) = self.offset_for(versions, table, column, &value) else {
             return Err(TxFault::Unfit);
         };
         if self.cell(versions, table, row, column).is_none() {
@@ -171,12 +175,11 @@ impl Transaction {
     pub fn delete(&mut self, versions: &Versions, table: u8, row: RowId) -> Result<(), TxFault>
         requires { self.old.snapshot ≤ length versions.now.commits }
         ensures same_snapshot { self.new.snapshot ≡ self.old.snapshot }
-        ensures ok { OnOk result (delete_answer versions.now.shape versions.now.commits self.old table row.0 ≡ Ok self.new) }
+        ensures ok { OnOk result (delete_answer (shape_of versions.now.schema) versions.now.commits self.old table row.0 ≡ Ok self.new) }
         ensures refused { IfErr result (λ fault. (self.new ≡ self.old)
-            × (((fault ≡ TxFault.Memory) × IsOk (delete_answer versions.now.shape versions.now.commits self.old table row.0))
-            ⊎ (delete_answer versions.now.shape versions.now.commits self.old table row.0 ≡ Err fault))) }
+            × IsFaultOf (delete_answer (shape_of versions.now.schema) versions.now.commits self.old table row.0) TxFault.Memory fault) }
     {
-        if versions.schema().kinds(table as usize).is_none() {
+        if self.kinds(versions, table).is_none() {
             return Err(TxFault::Unfit);
         }
         if !self.sees(versions, table, row) {
@@ -204,9 +207,9 @@ impl Transaction {
         column: usize,
     ) -> Result<Value, TxFault>
         requires { self.now.snapshot ≤ length versions.now.commits }
-        ensures { result ≡ get_answer versions.now.shape versions.now.commits self.now table row.0 column }
+        ensures { result ≡ get_answer (shape_of versions.now.schema) versions.now.commits self.now table row.0 column }
     {
-        if !has_column(versions.schema(), table, column) {
+        if !self.has_column(versions, table, column) {
             return Err(TxFault::Unfit);
         }
         match self.cell(versions, table, row, column) {
@@ -215,10 +218,44 @@ impl Transaction {
         }
     }
 
+    /// The kinds of a table's columns, as the transaction sees them; `None` where there is no table
+    /// of that number.
+    fn kinds<'v>(&self, versions: &'v Versions, table: u8) -> Option<&'v [Kind]>
+        ensures { option_map (λ k. k.now) result
+            ≡ slice_get (seen_shape (shape_of versions.now.schema) versions.now.commits self.now) table }
+    {
+        versions.schema().kinds(table as usize)
+    }
+
+    /// Whether the table and the column are there, as the transaction sees them.
+    fn has_column(&self, versions: &Versions, table: u8, column: usize) -> bool
+        ensures { result ≡ is_some
+            (column_kind (seen_shape (shape_of versions.now.schema) versions.now.commits self.now) table column) }
+    {
+        has_column(versions.schema(), table, column)
+    }
+
+    /// Where the column begins among its row's bytes, as the transaction sees them; `None` where
+    /// the table or the column is not there, or the value is not of its kind.
+    fn offset_for(
+        &self,
+        versions: &Versions,
+        table: u8,
+        column: usize,
+        value: &Value,
+    ) -> Option<u16>
+        ensures { result ≡
+            (if match_column value.now (column_kind (seen_shape (shape_of versions.now.schema) versions.now.commits self.now) table column)
+            then Some (column_offset (seen_shape (shape_of versions.now.schema) versions.now.commits self.now) table column)
+            else None) }
+    {
+        offset_for(versions.schema(), table, column, value)
+    }
+
     /// Whether the row is there, as the transaction sees it.
     fn sees(&self, versions: &Versions, table: u8, row: RowId) -> bool
         requires { self.now.snapshot ≤ length versions.now.commits }
-        ensures { result ≡ sees versions.now.shape versions.now.commits self.now table row.0 }
+        ensures { result ≡ sees (shape_of versions.now.schema) versions.now.commits self.now table row.0 }
     {
         self.cell(versions, table, row, 0).is_some()
     }
@@ -233,7 +270,8 @@ impl Transaction {
         column: usize,
     ) -> Option<Option<Value>>
         requires { self.now.snapshot ≤ length versions.now.commits }
-        ensures { result ≡ cell_of column (row_at (rows_of (seen_by versions.now.shape versions.now.commits self.now) table) row.0) }
+        ensures { result ≡ cell_of column
+            (row_at (rows_of (seen_by (shape_of versions.now.schema) versions.now.commits self.now) table) row.0) }
     {
         let was = cell_at(versions, self.snapshot, table, row, column);
         match versions.schema().kinds(table as usize) {
@@ -306,7 +344,7 @@ fn cell_at(
     column: usize,
 ) -> Option<Option<Value>>
     requires { version ≤ length versions.now.commits }
-    ensures { result ≡ cell_of column (row_at (rows_of (tables_after versions.now.shape versions.now.commits version) table) row.0) }
+    ensures { result ≡ cell_of column (row_at (rows_of (tables_at versions.now version) table) row.0) }
 {
     if versions.is_present(version, table, row) {
         Some(versions.value_at(version, table, row, column))

@@ -2,7 +2,8 @@
 
 ghost use Rattle.std.specs.Prelude.{◌≡◌};
 ghost use Rattle.std.specs.Option.{option_map};
-ghost use Rattle.mvcc.specs.Transactions.{match_table, are_of_kinds, is_of_kind};
+ghost use Rattle.rows.specs.Values.{are_of_kinds, is_of_kind};
+ghost use Rattle.mvcc.specs.Transactions.{match_table};
 
 use rows::{Kind, Value};
 

@@ -1,11 +1,12 @@
 //! Every version of the database: the list of its commits.
 
-ghost use Rattle.std.specs.Prelude.{◌≡◌, ◌≤◌, ◌-◌, ◌∷◌, [], ◌++◌, ℕ, length, true, IfOk, OnOk, OnErr, slice_get, if◌then◌else◌, ◌==◌, None};
+ghost use Rattle.std.specs.Prelude.{◌≡◌, ◌≤◌, ◌-◌, ◌∷◌, [], ◌++◌, ℕ, length, true, IfOk, OnOk, OnErr, slice_get, take, None, IsOk};
+ghost use Rattle.std.specs.Prelude.{if◌then◌else◌, ◌==◌};
 ghost use Rattle.std.specs.Option.{option_map};
 ghost use Rattle.rows.specs.Shape.{shape_of};
-ghost use Rattle.rows.specs.Tables.{is_present, rows_of};
-ghost use Rattle.rows.specs.Commits.{tables_after, last_touching};
-ghost use Rattle.mvcc.specs.History.{defined_at};
+ghost use Rattle.rows.specs.Tables.{opening, is_row_at};
+ghost use Rattle.rows.specs.Commits.{commits_of, last_touching};
+ghost use Rattle.mvcc.specs.History.{defined_at, tables_at};
 ghost use Rattle.mvcc.specs.Newest.{newest_of};
 ghost use Rattle.mvcc.specs.Values.{value_in};
 
@@ -17,7 +18,7 @@ use std::marker::Model;
 
 /// The versions of a database: version `n` is the rows after the first `n` commits.
 ///
-/// Contracts see the shape of its tables and the list of commits. Each commit's entries are
+/// Contracts see the schema and the list of commits. Each commit's entries are
 /// defined in their place.
 #[derive(Debug, Drop)]
 pub struct Versions {
@@ -35,7 +36,7 @@ impl Model for Versions {
 
     ghost Value = { History };
 
-    ghost view = { λ v. record { shape = shape_of v.schema; commits = v.commits.items } };
+    ghost view = { λ v. record { schema = v.schema; commits = v.commits.items } };
 
     ghost invariant = { λ v. AreVersions (shape_of v.schema) v.commits.items v.chains.items };
 }
@@ -43,7 +44,7 @@ impl Model for Versions {
 impl Versions {
     /// The versions of a database without commits. Fails for want of memory alone.
     pub fn new(alloc: Global, schema: &Schema) -> Result<Versions, AllocError>
-        ensures { IfOk result (λ versions. versions ≡ record { shape = shape_of schema.now; commits = [] }) }
+        ensures { IfOk result (λ versions. versions ≡ record { schema = schema.now; commits = [] }) }
     {
         Ok(Versions {
             alloc,
@@ -51,6 +52,17 @@ impl Versions {
             commits: Vec::new(alloc),
             chains: no_chains(alloc, schema.len())?,
         })
+    }
+
+    /// Each entry of the commits is defined in its place, in all of them and in the first of them
+    /// up to any version. It does nothing: its contract is the law.
+    pub fn keeps_defined(&self)
+        ensures all { IsOk (commits_of (opening (shape_of self.now.schema)) self.now.commits) }
+        ensures first { (version : ℕ)
+            → IsOk (commits_of (opening (shape_of self.now.schema)) (take version self.now.commits)) }
+    {
+        // A look at a field brings the invariant to the proof.
+        let _ = &self.chains;
     }
 
     /// How many commits there are, which is the newest version.
@@ -69,7 +81,7 @@ impl Versions {
 
     /// The schema of the tables.
     pub fn schema(&self) -> &Schema
-        ensures { shape_of result.now ≡ self.now.shape }
+        ensures { result.now ≡ self.now.schema }
     {
         &self.schema
     }
@@ -111,7 +123,7 @@ impl Versions {
     /// Whether the row is there at that version.
     pub fn is_present(&self, version: u64, table: u8, row: RowId) -> bool
         requires { version ≤ length self.now.commits }
-        ensures { result ≡ is_present (rows_of (tables_after self.now.shape self.now.commits version) table) row.0 }
+        ensures { result ≡ is_row_at (tables_at self.now version) table row.0 }
     {
         values_at(self.chains.as_slice(), version, table, row).is_some()
     }
@@ -120,7 +132,7 @@ impl Versions {
     /// no such column.
     pub fn value_at(&self, version: u64, table: u8, row: RowId, column: usize) -> Option<Value>
         requires { version ≤ length self.now.commits }
-        ensures { result ≡ value_in (tables_after self.now.shape self.now.commits version) table row.0 column }
+        ensures { result ≡ value_in (tables_at self.now version) table row.0 column }
     {
         let values = values_at(self.chains.as_slice(), version, table, row)?;
         column_of(values.as_slice(), column)

@@ -1,4 +1,4 @@
--- The places of commits: the numbers of a worker's commits, and the frames of its stream at them.
+-- The numbers of a worker's commits, and the frames of its stream at them.
 use Rattle.std.proofs.Common.{◌≡◌, ◌≢◌, ◌+◌, ◌-◌, ◌<◌, ◌≤◌, ◌==◌, ℕ, suc, zero, Bool, true, false, cond, List, [], ◌∷◌, ◌++◌, length, map}
 use Rattle.std.proofs.Common.{take, get_or, slice_get, Option, None, Some, refl, sym, ap, subst, ◌∙◌, inl, inr, arith}
 use Rattle.std.specs.Prelude.{nat_le}
@@ -15,7 +15,7 @@ use Rattle.wire.specs.declared.frame.Frame.{Frame}
 use Rattle.wire.specs.declared.datagram.Datagram.TheVariants as datagrams
 use Rattle.wire.specs.Spelling.{spelling, frame_spelling}
 use Rattle.wire.specs.Streams.{stream_from, stream_of, frames_of, frame_count}
-use Rattle.primary.specs.Places.{Numbers, ArePlaces, numbers_of, numbers_at, room_at}
+use Rattle.primary.specs.StreamNumbers.{Numbers, AreStreams, numbers_of, numbers_at, room_at}
 use Rattle.primary.specs.Kept.{IsKept}
 use Rattle.primary.specs.Sending.{counts_of}
 use Rattle.primary.proofs.Streams.{kept_at}
@@ -54,7 +54,7 @@ numbers-above worker before i n (commit ∷ commits) h =
     one true (suc i) rest h = omega (arith, rest i h)
     one false i rest h = omega (arith, rest i h)
 
--- the place where the numbers above a version begin is the length of the stream of the commits up to it
+-- where the numbers above a version begin is the length of the stream of the commits up to it
 first-above : (before : ℕ) (numbers : List ℕ) (end : ℕ) → ((i n : ℕ) → slice_get numbers i ≡ Some n → before < n) → end ≤ length numbers
     → IsPartitionPoint (λ n. nat_le n before ≡ true) (λ n. nat_le n before ≡ false) numbers end → end ≡ 0
 first-above before [] zero above h p = refl
@@ -128,7 +128,7 @@ frame_count-from numbers commits worker version end e h p =
     subst (λ ns. IsPartitionPoint (λ n. nat_le n version ≡ true) (λ n. nat_le n version ≡ false) ns end) same (p rises) in
     count-at worker 0 0 version version end commits (omega arith) few place
 
--- the frame of the commit of a number, at this place, where the commit is among the first `v` behind `before` others
+-- the frame of the commit of a number, of this seq, where the commit is among the first `v` behind `before` others
 abbrev pub frame_found : ℕ → ℕ → ℕ → List Commit → Option ℕ → Option Frame
 frame_found before v seq commits None = None
 frame_found before v seq commits (Some n) =
@@ -156,7 +156,7 @@ found-later worker before v seq at i commit commits (Some n) e same =
     let index : n - (before + 1) ≡ suc (n - (before + 1 + 1)) = omega arith in
     rw (same, upto, index) refl
 
--- the frame at a place of the stream of the first commits is that of the commit whose number has the place
+-- the frame of a seq of the stream of the first commits is that of the commit whose number has the seq
 frame-at : (worker before first v i : ℕ) (commits : List Commit)
     → slice_get (stream_from worker before first (take v commits)) i ≡ frame_found before v (first + i) commits
     (slice_get (numbers_from worker before commits) i)
@@ -205,38 +205,38 @@ numbers-push worker before (first ∷ commits) commit =
     ++ cond (commit.worker == worker) (n ∷ []) []) counted
 
 -- what is kept of a worker once its list was replaced, and of any other
-numbers-set_same : (places : List Numbers) (worker : ℕ) (now : Numbers) → worker < length places
-    → numbers_at (slice_set places worker now) worker ≡ now.numbers
+numbers-set_same : (streams : List Numbers) (worker : ℕ) (now : Numbers) → worker < length streams
+    → numbers_at (slice_set streams worker now) worker ≡ now.numbers
 numbers-set_same [] worker now h = absurd (omega arith)
-numbers-set_same (first ∷ places) zero now h = refl
-numbers-set_same (first ∷ places) (suc worker) now h = numbers-set_same places worker now (omega arith)
+numbers-set_same (first ∷ streams) zero now h = refl
+numbers-set_same (first ∷ streams) (suc worker) now h = numbers-set_same streams worker now (omega arith)
 
-numbers-set_other : (places : List Numbers) (worker other : ℕ) (now : Numbers) → other ≢ worker
-    → numbers_at (slice_set places worker now) other ≡ numbers_at places other
+numbers-set_other : (streams : List Numbers) (worker other : ℕ) (now : Numbers) → other ≢ worker
+    → numbers_at (slice_set streams worker now) other ≡ numbers_at streams other
 numbers-set_other [] worker other now h = refl
-numbers-set_other (first ∷ places) zero zero now h = absurd (h refl)
-numbers-set_other (first ∷ places) zero (suc other) now h = refl
-numbers-set_other (first ∷ places) (suc worker) zero now h = refl
-numbers-set_other (first ∷ places) (suc worker) (suc other) now h = numbers-set_other places worker other now (λ e. h (ap suc e))
+numbers-set_other (first ∷ streams) zero zero now h = absurd (h refl)
+numbers-set_other (first ∷ streams) zero (suc other) now h = refl
+numbers-set_other (first ∷ streams) (suc worker) zero now h = refl
+numbers-set_other (first ∷ streams) (suc worker) (suc other) now h = numbers-set_other streams worker other now (λ e. h (ap suc e))
 
-pub numbers-kept : (places : List Numbers) (worker : ℕ) (kept : Numbers) → worker < length places → kept ≡ get_or places worker kept
-    → numbers_at places worker ≡ kept.numbers
+pub numbers-kept : (streams : List Numbers) (worker : ℕ) (kept : Numbers) → worker < length streams → kept ≡ get_or streams worker kept
+    → numbers_at streams worker ≡ kept.numbers
 numbers-kept [] worker kept h e = absurd (omega arith)
-numbers-kept (first ∷ places) zero kept h e = ap (λ (n : Numbers). n.numbers) (sym e)
-numbers-kept (first ∷ places) (suc worker) kept h e = numbers-kept places worker kept (omega arith) e
+numbers-kept (first ∷ streams) zero kept h e = ap (λ (n : Numbers). n.numbers) (sym e)
+numbers-kept (first ∷ streams) (suc worker) kept h e = numbers-kept streams worker kept (omega arith) e
 
 -- where there is room, there is the worker
-pub within-room : (places : List Numbers) (worker : ℕ) → 0 < room_at places worker → worker < length places
+pub within-room : (streams : List Numbers) (worker : ℕ) → 0 < room_at streams worker → worker < length streams
 within-room [] worker h = absurd (omega arith)
-within-room (first ∷ places) zero h = omega arith
-within-room (first ∷ places) (suc worker) h = omega (arith, within-room places worker h)
+within-room (first ∷ streams) zero h = omega arith
+within-room (first ∷ streams) (suc worker) h = omega (arith, within-room streams worker h)
 
--- the places with one more commit
-pub places-push : (places : List Numbers) (commits : List Commit) (commit : Commit) (was now : Numbers) (worker number : ℕ)
-    → worker < length places → was ≡ get_or places worker was → now.numbers ≡ was.numbers ++ number ∷ [] → commit.worker ≡ worker
+-- the numbers of the streams with one more commit
+pub streams-push : (streams : List Numbers) (commits : List Commit) (commit : Commit) (was now : Numbers) (worker number : ℕ)
+    → worker < length streams → was ≡ get_or streams worker was → now.numbers ≡ was.numbers ++ number ∷ [] → commit.worker ≡ worker
     → number ≡ length commits + 1
-    → ArePlaces places commits → ArePlaces (slice_set places worker now) (commits ++ commit ∷ [])
-places-push places commits commit was now worker number there is_was added ours numbered are = record { each = each }
+    → AreStreams streams commits → AreStreams (slice_set streams worker now) (commits ++ commit ∷ [])
+streams-push streams commits commit was now worker number there is_was added ours numbered are = record { each = each }
   where
     numbers-with : (w : ℕ) → numbers_of (commits ++ commit ∷ []) w ≡ numbers_of commits w ++ cond (commit.worker == w) (number ∷ []) []
     numbers-with w =
@@ -246,29 +246,29 @@ places-push places commits commit was now worker number there is_was added ours 
         ∙ ap (λ n. numbers_from w 0 commits ++ cond (commit.worker == w) (n ∷ []) []) next
         ∙ ap (λ numbers. numbers ++ cond (commit.worker == w) (number ∷ []) []) (sym (numbers-stream w 0 0 commits))
 
-    each : (w : ℕ) → w < length (slice_set places worker now)
-        → numbers_at (slice_set places worker now) w ≡ numbers_of (commits ++ commit ∷ []) w
+    each : (w : ℕ) → w < length (slice_set streams worker now)
+        → numbers_at (slice_set streams worker now) w ≡ numbers_of (commits ++ commit ∷ []) w
     each w within = elim (cases_eq w worker) [
       | inl e ↦
           let mine : (commit.worker == w) ≡ true = eq-eqb commit.worker w (ours ∙ sym e) in
           let before : was.numbers ≡ numbers_of commits w =
-          sym (numbers-kept places worker was there is_was) ∙ are.each worker there ∙ ap (numbers_of commits) (sym e) in
-          ap (numbers_at (slice_set places worker now)) e
-          ∙ numbers-set_same places worker now there
+          sym (numbers-kept streams worker was there is_was) ∙ are.each worker there ∙ ap (numbers_of commits) (sym e) in
+          ap (numbers_at (slice_set streams worker now)) e
+          ∙ numbers-set_same streams worker now there
           ∙ added
           ∙ ap (λ numbers. numbers ++ number ∷ []) before
           ∙ ap (λ b. numbers_of commits w ++ cond b (number ∷ []) []) (sym mine)
           ∙ sym (numbers-with w)
       | inr other ↦
           let theirs : (commit.worker == w) ≡ false = ne_eqb commit.worker w (λ e. other (sym (sym ours ∙ e))) in
-          numbers-set_other places worker w now other
-          ∙ are.each w (omega (arith, length-set places worker now))
+          numbers-set_other streams worker w now other
+          ∙ are.each w (omega (arith, length-set streams worker now))
           ∙ sym (append-nil (numbers_of commits w))
           ∙ ap (λ b. numbers_of commits w ++ cond b (number ∷ []) []) (sym theirs)
           ∙ sym (numbers-with w)
     ]
 
--- the frame at a place of the durable stream: none where no commit has the place, nor where the commit is not durable
+-- the frame of a seq of the durable stream: none where no commit has it, nor where the commit is not durable
 number-found : (commits : List Commit) (worker seq : ℕ) (found : Option ℕ)
     → found ≡ option_map (λ frame. frame.commit) (slice_get (stream_of commits worker) seq)
     → slice_get (numbers_from worker 0 commits) seq ≡ found

@@ -1,18 +1,21 @@
 -- What every primary keeps of its parts: the journal holds the text of what is durable, each commit was one that a
--- frame holds, and each commit's place in its worker's stream is known.
+-- frame holds, and the numbers of each worker's commits are known.
 use Rattle.std.specs.Prelude.{ℕ, ◌≡◌, ◌<◌, ◌≤◌, ◌^◌, List, length, take}
 use Rattle.std.specs.List.{AllByRecursion}
+use Rattle.rows.specs.Shape.{shape_of}
+use Rattle.rows.specs.Commits.{IsCommit}
 use Rattle.mvcc.specs.History.{History}
 use Rattle.primary.specs.Kept.{IsKept}
-use Rattle.primary.specs.Places.{Numbers, ArePlaces}
+use Rattle.primary.specs.StreamNumbers.{Numbers, AreStreams}
 use Rattle.primary.specs.Journal.{journal_text}
 
-pub record IsCore (versions : History) (places : List Numbers) (durable workers : ℕ) (journal : List ℕ) : Type 0 where
+pub record IsCore (versions : History) (streams : List Numbers) (durable workers : ℕ) (journal : List ℕ) : Type 0 where
   pub some_workers : 0 < workers
   pub few_workers : workers ≤ 16
   pub within : durable ≤ length versions.commits
   pub numbered : length versions.commits < 2 ^ 64
+  pub each : AllByRecursion (IsCommit workers) versions.commits
   pub kept : AllByRecursion IsKept versions.commits
-  pub all_placed : length places ≡ workers
-  pub placed : ArePlaces places versions.commits
-  pub text : journal ≡ journal_text workers versions.shape (take durable versions.commits)
+  pub all_listed : length streams ≡ workers
+  pub listed : AreStreams streams versions.commits
+  pub text : journal ≡ journal_text workers (shape_of versions.schema) (take durable versions.commits)

@@ -3,7 +3,7 @@ pub mod Primary
 pub mod Kept
 pub mod Journal
 pub mod RowsTold
-pub mod Places
+pub mod StreamNumbers
 pub mod Sending
 pub mod Core
 pub mod Worked

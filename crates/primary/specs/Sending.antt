@@ -12,7 +12,7 @@ use Rattle.wire.specs.Reading.{reading}
 use Rattle.wire.specs.Streams.{stream_of, frame_count}
 use Rattle.primary.specs.State.{Primary}
 
--- the datagram of a place of a worker's stream of the durable list, where there is that place
+-- the datagram of that seq of a worker's stream of the durable list, where the stream has it
 abbrev pub pushed : Primary → ℕ → ℕ → Option (List ℕ)
 pushed p worker seq = option_map frame_spelling (slice_get (stream_of p.durable worker) seq)
 

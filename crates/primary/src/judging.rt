@@ -3,11 +3,13 @@
 ghost use Rattle.std.specs.Prelude.{◌≡◌, ◌<◌, ◌≤◌, ◌∷◌, [], ◌++◌, ◌&&◌, length, true, is_ok, nat_lt, IfNone, OnOk, if◌then◌else◌};
 ghost use Rattle.std.specs.Bool.{OnTrue};
 ghost use Rattle.std.specs.List.{AllByRecursion};
+ghost use Rattle.rows.specs.Tables.{is_row_at};
 ghost use Rattle.rows.specs.Commits.{last_touching};
 ghost use Rattle.rows.specs.Entries.{table_of, row_of, fitting};
 ghost use Rattle.rows.specs.Presence.{stands_for, is_there_after};
+ghost use Rattle.rows.specs.Shape.{shape_of};
 ghost use Rattle.rows.specs.Spelling.{HasSpelling};
-ghost use Rattle.mvcc.specs.History.{defined_at, is_row_there};
+ghost use Rattle.mvcc.specs.History.{defined_at, tables_at};
 ghost use Rattle.primary.specs.Primary.{commit_answer, primary_of};
 ghost use Rattle.primary.specs.RowsTold.{there_in};
 
@@ -94,7 +96,8 @@ fn are_defined(alloc: Global, versions: &Versions, version: u64, entries: &[Entr
 /// that version.
 fn is_there(versions: &Versions, version: u64, told: &RowsTold, entry: &Entry) -> bool
     requires { version ≤ length versions.now.commits }
-    ensures { result ≡ there_in told.now (table_of entry.now) (row_of entry.now) (is_row_there versions.now version entry.now) }
+    ensures { result ≡ there_in told.now (table_of entry.now) (row_of entry.now)
+        (is_row_at (tables_at versions.now version) (table_of entry.now) (row_of entry.now)) }
 {
     let table = entry.table();
     let row = entry.row();
@@ -106,7 +109,7 @@ fn is_there(versions: &Versions, version: u64, told: &RowsTold, entry: &Entry) -
 
 /// Whether the entry fits, and its row stands as it needs it, where it is there or not.
 fn is_defined(versions: &Versions, entry: &Entry, there: bool) -> bool
-    ensures answer { result ≡ (is_ok (fitting versions.now.shape entry.now) && stands_for entry.now there) }
+    ensures answer { result ≡ (is_ok (fitting (shape_of versions.now.schema) entry.now) && stands_for entry.now there) }
     ensures spelled { OnTrue result (HasSpelling entry.now) }
 {
     fits(versions.schema(), entry).is_ok() && entry.is_possible(there)
@@ -132,7 +135,8 @@ fn are_defined_by_walk(versions: &Versions, version: u64, entries: &[Entry]) -> 
 /// Whether the row of the entry is there after these entries, on the rows at that version.
 fn is_row_there_after(versions: &Versions, version: u64, before: &[Entry], entry: &Entry) -> bool
     requires { version ≤ length versions.now.commits }
-    ensures { result ≡ is_there_after (table_of entry.now) (row_of entry.now) before.now (is_row_there versions.now version entry.now) }
+    ensures { result ≡ is_there_after (table_of entry.now) (row_of entry.now) before.now
+        (is_row_at (tables_at versions.now version) (table_of entry.now) (row_of entry.now)) }
 {
     let table = entry.table();
     let row = entry.row();

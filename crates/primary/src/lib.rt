@@ -6,7 +6,7 @@
 //! to the end of the pending list; a flush moves pending commits to the durable list, and only
 //! what is durable is shown, pushed or counted. No call but a flush goes over a list of commits,
 //! and a flush over those that it moves alone. `specs/` says what each call answers and leaves
-//! (`Primary.antt`), where a commit's frame stands (`Places.antt`), and the journal's text
+//! (`Primary.antt`), which commits a worker's stream is of (`StreamNumbers.antt`), and the journal's text
 //! (`Journal.antt`).
 //!
 //! It stands on `rows`, on `mvcc` for versions and transactions, and on `wire`.
@@ -16,10 +16,10 @@ mod faults;
 mod journal;
 mod judging;
 mod number_list;
-mod places;
 mod primary_core;
 mod rows_told;
 mod sending;
+mod stream_numbers;
 mod ticket;
 mod worked;
 

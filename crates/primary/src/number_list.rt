@@ -15,7 +15,7 @@ pub struct NumberList {
 
 impl Model for NumberList {
     ghost use Rattle.std.specs.Prelude.{◌-◌, vec_len, vec_capacity};
-    ghost use Rattle.primary.specs.Places.{Numbers};
+    ghost use Rattle.primary.specs.StreamNumbers.{Numbers};
 
     ghost Value = { Numbers };
 

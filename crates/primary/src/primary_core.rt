@@ -1,11 +1,13 @@
 //! The primary's core: bytes and values in, bytes and values out.
 
-ghost use Rattle.std.specs.Prelude.{◌≡◌, ◌<◌, ◌≤◌, length, true, false, Ok, Err, IfOk, IfErr, IsOk, OnOk, OnErr, ◌⊎◌, ◌∷◌, [], ◌++◌, ◌+◌};
+ghost use Rattle.std.specs.Prelude.{◌≡◌, ◌<◌, ◌≤◌, length, true, false, take, Ok, IfOk, IfErr, OnOk, OnErr, ◌⊎◌, ◌∷◌, [], ◌++◌, ◌+◌};
 ghost use Rattle.std.specs.Prelude.{◌^◌};
 ghost use Rattle.std.specs.List.{AllByRecursion};
+ghost use Rattle.rows.specs.Faults.{IsFaultOf};
 ghost use Rattle.rows.specs.Shape.{shape_of};
+ghost use Rattle.rows.specs.Commits.{IsLegal};
 ghost use Rattle.mvcc.specs.History.{defined_at};
-ghost use Rattle.primary.specs.Places.{ArePlaces};
+ghost use Rattle.primary.specs.StreamNumbers.{AreStreams};
 ghost use Rattle.primary.specs.State.{Primary};
 ghost use Rattle.primary.specs.Primary.{started, commit_answer, committed, flushed};
 ghost use Rattle.primary.specs.Sending.{pushed, head_for, answers};
@@ -16,8 +18,8 @@ ghost use Rattle.primary.specs.Journal.{records_from};
 use crate::faults::{CommitFault, FlushFault};
 use crate::journal::{header_bytes, records};
 use crate::judging::judge;
-use crate::places::Places;
 use crate::sending::{counts, frame_packet};
+use crate::stream_numbers::StreamNumbers;
 use crate::ticket::Ticket;
 use mvcc::{Transaction, Versions};
 use rows::{Commit, Entry, EntryList, Schema};
@@ -27,13 +29,13 @@ use wire::{Datagram, Out, Packet, To, read};
 
 /// A primary: its durable list of commits, its pending list, and whether it has failed.
 ///
-/// Contracts see these lists with the shape of the tables and the number of workers. The journal
+/// Contracts see these lists with the schema and the number of workers. The journal
 /// holds the text of the durable list, and nothing else is ever pushed or counted.
 #[derive(Debug, Drop)]
 pub struct PrimaryCore {
     alloc: Global,
     versions: Versions,
-    places: Places,
+    streams: StreamNumbers,
     durable: usize,
     workers: u8,
     failed: bool,
@@ -49,7 +51,7 @@ impl Model for PrimaryCore {
 
     ghost view = { λ p. primary_of p.versions p.durable p.workers p.failed };
 
-    ghost invariant = { λ p. IsCore p.versions p.places p.durable p.workers p.journal.items };
+    ghost invariant = { λ p. IsCore p.versions p.streams p.durable p.workers p.journal.items };
 }
 
 impl PrimaryCore {
@@ -58,17 +60,26 @@ impl PrimaryCore {
     pub fn start(alloc: Global, schema: &Schema, workers: u8) -> Result<PrimaryCore, AllocError>
         requires some { 0 < workers }
         requires few { workers ≤ 16 }
-        ensures { IfOk result (λ primary. primary ≡ started (shape_of schema.now) workers) }
+        ensures { IfOk result (λ primary. primary ≡ started schema.now workers) }
     {
         Ok(PrimaryCore {
             alloc,
             versions: Versions::new(alloc, schema)?,
-            places: Places::start(alloc, workers)?,
+            streams: StreamNumbers::start(alloc, workers)?,
             durable: 0,
             workers,
             failed: false,
             journal: header_bytes(alloc, workers, schema)?,
         })
+    }
+
+    /// The durable list followed by the pending one is legal for the primary's schema and workers,
+    /// and so is the durable list alone. It does nothing: its contract is the law.
+    pub fn keeps_legal(&self)
+        ensures all { IsLegal (shape_of self.now.schema) self.now.workers (self.now.durable ++ self.now.pending) }
+        ensures durable { IsLegal (shape_of self.now.schema) self.now.workers self.now.durable }
+    {
+        self.versions.keeps_defined();
     }
 
     /// How many commits are durable, which is the version that a transaction begins on.
@@ -87,7 +98,7 @@ impl PrimaryCore {
 
     /// The versions of the durable list followed by the pending one.
     pub fn versions(&self) -> &Versions
-        ensures { result.now ≡ record { shape = self.now.shape; commits = self.now.durable ++ self.now.pending } }
+        ensures { result.now ≡ record { schema = self.now.schema; commits = self.now.durable ++ self.now.pending } }
     {
         &self.versions
     }
@@ -109,8 +120,7 @@ impl PrimaryCore {
         ensures ok { IfOk result (λ ticket. (commit_answer self.old transaction ≡ Ok ticket.number) × (ticket.worker ≡ worker)
             × (ticket.entries ≡ transaction.entries) × (self.new ≡ committed self.old worker transaction.entries)) }
         ensures refused { IfErr result (λ refusal. (refusal.0 ≡ transaction) × (self.new ≡ self.old)
-            × (((refusal.1 ≡ CommitFault.Memory) × IsOk (commit_answer self.old transaction))
-            ⊎ (commit_answer self.old transaction ≡ Err refusal.1))) }
+            × IsFaultOf (commit_answer self.old transaction) CommitFault.Memory refusal.1) }
     {
         let number = match judge(
             self.alloc,
@@ -126,7 +136,7 @@ impl PrimaryCore {
         let kept = keep(
             self.alloc,
             &mut self.versions,
-            &mut self.places,
+            &mut self.streams,
             worker,
             transaction.entries(),
         );
@@ -143,12 +153,14 @@ impl PrimaryCore {
     /// Moves the first `count` pending commits (all, if there are fewer) to the durable list, and
     /// answers how many are durable then. Their records go to the journal in one append.
     ///
-    /// Fails with `Failed`, or with `Memory`; the primary is then as it was.
+    /// Fails with `Failed`, or with `Memory` where a commit is to be moved; the primary is then as
+    /// it was.
     pub fn flush(&mut self, count: usize) -> Result<u64, FlushFault>
         ensures ok { IfOk result (λ durable. (self.old.failed ≡ false) × (self.new ≡ flushed self.old count)
             × (durable ≡ length self.new.durable)) }
         ensures refused { IfErr result (λ fault. (self.new ≡ self.old)
-            × (((fault ≡ FlushFault.Failed) × (self.old.failed ≡ true)) ⊎ ((fault ≡ FlushFault.Memory) × (self.old.failed ≡ false)))) }
+            × (((fault ≡ FlushFault.Failed) × (self.old.failed ≡ true))
+            ⊎ ((fault ≡ FlushFault.Memory) × (self.old.failed ≡ false) × (0 < length (take count self.old.pending))))) }
     {
         if self.failed {
             return Err(FlushFault::Failed);
@@ -165,20 +177,22 @@ impl PrimaryCore {
         }
     }
 
-    /// The packet of place `seq` of the worker's stream of the durable list, where the stream
-    /// has that place. Takes no memory.
+    /// The packet of that `seq` of the worker's stream of the durable list, where the stream has
+    /// it. Takes no memory.
     pub fn push(&self, worker: u8, seq: u64) -> Option<Packet>
         requires { worker < self.now.workers }
         ensures { result ≡ pushed self.now worker seq }
     {
         let durable = self.durable as u64;
-        frame_packet(&self.versions, &self.places, durable, worker, seq)
+        frame_packet(&self.versions, &self.streams, durable, worker, seq)
     }
 
     /// What the primary sends for bytes that came: to an Ask, one Head with what is durable and
-    /// each worker's frame count at it; to anything else nothing. Fails for want of memory alone.
+    /// each worker's frame count at it; to anything else nothing. Fails for want of memory alone,
+    /// and only where something is to be sent.
     pub fn on_bytes(&self, bytes: &[u8]) -> Result<Vec<Out>, AllocError>
-        ensures { IfOk result (λ outs. outs.items ≡ answers self.now bytes.now) }
+        ensures ok { IfOk result (λ outs. outs.items ≡ answers self.now bytes.now) }
+        ensures err { OnErr result (0 < length (answers self.now bytes.now)) }
     {
         match read(bytes) {
             Ok(
@@ -209,7 +223,7 @@ impl PrimaryCore {
             boot,
             request,
             version,
-            counts: counts(&self.places, version, self.workers),
+            counts: counts(&self.streams, version, self.workers),
         };
         Out {
             to: To::Replica(replica),
@@ -218,21 +232,22 @@ impl PrimaryCore {
     }
 }
 
-/// Adds the next commit, of these entries, to the versions and to the places. All memory is taken
-/// before anything changes: fails for want of memory alone, and then no commit has been added.
+/// Adds the next commit, of these entries, to the versions and to its worker's numbers. All memory
+/// is taken before anything changes: fails for want of memory alone, and then no commit has been
+/// added.
 fn keep(
     alloc: Global,
     versions: &mut Versions,
-    places: &mut Places,
+    streams: &mut StreamNumbers,
     worker: u8,
     entries: &[Entry],
 ) -> Result<(), AllocError>
     requires defined { defined_at versions.old (length versions.old.commits) entries.now ≡ true }
     requires numbered { length versions.old.commits + 1 < 2 ^ 64 }
-    requires there { worker < length places.old }
-    requires placed { ArePlaces places.old versions.old.commits }
-    ensures workers { length places.new ≡ length places.old }
-    ensures placed { ArePlaces places.new versions.new.commits }
+    requires there { worker < length streams.old }
+    requires listed { AreStreams streams.old versions.old.commits }
+    ensures workers { length streams.new ≡ length streams.old }
+    ensures listed { AreStreams streams.new versions.new.commits }
     ensures ok { OnOk result
         (versions.new ≡ record versions.old { commits = versions.old.commits ++ record { worker = worker; entries = entries.now } ∷ [] }) }
     ensures err { OnErr result (versions.new ≡ versions.old) }
@@ -241,10 +256,10 @@ fn keep(
         worker,
         entries: copied(alloc, entries)?,
     };
-    places.reserve(worker)?;
+    streams.reserve(worker)?;
     let number = versions.len() + 1;
     versions.absorb(&commit)?;
-    places.add(worker, number);
+    streams.add(worker, number);
     Ok(())
 }
 
@@ -267,7 +282,7 @@ fn copy_of(entry: &Entry) -> Result<Entry, AllocError>
 }
 
 /// Appends the records of commits that stand behind `before` others. Fails for want of memory
-/// alone, and then nothing has changed.
+/// alone, and only where there is a commit; then nothing has changed.
 fn append(
     alloc: Global,
     journal: &mut Vec<u8>,
@@ -278,7 +293,11 @@ fn append(
     requires numbered { before + length commits.now < 2 ^ 64 }
     ensures ok { OnOk result (journal.new.items ≡ journal.old.items ++ records_from before commits.now) }
     ensures err { OnErr result (journal.new.items ≡ journal.old.items) }
+    ensures some { OnErr result (0 < length commits.now) }
 {
+    if commits.is_empty() {
+        return Ok(());
+    }
     let records = records(alloc, before, commits)?;
     journal.extend_from_slice(&records)
 }

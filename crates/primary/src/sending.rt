@@ -7,28 +7,28 @@ ghost use Rattle.rows.specs.declared.commit.Commit.{Commit};
 ghost use Rattle.wire.specs.Spelling.{frame_spelling};
 ghost use Rattle.wire.specs.Streams.{stream_of};
 ghost use Rattle.primary.specs.Kept.{IsKept};
-ghost use Rattle.primary.specs.Places.{ArePlaces};
+ghost use Rattle.primary.specs.StreamNumbers.{AreStreams};
 ghost use Rattle.primary.specs.Sending.{counts_of};
 
-use crate::places::Places;
+use crate::stream_numbers::StreamNumbers;
 use mvcc::Versions;
 use wire::{Counts, Packet};
 
-/// The packet of a place of a worker's stream of the first `durable` commits, where the stream
-/// has that place. One look at the worker's numbers finds it.
+/// The packet of that `seq` of a worker's stream of the first `durable` commits, where the stream
+/// has it. One look at the worker's numbers finds it.
 pub fn frame_packet(
     versions: &Versions,
-    places: &Places,
+    streams: &StreamNumbers,
     durable: u64,
     worker: u8,
     seq: u64,
 ) -> Option<Packet>
     requires kept { AllByRecursion IsKept versions.now.commits }
-    requires placed { ArePlaces places.now versions.now.commits }
-    requires there { worker < length places.now }
+    requires listed { AreStreams streams.now versions.now.commits }
+    requires there { worker < length streams.now }
     ensures { result ≡ option_map frame_spelling (slice_get (stream_of (take durable versions.now.commits) worker) seq) }
 {
-    let number = places.number_at(worker, seq)?;
+    let number = streams.number_at(worker, seq)?;
     if number > durable {
         return None;
     }
@@ -37,14 +37,14 @@ pub fn frame_packet(
 }
 
 /// How many frames of the first `version` commits each of this many workers has.
-pub fn counts(places: &Places, version: u64, workers: u8) -> Counts
+pub fn counts(streams: &StreamNumbers, version: u64, workers: u8) -> Counts
     requires few { workers ≤ 16 }
-    requires there { workers ≤ length places.now }
-    ensures { (commits : List Commit) → ArePlaces places.now commits → result ≡ counts_of commits version workers }
+    requires there { workers ≤ length streams.now }
+    ensures { (commits : List Commit) → AreStreams streams.now commits → result ≡ counts_of commits version workers }
 {
     let mut counts = Counts::new();
     for worker in 0..workers {
-        counts.push(places.frame_count(worker, version));
+        counts.push(streams.frame_count(worker, version));
     }
     counts
 }

@@ -5,3 +5,7 @@ pub mod Presence
 pub mod TableLaws
 pub mod RowLaws
 pub mod Columns
+pub mod ValueKinds
+pub mod Keys
+pub mod Bytes
+pub mod EntryReading

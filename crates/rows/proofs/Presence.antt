@@ -4,7 +4,7 @@ use Rattle.std.proofs.Common.{take, Option, None, Some, Result, Ok, Err, slice_g
 use Rattle.std.specs.List.{list_any, slice_set}
 use Rattle.std.specs.Result.{is_ok, result_unwrap_or}
 use Rattle.std.proofs.lemmas.Bool.{false≢true, and_parts, or_parts, eqb-true, eq-eqb, ne_eqb, cases_eq}
-use Rattle.std.proofs.lemmas.List.{take_more, length-set}
+use Rattle.std.proofs.lemmas.List.{take_more, length-map}
 use Rattle.rows.specs.declared.commit.Commit.{Commit}
 use Rattle.rows.specs.declared.entry.Entry.{Entry}
 use Rattle.rows.specs.declared.entry.Entry.TheVariants.{Insert, Patch, Delete}
@@ -12,30 +12,44 @@ use Rattle.rows.specs.declared.kind.Kind.{Kind}
 use Rattle.rows.specs.Shape.{Shape}
 use Rattle.rows.specs.Entries.{table_of, row_of, fitting, sized, placed, listed}
 use Rattle.rows.specs.Values.{values_of}
-use Rattle.rows.specs.Tables.{Table, Tables, Refusal, Exists, Missing, opening, rows_of, kinds_of, is_present, inserted, patched, deleted}
-use Rattle.rows.specs.Tables.{change_where, change_of, changes_of, applied, and_then}
+use Rattle.rows.specs.Tables.{Rows, Table, Tables, Refusal, Exists, Missing, opening, shape_in, rows_of, kinds_of, is_present, is_row_at}
+use Rattle.rows.specs.Tables.{with_rows, inserted, patched, deleted, is_fit, change_where, change_of, changes_of, applied, and_then}
 use Rattle.rows.specs.Commits.{commits_of, is_of}
 use Rattle.rows.specs.Presence.{stands_for, left_by, is_there_after_one, is_there_after, is_there_after_commits, is_there_after_fit}
 use Rattle.rows.proofs.Rows.{is_present-with_row, is_present-with_patch, is_present-without_row}
 
 -- the rows of a table that was replaced, and of any other
-pub rows_of-set_same : (tables : Tables) (table : ℕ) (rows : Table) → table < length tables
-    → rows_of (slice_set tables table rows) table ≡ rows
-rows_of-set_same [] table rows h = absurd (omega arith)
-rows_of-set_same (first ∷ tables) zero rows h = refl
-rows_of-set_same (first ∷ tables) (suc table) rows h = rows_of-set_same tables table rows (omega arith)
+pub rows_of-set_same : (tables : Tables) (table : ℕ) (new : Table) → table < length tables
+    → rows_of (slice_set tables table new) table ≡ new.rows
+rows_of-set_same [] table new h = absurd (omega arith)
+rows_of-set_same (first ∷ tables) zero new h = refl
+rows_of-set_same (first ∷ tables) (suc table) new h = rows_of-set_same tables table new (omega arith)
 
-pub rows_of-set_other : (tables : Tables) (table other : ℕ) (rows : Table) → other ≢ table
-    → rows_of (slice_set tables table rows) other ≡ rows_of tables other
-rows_of-set_other [] table other rows h = refl
-rows_of-set_other (first ∷ tables) zero zero rows h = absurd (h refl)
-rows_of-set_other (first ∷ tables) zero (suc other) rows h = refl
-rows_of-set_other (first ∷ tables) (suc table) zero rows h = refl
-rows_of-set_other (first ∷ tables) (suc table) (suc other) rows h = rows_of-set_other tables table other rows (λ e. h (ap suc e))
+pub rows_of-set_other : (tables : Tables) (table other : ℕ) (new : Table) → other ≢ table
+    → rows_of (slice_set tables table new) other ≡ rows_of tables other
+rows_of-set_other [] table other new h = refl
+rows_of-set_other (first ∷ tables) zero zero new h = absurd (h refl)
+rows_of-set_other (first ∷ tables) zero (suc other) new h = refl
+rows_of-set_other (first ∷ tables) (suc table) zero new h = refl
+rows_of-set_other (first ∷ tables) (suc table) (suc other) new h = rows_of-set_other tables table other new (λ e. h (ap suc e))
+
+-- a table with other rows, and with the kinds that it had
+abbrev pub renewed : Tables → ℕ → Rows → Table
+renewed tables table rows = record { kinds = kinds_of tables table; rows = rows }
+
+-- other rows leave the kinds of each table's columns
+pub shape_in-with_rows : (tables : Tables) (table : ℕ) (rows : Rows) → shape_in (with_rows tables table rows) ≡ shape_in tables
+shape_in-with_rows [] table rows = refl
+shape_in-with_rows (first ∷ tables) zero rows = refl
+shape_in-with_rows (first ∷ tables) (suc table) rows = ap (λ shape. first.kinds ∷ shape) (shape_in-with_rows tables table rows)
+
+pub shape_in-opening : (shape : Shape) → shape_in (opening shape) ≡ shape
+shape_in-opening [] = refl
+shape_in-opening (kinds ∷ shape) = ap (λ shape. kinds ∷ shape) (shape_in-opening shape)
 
 -- whether a row is there
 abbrev pub there : Tables → ℕ → ℕ → Bool
-there tables table row = is_present (rows_of tables table) row
+there tables table row = is_row_at tables table row
 
 -- at the opening no row is there
 pub opening-empty : (shape : Shape) (table row : ℕ) → there (opening shape) table row ≡ false
@@ -43,41 +57,41 @@ opening-empty [] table row = refl
 opening-empty (kinds ∷ shape) zero row = refl
 opening-empty (kinds ∷ shape) (suc table) row = opening-empty shape table row
 
--- tables with as many tables as before, where each row is there as it is turned
+-- tables with the kinds of those before, where each row is there as it is turned
 pub record Turns (before after : Tables) (turned : ℕ → ℕ → Bool → Bool) : Type 0 where
-  pub tables : length after ≡ length before
+  pub kinds : shape_in after ≡ shape_in before
   pub rows : (t r : ℕ) → there after t r ≡ turned t r (there before t r)
 
 Turns-none : (tables : Tables) → Turns tables tables (λ t r was. was)
-Turns-none tables = record { tables = refl; rows = λ t r. refl }
+Turns-none tables = record { kinds = refl; rows = λ t r. refl }
 
 -- one change after another
 Turns-both : (before between after : Tables) (f g : ℕ → ℕ → Bool → Bool) → Turns before between f → Turns between after g
     → Turns before after (λ t r was. g t r (f t r was))
 Turns-both before between after f g x y = record {
-  tables = y.tables ∙ x.tables;
+  kinds = y.kinds ∙ x.kinds;
   rows = λ t r. y.rows t r ∙ ap (g t r) (x.rows t r);
 }
 
 -- whether a row is there once a table was replaced by one that turns one row
-there-set : (tables : Tables) (table row : ℕ) (rows : Table) (left : Bool → Bool) (t r : ℕ) → table < length tables
+there-set : (tables : Tables) (table row : ℕ) (rows : Rows) (left : Bool → Bool) (t r : ℕ) → table < length tables
     → is_present rows r ≡ cond (row == r) (left (there tables table r)) (there tables table r)
-    → there (slice_set tables table rows) t r ≡ cond ((table == t) && (row == r)) (left (there tables t r)) (there tables t r)
+    → there (with_rows tables table rows) t r ≡ cond ((table == t) && (row == r)) (left (there tables t r)) (there tables t r)
 there-set tables table row rows left t r h turns = elim (cases_eq t table) [
   | inl same ↦ rw same (
-      ap (λ rows. is_present rows r) (rows_of-set_same tables table rows h)
+      ap (λ rows. is_present rows r) (rows_of-set_same tables table (renewed tables table rows) h)
       ∙ turns
       ∙ ap (λ b. cond (b && (row == r)) (left (there tables table r)) (there tables table r)) (sym (eq-eqb table table refl)))
   | inr other ↦
-      ap (λ rows. is_present rows r) (rows_of-set_other tables table t rows other)
+      ap (λ rows. is_present rows r) (rows_of-set_other tables table t (renewed tables table rows) other)
       ∙ ap (λ b. cond (b && (row == r)) (left (there tables t r)) (there tables t r)) (sym (ne_eqb table t (λ e. other (sym e))))
 ]
 
-Turns-set : (tables : Tables) (table row : ℕ) (rows : Table) (left : Bool → Bool) → table < length tables
+Turns-set : (tables : Tables) (table row : ℕ) (rows : Rows) (left : Bool → Bool) → table < length tables
     → ((r : ℕ) → is_present rows r ≡ cond (row == r) (left (there tables table r)) (there tables table r))
-    → Turns tables (slice_set tables table rows) (λ t r was. cond ((table == t) && (row == r)) (left was) was)
+    → Turns tables (with_rows tables table rows) (λ t r was. cond ((table == t) && (row == r)) (left was) was)
 Turns-set tables table row rows left h turns = record {
-  tables = length-set tables table rows;
+  kinds = shape_in-with_rows tables table rows;
   rows = λ t r. there-set tables table row rows left t r h (turns r);
 }
 
@@ -102,10 +116,10 @@ fitting-within shape (Patch table row offset bytes) h =
 fitting-within shape (Delete table row) h = listed-within shape table h
 
 -- the tables that an entry makes
-abbrev pub made : Shape → Tables → Entry → Tables
-made shape tables (Insert table row bytes) = inserted shape tables table row.0 bytes
-made shape tables (Patch table row offset bytes) = patched shape tables table row.0 offset bytes
-made shape tables (Delete table row) = deleted tables table row.0
+abbrev pub made : Tables → Entry → Tables
+made tables (Insert table row bytes) = inserted tables table row.0 bytes
+made tables (Patch table row offset bytes) = patched tables table row.0 offset bytes
+made tables (Delete table row) = deleted tables table row.0
 
 -- why an entry is refused whose row does not stand as it needs it
 abbrev pub refusal_of : Entry → Refusal
@@ -118,50 +132,50 @@ abbrev pub stands : Tables → Entry → Bool
 stands tables entry = stands_for entry (there tables (table_of entry) (row_of entry))
 
 -- a change is made where the entry fits and its row stands as it needs it
-pub change_of-is : (shape : Shape) (tables : Tables) (entry : Entry)
-    → change_of shape tables entry ≡ change_where (is_ok (fitting shape entry)) (stands tables entry) (refusal_of entry)
-    (made shape tables entry)
-change_of-is shape tables (Insert table row bytes) = refl
-change_of-is shape tables (Patch table row offset bytes) = refl
-change_of-is shape tables (Delete table row) = refl
+pub change_of-is : (tables : Tables) (entry : Entry)
+    → change_of tables entry ≡ change_where (is_fit tables entry) (stands tables entry) (refusal_of entry) (made tables entry)
+change_of-is tables (Insert table row bytes) = refl
+change_of-is tables (Patch table row offset bytes) = refl
+change_of-is tables (Delete table row) = refl
 
 -- what a change needs, and what it makes
-pub change_of-parts : (shape : Shape) (tables after : Tables) (entry : Entry) → change_of shape tables entry ≡ Ok after
-    → (is_ok (fitting shape entry) ≡ true) × (stands tables entry ≡ true) × (made shape tables entry ≡ after)
-change_of-parts shape tables after entry h =
-    passed (is_ok (fitting shape entry)) (stands tables entry) (sym (change_of-is shape tables entry) ∙ h)
+pub change_of-parts : (tables after : Tables) (entry : Entry) → change_of tables entry ≡ Ok after
+    → (is_fit tables entry ≡ true) × (stands tables entry ≡ true) × (made tables entry ≡ after)
+change_of-parts tables after entry h = passed (is_fit tables entry) (stands tables entry) (sym (change_of-is tables entry) ∙ h)
   where
-    passed : (fits right : Bool) → change_where fits right (refusal_of entry) (made shape tables entry) ≡ Ok after → (fits ≡ true)
-        × (right ≡ true) × (made shape tables entry ≡ after)
+    passed : (fits right : Bool) → change_where fits right (refusal_of entry) (made tables entry) ≡ Ok after → (fits ≡ true)
+        × (right ≡ true) × (made tables entry ≡ after)
     passed true true h = (refl, refl, cc)
     passed true false h = absurd (cc)
     passed false right h = absurd (cc)
 
+-- an entry that fits is of one of the tables
+pub fit-within : (tables : Tables) (entry : Entry) → is_fit tables entry ≡ true → table_of entry < length tables
+fit-within tables entry h = omega (arith, fitting-within (shape_in tables) entry h, length-map tables (λ table. table.kinds))
+
 -- an entry that fits turns its row
-Turns-made : (shape : Shape) (tables : Tables) (entry : Entry) → length tables ≡ length shape → is_ok (fitting shape entry) ≡ true
-    → Turns tables (made shape tables entry) (λ t r. is_there_after_one t r entry)
-Turns-made shape tables (Insert table row bytes) same h =
-    let within : table < length tables = omega (arith, fitting-within shape (Insert table row bytes) h) in
-    Turns-set tables table row.0 _ (λ was. true) within
-    (is_present-with_row (rows_of tables table) row.0 (values_of (kinds_of shape table) bytes))
-Turns-made shape tables (Patch table row offset bytes) same h =
-    let within : table < length tables = omega (arith, fitting-within shape (Patch table row offset bytes) h) in
-    Turns-set tables table row.0 _ (λ was. was) within
-    (λ r. is_present-with_patch (kinds_of shape table) (rows_of tables table) row.0 offset bytes r
+Turns-made : (tables : Tables) (entry : Entry) → is_fit tables entry ≡ true
+    → Turns tables (made tables entry) (λ t r. is_there_after_one t r entry)
+Turns-made tables (Insert table row bytes) h =
+    Turns-set tables table row.0 _ (λ was. true) (fit-within tables (Insert table row bytes) h)
+    (is_present-with_row (rows_of tables table) row.0 (values_of (kinds_of tables table) bytes))
+Turns-made tables (Patch table row offset bytes) h =
+    Turns-set tables table row.0 _ (λ was. was) (fit-within tables (Patch table row offset bytes) h)
+    (λ r. is_present-with_patch (kinds_of tables table) (rows_of tables table) row.0 offset bytes r
     ∙ alike (row.0 == r) (there tables table r))
   where
     alike : (b was : Bool) → was ≡ cond b was was
     alike true was = refl
     alike false was = refl
-Turns-made shape tables (Delete table row) same h =
-    let within : table < length tables = omega (arith, fitting-within shape (Delete table row) h) in
-    Turns-set tables table row.0 _ (λ was. false) within (is_present-without_row (rows_of tables table) row.0)
+Turns-made tables (Delete table row) h =
+    Turns-set tables table row.0 _ (λ was. false) (fit-within tables (Delete table row) h)
+    (is_present-without_row (rows_of tables table) row.0)
 
-pub Turns-change : (shape : Shape) (tables after : Tables) (entry : Entry) → length tables ≡ length shape
-    → change_of shape tables entry ≡ Ok after → Turns tables after (λ t r. is_there_after_one t r entry)
-Turns-change shape tables after entry same h =
-    let parts = change_of-parts shape tables after entry h in
-    subst (λ after. Turns tables after (λ t r. is_there_after_one t r entry)) parts.2 (Turns-made shape tables entry same parts.0)
+pub Turns-change : (tables after : Tables) (entry : Entry) → change_of tables entry ≡ Ok after
+    → Turns tables after (λ t r. is_there_after_one t r entry)
+Turns-change tables after entry h =
+    let parts = change_of-parts tables after entry h in
+    subst (λ after. Turns tables after (λ t r. is_there_after_one t r entry)) parts.2 (Turns-made tables entry parts.0)
 
 -- what comes after a change that was not refused
 pub and_then-parts : (next : Tables → Result Tables Refusal) (first : Result Tables Refusal) (after : Tables)
@@ -169,26 +183,26 @@ pub and_then-parts : (next : Tables → Result Tables Refusal) (first : Result T
 and_then-parts next (Ok between) after h = (between, refl, h)
 and_then-parts next (Err refusal) after h = cc
 
-pub Turns-changes : (shape : Shape) (tables after : Tables) (entries : List Entry) → length tables ≡ length shape
-    → changes_of shape tables entries ≡ Ok after → Turns tables after (λ t r. is_there_after t r entries)
-Turns-changes shape tables after [] same h =
+pub Turns-changes : (tables after : Tables) (entries : List Entry) → changes_of tables entries ≡ Ok after
+    → Turns tables after (λ t r. is_there_after t r entries)
+Turns-changes tables after [] h =
     let e : tables ≡ after = cc in
     subst (λ after. Turns tables after (λ t r. is_there_after t r [])) e (Turns-none tables)
-Turns-changes shape tables after (entry ∷ entries) same h =
-    let parts = and_then-parts _ (change_of shape tables entry) after h in
-    let first = Turns-change shape tables parts.0 entry same parts.1 in
-    let others = Turns-changes shape parts.0 after entries (first.tables ∙ same) parts.2 in
+Turns-changes tables after (entry ∷ entries) h =
+    let parts = and_then-parts _ (change_of tables entry) after h in
+    let first = Turns-change tables parts.0 entry parts.1 in
+    let others = Turns-changes parts.0 after entries parts.2 in
     Turns-both tables parts.0 after (λ t r. is_there_after_one t r entry) (λ t r. is_there_after t r entries) first others
 
-pub Turns-commits : (shape : Shape) (tables after : Tables) (commits : List Commit) → length tables ≡ length shape
-    → commits_of shape tables commits ≡ Ok after → Turns tables after (λ t r. is_there_after_commits t r commits)
-Turns-commits shape tables after [] same h =
+pub Turns-commits : (tables after : Tables) (commits : List Commit) → commits_of tables commits ≡ Ok after
+    → Turns tables after (λ t r. is_there_after_commits t r commits)
+Turns-commits tables after [] h =
     let e : tables ≡ after = cc in
     subst (λ after. Turns tables after (λ t r. is_there_after_commits t r [])) e (Turns-none tables)
-Turns-commits shape tables after (commit ∷ commits) same h =
-    let parts = and_then-parts _ (changes_of shape tables commit.entries) after h in
-    let first = Turns-changes shape tables parts.0 commit.entries same parts.1 in
-    let others = Turns-commits shape parts.0 after commits (first.tables ∙ same) parts.2 in
+Turns-commits tables after (commit ∷ commits) h =
+    let parts = and_then-parts _ (changes_of tables commit.entries) after h in
+    let first = Turns-changes tables parts.0 commit.entries parts.1 in
+    let others = Turns-commits parts.0 after commits parts.2 in
     Turns-both tables parts.0 after (λ t r. is_there_after t r commit.entries) (λ t r. is_there_after_commits t r commits) first others
 
 -- where a row does not stand as the entry needs it, the entry would leave it as it is
@@ -213,31 +227,31 @@ there-refused tables entry t r h = by (is_of t r entry) refl
         sym (left_by-refused entry (there tables t r) (ap (stands_for entry) (sym same) ∙ h))
 
 -- the tables after an entry, which stay where it is refused
-abbrev pub step : Shape → Tables → Entry → Tables
-step shape tables entry = result_unwrap_or (change_of shape tables entry) tables
+abbrev pub step : Tables → Entry → Tables
+step tables entry = result_unwrap_or (change_of tables entry) tables
 
-Turns-step : (shape : Shape) (tables : Tables) (entry : Entry) → length tables ≡ length shape
-    → Turns tables (step shape tables entry) (λ t r was. cond (is_ok (fitting shape entry)) (is_there_after_one t r entry was) was)
-Turns-step shape tables entry same =
+Turns-step : (tables : Tables) (entry : Entry)
+    → Turns tables (step tables entry) (λ t r was. cond (is_fit tables entry) (is_there_after_one t r entry was) was)
+Turns-step tables entry =
     subst (λ change. Turns tables (result_unwrap_or change tables)
-    (λ t r was. cond (is_ok (fitting shape entry)) (is_there_after_one t r entry was) was)) (sym (change_of-is shape tables entry))
-    (by (is_ok (fitting shape entry)) (stands tables entry) refl refl)
+    (λ t r was. cond (is_fit tables entry) (is_there_after_one t r entry was) was)) (sym (change_of-is tables entry))
+    (by (is_fit tables entry) (stands tables entry) refl refl)
   where
-    by : (fits right : Bool) → is_ok (fitting shape entry) ≡ fits → stands tables entry ≡ right
-        → Turns tables (result_unwrap_or (change_where fits right (refusal_of entry) (made shape tables entry)) tables)
+    by : (fits right : Bool) → is_fit tables entry ≡ fits → stands tables entry ≡ right
+        → Turns tables (result_unwrap_or (change_where fits right (refusal_of entry) (made tables entry)) tables)
         (λ t r was. cond fits (is_there_after_one t r entry was) was)
-    by true true e f = Turns-made shape tables entry same e
-    by true false e f = record { tables = refl; rows = λ t r. there-refused tables entry t r f }
+    by true true e f = Turns-made tables entry e
+    by true false e f = record { kinds = refl; rows = λ t r. there-refused tables entry t r f }
     by false right e f = Turns-none tables
 
-pub Turns-applied : (shape : Shape) (tables : Tables) (entries : List Entry) → length tables ≡ length shape
-    → Turns tables (applied shape tables entries) (λ t r. is_there_after_fit shape t r entries)
+pub Turns-applied : (shape : Shape) (tables : Tables) (entries : List Entry) → shape_in tables ≡ shape
+    → Turns tables (applied tables entries) (λ t r. is_there_after_fit shape t r entries)
 Turns-applied shape tables [] same = Turns-none tables
 Turns-applied shape tables (entry ∷ entries) same =
-    let first = Turns-step shape tables entry same in
-    let others = Turns-applied shape (step shape tables entry) entries (first.tables ∙ same) in
-    Turns-both tables (step shape tables entry) (applied shape tables (entry ∷ entries))
-    (λ t r was. cond (is_ok (fitting shape entry)) (is_there_after_one t r entry was) was)
+    let turned : Shape → ℕ → ℕ → Bool → Bool = λ shape t r was. cond (is_ok (fitting shape entry)) (is_there_after_one t r entry was) was in
+    let first = subst (λ shape. Turns tables (step tables entry) (turned shape)) same (Turns-step tables entry) in
+    let others = Turns-applied shape (step tables entry) entries (first.kinds ∙ same) in
+    Turns-both tables (step tables entry) (applied tables (entry ∷ entries)) (turned shape)
     (λ t r. is_there_after_fit shape t r entries) first others
 
 -- one more entry at the end, or one more commit

@@ -1,7 +1,7 @@
 -- Each row's values after entries and commits: an entry changes the values of its row, and of no other.
 use Rattle.std.proofs.Common.{◌≡◌, ℕ, suc, zero, ◌+◌, ◌<◌, Bool, true, false, cond, not, ◌&&◌, ◌==◌, List, [], ◌∷◌, ◌++◌, length, get_or}
 use Rattle.std.proofs.Common.{take, Option, None, Some, Ok, refl, sym, ap, subst, ◌∙◌, inl, inr, arith}
-use Rattle.std.specs.List.{filter, slice_set}
+use Rattle.std.specs.List.{filter}
 use Rattle.std.specs.Map.{lookup, set_value}
 use Rattle.std.specs.Option.{is_some, option_map}
 use Rattle.std.specs.Ordering.{nat_cmp}
@@ -9,23 +9,25 @@ use Rattle.std.specs.BTreeMap.{is_at, insert_entry}
 use Rattle.std.specs.Result.{is_ok, result_unwrap_or}
 use Rattle.std.proofs.lemmas.Bool.{and_parts, or_parts, eqb-true, eq-eqb, ne_eqb, cases_eq}
 use Rattle.std.proofs.lemmas.Bool.Decides.{nat_tests}
-use Rattle.std.proofs.lemmas.List.{take_more, length-map, length-set}
+use Rattle.std.proofs.lemmas.List.{take_more}
 use Rattle.rows.specs.declared.commit.Commit.{Commit}
 use Rattle.rows.specs.declared.entry.Entry.{Entry}
 use Rattle.rows.specs.declared.entry.Entry.TheVariants.{Insert, Patch, Delete}
 use Rattle.rows.specs.declared.kind.Kind.{Kind}
 use Rattle.rows.specs.declared.value.Value.{Value}
-use Rattle.rows.specs.Shape.{Shape}
+use Rattle.rows.specs.Shape.{Shape, kinds_in}
 use Rattle.rows.specs.Entries.{table_of, row_of, fitting}
 use Rattle.rows.specs.Values.{values_of}
-use Rattle.rows.specs.Tables.{Table, Tables, opening, rows_of, kinds_of, row_at, is_present, with_row, with_patch, without_row, patched_row}
-use Rattle.rows.specs.Tables.{change_where, change_of, changes_of, applied}
+use Rattle.rows.specs.Tables.{Rows, Tables, opening, shape_in, rows_of, kinds_of, row_at, is_present}
+use Rattle.rows.specs.Tables.{is_row_at, with_row, with_patch, without_row}
+use Rattle.rows.specs.Tables.{patched_row, with_rows, is_fit, change_where, change_of, changes_of, applied}
 use Rattle.rows.specs.Commits.{commits_of, tables_after, is_of}
 use Rattle.rows.specs.Presence.{stands_for}
 use Rattle.rows.specs.RowAfter.{inserted_row, row_after_one, row_after_entry, row_after, row_after_commits, row_after_fit}
-use Rattle.rows.proofs.Presence.{rows_of-set_same, rows_of-set_other, fitting-within, made, refusal_of, stands, step, change_of-is}
-use Rattle.rows.proofs.Presence.{change_of-parts, and_then-parts, named, written}
-use Rattle.rows.proofs.TableLaws.{from_is_ok, commits_of-split, tables-at}
+use Rattle.rows.proofs.Presence.{rows_of-set_same, rows_of-set_other, renewed, shape_in-with_rows, shape_in-opening}
+use Rattle.rows.proofs.Presence.{fit-within, made, refusal_of}
+use Rattle.rows.proofs.Presence.{stands, step, change_of-is, change_of-parts, and_then-parts, named, written}
+use Rattle.rows.proofs.TableLaws.{from_is_ok, commits_of-split, shape-at}
 
 -- a look-up after an insert: the new key has its value, and any other as before
 pub lookup-insert_entry : {X : Type 0} (q k : ℕ) (v : X) (es : List (ℕ × X))
@@ -49,7 +51,7 @@ lookup-filter q k [] = grind (arith, nat_tests)
 lookup-filter q k (e ∷ es) = grind (arith, nat_tests, lookup-filter q k es)
 
 -- a row of a table once one was put in, changed or taken out
-row_at-with_row : (kinds : List Kind) (rows : Table) (row : ℕ) (bytes : List ℕ) (other : ℕ) → is_present rows row ≡ false
+row_at-with_row : (kinds : List Kind) (rows : Rows) (row : ℕ) (bytes : List ℕ) (other : ℕ) → is_present rows row ≡ false
     → row_at (with_row rows row (values_of kinds bytes)) other ≡ cond (row == other) (inserted_row kinds bytes (row_at rows other))
     (row_at rows other)
 row_at-with_row kinds rows row bytes other absent = lookup-insert_entry other row (values_of kinds bytes) rows ∙ elim (cases_eq row other) [
@@ -63,7 +65,7 @@ row_at-with_row kinds rows row bytes other absent = lookup-insert_entry other ro
     missing None h = refl
     missing (Some values) h = cc
 
-row_at-with_patch : (kinds : List Kind) (rows : Table) (row offset : ℕ) (bytes : List ℕ) (other : ℕ)
+row_at-with_patch : (kinds : List Kind) (rows : Rows) (row offset : ℕ) (bytes : List ℕ) (other : ℕ)
     → row_at (with_patch kinds rows row offset bytes) other ≡ cond (row == other)
     (option_map (patched_row kinds offset bytes) (row_at rows other)) (row_at rows other)
 row_at-with_patch kinds rows row offset bytes other = by (row_at rows row) refl
@@ -81,7 +83,7 @@ row_at-with_patch kinds rows row offset bytes other = by (row_at rows row) refl
           | inr apart ↦ grind (arith, nat_tests)
         ])
 
-row_at-without_row : (rows : Table) (row other : ℕ) → row_at (without_row rows row) other ≡ cond (row == other) None (row_at rows other)
+row_at-without_row : (rows : Rows) (row other : ℕ) → row_at (without_row rows row) other ≡ cond (row == other) None (row_at rows other)
 row_at-without_row rows row other = lookup-filter other row rows
 
 -- a row's values in tables
@@ -89,97 +91,96 @@ abbrev pub row_in : Tables → ℕ → ℕ → Option (List Value)
 row_in tables table row = row_at (rows_of tables table) row
 
 -- at the opening no row is there
-opening-none : (shape : Shape) (table row : ℕ) → row_in (opening shape) table row ≡ None
+pub opening-none : (shape : Shape) (table row : ℕ) → row_in (opening shape) table row ≡ None
 opening-none [] table row = refl
 opening-none (kinds ∷ shape) zero row = refl
 opening-none (kinds ∷ shape) (suc table) row = opening-none shape table row
 
--- tables with as many tables as before, where each row has the values that are left of those it had
+-- tables with the kinds of those before, where each row has the values that are left of those it had
 pub record Leaves (before after : Tables) (left : ℕ → ℕ → Option (List Value) → Option (List Value)) : Type 0 where
-  pub tables : length after ≡ length before
+  pub kinds : shape_in after ≡ shape_in before
   pub rows : (t r : ℕ) → row_in after t r ≡ left t r (row_in before t r)
 
 Leaves-none : (tables : Tables) → Leaves tables tables (λ t r was. was)
-Leaves-none tables = record { tables = refl; rows = λ t r. refl }
+Leaves-none tables = record { kinds = refl; rows = λ t r. refl }
 
 -- one change after another
 Leaves-both : (before between after : Tables) (f g : ℕ → ℕ → Option (List Value) → Option (List Value)) → Leaves before between f
     → Leaves between after g → Leaves before after (λ t r was. g t r (f t r was))
 Leaves-both before between after f g x y = record {
-  tables = y.tables ∙ x.tables;
+  kinds = y.kinds ∙ x.kinds;
   rows = λ t r. y.rows t r ∙ ap (g t r) (x.rows t r);
 }
 
 -- a row's values once a table was replaced by one that changes one row
-row_in-set : (tables : Tables) (table row : ℕ) (rows : Table) (left : ℕ → Option (List Value) → Option (List Value)) (t r : ℕ)
+row_in-set : (tables : Tables) (table row : ℕ) (rows : Rows) (left : ℕ → Option (List Value) → Option (List Value)) (t r : ℕ)
     → table < length tables
     → row_at rows r ≡ cond (row == r) (left table (row_in tables table r)) (row_in tables table r)
-    → row_in (slice_set tables table rows) t r ≡ cond ((table == t) && (row == r)) (left t (row_in tables t r)) (row_in tables t r)
+    → row_in (with_rows tables table rows) t r ≡ cond ((table == t) && (row == r)) (left t (row_in tables t r)) (row_in tables t r)
 row_in-set tables table row rows left t r h made = elim (cases_eq t table) [
   | inl same ↦ rw same (
-      ap (λ rows. row_at rows r) (rows_of-set_same tables table rows h)
+      ap (λ rows. row_at rows r) (rows_of-set_same tables table (renewed tables table rows) h)
       ∙ made
       ∙ ap (λ b. cond (b && (row == r)) (left table (row_in tables table r)) (row_in tables table r)) (sym (eq-eqb table table refl)))
   | inr other ↦
-      ap (λ rows. row_at rows r) (rows_of-set_other tables table t rows other)
+      ap (λ rows. row_at rows r) (rows_of-set_other tables table t (renewed tables table rows) other)
       ∙ ap (λ b. cond (b && (row == r)) (left t (row_in tables t r)) (row_in tables t r)) (sym (ne_eqb table t (λ e. other (sym e))))
 ]
 
-Leaves-set : (tables : Tables) (table row : ℕ) (rows : Table) (left : ℕ → Option (List Value) → Option (List Value)) → table < length tables
+Leaves-set : (tables : Tables) (table row : ℕ) (rows : Rows) (left : ℕ → Option (List Value) → Option (List Value)) → table < length tables
     → ((r : ℕ) → row_at rows r ≡ cond (row == r) (left table (row_in tables table r)) (row_in tables table r))
-    → Leaves tables (slice_set tables table rows) (λ t r was. cond ((table == t) && (row == r)) (left t was) was)
+    → Leaves tables (with_rows tables table rows) (λ t r was. cond ((table == t) && (row == r)) (left t was) was)
 Leaves-set tables table row rows left h made = record {
-  tables = length-set tables table rows;
+  kinds = shape_in-with_rows tables table rows;
   rows = λ t r. row_in-set tables table row rows left t r h (made r);
 }
 
 -- an entry that fits, and whose row stands as it needs it, changes its row
-Leaves-made : (shape : Shape) (tables : Tables) (entry : Entry) → length tables ≡ length shape → is_ok (fitting shape entry) ≡ true
-    → stands tables entry ≡ true → Leaves tables (made shape tables entry) (λ t r. row_after_entry shape t r entry)
-Leaves-made shape tables (Insert table row bytes) same h right =
-    let within : table < length tables = omega (arith, fitting-within shape (Insert table row bytes) h) in
-    let kinds = kinds_of shape table in
-    Leaves-set tables table row.0 _ (λ t. inserted_row (kinds_of shape t) bytes) within
-    (λ r. row_at-with_row kinds (rows_of tables table) row.0 bytes r (negated (is_present (rows_of tables table) row.0) right))
+Leaves-made : (tables : Tables) (entry : Entry) → is_fit tables entry ≡ true → stands tables entry ≡ true
+    → Leaves tables (made tables entry) (λ t r. row_after_entry (shape_in tables) t r entry)
+Leaves-made tables (Insert table row bytes) h right =
+    Leaves-set tables table row.0 _ (λ t. inserted_row (kinds_of tables t) bytes) (fit-within tables (Insert table row bytes) h)
+    (λ r. row_at-with_row (kinds_of tables table) (rows_of tables table) row.0 bytes r (negated (is_row_at tables table row.0) right))
   where
     negated : (b : Bool) → not b ≡ true → b ≡ false
     negated true e = sym e
     negated false e = refl
-Leaves-made shape tables (Patch table row offset bytes) same h right =
-    let within : table < length tables = omega (arith, fitting-within shape (Patch table row offset bytes) h) in
-    Leaves-set tables table row.0 _ (λ t. option_map (patched_row (kinds_of shape t) offset bytes)) within
-    (row_at-with_patch (kinds_of shape table) (rows_of tables table) row.0 offset bytes)
-Leaves-made shape tables (Delete table row) same h right =
-    let within : table < length tables = omega (arith, fitting-within shape (Delete table row) h) in
-    Leaves-set tables table row.0 _ (λ t was. None) within (row_at-without_row (rows_of tables table) row.0)
+Leaves-made tables (Patch table row offset bytes) h right =
+    Leaves-set tables table row.0 _ (λ t. option_map (patched_row (kinds_of tables t) offset bytes))
+    (fit-within tables (Patch table row offset bytes) h)
+    (row_at-with_patch (kinds_of tables table) (rows_of tables table) row.0 offset bytes)
+Leaves-made tables (Delete table row) h right =
+    Leaves-set tables table row.0 _ (λ t was. None) (fit-within tables (Delete table row) h)
+    (row_at-without_row (rows_of tables table) row.0)
 
-pub Leaves-change : (shape : Shape) (tables after : Tables) (entry : Entry) → length tables ≡ length shape
-    → change_of shape tables entry ≡ Ok after → Leaves tables after (λ t r. row_after_entry shape t r entry)
+pub Leaves-change : (shape : Shape) (tables after : Tables) (entry : Entry) → shape_in tables ≡ shape → change_of tables entry ≡ Ok after
+    → Leaves tables after (λ t r. row_after_entry shape t r entry)
 Leaves-change shape tables after entry same h =
-    let parts = change_of-parts shape tables after entry h in
-    subst (λ after. Leaves tables after (λ t r. row_after_entry shape t r entry)) parts.2
-    (Leaves-made shape tables entry same parts.0 parts.1)
+    let parts = change_of-parts tables after entry h in
+    subst (λ shape. Leaves tables after (λ t r. row_after_entry shape t r entry)) same
+    (subst (λ after. Leaves tables after (λ t r. row_after_entry (shape_in tables) t r entry)) parts.2
+    (Leaves-made tables entry parts.0 parts.1))
 
-pub Leaves-changes : (shape : Shape) (tables after : Tables) (entries : List Entry) → length tables ≡ length shape
-    → changes_of shape tables entries ≡ Ok after → Leaves tables after (λ t r. row_after shape t r entries)
+pub Leaves-changes : (shape : Shape) (tables after : Tables) (entries : List Entry) → shape_in tables ≡ shape
+    → changes_of tables entries ≡ Ok after → Leaves tables after (λ t r. row_after shape t r entries)
 Leaves-changes shape tables after [] same h =
     let e : tables ≡ after = cc in
     subst (λ after. Leaves tables after (λ t r. row_after shape t r [])) e (Leaves-none tables)
 Leaves-changes shape tables after (entry ∷ entries) same h =
-    let parts = and_then-parts _ (change_of shape tables entry) after h in
+    let parts = and_then-parts _ (change_of tables entry) after h in
     let first = Leaves-change shape tables parts.0 entry same parts.1 in
-    let others = Leaves-changes shape parts.0 after entries (first.tables ∙ same) parts.2 in
+    let others = Leaves-changes shape parts.0 after entries (first.kinds ∙ same) parts.2 in
     Leaves-both tables parts.0 after (λ t r. row_after_entry shape t r entry) (λ t r. row_after shape t r entries) first others
 
-pub Leaves-commits : (shape : Shape) (tables after : Tables) (commits : List Commit) → length tables ≡ length shape
-    → commits_of shape tables commits ≡ Ok after → Leaves tables after (λ t r. row_after_commits shape t r commits)
+pub Leaves-commits : (shape : Shape) (tables after : Tables) (commits : List Commit) → shape_in tables ≡ shape
+    → commits_of tables commits ≡ Ok after → Leaves tables after (λ t r. row_after_commits shape t r commits)
 Leaves-commits shape tables after [] same h =
     let e : tables ≡ after = cc in
     subst (λ after. Leaves tables after (λ t r. row_after_commits shape t r [])) e (Leaves-none tables)
 Leaves-commits shape tables after (commit ∷ commits) same h =
-    let parts = and_then-parts _ (changes_of shape tables commit.entries) after h in
+    let parts = and_then-parts _ (changes_of tables commit.entries) after h in
     let first = Leaves-changes shape tables parts.0 commit.entries same parts.1 in
-    let others = Leaves-commits shape parts.0 after commits (first.tables ∙ same) parts.2 in
+    let others = Leaves-commits shape parts.0 after commits (first.kinds ∙ same) parts.2 in
     Leaves-both tables parts.0 after (λ t r. row_after shape t r commit.entries) (λ t r. row_after_commits shape t r commits) first others
 
 -- where a row does not stand as the entry needs it, the entry would leave its values as they are
@@ -197,57 +198,58 @@ row_in-refused : (shape : Shape) (tables : Tables) (entry : Entry) (t r : ℕ) �
 row_in-refused shape tables entry t r h = by (is_of t r entry) refl
   where
     by : (here : Bool) → is_of t r entry ≡ here
-        → row_in tables t r ≡ cond here (row_after_one (kinds_of shape t) entry (row_in tables t r)) (row_in tables t r)
+        → row_in tables t r ≡ cond here (row_after_one (kinds_in shape t) entry (row_in tables t r)) (row_in tables t r)
     by false e = refl
     by true e =
         let parts = and_parts (table_of entry == t) (row_of entry == r) e in
         let same : row_in tables (table_of entry) (row_of entry) ≡ row_in tables t r =
         ap (λ t. row_in tables t (row_of entry)) (eqb-true (table_of entry) t parts.0)
         ∙ ap (row_in tables t) (eqb-true (row_of entry) r parts.1) in
-        sym (row_after_one-refused (kinds_of shape t) entry (row_in tables t r) (ap (λ was. stands_for entry (is_some was)) (sym same) ∙ h))
+        sym (row_after_one-refused (kinds_in shape t) entry (row_in tables t r) (ap (λ was. stands_for entry (is_some was)) (sym same) ∙ h))
 
 -- the tables after an entry, which stay where it is refused
-Leaves-step : (shape : Shape) (tables : Tables) (entry : Entry) → length tables ≡ length shape
-    → Leaves tables (step shape tables entry) (λ t r was. cond (is_ok (fitting shape entry)) (row_after_entry shape t r entry was) was)
-Leaves-step shape tables entry same =
+Leaves-step : (tables : Tables) (entry : Entry)
+    → Leaves tables (step tables entry) (λ t r was. cond (is_fit tables entry) (row_after_entry (shape_in tables) t r entry was) was)
+Leaves-step tables entry =
     subst (λ change. Leaves tables (result_unwrap_or change tables)
-    (λ t r was. cond (is_ok (fitting shape entry)) (row_after_entry shape t r entry was) was)) (sym (change_of-is shape tables entry))
-    (by (is_ok (fitting shape entry)) (stands tables entry) refl refl)
+    (λ t r was. cond (is_fit tables entry) (row_after_entry (shape_in tables) t r entry was) was)) (sym (change_of-is tables entry))
+    (by (is_fit tables entry) (stands tables entry) refl refl)
   where
-    by : (fits right : Bool) → is_ok (fitting shape entry) ≡ fits → stands tables entry ≡ right
-        → Leaves tables (result_unwrap_or (change_where fits right (refusal_of entry) (made shape tables entry)) tables)
-        (λ t r was. cond fits (row_after_entry shape t r entry was) was)
-    by true true e f = Leaves-made shape tables entry same e f
-    by true false e f = record { tables = refl; rows = λ t r. row_in-refused shape tables entry t r f }
+    by : (fits right : Bool) → is_fit tables entry ≡ fits → stands tables entry ≡ right
+        → Leaves tables (result_unwrap_or (change_where fits right (refusal_of entry) (made tables entry)) tables)
+        (λ t r was. cond fits (row_after_entry (shape_in tables) t r entry was) was)
+    by true true e f = Leaves-made tables entry e f
+    by true false e f = record { kinds = refl; rows = λ t r. row_in-refused (shape_in tables) tables entry t r f }
     by false right e f = Leaves-none tables
 
-pub Leaves-applied : (shape : Shape) (tables : Tables) (entries : List Entry) → length tables ≡ length shape
-    → Leaves tables (applied shape tables entries) (λ t r. row_after_fit shape t r entries)
+pub Leaves-applied : (shape : Shape) (tables : Tables) (entries : List Entry) → shape_in tables ≡ shape
+    → Leaves tables (applied tables entries) (λ t r. row_after_fit shape t r entries)
 Leaves-applied shape tables [] same = Leaves-none tables
 Leaves-applied shape tables (entry ∷ entries) same =
-    let first = Leaves-step shape tables entry same in
-    let others = Leaves-applied shape (step shape tables entry) entries (first.tables ∙ same) in
-    Leaves-both tables (step shape tables entry) (applied shape tables (entry ∷ entries))
-    (λ t r was. cond (is_ok (fitting shape entry)) (row_after_entry shape t r entry was) was)
+    let left : Shape → ℕ → ℕ → Option (List Value) → Option (List Value) =
+    λ shape t r was. cond (is_ok (fitting shape entry)) (row_after_entry shape t r entry was) was in
+    let first = subst (λ shape. Leaves tables (step tables entry) (left shape)) same (Leaves-step tables entry) in
+    let others = Leaves-applied shape (step tables entry) entries (first.kinds ∙ same) in
+    Leaves-both tables (step tables entry) (applied tables (entry ∷ entries)) (left shape)
     (λ t r. row_after_fit shape t r entries) first others
 
 -- a row at a version is what the commits up to it leave of it
-pub row-at : (shape : Shape) (commits : List Commit) (version table row : ℕ) → is_ok (commits_of shape (opening shape) commits) ≡ true
+pub row-at : (shape : Shape) (commits : List Commit) (version table row : ℕ) → is_ok (commits_of (opening shape) commits) ≡ true
     → row_at (rows_of (tables_after shape commits version) table) row ≡ row_after_commits shape table row (take version commits) None
 row-at shape commits version table row h =
     let all = from_is_ok _ h in
     let split = commits_of-split shape commits version all.0 all.1 in
     let leaves =
     Leaves-commits shape (opening shape) (tables_after shape commits version) (take version commits)
-    (length-map shape (λ kinds. [])) split.0 in
+    (shape_in-opening shape) split.0 in
     leaves.rows table row ∙ ap (row_after_commits shape table row (take version commits)) (opening-none shape table row)
 
 -- a row that a transaction sees: that at the version, as its own entries that fit change it
 pub row-seen : (shape : Shape) (commits : List Commit) (version : ℕ) (entries : List Entry) (table row : ℕ)
-    → row_at (rows_of (applied shape (tables_after shape commits version) entries) table) row ≡ row_after_fit shape table row entries
+    → row_at (rows_of (applied (tables_after shape commits version) entries) table) row ≡ row_after_fit shape table row entries
     (row_at (rows_of (tables_after shape commits version) table) row)
 row-seen shape commits version entries table row =
-    (Leaves-applied shape (tables_after shape commits version) entries (tables-at shape commits version)).rows table row
+    (Leaves-applied shape (tables_after shape commits version) entries (shape-at shape commits version)).rows table row
 
 -- one more entry at the end, or one more commit
 pub row_after-push : (shape : Shape) (table row : ℕ) (entries : List Entry) (entry : Entry) (was : Option (List Value))
@@ -303,7 +305,7 @@ pub row_after-unnamed : (shape : Shape) (table row : ℕ) (entries : List Entry)
 row_after-unnamed shape table row [] was h = refl
 row_after-unnamed shape table row (entry ∷ entries) was h =
     let parts = or_parts (is_of table row entry) (named entries table row) h in
-    ap (λ here. row_after shape table row entries (cond here (row_after_one (kinds_of shape table) entry was) was)) parts.0
+    ap (λ here. row_after shape table row entries (cond here (row_after_one (kinds_in shape table) entry was) was)) parts.0
     ∙ row_after-unnamed shape table row entries was parts.1
 
 pub row_after_commits-unwritten : (shape : Shape) (table row : ℕ) (commits : List Commit) (was : Option (List Value))

@@ -11,7 +11,7 @@ use Rattle.std.proofs.lemmas.Bool.Decides.{nat_tests}
 use Rattle.std.proofs.lemmas.Map.Keys.{sorted_head, sorted_tail}
 use Rattle.rows.specs.declared.kind.Kind.{Kind}
 use Rattle.rows.specs.declared.value.Value.{Value}
-use Rattle.rows.specs.Tables.{Table, row_at, is_present, with_row, with_patch, without_row, patched_row}
+use Rattle.rows.specs.Tables.{Rows, row_at, is_present, with_row, with_patch, without_row, patched_row}
 
 -- a look-up after an insert: the new key is found, and any other as before
 is_some-insert_entry : {X : Type 0} (q k : ℕ) (v : X) (es : List (ℕ × X))
@@ -32,12 +32,12 @@ is_some-filter q k [] = grind (arith, nat_tests)
 is_some-filter q k (e ∷ es) = grind (arith, nat_tests, is_some-filter q k es)
 
 -- once a row was put in, it is there
-pub is_present-with_row : (rows : Table) (row : ℕ) (values : List Value) (other : ℕ)
+pub is_present-with_row : (rows : Rows) (row : ℕ) (values : List Value) (other : ℕ)
     → is_present (with_row rows row values) other ≡ cond (row == other) true (is_present rows other)
 is_present-with_row rows row values other = is_some-insert_entry other row values rows
 
 -- once a row was changed, the same rows are there
-pub is_present-with_patch : (kinds : List Kind) (rows : Table) (row offset : ℕ) (bytes : List ℕ) (other : ℕ)
+pub is_present-with_patch : (kinds : List Kind) (rows : Rows) (row offset : ℕ) (bytes : List ℕ) (other : ℕ)
     → is_present (with_patch kinds rows row offset bytes) other ≡ is_present rows other
 is_present-with_patch kinds rows row offset bytes other = by (row_at rows row) refl
   where
@@ -47,18 +47,18 @@ is_present-with_patch kinds rows row offset bytes other = by (row_at rows row) r
     by (Some values) e = rw e (is_some-set_value (is_at (nat_cmp other)) (is_at (nat_cmp row)) (patched_row kinds offset bytes values) rows)
 
 -- once a row was taken out, it is not there
-pub is_present-without_row : (rows : Table) (row other : ℕ)
+pub is_present-without_row : (rows : Rows) (row other : ℕ)
     → is_present (without_row rows row) other ≡ cond (row == other) false (is_present rows other)
 is_present-without_row rows row other = is_some-filter other row rows
 
 -- where all rows come behind that row, none is taken out
-without_row-above : (rows : Table) (row : ℕ) → AllByRecursion (λ other. nat_cmp row other ≡ Less) (keys_of rows)
+without_row-above : (rows : Rows) (row : ℕ) → AllByRecursion (λ other. nat_cmp row other ≡ Less) (keys_of rows)
     → without_row rows row ≡ rows
 without_row-above [] row h = refl
 without_row-above (first ∷ rows) row h = grind (arith, nat_tests, h.0, without_row-above rows row h.1)
 
 -- in a table whose identifiers ascend, the first row of that identifier is the only one
-pub remove_entry-without_row : (rows : Table) (row : ℕ) → IsStrictlySortedBy nat_cmp (keys_of rows)
+pub remove_entry-without_row : (rows : Rows) (row : ℕ) → IsStrictlySortedBy nat_cmp (keys_of rows)
     → remove_entry (is_at (nat_cmp row)) rows ≡ without_row rows row
 remove_entry-without_row [] row h = refl
 remove_entry-without_row (first ∷ rows) row h = elim (cases_eq row first.0) [

@@ -6,16 +6,18 @@ use Rattle.std.proofs.Common.{take, drop, Result, Ok, Err, refl, sym, ap, add-ze
 use Rattle.std.specs.List.{list_any}
 use Rattle.std.specs.Result.{is_ok}
 use Rattle.std.proofs.lemmas.Bool.{or_from, and_from, or_parts}
-use Rattle.std.proofs.lemmas.List.{take_all, take_more, length-take-le, length-map, take-append-drop}
+use Rattle.std.proofs.lemmas.List.{take_all, take_more, length-take-le, take-append-drop}
 use Rattle.std.proofs.lemmas.Bool.Decides.{nat_tests}
 use Rattle.rows.specs.declared.commit.Commit.{Commit}
 use Rattle.rows.specs.declared.entry.Entry.{Entry}
 use Rattle.rows.specs.Shape.{Shape}
 use Rattle.rows.specs.Entries.{table_of, row_of, fitting}
-use Rattle.rows.specs.Tables.{Tables, Refusal, opening, rows_of, is_present, change_where, change_of, changes_of, applied, and_then}
-use Rattle.rows.specs.Commits.{commits_of, tables_after, touches, last_touching}
+use Rattle.rows.specs.Tables.{Tables, Refusal, opening, shape_in, is_row_at, is_fit, change_where, change_of, changes_of, applied, and_then}
+use Rattle.rows.specs.Commits.{commits_of, tables_after, touches, last_where, last_touching}
+use Rattle.rows.specs.Laws.{EntryKeepsKinds, EntriesKeepKinds, AppliedKeepKinds, CommitsKeepKinds, VersionsKeepKinds, IsSymmetric}
 use Rattle.rows.specs.Presence.{stands_for, is_there_after_one, is_there_after, is_there_after_commits, is_there_after_fit}
-use Rattle.rows.proofs.Presence.{there, opening-empty, Turns, made, refusal_of, stands, change_of-is, change_of-parts, Turns-change}
+use Rattle.rows.proofs.Presence.{there, shape_in-opening, opening-empty, Turns, made, refusal_of}
+use Rattle.rows.proofs.Presence.{stands, change_of-is, change_of-parts, Turns-change}
 use Rattle.rows.proofs.Presence.{Turns-changes, Turns-commits, Turns-applied, and_then-parts}
 
 -- two changes in a row, the second of them two again
@@ -25,17 +27,17 @@ and_then-assoc f g h (Ok between) same = same between
 and_then-assoc f g h (Err refusal) same = refl
 
 -- entries behind others, and commits behind others
-changes_of-append : (shape : Shape) (tables : Tables) (before entries : List Entry)
-    → changes_of shape tables (before ++ entries) ≡ and_then (λ after. changes_of shape after entries) (changes_of shape tables before)
-changes_of-append shape tables [] entries = refl
-changes_of-append shape tables (entry ∷ before) entries =
-    and_then-assoc _ _ _ (change_of shape tables entry) (λ between. changes_of-append shape between before entries)
+changes_of-append : (tables : Tables) (before entries : List Entry)
+    → changes_of tables (before ++ entries) ≡ and_then (λ after. changes_of after entries) (changes_of tables before)
+changes_of-append tables [] entries = refl
+changes_of-append tables (entry ∷ before) entries =
+    and_then-assoc _ _ _ (change_of tables entry) (λ between. changes_of-append between before entries)
 
-commits_of-append : (shape : Shape) (tables : Tables) (before commits : List Commit)
-    → commits_of shape tables (before ++ commits) ≡ and_then (λ after. commits_of shape after commits) (commits_of shape tables before)
-commits_of-append shape tables [] commits = refl
-commits_of-append shape tables (commit ∷ before) commits =
-    and_then-assoc _ _ _ (changes_of shape tables commit.entries) (λ between. commits_of-append shape between before commits)
+commits_of-append : (tables : Tables) (before commits : List Commit)
+    → commits_of tables (before ++ commits) ≡ and_then (λ after. commits_of after commits) (commits_of tables before)
+commits_of-append tables [] commits = refl
+commits_of-append tables (commit ∷ before) commits =
+    and_then-assoc _ _ _ (changes_of tables commit.entries) (λ between. commits_of-append between before commits)
 
 -- a change that is not refused has tables after it
 pub from_is_ok : (first : Result Tables Refusal) → is_ok first ≡ true → (after : Tables) × (first ≡ Ok after)
@@ -44,81 +46,80 @@ from_is_ok (Err refusal) h = cc
 
 -- the first of commits that are defined are defined too, and the others on what they leave
 pub commits_of-split : (shape : Shape) (commits : List Commit) (version : ℕ) (after : Tables)
-    → commits_of shape (opening shape) commits ≡ Ok after
-    → (commits_of shape (opening shape) (take version commits) ≡ Ok (tables_after shape commits version))
-    × (commits_of shape (tables_after shape commits version) (drop version commits) ≡ Ok after)
+    → commits_of (opening shape) commits ≡ Ok after
+    → (commits_of (opening shape) (take version commits) ≡ Ok (tables_after shape commits version))
+    × (commits_of (tables_after shape commits version) (drop version commits) ≡ Ok after)
 commits_of-split shape commits version after h =
-    let joined = commits_of-append shape (opening shape) (take version commits) (drop version commits) in
-    let whole = ap (commits_of shape (opening shape)) (take-append-drop version commits) in
+    let joined = commits_of-append (opening shape) (take version commits) (drop version commits) in
+    let whole = ap (commits_of (opening shape)) (take-append-drop version commits) in
     let parts =
-    and_then-parts (λ between. commits_of shape between (drop version commits))
-    (commits_of shape (opening shape) (take version commits)) after (sym joined ∙ whole ∙ h) in
+    and_then-parts (λ between. commits_of between (drop version commits))
+    (commits_of (opening shape) (take version commits)) after (sym joined ∙ whole ∙ h) in
     rw parts.1 (refl, parts.2)
 
--- there are as many tables as in the shape
-pub tables-at : (shape : Shape) (commits : List Commit) (version : ℕ) → length (tables_after shape commits version) ≡ length shape
-tables-at shape commits version = counted (commits_of shape (opening shape) (take version commits)) refl
+-- the tables at a version have the kinds that they were opened with
+pub shape-at : VersionsKeepKinds
+shape-at shape commits version = kept (commits_of (opening shape) (take version commits)) refl
   where
-    counted : (after : Result Tables Refusal) → commits_of shape (opening shape) (take version commits) ≡ after
-        → length (tables_after shape commits version) ≡ length shape
-    counted (Ok after) e =
-        let turns = Turns-commits shape (opening shape) after (take version commits) (length-map shape (λ kinds. [])) e in
-        rw e (turns.tables ∙ length-map shape (λ kinds. []))
-    counted (Err refusal) e = rw e (length-map shape (λ kinds. []))
+    kept : (after : Result Tables Refusal) → commits_of (opening shape) (take version commits) ≡ after
+        → shape_in (tables_after shape commits version) ≡ shape
+    kept (Ok after) e = rw e ((Turns-commits (opening shape) after (take version commits) e).kinds ∙ shape_in-opening shape)
+    kept (Err refusal) e = rw e (shape_in-opening shape)
 
 -- the rows at a version are those that the commits up to it leave there
-pub there-at : (shape : Shape) (commits : List Commit) (version table row : ℕ) → is_ok (commits_of shape (opening shape) commits) ≡ true
-    → is_present (rows_of (tables_after shape commits version) table) row ≡ is_there_after_commits table row (take version commits) false
+pub there-at : (shape : Shape) (commits : List Commit) (version table row : ℕ) → is_ok (commits_of (opening shape) commits) ≡ true
+    → is_row_at (tables_after shape commits version) table row ≡ is_there_after_commits table row (take version commits) false
 there-at shape commits version table row h =
     let all = from_is_ok _ h in
     let split = commits_of-split shape commits version all.0 all.1 in
-    let turns =
-    Turns-commits shape (opening shape) (tables_after shape commits version) (take version commits)
-    (length-map shape (λ kinds. [])) split.0 in
+    let turns = Turns-commits (opening shape) (tables_after shape commits version) (take version commits) split.0 in
     turns.rows table row ∙ ap (is_there_after_commits table row (take version commits)) (opening-empty shape table row)
 
 -- the rows that a transaction sees: those at the version, as its own entries that fit turn them
 pub there-seen : (shape : Shape) (commits : List Commit) (version : ℕ) (entries : List Entry) (table row : ℕ)
-    → is_present (rows_of (applied shape (tables_after shape commits version) entries) table) row
-    ≡ is_there_after_fit shape table row entries (is_present (rows_of (tables_after shape commits version) table) row)
+    → is_row_at (applied (tables_after shape commits version) entries) table row
+    ≡ is_there_after_fit shape table row entries (is_row_at (tables_after shape commits version) table row)
 there-seen shape commits version entries table row =
-    (Turns-applied shape (tables_after shape commits version) entries (tables-at shape commits version)).rows table row
+    (Turns-applied shape (tables_after shape commits version) entries (shape-at shape commits version)).rows table row
 
 -- entries that are defined fit, so what those that fit leave is what all leave
 pub is_there_after_fit-defined : (shape : Shape) (tables : Tables) (entries : List Entry) (table row : ℕ) (was : Bool)
-    → is_ok (changes_of shape tables entries) ≡ true
+    → shape_in tables ≡ shape → is_ok (changes_of tables entries) ≡ true
     → is_there_after_fit shape table row entries was ≡ is_there_after table row entries was
-is_there_after_fit-defined shape tables [] table row was h = refl
-is_there_after_fit-defined shape tables (entry ∷ entries) table row was h =
+is_there_after_fit-defined shape tables [] table row was same h = refl
+is_there_after_fit-defined shape tables (entry ∷ entries) table row was same h =
     let all = from_is_ok _ h in
-    let parts = and_then-parts _ (change_of shape tables entry) all.0 all.1 in
-    let first = change_of-parts shape tables parts.0 entry parts.1 in
-    ap (λ fits. is_there_after_fit shape table row entries (cond fits (is_there_after_one table row entry was) was)) first.0
-    ∙ is_there_after_fit-defined shape parts.0 entries table row (is_there_after_one table row entry was) (ap is_ok parts.2)
+    let parts = and_then-parts _ (change_of tables entry) all.0 all.1 in
+    let first = change_of-parts tables parts.0 entry parts.1 in
+    let fits : is_ok (fitting shape entry) ≡ true = ap (λ shape. is_ok (fitting shape entry)) (sym same) ∙ first.0 in
+    let turns = Turns-change tables parts.0 entry parts.1 in
+    ap (λ fits. is_there_after_fit shape table row entries (cond fits (is_there_after_one table row entry was) was)) fits
+    ∙ is_there_after_fit-defined shape parts.0 entries table row (is_there_after_one table row entry was) (turns.kinds ∙ same)
+    (ap is_ok parts.2)
 
 -- an entry is defined where it fits and its row stands as it needs it
-defined-change : (shape : Shape) (tables : Tables) (entry : Entry)
-    → is_ok (change_of shape tables entry) ≡ (is_ok (fitting shape entry) && stands tables entry)
-defined-change shape tables entry = ap is_ok (change_of-is shape tables entry) ∙ tested (is_ok (fitting shape entry)) (stands tables entry)
+defined-change : (tables : Tables) (entry : Entry) → is_ok (change_of tables entry) ≡ (is_fit tables entry && stands tables entry)
+defined-change tables entry = ap is_ok (change_of-is tables entry) ∙ tested (is_fit tables entry) (stands tables entry)
   where
-    tested : (fits right : Bool) → is_ok (change_where fits right (refusal_of entry) (made shape tables entry)) ≡ (fits && right)
+    tested : (fits right : Bool) → is_ok (change_where fits right (refusal_of entry) (made tables entry)) ≡ (fits && right)
     tested true true = refl
     tested true false = refl
     tested false right = refl
 
 -- an entry behind others that are defined is defined where it fits, and its row stands as it needs it after those
-defined-push : (shape : Shape) (tables : Tables) (before : List Entry) (entry : Entry) → length tables ≡ length shape
-    → is_ok (changes_of shape tables before) ≡ true
-    → is_ok (changes_of shape tables (before ++ entry ∷ []))
+defined-push : (shape : Shape) (tables : Tables) (before : List Entry) (entry : Entry) → shape_in tables ≡ shape
+    → is_ok (changes_of tables before) ≡ true
+    → is_ok (changes_of tables (before ++ entry ∷ []))
     ≡ (is_ok (fitting shape entry) && stands_for entry
     (is_there_after (table_of entry) (row_of entry) before (there tables (table_of entry) (row_of entry))))
 defined-push shape tables before entry same h =
     let middle = from_is_ok _ h in
-    let turns = Turns-changes shape tables middle.0 before same middle.1 in
-    ap is_ok (changes_of-append shape tables before (entry ∷ []))
-    ∙ ap (λ first. is_ok (and_then (λ after. changes_of shape after (entry ∷ [])) first)) middle.1
-    ∙ alone (change_of shape middle.0 entry)
-    ∙ defined-change shape middle.0 entry
+    let turns = Turns-changes tables middle.0 before middle.1 in
+    ap is_ok (changes_of-append tables before (entry ∷ []))
+    ∙ ap (λ first. is_ok (and_then (λ after. changes_of after (entry ∷ [])) first)) middle.1
+    ∙ alone (change_of middle.0 entry)
+    ∙ defined-change middle.0 entry
+    ∙ ap (λ shape. is_ok (fitting shape entry) && stands middle.0 entry) (turns.kinds ∙ same)
     ∙ ap (λ b. is_ok (fitting shape entry) && stands_for entry b) (turns.rows (table_of entry) (row_of entry))
   where
     alone : (first : Result Tables Refusal) → is_ok (and_then (λ after. Ok after) first) ≡ is_ok first
@@ -127,22 +128,20 @@ defined-push shape tables before entry same h =
 
 -- the same on the rows at a version
 pub defined_behind : (shape : Shape) (commits : List Commit) (version : ℕ) (before : List Entry) (entry : Entry)
-    → is_ok (changes_of shape (tables_after shape commits version) before) ≡ true
-    → is_ok (changes_of shape (tables_after shape commits version) (before ++ entry ∷ []))
+    → is_ok (changes_of (tables_after shape commits version) before) ≡ true
+    → is_ok (changes_of (tables_after shape commits version) (before ++ entry ∷ []))
     ≡ (is_ok (fitting shape entry)
     && stands_for entry (is_there_after (table_of entry) (row_of entry) before
-    (is_present (rows_of (tables_after shape commits version) (table_of entry)) (row_of entry))))
+    (is_row_at (tables_after shape commits version) (table_of entry) (row_of entry))))
 defined_behind shape commits version before entry h =
-    defined-push shape (tables_after shape commits version) before entry (tables-at shape commits version) h
+    defined-push shape (tables_after shape commits version) before entry (shape-at shape commits version) h
 
 -- the first of entries that are defined are defined too
-pub defined_before : (shape : Shape) (tables : Tables) (before entries : List Entry) → is_ok (changes_of shape tables before) ≡ false
-    → is_ok (changes_of shape tables (before ++ entries)) ≡ false
-defined_before shape tables before entries h =
-    ap is_ok (changes_of-append shape tables before entries) ∙ refused (changes_of shape tables before) h
+pub defined_before : (tables : Tables) (before entries : List Entry) → is_ok (changes_of tables before) ≡ false
+    → is_ok (changes_of tables (before ++ entries)) ≡ false
+defined_before tables before entries h = ap is_ok (changes_of-append tables before entries) ∙ refused (changes_of tables before) h
   where
-    refused : (first : Result Tables Refusal) → is_ok first ≡ false
-        → is_ok (and_then (λ after. changes_of shape after entries) first) ≡ false
+    refused : (first : Result Tables Refusal) → is_ok first ≡ false → is_ok (and_then (λ after. changes_of after entries) first) ≡ false
     refused (Ok after) h = cc
     refused (Err refusal) h = refl
 
@@ -163,19 +162,19 @@ SameRows-turns tables others tables' others' turned (entry ∷ entries) x y same
     )
 
 -- entries that are defined on one are defined on the other
-defined-elsewhere : (shape : Shape) (tables others after : Tables) (entries : List Entry) → length tables ≡ length shape
-    → length others ≡ length shape → SameRows tables others entries → changes_of shape tables entries ≡ Ok after
-    → is_ok (changes_of shape others entries) ≡ true
-defined-elsewhere shape tables others after [] x y same h = refl
-defined-elsewhere shape tables others after (entry ∷ entries) x y same h =
-    let parts = and_then-parts _ (change_of shape tables entry) after h in
-    let first = change_of-parts shape tables parts.0 entry parts.1 in
+defined-elsewhere : (tables others after : Tables) (entries : List Entry) → shape_in others ≡ shape_in tables
+    → SameRows tables others entries → changes_of tables entries ≡ Ok after → is_ok (changes_of others entries) ≡ true
+defined-elsewhere tables others after [] alike same h = refl
+defined-elsewhere tables others after (entry ∷ entries) alike same h =
+    let parts = and_then-parts _ (change_of tables entry) after h in
+    let first = change_of-parts tables parts.0 entry parts.1 in
+    let fits : is_fit others entry ≡ true = ap (λ shape. is_ok (fitting shape entry)) alike ∙ first.0 in
     let other =
-    from_is_ok (change_of shape others entry)
-    (defined-change shape others entry ∙ and_from _ _ first.0 (ap (stands_for entry) same.0 ∙ first.1)) in
-    let turns = Turns-change shape tables parts.0 entry x parts.1 in
-    let turns' = Turns-change shape others other.0 entry y other.1 in
-    rw other.1 (defined-elsewhere shape parts.0 other.0 after entries (turns.tables ∙ x) (turns'.tables ∙ y)
+    from_is_ok (change_of others entry)
+    (defined-change others entry ∙ and_from _ _ fits (ap (stands_for entry) same.0 ∙ first.1)) in
+    let turns = Turns-change tables parts.0 entry parts.1 in
+    let turns' = Turns-change others other.0 entry other.1 in
+    rw other.1 (defined-elsewhere parts.0 other.0 after entries (turns'.kinds ∙ alike ∙ sym turns.kinds)
     (SameRows-turns tables others parts.0 other.0 _ entries turns turns' same.1) parts.2)
 
 -- the later of two numbers of commits, each 0 where there is none
@@ -186,53 +185,15 @@ later-pushed : (a b n : ℕ) (t : Bool) → later_of a (cond t (n + 1) b) ≡ co
 later-pushed a b n true = grind (arith, nat_tests)
 later-pushed a b n false = refl
 
--- one more commit at the end: it is the last that touches, or the last before it is
-last_touching-push : (entries : List Entry) (before : ℕ) (commits : List Commit) (commit : Commit)
-    → last_touching entries before (commits ++ commit ∷ []) ≡ cond (touches entries commit) (before + length commits + 1)
-    (last_touching entries before commits)
-last_touching-push entries before [] commit = ap (λ n. cond (touches entries commit) (n + 1) 0) (sym (add-zero before))
-last_touching-push entries before (first ∷ commits) commit =
-    let number = cond (touches entries first) (before + 1) 0 in
-    let same : before + 1 + length commits ≡ before + suc (length commits) = omega arith in
-    ap (later_of number) (last_touching-push entries (before + 1) commits commit)
-    ∙ later-pushed number (last_touching entries (before + 1) commits) (before + 1 + length commits) (touches entries commit)
-    ∙ ap (λ n. cond (touches entries commit) (n + 1) (last_touching entries before (first ∷ commits))) same
-
--- a walk over the commits, one step on
-pub last_touching-more : (entries : List Entry) (commits : List Commit) (i : ℕ) (commit : Commit) → i < length commits
-    → commit ≡ get_or commits i commit
-    → last_touching entries 0 (take (i + 1) commits) ≡ cond (touches entries commit) (i + 1) (last_touching entries 0 (take i commits))
-last_touching-more entries commits i commit h e =
-    let same : 0 + length (take i commits) ≡ i = omega (arith, length-take-le i commits (omega arith)) in
-    ap (last_touching entries 0) (take_more commits i commit h ∙ ap (λ c. take i commits ++ c ∷ []) (sym e))
-    ∙ last_touching-push entries 0 (take i commits) commit
-    ∙ ap (λ n. cond (touches entries commit) (n + 1) (last_touching entries 0 (take i commits))) same
-
 later-above : (before last : ℕ) (t : Bool) → (last ≡ 0) ⊎ (before + 1 < last) → (later_of (cond t (before + 1) 0) last ≡ 0)
     ⊎ (before < later_of (cond t (before + 1) 0) last)
 later-above before last true (inl e) = inr (grind (arith, nat_tests))
 later-above before last false (inl e) = inl (grind (arith, nat_tests))
 later-above before last t (inr h) = inr (grind (arith, nat_tests))
 
--- the last that touches stands behind those before the list
-pub last_touching-above : (entries : List Entry) (before : ℕ) (commits : List Commit) → (last_touching entries before commits ≡ 0)
-    ⊎ (before < last_touching entries before commits)
-last_touching-above entries before [] = inl refl
-last_touching-above entries before (commit ∷ commits) =
-    later-above before (last_touching entries (before + 1) commits) (touches entries commit)
-    (last_touching-above entries (before + 1) commits)
-
 later-none : (before last : ℕ) (t : Bool) → later_of (cond t (before + 1) 0) last ≡ 0 → (t ≡ false) × (last ≡ 0)
 later-none before last true h = grind (arith, nat_tests)
 later-none before last false h = (refl, grind (arith, nat_tests))
-
--- where there is no last, none touches
-none_touches : (entries : List Entry) (before : ℕ) (commits : List Commit) → last_touching entries before commits ≡ 0
-    → list_any (touches entries) commits ≡ false
-none_touches entries before [] h = refl
-none_touches entries before (commit ∷ commits) h =
-    let parts = later-none before (last_touching entries (before + 1) commits) (touches entries commit) h in
-    or_from _ _ parts.0 (none_touches entries (before + 1) commits parts.1)
 
 later-le : (first last version : ℕ) → later_of first last ≤ version → last ≤ version
 later-le first last version h = grind (arith, nat_tests)
@@ -241,17 +202,53 @@ drop-nil : {X : Type 0} (n : ℕ) → drop {A = X} n [] ≡ []
 drop-nil zero = refl
 drop-nil (suc n) = refl
 
--- behind the last that touches, none does
-untouched : (entries : List Entry) (before count : ℕ) (commits : List Commit) → last_touching entries before commits ≤ before + count
-    → list_any (touches entries) (drop count commits) ≡ false
-untouched entries before count [] h = ap (list_any (touches entries)) (drop-nil count)
-untouched entries before zero (commit ∷ commits) h =
-    none_touches entries before (commit ∷ commits)
-    (elim (last_touching-above entries before (commit ∷ commits)) [ inl e ↦ e | inr above ↦ absurd (omega arith) ])
-untouched entries before (suc count) (commit ∷ commits) h =
-    let below : last_touching entries (before + 1) commits ≤ before + suc count =
-    later-le (cond (touches entries commit) (before + 1) 0) (last_touching entries (before + 1) commits) (before + suc count) h in
-    untouched entries (before + 1) count commits (omega arith)
+module _ (holds : Commit → Bool) where
+  -- one more commit at the end: it is the last of which it holds, or the last before it is
+  pub last_where-push : (before : ℕ) (commits : List Commit) (commit : Commit)
+      → last_where holds before (commits ++ commit ∷ []) ≡ cond (holds commit) (before + length commits + 1)
+      (last_where holds before commits)
+  last_where-push before [] commit = ap (λ n. cond (holds commit) (n + 1) 0) (sym (add-zero before))
+  last_where-push before (first ∷ commits) commit =
+      let number = cond (holds first) (before + 1) 0 in
+      let same : before + 1 + length commits ≡ before + suc (length commits) = omega arith in
+      ap (later_of number) (last_where-push (before + 1) commits commit)
+      ∙ later-pushed number (last_where holds (before + 1) commits) (before + 1 + length commits) (holds commit)
+      ∙ ap (λ n. cond (holds commit) (n + 1) (last_where holds before (first ∷ commits))) same
+
+  -- a walk over the commits, one step on
+  pub last_where-more : (commits : List Commit) (i : ℕ) (commit : Commit) → i < length commits → commit ≡ get_or commits i commit
+      → last_where holds 0 (take (i + 1) commits) ≡ cond (holds commit) (i + 1) (last_where holds 0 (take i commits))
+  last_where-more commits i commit h e =
+      let same : 0 + length (take i commits) ≡ i = omega (arith, length-take-le i commits (omega arith)) in
+      ap (last_where holds 0) (take_more commits i commit h ∙ ap (λ c. take i commits ++ c ∷ []) (sym e))
+      ∙ last_where-push 0 (take i commits) commit
+      ∙ ap (λ n. cond (holds commit) (n + 1) (last_where holds 0 (take i commits))) same
+
+  -- the last stands behind those before the list
+  pub last_where-above : (before : ℕ) (commits : List Commit) → (last_where holds before commits ≡ 0)
+      ⊎ (before < last_where holds before commits)
+  last_where-above before [] = inl refl
+  last_where-above before (commit ∷ commits) =
+      later-above before (last_where holds (before + 1) commits) (holds commit) (last_where-above (before + 1) commits)
+
+  -- where there is no last, it holds of none
+  pub last_where-none : (before : ℕ) (commits : List Commit) → last_where holds before commits ≡ 0 → list_any holds commits ≡ false
+  last_where-none before [] h = refl
+  last_where-none before (commit ∷ commits) h =
+      let parts = later-none before (last_where holds (before + 1) commits) (holds commit) h in
+      or_from _ _ parts.0 (last_where-none (before + 1) commits parts.1)
+
+  -- behind the last, it holds of none
+  pub last_where-behind : (before count : ℕ) (commits : List Commit) → last_where holds before commits ≤ before + count
+      → list_any holds (drop count commits) ≡ false
+  last_where-behind before count [] h = ap (list_any holds) (drop-nil count)
+  last_where-behind before zero (commit ∷ commits) h =
+      last_where-none before (commit ∷ commits)
+      (elim (last_where-above before (commit ∷ commits)) [ inl e ↦ e | inr above ↦ absurd (omega arith) ])
+  last_where-behind before (suc count) (commit ∷ commits) h =
+      let below : last_where holds (before + 1) commits ≤ before + suc count =
+      later-le (cond (holds commit) (before + 1) 0) (last_where holds (before + 1) commits) (before + suc count) h in
+      last_where-behind (before + 1) count commits (omega arith)
 
 -- commits that touch none of these entries' rows write none of them
 touches-split : (entry : Entry) (entries : List Entry) (commits : List Commit) → list_any (touches (entry ∷ entries)) commits ≡ false
@@ -276,32 +273,48 @@ SameRows-untouched tables others (entry ∷ entries) commits turns h =
     )
 
 -- at the newest version all commits have been taken
-newest : (shape : Shape) (commits : List Commit) (after : Tables) → commits_of shape (opening shape) commits ≡ Ok after
+newest : (shape : Shape) (commits : List Commit) (after : Tables) → commits_of (opening shape) commits ≡ Ok after
     → tables_after shape commits (length commits) ≡ after
 newest shape commits after h = rw (take_all (length commits) commits (omega arith), h)
 
 -- entries that are defined at a version, and of rows that no later commit touches, are defined at the newest
 pub still_defined : (shape : Shape) (commits : List Commit) (version : ℕ) (entries : List Entry)
-    → is_ok (commits_of shape (opening shape) commits) ≡ true → last_touching entries 0 commits ≤ version
-    → is_ok (changes_of shape (tables_after shape commits version) entries) ≡ true
-    → is_ok (changes_of shape (tables_after shape commits (length commits)) entries) ≡ true
+    → is_ok (commits_of (opening shape) commits) ≡ true → last_touching entries 0 commits ≤ version
+    → is_ok (changes_of (tables_after shape commits version) entries) ≡ true
+    → is_ok (changes_of (tables_after shape commits (length commits)) entries) ≡ true
 still_defined shape commits version entries legal last defined =
     let all = from_is_ok _ legal in
     let split = commits_of-split shape commits version all.0 all.1 in
-    let same = tables-at shape commits version in
-    let turns = Turns-commits shape (tables_after shape commits version) all.0 (drop version commits) same split.1 in
+    let turns = Turns-commits (tables_after shape commits version) all.0 (drop version commits) split.1 in
     let rows =
     SameRows-untouched (tables_after shape commits version) all.0 entries (drop version commits) turns
-    (untouched entries 0 version commits (omega arith)) in
+    (last_where-behind (touches entries) 0 version commits (omega arith)) in
     let made = from_is_ok _ defined in
     rw (newest shape commits all.0 all.1)
-    (defined-elsewhere shape (tables_after shape commits version) all.0 made.0 entries same (turns.tables ∙ same) rows made.1)
+    (defined-elsewhere (tables_after shape commits version) all.0 made.0 entries turns.kinds rows made.1)
 
 -- a commit that is defined at the newest version goes behind the others
-pub commits_of-push : (shape : Shape) (commits : List Commit) (commit : Commit) → is_ok (commits_of shape (opening shape) commits) ≡ true
-    → is_ok (changes_of shape (tables_after shape commits (length commits)) commit.entries) ≡ true
-    → is_ok (commits_of shape (opening shape) (commits ++ commit ∷ [])) ≡ true
+pub commits_of-push : (shape : Shape) (commits : List Commit) (commit : Commit) → is_ok (commits_of (opening shape) commits) ≡ true
+    → is_ok (changes_of (tables_after shape commits (length commits)) commit.entries) ≡ true
+    → is_ok (commits_of (opening shape) (commits ++ commit ∷ [])) ≡ true
 commits_of-push shape commits commit legal defined =
     let all = from_is_ok _ legal in
-    let made = from_is_ok (changes_of shape all.0 commit.entries) (rw (newest shape commits all.0 all.1) at defined) in
-    rw (commits_of-append shape (opening shape) commits (commit ∷ []), all.1, made.1)
+    let made = from_is_ok (changes_of all.0 commit.entries) (rw (newest shape commits all.0 all.1) at defined) in
+    rw (commits_of-append (opening shape) commits (commit ∷ []), all.1, made.1)
+
+-- entries and commits leave the kinds of each table's columns
+pub entry-kinds : EntryKeepsKinds
+entry-kinds tables after entry h = (Turns-change tables after entry h).kinds
+
+pub entries-kinds : EntriesKeepKinds
+entries-kinds tables after entries h = (Turns-changes tables after entries h).kinds
+
+pub applied-kinds : AppliedKeepKinds
+applied-kinds tables entries = (Turns-applied (shape_in tables) tables entries refl).kinds
+
+pub commits-kinds : CommitsKeepKinds
+commits-kinds tables after commits h = (Turns-commits tables after commits h).kinds
+
+-- two entries are of one row in either order
+pub overlaps-symmetric : IsSymmetric
+overlaps-symmetric entry other = grind (arith, nat_tests)

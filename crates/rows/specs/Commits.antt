@@ -9,9 +9,9 @@ use Rattle.rows.specs.Entries.{table_of, row_of}
 use Rattle.rows.specs.Tables.{Tables, Refusal, opening, changes_of, and_then}
 
 -- the tables after all entries of these commits, in order, or the first refusal
-abbrev pub commits_of : Shape → Tables → List Commit → Result Tables Refusal
-commits_of shape tables [] = Ok tables
-commits_of shape tables (commit ∷ commits) = and_then (λ after. commits_of shape after commits) (changes_of shape tables commit.entries)
+abbrev pub commits_of : Tables → List Commit → Result Tables Refusal
+commits_of tables [] = Ok tables
+commits_of tables (commit ∷ commits) = and_then (λ after. commits_of after commits) (changes_of tables commit.entries)
 
 -- a commit's worker is there, and it has 1 to 4096 entries
 pub record IsCommit (workers : ℕ) (commit : Commit) : Type 0 where
@@ -22,11 +22,11 @@ pub record IsCommit (workers : ℕ) (commit : Commit) : Type 0 where
 -- a list of commits that a primary may have: each is a commit, and each entry is defined in its place
 pub record IsLegal (shape : Shape) (workers : ℕ) (commits : List Commit) : Type 0 where
   pub each : AllByRecursion (IsCommit workers) commits
-  pub defined : IsOk (commits_of shape (opening shape) commits)
+  pub defined : IsOk (commits_of (opening shape) commits)
 
 -- the tables after the first `version` commits of a legal list
 abbrev pub tables_after : Shape → List Commit → ℕ → Tables
-tables_after shape commits version = or_opening (commits_of shape (opening shape) (take version commits))
+tables_after shape commits version = or_opening (commits_of (opening shape) (take version commits))
   where
     -- a list that is not legal has no tables; this says nothing of it
     or_opening : Result Tables Refusal → Tables
@@ -37,20 +37,24 @@ tables_after shape commits version = or_opening (commits_of shape (opening shape
 abbrev pub is_of : ℕ → ℕ → Entry → Bool
 is_of table row entry = (table_of entry == table) && (row_of entry == row)
 
--- whether an entry of the list is of the same row as this one
-abbrev pub names_row_of : Entry → List Entry → Bool
-names_row_of entry entries = list_any (is_of (table_of entry) (row_of entry)) entries
+-- whether two entries conflict: they are of the same row of the same table
+abbrev pub overlaps : Entry → Entry → Bool
+overlaps entry other = is_of (table_of entry) (row_of entry) other
 
--- whether some entry of the commit is of a row that one of these entries is of
+-- whether some entry of the commit overlaps with one of these
 abbrev pub touches : List Entry → Commit → Bool
-touches entries commit = list_any (λ entry. names_row_of entry commit.entries) entries
+touches entries commit = list_any (λ entry. list_any (overlaps entry) commit.entries) entries
 
--- the greatest number of a commit that touches a row of these entries, the first commit of the
--- list being the next after `before`; 0 where none does
-abbrev pub last_touching : List Entry → ℕ → List Commit → ℕ
-last_touching entries before [] = 0
-last_touching entries before (commit ∷ commits) =
-    later (last_touching entries (before + 1) commits)
+-- the greatest number of a commit of which something holds, the first commit of the list being the
+-- next after `before`; 0 where it holds of none
+abbrev pub last_where : (Commit → Bool) → ℕ → List Commit → ℕ
+last_where holds before [] = 0
+last_where holds before (commit ∷ commits) =
+    later (last_where holds (before + 1) commits)
   where
     later : ℕ → ℕ
-    later last = if last == 0 then (if touches entries commit then before + 1 else 0) else last
+    later last = if last == 0 then (if holds commit then before + 1 else 0) else last
+
+-- the greatest number of a commit that touches a row of these entries, counted so
+abbrev pub last_touching : List Entry → ℕ → List Commit → ℕ
+last_touching entries before commits = last_where (touches entries) before commits

@@ -1,4 +1,5 @@
 pub mod Limits
+pub mod Faults
 pub mod Shape
 pub mod SchemaFaults
 pub mod Padded
@@ -6,6 +7,8 @@ pub mod Values
 pub mod Entries
 pub mod Tables
 pub mod Commits
+pub mod Keys
+pub mod Laws
 pub mod Presence
 pub mod RowAfter
 pub mod Spelling

@@ -1,11 +1,13 @@
 -- Reading an entry from the front of bytes.
-use Rattle.std.specs.Prelude.{ℕ, ◌+◌, List, length, take, drop, Option, None, Some, slice_index, nat_lt, ◌==◌, ◌||◌, not, if◌then◌else◌}
+use Rattle.std.specs.Prelude.{◌≡◌, ℕ, ◌+◌, List, ◌++◌, length, take, drop, Option, None, Some, slice_index, nat_lt}
+use Rattle.std.specs.Prelude.{◌==◌, ◌||◌, not, if◌then◌else◌}
 use Rattle.byteorder.specs.Endian.{big_number}
 use Rattle.rows.specs.declared.entry.Entry.{Entry}
 use Rattle.rows.specs.declared.entry.Entry.TheVariants.{Insert, Patch, Delete}
 use Rattle.rows.specs.declared.entry_ref.EntryRef.{EntryRef}
 use Rattle.rows.specs.declared.entry_ref.EntryRef.TheVariants as lent
 use Rattle.rows.specs.Limits.{tables_max, row_width_max, octets_max}
+use Rattle.rows.specs.Spelling.{HasSpelling, entry_spelling}
 
 -- the entry that is lent
 abbrev pub entry_of : EntryRef → Entry
@@ -16,6 +18,12 @@ entry_of (lent.Delete table row) = Delete table row
 -- what `read_entry` found: the entry, and how many bytes it takes
 abbrev pub seen : EntryRef × ℕ → Entry × ℕ
 seen found = (entry_of found.0, found.1)
+
+-- the bytes begin with the spelling of an entry, which takes so many of them
+pub record IsSpelledAt (bytes : List ℕ) (found : Entry × ℕ) : Type 0 where
+  pub spelled : HasSpelling found.0
+  pub size : found.1 ≡ length (entry_spelling found.0)
+  pub front : bytes ≡ entry_spelling found.0 ++ drop found.1 bytes
 
 -- an insert behind its row: the size in two bytes, and the data
 abbrev pub insert_at : ℕ → ℕ → List ℕ → Option (Entry × ℕ)

@@ -6,10 +6,10 @@ use Rattle.rows.specs.declared.entry.Entry.{Entry}
 use Rattle.rows.specs.declared.entry.Entry.TheVariants.{Insert, Patch, Delete}
 use Rattle.rows.specs.declared.kind.Kind.{Kind}
 use Rattle.rows.specs.declared.value.Value.{Value}
-use Rattle.rows.specs.Shape.{Shape}
+use Rattle.rows.specs.Shape.{Shape, kinds_in}
 use Rattle.rows.specs.Values.{values_of}
 use Rattle.rows.specs.Entries.{fitting}
-use Rattle.rows.specs.Tables.{kinds_of, patched_row}
+use Rattle.rows.specs.Tables.{patched_row}
 use Rattle.rows.specs.Commits.{is_of}
 
 -- the values that an insert leaves: its own, where the row was not there
@@ -25,7 +25,7 @@ row_after_one kinds (Delete table row) was = None
 
 -- what an entry makes of the values of this row: one of another row leaves them
 abbrev pub row_after_entry : Shape → ℕ → ℕ → Entry → Option (List Value) → Option (List Value)
-row_after_entry shape table row entry was = if is_of table row entry then row_after_one (kinds_of shape table) entry was else was
+row_after_entry shape table row entry was = if is_of table row entry then row_after_one (kinds_in shape table) entry was else was
 
 -- a row's values after entries that are defined one after the other
 abbrev pub row_after : Shape → ℕ → ℕ → List Entry → Option (List Value) → Option (List Value)

@@ -1,10 +1,10 @@
 -- The tables of a database, and what one entry or many make of them.
 --
--- A table is the list of its rows in rising identifier, each with its values: equal tables are
--- equal lists. An entry that fits and finds what it needs changes one row, and any other is
--- refused.
+-- A table has the kinds of its columns, and the list of its rows in rising identifier, each with
+-- its values: tables of the same kinds and rows are equal. An entry that fits and finds what it
+-- needs changes one row, and any other is refused.
 use Rattle.std.specs.Prelude.{ℕ, List, [], ◌∷◌, map, length, Bool, Option, None, Some, Result, Ok, Err, ◌==◌, not, if◌then◌else◌, slice_get}
-use Rattle.std.specs.Prelude.{slice_set, is_some, is_ok}
+use Rattle.std.specs.Prelude.{◌≡◌, true, slice_set, is_some, is_ok, IfSome}
 use Rattle.std.specs.List.{filter}
 use Rattle.std.specs.Result.{result_unwrap_or}
 use Rattle.std.specs.Ordering.{nat_cmp}
@@ -14,13 +14,18 @@ use Rattle.rows.specs.declared.entry.Entry.{Entry}
 use Rattle.rows.specs.declared.entry.Entry.TheVariants.{Insert, Patch, Delete}
 use Rattle.rows.specs.declared.kind.Kind.{Kind}
 use Rattle.rows.specs.declared.value.Value.{Value}
-use Rattle.rows.specs.Shape.{Shape, column_at}
-use Rattle.rows.specs.Values.{value_of, values_of}
+use Rattle.rows.specs.Shape.{Shape, kinds_in, column_at}
+use Rattle.rows.specs.Values.{value_of, values_of, are_of_kinds}
 use Rattle.rows.specs.Entries.{fitting}
 
--- one table: its rows in rising identifier
-abbrev pub Table : Type 0
-Table = List (ℕ × List Value)
+-- a table's rows in rising identifier, each with its values
+abbrev pub Rows : Type 0
+Rows = List (ℕ × List Value)
+
+-- one table: the kinds of its columns, and its rows
+pub record Table : Type 0 where
+  pub kinds : List Kind
+  pub rows : Rows
 
 -- all tables, by number
 abbrev pub Tables : Type 0
@@ -28,34 +33,43 @@ Tables = List Table
 
 -- a database before its first commit: each table is empty
 abbrev pub opening : Shape → Tables
-opening shape = map (λ kinds. []) shape
+opening shape = map (λ kinds. record { kinds = kinds; rows = [] }) shape
 
--- the rows of a table; none where there is no table of that number
-abbrev pub rows_of : Tables → ℕ → Table
-rows_of tables table = or_none (slice_get tables table)
-  where
-    or_none : Option Table → Table
-    or_none None = []
-    or_none (Some rows) = rows
+-- the kinds of each table's columns
+abbrev pub shape_in : Tables → Shape
+shape_in tables = map (λ table. table.kinds) tables
 
 -- the kinds of a table's columns; none where there is no table of that number
-abbrev pub kinds_of : Shape → ℕ → List Kind
-kinds_of shape table = or_none (slice_get shape table)
+abbrev pub kinds_of : Tables → ℕ → List Kind
+kinds_of tables table = kinds_in (shape_in tables) table
+
+-- the rows of a table; none where there is no table of that number
+abbrev pub rows_of : Tables → ℕ → Rows
+rows_of tables table = or_none (slice_get tables table)
   where
-    or_none : Option (List Kind) → List Kind
+    or_none : Option Table → Rows
     or_none None = []
-    or_none (Some kinds) = kinds
+    or_none (Some found) = found.rows
 
 -- the values of a row, where it is there
-abbrev pub row_at : Table → ℕ → Option (List Value)
+abbrev pub row_at : Rows → ℕ → Option (List Value)
 row_at rows row = lookup (is_at (nat_cmp row)) rows
 
--- whether the table has a row of that identifier
-abbrev pub is_present : Table → ℕ → Bool
+-- whether these rows have one of that identifier
+abbrev pub is_present : Rows → ℕ → Bool
 is_present rows row = is_some (row_at rows row)
 
--- the table with this row put in
-abbrev pub with_row : Table → ℕ → List Value → Table
+-- whether the row of that table is there
+abbrev pub is_row_at : Tables → ℕ → ℕ → Bool
+is_row_at tables table row = is_present (rows_of tables table) row
+
+-- each row has a value for each of its table's columns, of the column's kind
+abbrev pub RowsAreOfKinds : Tables → Type 0
+RowsAreOfKinds tables =
+    (table row : ℕ) → IfSome (row_at (rows_of tables table) row) (λ values. are_of_kinds values (kinds_of tables table) ≡ true)
+
+-- these rows, with one more put in
+abbrev pub with_row : Rows → ℕ → List Value → Rows
 with_row rows row values = insert_entry nat_cmp rows row values
 
 -- a row's values with these bytes at one column's place
@@ -66,16 +80,16 @@ patched_row kinds offset bytes values = put (column_at kinds offset (length byte
     put None = values
     put (Some column) = slice_set values column.0 (value_of column.1 bytes)
 
--- the table with these bytes at one column's place of that row
-abbrev pub with_patch : List Kind → Table → ℕ → ℕ → List ℕ → Table
+-- these rows, with these bytes at one column's place of one of them
+abbrev pub with_patch : List Kind → Rows → ℕ → ℕ → List ℕ → Rows
 with_patch kinds rows row offset bytes = put (row_at rows row)
   where
-    put : Option (List Value) → Table
+    put : Option (List Value) → Rows
     put None = rows
     put (Some values) = set_value (is_at (nat_cmp row)) rows (patched_row kinds offset bytes values)
 
--- the table without that row
-abbrev pub without_row : Table → ℕ → Table
+-- these rows without one of them
+abbrev pub without_row : Rows → ℕ → Rows
 without_row rows row = filter (λ entry. not (entry.0 == row)) rows
 
 -- why a change is refused
@@ -87,34 +101,40 @@ pub data Refusal : Type 0 where
   -- it changes a row that is not there
   Missing : Refusal
 
+-- the tables with these rows in one of them
+abbrev pub with_rows : Tables → ℕ → Rows → Tables
+with_rows tables table rows = slice_set tables table (record { kinds = kinds_of tables table; rows = rows })
+
 -- the tables with this row put in
-abbrev pub inserted : Shape → Tables → ℕ → ℕ → List ℕ → Tables
-inserted shape tables table row bytes =
-    slice_set tables table (with_row (rows_of tables table) row (values_of (kinds_of shape table) bytes))
+abbrev pub inserted : Tables → ℕ → ℕ → List ℕ → Tables
+inserted tables table row bytes = with_rows tables table (with_row (rows_of tables table) row (values_of (kinds_of tables table) bytes))
 
 -- the tables with these bytes at one column's place of that row
-abbrev pub patched : Shape → Tables → ℕ → ℕ → ℕ → List ℕ → Tables
-patched shape tables table row offset bytes =
-    slice_set tables table (with_patch (kinds_of shape table) (rows_of tables table) row offset bytes)
+abbrev pub patched : Tables → ℕ → ℕ → ℕ → List ℕ → Tables
+patched tables table row offset bytes =
+    with_rows tables table (with_patch (kinds_of tables table) (rows_of tables table) row offset bytes)
 
 -- the tables without that row
 abbrev pub deleted : Tables → ℕ → ℕ → Tables
-deleted tables table row = slice_set tables table (without_row (rows_of tables table) row)
+deleted tables table row = with_rows tables table (without_row (rows_of tables table) row)
+
+-- whether an entry fits in its place: its table is there, and its data has the places of that table's columns
+abbrev pub is_fit : Tables → Entry → Bool
+is_fit tables entry = is_ok (fitting (shape_in tables) entry)
 
 -- a change of an entry that fits or not, whose row stands as the entry needs it or not
 abbrev pub change_where : Bool → Bool → Refusal → Tables → Result Tables Refusal
 change_where fits stands refusal after = if fits then (if stands then Ok after else Err refusal) else Err Unfit
 
 -- the tables after one entry, or why it is refused
-abbrev pub change_of : Shape → Tables → Entry → Result Tables Refusal
-change_of shape tables (Insert table row bytes) =
-    change_where (is_ok (fitting shape (Insert table row bytes))) (not (is_present (rows_of tables table) row.0)) Exists
-    (inserted shape tables table row.0 bytes)
-change_of shape tables (Patch table row offset bytes) =
-    change_where (is_ok (fitting shape (Patch table row offset bytes))) (is_present (rows_of tables table) row.0) Missing
-    (patched shape tables table row.0 offset bytes)
-change_of shape tables (Delete table row) =
-    change_where (is_ok (fitting shape (Delete table row))) (is_present (rows_of tables table) row.0) Missing (deleted tables table row.0)
+abbrev pub change_of : Tables → Entry → Result Tables Refusal
+change_of tables (Insert table row bytes) =
+    change_where (is_fit tables (Insert table row bytes)) (not (is_row_at tables table row.0)) Exists (inserted tables table row.0 bytes)
+change_of tables (Patch table row offset bytes) =
+    change_where (is_fit tables (Patch table row offset bytes)) (is_row_at tables table row.0) Missing
+    (patched tables table row.0 offset bytes)
+change_of tables (Delete table row) =
+    change_where (is_fit tables (Delete table row)) (is_row_at tables table row.0) Missing (deleted tables table row.0)
 
 -- what comes after a change, where it is not refused
 abbrev pub and_then : (Tables → Result Tables Refusal) → Result Tables Refusal → Result Tables Refusal
@@ -122,11 +142,11 @@ and_then next (Ok tables) = next tables
 and_then next (Err refusal) = Err refusal
 
 -- the tables after a list of entries, one after the other, or the first refusal
-abbrev pub changes_of : Shape → Tables → List Entry → Result Tables Refusal
-changes_of shape tables [] = Ok tables
-changes_of shape tables (entry ∷ entries) = and_then (λ after. changes_of shape after entries) (change_of shape tables entry)
+abbrev pub changes_of : Tables → List Entry → Result Tables Refusal
+changes_of tables [] = Ok tables
+changes_of tables (entry ∷ entries) = and_then (λ after. changes_of after entries) (change_of tables entry)
 
 -- the tables after a list of entries, where one that is refused changes nothing
-abbrev pub applied : Shape → Tables → List Entry → Tables
-applied shape tables [] = tables
-applied shape tables (entry ∷ entries) = applied shape (result_unwrap_or (change_of shape tables entry) tables) entries
+abbrev pub applied : Tables → List Entry → Tables
+applied tables [] = tables
+applied tables (entry ∷ entries) = applied (result_unwrap_or (change_of tables entry) tables) entries

@@ -1,5 +1,5 @@
--- A row's two forms: the values of its columns, and their bytes in order.
-use Rattle.std.specs.Prelude.{ℕ, List, [], ◌∷◌, take, drop}
+-- A row's two forms: the values of its columns, and their bytes in order; and which values are of which kinds.
+use Rattle.std.specs.Prelude.{ℕ, List, [], ◌∷◌, take, drop, length, Bool, true, false, ◌==◌, ◌&&◌}
 use Rattle.std.specs.List.{flat_map}
 use Rattle.std.specs.Int.{w64, cast_signed, cast_unsigned}
 use Rattle.byteorder.specs.Endian.{big_bytes, big_number}
@@ -27,3 +27,17 @@ value_of (kinds.Octets width) bytes = Octets (take width bytes)
 abbrev pub values_of : List Kind → List ℕ → List Value
 values_of [] bytes = []
 values_of (kind ∷ kinds) bytes = value_of kind bytes ∷ values_of kinds (drop (width_of kind) bytes)
+
+-- whether a value is of that kind: octets are as many as their column is wide
+abbrev pub is_of_kind : Value → Kind → Bool
+is_of_kind (Int number) kinds.Int = true
+is_of_kind (Int number) (kinds.Octets width) = false
+is_of_kind (Octets bytes) kinds.Int = false
+is_of_kind (Octets bytes) (kinds.Octets width) = length bytes == width
+
+-- whether these are the values of columns of these kinds, one each
+abbrev pub are_of_kinds : List Value → List Kind → Bool
+are_of_kinds [] [] = true
+are_of_kinds [] (kind ∷ kinds) = false
+are_of_kinds (value ∷ values) [] = false
+are_of_kinds (value ∷ values) (kind ∷ kinds) = is_of_kind value kind && are_of_kinds values kinds

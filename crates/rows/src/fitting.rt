@@ -4,8 +4,10 @@ ghost use Rattle.std.specs.Prelude.{◌≡◌, OnOk, slice_get, length};
 ghost use Rattle.rows.specs.Shape.{shape_of};
 ghost use Rattle.rows.specs.Spelling.{HasSpelling, IsInsert, IsPatch, IsDelete};
 ghost use Rattle.rows.specs.Entries.{fitting, sized, placed, listed};
+ghost use Rattle.rows.specs.Reading.{entry_of};
 
 use crate::entry::Entry;
+use crate::entry_ref::EntryRef;
 use crate::row_id::RowId;
 use crate::schema::{Schema, column_at, width_of_row};
 use thiserror::Error;
@@ -40,6 +42,22 @@ pub fn fits(schema: &Schema, entry: &Entry) -> Result<(), EntryFault>
             bytes,
         } => patch_fits(schema, *table, *row, *offset, bytes.as_slice()),
         Entry::Delete { table, row } => delete_fits(schema, *table, *row),
+    }
+}
+
+/// Whether a lent entry fits the schema, just as `fits` says it of an entry. Takes no memory.
+pub fn fits_lent(schema: &Schema, lent: EntryRef<'_>) -> Result<(), EntryFault>
+    ensures { result ≡ fitting (shape_of schema.now) (entry_of lent.entry) }
+{
+    match lent {
+        EntryRef::Insert { table, row, bytes } => insert_fits(schema, table, row, bytes),
+        EntryRef::Patch {
+            table,
+            row,
+            offset,
+            bytes,
+        } => patch_fits(schema, table, row, offset, bytes),
+        EntryRef::Delete { table, row } => delete_fits(schema, table, row),
     }
 }
 

@@ -1,8 +1,10 @@
 //! Reading an entry from the front of bytes.
 
-ghost use Rattle.std.specs.Prelude.{◌≡◌};
+ghost use Rattle.std.specs.Prelude.{◌≡◌, ℕ, List, ◌++◌, length, Some, IfSome};
 ghost use Rattle.std.specs.Option.{option_map};
-ghost use Rattle.rows.specs.Reading.{entry_at, insert_at, patch_at, seen};
+ghost use Rattle.rows.specs.declared.entry.Entry.{Entry};
+ghost use Rattle.rows.specs.Reading.{entry_at, insert_at, patch_at, seen, IsSpelledAt};
+ghost use Rattle.rows.specs.Spelling.{HasSpelling, entry_spelling};
 
 use crate::entry_ref::EntryRef;
 use crate::limits::{OCTETS_MAX, ROW_WIDTH_MAX, TABLES_MAX};
@@ -12,6 +14,18 @@ use byteorder::{BigEndian, ByteOrder};
 /// The entry that stands at the front of the bytes, its data lent, and how many bytes it takes;
 /// `None` exactly where none is spelled there. Takes no memory.
 pub fn read_entry(bytes: &[u8]) -> Option<(EntryRef<'_>, usize)>
+    ensures exact { option_map seen result ≡ entry_at bytes.now }
+
+    // What is found is spelled so, and what is spelled so is found.
+    ensures spelled { IfSome result (λ found. IsSpelledAt bytes.now (seen found)) }
+    ensures only { (entry : Entry) (rest : List ℕ) → HasSpelling entry → bytes.now ≡ entry_spelling entry ++ rest
+        → option_map seen result ≡ Some (entry, length (entry_spelling entry)) }
+{
+    front_entry(bytes)
+}
+
+/// The entry at the front of the bytes, test by test.
+fn front_entry(bytes: &[u8]) -> Option<(EntryRef<'_>, usize)>
     ensures { option_map seen result ≡ entry_at bytes.now }
 {
     if bytes.len() < 10 {

@@ -4,7 +4,8 @@ ghost use Rattle.std.specs.Prelude.{◌≡◌, ◌∷◌, [], ◌++◌, length, 
 ghost use Rattle.std.specs.Bool.{OnTrue};
 ghost use Rattle.rows.specs.Entries.{table_of, row_of};
 ghost use Rattle.rows.specs.Presence.{is_there_after};
-ghost use Rattle.mvcc.specs.History.{defined_at, is_row_there};
+ghost use Rattle.rows.specs.Tables.{is_row_at};
+ghost use Rattle.mvcc.specs.History.{tables_at, defined_at};
 
 use mvcc::Versions;
 use rows::{
@@ -167,7 +168,7 @@ fn is_defined(versions: &Versions, before: &[Entry], entry: &Entry) -> bool
 /// Whether the row of the entry is there after these entries, on the newest rows.
 fn is_row_there_after(versions: &Versions, before: &[Entry], entry: &Entry) -> bool
     ensures { result ≡ is_there_after (table_of entry.now) (row_of entry.now) before.now
-        (is_row_there versions.now (length versions.now.commits) entry.now) }
+        (is_row_at (tables_at versions.now (length versions.now.commits)) (table_of entry.now) (row_of entry.now)) }
 {
     let table = entry.table();
     let row = entry.row();

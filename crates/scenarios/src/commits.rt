@@ -3,164 +3,179 @@
 
 ghost use Rattle.std.specs.Prelude.{◌≡◌};
 
-use crate::primary_steps::{Answer, Change, Step, run, transaction, with_row};
+use crate::primary_steps::{Answer, Change, Line, Step, other_answer, transaction, with_row};
 use mvcc::Transaction;
 use primary::{CommitFault, FlushFault, PrimaryCore};
 use std::alloc::Global;
 use std::test::Fail;
 
 /// Row 7 is put in and made durable, as commit 1.
-const INSERT_7: Step = Step::Commit(0, 0, &[Change::Insert(7)]);
+const INSERT_7: Line = (
+    Step::Commit(0, 0, &[Change::Insert(7)]),
+    Answer::Ticket(1, 0, 1),
+    0,
+    1,
+);
 
-const FLUSH: Step = Step::Flush(usize::MAX);
+const FLUSH: Line = (Step::Flush(usize::MAX), Answer::Durable(1), 1, 0);
 
 /// A transaction of another primary, where row 9 is durable as commit 1, on version 1.
 const FOREIGN: Answer = Answer::Refused(CommitFault::Foreign, 1, 1);
 
 const FOREIGN_OF_TWO: Answer = Answer::Refused(CommitFault::Foreign, 1, 2);
 
-/// What is expected once row 7 is durable as commit 1.
-const TICKET_1: (Answer, u64, usize) = (Answer::Ticket(1, 0, 1), 0, 1);
-
-const DURABLE_1: (Answer, u64, usize) = (Answer::Durable(1), 1, 0);
-
-#[test]
-fn a_commit_is_refused(rt: HostRuntime) -> Result<(), Fail> {
-    let steps = [
-        INSERT_7,
+/// A commit is refused that conflicts, and one that changes nothing.
+const REFUSED: [Line; 3] = [
+    INSERT_7,
+    (
         Step::Commit(0, 0, &[Change::Insert(8), Change::Insert(7)]),
+        Answer::Refused(CommitFault::Conflict(1), 0, 2),
+        0,
+        1,
+    ),
+    (
         Step::Commit(0, 0, &[]),
-    ];
-    let expected = [
-        TICKET_1,
-        (Answer::Refused(CommitFault::Conflict(1), 0, 2), 0, 1),
-        (Answer::Refused(CommitFault::ReadOnly, 0, 0), 0, 1),
-    ];
-    let told = run(rt.alloc(), 1, &steps)?;
-    assert_eq!(rt; told.answers.as_slice(), expected.as_slice());
-    Ok(())
-}
+        Answer::Refused(CommitFault::ReadOnly, 0, 0),
+        0,
+        1,
+    ),
+];
 
-#[test]
-fn a_version_that_is_not_durable_is_foreign(rt: HostRuntime) -> Result<(), Fail> {
-    let steps = [Step::CommitOf(7, &[Change::Insert(8)])];
-    let told = run(rt.alloc(), 1, &steps)?;
-    assert_eq!(rt; told.answers.as_slice(), [(FOREIGN, 0, 0)].as_slice());
-    Ok(())
-}
+/// A version that is not durable is foreign.
+const NO_VERSION: [Line; 1] = [(Step::CommitOf(7, &[Change::Insert(8)]), FOREIGN, 0, 0)];
 
 /// Where row 7 is there, an insert of it is foreign, and so is one with a delete behind it.
-#[test]
-fn a_row_that_is_there_is_foreign(rt: HostRuntime) -> Result<(), Fail> {
-    let steps = [
-        INSERT_7,
-        FLUSH,
-        Step::CommitOf(9, &[Change::Insert(7)]),
+const ROW_THERE: [Line; 4] = [
+    INSERT_7,
+    FLUSH,
+    (Step::CommitOf(9, &[Change::Insert(7)]), FOREIGN, 1, 0),
+    (
         Step::CommitOf(9, &[Change::Insert(7), Change::Delete(7)]),
-    ];
-    let expected = [TICKET_1, DURABLE_1, (FOREIGN, 1, 0), (FOREIGN_OF_TWO, 1, 0)];
-    let told = run(rt.alloc(), 1, &steps)?;
-    assert_eq!(rt; told.answers.as_slice(), expected.as_slice());
-    Ok(())
-}
+        FOREIGN_OF_TWO,
+        1,
+        0,
+    ),
+];
 
 /// Where row 9 is not there, what sets it, deletes it or replaces it is foreign.
-#[test]
-fn a_row_that_is_absent_is_foreign(rt: HostRuntime) -> Result<(), Fail> {
-    let steps = [
-        INSERT_7,
-        FLUSH,
-        Step::CommitOf(9, &[Change::Set(9)]),
-        Step::CommitOf(9, &[Change::Delete(9)]),
+const ROW_ABSENT: [Line; 5] = [
+    INSERT_7,
+    FLUSH,
+    (Step::CommitOf(9, &[Change::Set(9)]), FOREIGN, 1, 0),
+    (Step::CommitOf(9, &[Change::Delete(9)]), FOREIGN, 1, 0),
+    (
         Step::CommitOf(9, &[Change::Delete(9), Change::Insert(9)]),
-    ];
-    let expected = [
-        TICKET_1,
-        DURABLE_1,
-        (FOREIGN, 1, 0),
-        (FOREIGN, 1, 0),
-        (FOREIGN_OF_TWO, 1, 0),
-    ];
-    let told = run(rt.alloc(), 1, &steps)?;
-    assert_eq!(rt; told.answers.as_slice(), expected.as_slice());
-    Ok(())
-}
+        FOREIGN_OF_TWO,
+        1,
+        0,
+    ),
+];
 
-#[test]
-fn a_row_is_set(rt: HostRuntime) -> Result<(), Fail> {
-    let steps = [INSERT_7, FLUSH, Step::Commit(0, 1, &[Change::Set(7)])];
-    let expected = [TICKET_1, DURABLE_1, (Answer::Ticket(2, 0, 1), 1, 1)];
-    let told = run(rt.alloc(), 1, &steps)?;
-    assert_eq!(rt; told.answers.as_slice(), expected.as_slice());
-    Ok(())
-}
+/// A row is set.
+const SET: [Line; 3] = [
+    INSERT_7,
+    FLUSH,
+    (
+        Step::Commit(0, 1, &[Change::Set(7)]),
+        Answer::Ticket(2, 0, 1),
+        1,
+        1,
+    ),
+];
 
-/// Once its delete is durable, the row may be put in again.
-#[test]
-fn a_row_is_deleted(rt: HostRuntime) -> Result<(), Fail> {
-    let steps = [
-        INSERT_7,
-        FLUSH,
+/// Once the delete of a row is durable, it may be put in again.
+const DELETED: [Line; 5] = [
+    INSERT_7,
+    FLUSH,
+    (
         Step::Commit(0, 1, &[Change::Delete(7)]),
-        Step::Flush(1),
+        Answer::Ticket(2, 0, 1),
+        1,
+        1,
+    ),
+    (Step::Flush(1), Answer::Durable(2), 2, 0),
+    (
         Step::Commit(0, 2, &[Change::Insert(7)]),
-    ];
-    let expected = [
-        TICKET_1,
-        DURABLE_1,
-        (Answer::Ticket(2, 0, 1), 1, 1),
-        (Answer::Durable(2), 2, 0),
-        (Answer::Ticket(3, 0, 1), 2, 1),
-    ];
-    let told = run(rt.alloc(), 1, &steps)?;
-    assert_eq!(rt; told.answers.as_slice(), expected.as_slice());
-    Ok(())
-}
+        Answer::Ticket(3, 0, 1),
+        2,
+        1,
+    ),
+];
 
-#[test]
-fn a_row_is_replaced_and_one_undone(rt: HostRuntime) -> Result<(), Fail> {
-    let steps = [
-        INSERT_7,
-        FLUSH,
+/// A row is replaced, and one is undone.
+const REPLACED: [Line; 4] = [
+    INSERT_7,
+    FLUSH,
+    (
         Step::Commit(0, 1, &[Change::Delete(7), Change::Insert(7)]),
+        Answer::Ticket(2, 0, 2),
+        1,
+        1,
+    ),
+    (
         Step::Commit(0, 1, &[Change::Insert(8), Change::Delete(8)]),
-    ];
-    let expected = [
-        TICKET_1,
-        DURABLE_1,
-        (Answer::Ticket(2, 0, 2), 1, 1),
-        (Answer::Ticket(3, 0, 2), 1, 2),
-    ];
-    let told = run(rt.alloc(), 1, &steps)?;
-    assert_eq!(rt; told.answers.as_slice(), expected.as_slice());
-    Ok(())
-}
+        Answer::Ticket(3, 0, 2),
+        1,
+        2,
+    ),
+];
 
 /// A second change of row 7 conflicts with the first, where that is pending and where it is
 /// durable; one of row 8 does not.
-#[test]
-fn changes_of_one_row_conflict(rt: HostRuntime) -> Result<(), Fail> {
-    let steps = [
+const CONFLICTS: [Line; 7] = [
+    (
         Step::Commit(0, 0, &[Change::Insert(7), Change::Insert(8)]),
-        FLUSH,
+        Answer::Ticket(1, 0, 2),
+        0,
+        1,
+    ),
+    FLUSH,
+    (
         Step::Commit(0, 1, &[Change::Set(7)]),
+        Answer::Ticket(2, 0, 1),
+        1,
+        1,
+    ),
+    (
         Step::Commit(0, 1, &[Change::Set(7)]),
+        Answer::Refused(CommitFault::Conflict(2), 1, 1),
+        1,
+        1,
+    ),
+    (
         Step::Commit(0, 1, &[Change::Set(8)]),
-        Step::Flush(2),
+        Answer::Ticket(3, 0, 1),
+        1,
+        2,
+    ),
+    (Step::Flush(2), Answer::Durable(3), 3, 0),
+    (
         Step::Commit(0, 1, &[Change::Delete(7)]),
-    ];
-    let conflict = Answer::Refused(CommitFault::Conflict(2), 1, 1);
-    let expected = [
-        (Answer::Ticket(1, 0, 2), 0, 1),
-        DURABLE_1,
-        (Answer::Ticket(2, 0, 1), 1, 1),
-        (conflict, 1, 1),
-        (Answer::Ticket(3, 0, 1), 1, 2),
-        (Answer::Durable(3), 3, 0),
-        (conflict, 3, 0),
-    ];
-    let told = run(rt.alloc(), 1, &steps)?;
-    assert_eq!(rt; told.answers.as_slice(), expected.as_slice());
+        Answer::Refused(CommitFault::Conflict(2), 1, 1),
+        3,
+        0,
+    ),
+];
+
+const STORIES: [&[Line]; 8] = [
+    &REFUSED,
+    &NO_VERSION,
+    &ROW_THERE,
+    &ROW_ABSENT,
+    &SET,
+    &DELETED,
+    &REPLACED,
+    &CONFLICTS,
+];
+
+#[test]
+fn commits_are_answered_by_what_stands(rt: HostRuntime) -> Result<(), Fail> {
+    let mut sent = Vec::new(rt.alloc());
+    for (number, story) in STORIES.iter().enumerate() {
+        let other = other_answer(rt.alloc(), 1, story, &mut sent)?;
+        assert_eq!(rt; other, None, "story {number}");
+    }
+    assert!(rt; sent.is_empty());
     Ok(())
 }
 

@@ -1,28 +1,19 @@
-//! The datagrams byte by byte, and each fault.
+//! The datagrams to the byte, and each fault.
 
-ghost use Rattle.std.specs.Prelude.{◌≡◌, ◌≤◌, length, IfOk};
-ghost use Rattle.rows.specs.Spelling.{HasSpelling as EntryHasSpelling, entry_spelling};
+ghost use Rattle.std.specs.Prelude.{◌≤◌, IfOk};
 ghost use Rattle.wire.specs.Spelling.{HasSpelling, FrameHasSpelling};
 
-use rows::{Commit, Entry, EntryList, Kind, RowId, Schema, Value, entry_len, fits, row_bytes};
-use std::alloc::{AllocError, Global};
+use crate::worker_datagrams::{ASK, FRAME, HEAD, HEAD_OF_TWO, WANT, changed};
+use rows::{Commit, Entry, RowId};
+use std::alloc::Global;
 use std::test::Fail;
 use wire::{
     Counts, Datagram, Frame, LentEntries, Packet, TooSmall, WireFault, one_spelling, read, write,
     write_frame,
 };
 
-/// The last frame of commit 1, the first of worker 0: it inserts row 7 with the values 5 and -1
-/// into table 0.
-const FRAME: [u8; 54] = [
-    0x42, 0x44, 0x01, 0x01, 0x00, 0x36, 0x00, 0x00, 0x00, 0x00, 0x00, 0x00, 0x00, 0x00, 0x00, 0x00,
-    0x00, 0x00, 0x00, 0x00, 0x00, 0x00, 0x01, 0x01, 0x00, 0x01, 0x01, 0x00, 0x00, 0x00, 0x00, 0x00,
-    0x00, 0x00, 0x00, 0x07, 0x00, 0x10, 0x00, 0x00, 0x00, 0x00, 0x00, 0x00, 0x00, 0x05, 0xff, 0xff,
-    0xff, 0xff, 0xff, 0xff, 0xff, 0xff,
-];
-
-/// The same place and commit with three entries, all of row 7 of table 0: that insert, a patch of
-/// the second column to 6, and a delete.
+/// The place and commit of `FRAME` with three entries, all of row 7 of table 0: its insert, a
+/// patch of the second column to 6, and a delete.
 const THREE: [u8; 86] = [
     0x42, 0x44, 0x01, 0x01, 0x00, 0x56, 0x00, 0x00, 0x00, 0x00, 0x00, 0x00, 0x00, 0x00, 0x00, 0x00,
     0x00, 0x00, 0x00, 0x00, 0x00, 0x00, 0x01, 0x01, 0x00, 0x03, 0x01, 0x00, 0x00, 0x00, 0x00, 0x00,
@@ -32,206 +23,126 @@ const THREE: [u8; 86] = [
     0x00, 0x00, 0x00, 0x00, 0x00, 0x07,
 ];
 
-/// Replica 0 asks, in its boot 1, by request 1.
-const ASK: [u8; 23] = [
-    0x42, 0x44, 0x01, 0x02, 0x00, 0x17, 0x00, 0x00, 0x00, 0x00, 0x00, 0x00, 0x00, 0x00, 0x01, 0x00,
-    0x00, 0x00, 0x00, 0x00, 0x00, 0x00, 0x01,
-];
-
-/// The answer to it at version 1, with the one frame of one worker.
-const HEAD: [u8; 40] = [
-    0x42, 0x44, 0x01, 0x03, 0x00, 0x28, 0x00, 0x00, 0x00, 0x00, 0x00, 0x00, 0x00, 0x00, 0x01, 0x00,
-    0x00, 0x00, 0x00, 0x00, 0x00, 0x00, 0x01, 0x00, 0x00, 0x00, 0x00, 0x00, 0x00, 0x00, 0x01, 0x01,
-    0x00, 0x00, 0x00, 0x00, 0x00, 0x00, 0x00, 0x01,
-];
-
-/// The same of two workers, the second of which has no frame.
-const HEAD_OF_TWO: [u8; 48] = [
-    0x42, 0x44, 0x01, 0x03, 0x00, 0x30, 0x00, 0x00, 0x00, 0x00, 0x00, 0x00, 0x00, 0x00, 0x01, 0x00,
-    0x00, 0x00, 0x00, 0x00, 0x00, 0x00, 0x01, 0x00, 0x00, 0x00, 0x00, 0x00, 0x00, 0x00, 0x01, 0x02,
-    0x00, 0x00, 0x00, 0x00, 0x00, 0x00, 0x00, 0x01, 0x00, 0x00, 0x00, 0x00, 0x00, 0x00, 0x00, 0x00,
-];
-
-/// Replica 0 wants the frames of worker 0 from the first on.
-const WANT: [u8; 16] = [
-    0x42, 0x44, 0x01, 0x04, 0x00, 0x10, 0x00, 0x00, 0x00, 0x00, 0x00, 0x00, 0x00, 0x00, 0x00, 0x00,
-];
-
-/// The table of accounts, of two numbers.
-fn accounts(alloc: Global) -> Result<Schema, Fail> {
-    let kinds = [Kind::Int, Kind::Int];
-    Ok(Schema::new(alloc, &[("accounts", kinds.as_slice())])?)
-}
-
-/// The insert of row 7 with the values 5 and -1 into table 0.
-fn insert(alloc: Global) -> Result<Entry, AllocError> {
-    let (table, row) = (0, RowId(7));
-    let bytes = row_bytes(alloc, &[Value::Int(5), Value::Int(-1)])?;
-    Ok(Entry::Insert { table, row, bytes })
-}
-
-/// The patch of the second column of row 7 of table 0 to 6.
-fn patch(alloc: Global) -> Result<Entry, AllocError> {
-    let (table, row, offset) = (0, RowId(7), 8);
-    let bytes = row_bytes(alloc, &[Value::Int(6)])?;
-    Ok(Entry::Patch {
-        table,
-        row,
-        offset,
-        bytes,
-    })
-}
-
-/// The delete of row 7 of table 0.
-fn delete() -> Entry {
-    Entry::Delete {
-        table: 0,
-        row: RowId(7),
+/// Whether the bytes read as the frame of commit 1 that has so many entries, of these bytes.
+fn is_frame(bytes: &[u8], count: usize, expected: &[u8]) -> bool {
+    match read(bytes) {
+        Ok(
+            Datagram::Frame {
+                worker: 0,
+                seq: 0,
+                commit: 1,
+                last: true,
+                entries,
+            },
+        ) => entries.len() == count && entries.as_bytes() == expected,
+        _ => false,
     }
 }
 
-/// The entry, which fits the accounts and is spelled in so many bytes.
-fn fitting(schema: &Schema, entry: Entry, len: usize) -> Result<Entry, Fail>
-    ensures spelled { IfOk result (λ entry. EntryHasSpelling entry) }
-    ensures len { IfOk result (λ entry. length (entry_spelling entry) ≡ len) }
-{
-    fits(schema, &entry)?;
-    if entry_len(&entry) != len {
-        return Err("another length".into());
+/// Whether the bytes read as the Head at version 1 that answers request 1, with these counts.
+fn is_head(bytes: &[u8], expected: &[u64]) -> bool {
+    match read(bytes) {
+        Ok(
+            Datagram::Head {
+                replica: 0,
+                boot: 1,
+                request: 1,
+                version: 1,
+                counts,
+            },
+        ) => counts.as_slice() == expected,
+        _ => false,
     }
-    Ok(entry)
 }
 
-/// The frame of `FRAME`.
-fn frame_of_one(alloc: Global) -> Result<Frame, Fail>
+/// Whether the bytes read as the Ask of replica 0, in its boot 1, by request 1.
+fn is_ask(bytes: &[u8]) -> bool {
+    matches!(
+        read(bytes),
+        Ok(Datagram::Ask {
+            replica: 0,
+            boot: 1,
+            request: 1
+        })
+    )
+}
+
+#[test]
+fn datagrams_are_read(rt: HostRuntime) {
+    assert!(rt; is_frame(&FRAME, 1, &FRAME[26..]));
+    assert!(rt; is_frame(&THREE, 3, &THREE[26..]));
+    assert!(rt; is_ask(&ASK));
+    assert!(rt; is_head(&HEAD, &[1]));
+    assert!(rt; is_head(&HEAD_OF_TWO, &[1, 0]));
+    assert_eq!(rt; read(&WANT).err(), Some(WireFault::Kind));
+}
+
+/// The frame that these bytes spell, owned.
+fn frame_in(alloc: Global, bytes: &[u8]) -> Result<Frame, Fail>
     ensures { IfOk result FrameHasSpelling }
 {
-    let schema = accounts(alloc)?;
-    let mut entries = EntryList::new(alloc);
-    entries.push(fitting(&schema, insert(alloc)?, 28)?)?;
-    Ok(Frame {
-        worker: 0,
-        seq: 0,
-        commit: 1,
-        last: true,
-        entries,
-    })
-}
-
-/// The frame of `THREE`.
-fn frame_of_three(alloc: Global) -> Result<Frame, Fail>
-    ensures { IfOk result FrameHasSpelling }
-{
-    let schema = accounts(alloc)?;
-    let mut entries = EntryList::new(alloc);
-    entries.push(fitting(&schema, insert(alloc)?, 28)?)?;
-    entries.push(fitting(&schema, patch(alloc)?, 22)?)?;
-    entries.push(fitting(&schema, delete(), 10)?)?;
-    Ok(Frame {
-        worker: 0,
-        seq: 0,
-        commit: 1,
-        last: true,
-        entries,
-    })
-}
-
-#[test]
-fn a_frame_is_written(rt: HostRuntime) -> Result<(), Fail> {
-    let frame = frame_of_one(rt.alloc())?;
-    let mut buffer = [0xee; 60];
-    let mut expected = [0xee; 60];
-    expected[..54].copy_from_slice(&FRAME);
-    assert_eq!(rt; write_frame(&frame, &mut buffer), Ok(54));
-    assert_eq!(rt; buffer, expected);
-    let mut short = [0xee; 53];
-    assert_eq!(rt; write_frame(&frame, &mut short), Err(TooSmall));
-    assert_eq!(rt; short, [0xee; 53]);
-    Ok(())
-}
-
-#[test]
-fn a_frame_is_a_packet(rt: HostRuntime) -> Result<(), Fail> {
-    let frame = frame_of_one(rt.alloc())?;
-    assert_eq!(rt; Packet::of_frame(&frame).bytes(), FRAME.as_slice());
-    let Frame { entries, .. } = frame;
-    let commit = Commit { worker: 0, entries };
-    assert_eq!(rt; Packet::of_commit(&commit, 1, 0).bytes(), FRAME.as_slice());
-    Ok(())
-}
-
-#[test]
-fn a_frame_of_each_form_is_written(rt: HostRuntime) -> Result<(), Fail> {
-    let frame = frame_of_three(rt.alloc())?;
-    assert_eq!(rt; Packet::of_frame(&frame).bytes(), THREE.as_slice());
-    Ok(())
-}
-
-#[test]
-fn a_frame_is_read(rt: HostRuntime) -> Result<(), Fail> {
-    let datagram = read(&FRAME)?;
-    assert_eq!(rt; Packet::of(&datagram).bytes(), FRAME.as_slice());
     let Datagram::Frame {
         worker,
         seq,
         commit,
         last,
         entries,
-    } = datagram
+    } = read(bytes)?
     else {
         return Err("another kind".into());
     };
-    assert_eq!(rt; (worker, seq, commit, last), (0, 0, 1, true));
-    assert_eq!(rt; entries.len(), 1);
-    assert_eq!(rt; entries.as_bytes(), &FRAME[26..]);
-    Ok(())
+    Ok(Frame {
+        worker,
+        seq,
+        commit,
+        last,
+        entries: entries.to_list(alloc)?,
+    })
 }
 
-/// The entries of the frame that these bytes spell.
-fn entries_in(alloc: Global, bytes: &[u8]) -> Result<EntryList, Fail> {
-    let Datagram::Frame { entries, .. } = read(bytes)? else {
-        return Err("another kind".into());
-    };
-    if entries.as_bytes() != &bytes[26..] {
-        return Err("other bytes".into());
-    }
-    Ok(entries.to_list(alloc)?)
-}
-
-#[test]
-fn an_entry_is_read(rt: HostRuntime) -> Result<(), Fail> {
-    let list = entries_in(rt.alloc(), &FRAME)?;
-    assert_eq!(rt; list.len(), 1);
-    let Entry::Insert { table, row, bytes } = &list.as_slice()[0] else {
-        return Err("another entry".into());
-    };
-    assert_eq!(rt; (*table, *row), (0, RowId(7)));
-    assert_eq!(rt; bytes.as_slice(), &FRAME[38..]);
-    Ok(())
-}
-
-#[test]
-fn entries_of_each_form_are_read(rt: HostRuntime) -> Result<(), Fail> {
-    let list = entries_in(rt.alloc(), &THREE)?;
-    let [
-        Entry::Insert { .. },
+/// Whether the entry is the insert, the patch or the delete of `THREE`.
+fn is_of_three(entry: &Entry) -> bool {
+    match entry {
+        Entry::Insert { table, row, bytes } => {
+            *table == 0 && *row == RowId(7) && bytes.as_slice() == &FRAME[38..]
+        }
         Entry::Patch {
             table,
             row,
             offset,
             bytes,
-        },
-        Entry::Delete {
-            table: other_table,
-            row: other_row,
-        },
-    ] = list.as_slice()
-    else {
-        return Err("other entries".into());
-    };
-    assert_eq!(rt; (*table, *row, *offset), (0, RowId(7), 8));
-    assert_eq!(rt; bytes.as_slice(), [0, 0, 0, 0, 0, 0, 0, 6].as_slice());
-    assert_eq!(rt; (*other_table, *other_row), (0, RowId(7)));
+        } => {
+            let six = [0, 0, 0, 0, 0, 0, 0, 6];
+            *table == 0 && *row == RowId(7) && *offset == 8 && bytes.as_slice() == six.as_slice()
+        }
+        Entry::Delete { table, row } => *table == 0 && *row == RowId(7),
+    }
+}
+
+/// Whether these are the entries of `FRAME`, or those of `THREE`.
+fn are_entries(entries: &[Entry]) -> bool {
+    matches!(
+        entries,
+        [Entry::Insert { .. }]
+            | [
+                Entry::Insert { .. },
+                Entry::Patch { .. },
+                Entry::Delete { .. }
+            ]
+    ) && entries.iter().all(|entry| is_of_three(entry))
+}
+
+/// Whether the frame that these bytes spell has so many entries, and those.
+fn are_read(alloc: Global, bytes: &[u8], count: usize) -> Result<bool, Fail> {
+    let frame = frame_in(alloc, bytes)?;
+    let entries = frame.entries.as_slice();
+    Ok(entries.len() == count && are_entries(entries))
+}
+
+#[test]
+fn entries_are_read(rt: HostRuntime) -> Result<(), Fail> {
+    assert!(rt; are_read(rt.alloc(), &FRAME, 1)?);
+    assert!(rt; are_read(rt.alloc(), &THREE, 3)?);
     Ok(())
 }
 
@@ -249,56 +160,38 @@ fn fault_of(form: u8, table: u8, next: [u8; 4], len: u16) -> Option<WireFault> {
     read(&bytes[..total]).err()
 }
 
-#[test]
-fn a_frame_holds_whole_entries(rt: HostRuntime) {
-    let body = Some(WireFault::Body);
-    for (form, table, next, len, fault) in [
-        // An insert: its size, and 1 to 512 bytes.
-        (1, 0, [0, 0, 0, 0], 12, body),
-        (1, 0, [2, 0, 0, 0], 524, None),
-        (1, 0, [2, 1, 0, 0], 525, body),
-        // A patch: its offset, its size, and 1 to 64 bytes.
-        (2, 0, [0, 8, 0, 0], 14, body),
-        (2, 0, [0, 8, 0, 64], 78, None),
-        (2, 0, [0, 8, 0, 65], 79, body),
-        // It ends within 512 bytes.
-        (2, 0, [1, 0xf8, 0, 8], 22, None),
-        (2, 0, [1, 0xf9, 0, 8], 22, body),
-        // A delete, of one of 16 tables; and two forms that are none.
-        (3, 0, [0; 4], 10, None),
-        (3, 15, [0; 4], 10, None),
-        (3, 16, [0; 4], 10, body),
-        (0, 0, [0; 4], 10, body),
-        (4, 0, [0; 4], 10, body),
-        // A byte behind it, and one too few.
-        (3, 0, [0; 4], 11, body),
-        (3, 0, [0; 4], 9, body),
-    ] {
-        let found = fault_of(form, table, next, len);
-        assert_eq!(rt; found, fault, "form {form}, table {table}, {len} bytes");
-    }
-}
+const BODY: Option<WireFault> = Some(WireFault::Body);
+
+/// An entry's form and table, what goes on, how long it is, and the fault of its frame.
+const ENTRIES: [(u8, u8, [u8; 4], u16, Option<WireFault>); 15] = [
+    // An insert: its size, and 1 to 512 bytes.
+    (1, 0, [0, 0, 0, 0], 12, BODY),
+    (1, 0, [2, 0, 0, 0], 524, None),
+    (1, 0, [2, 1, 0, 0], 525, BODY),
+    // A patch: its offset, its size, and 1 to 64 bytes.
+    (2, 0, [0, 8, 0, 0], 14, BODY),
+    (2, 0, [0, 8, 0, 64], 78, None),
+    (2, 0, [0, 8, 0, 65], 79, BODY),
+    // It ends within 512 bytes.
+    (2, 0, [1, 0xf8, 0, 8], 22, None),
+    (2, 0, [1, 0xf9, 0, 8], 22, BODY),
+    // A delete, of one of 16 tables; and two forms that are none.
+    (3, 0, [0; 4], 10, None),
+    (3, 15, [0; 4], 10, None),
+    (3, 16, [0; 4], 10, BODY),
+    (0, 0, [0; 4], 10, BODY),
+    (4, 0, [0; 4], 10, BODY),
+    // A byte behind it, and one too few.
+    (3, 0, [0; 4], 11, BODY),
+    (3, 0, [0; 4], 9, BODY),
+];
 
 #[test]
-fn an_ask_is_written_and_read(rt: HostRuntime) -> Result<(), Fail> {
-    let ask = Datagram::Ask {
-        replica: 0,
-        boot: 1,
-        request: 1,
-    };
-    let mut buffer = [0xee; 23];
-    assert_eq!(rt; write(&ask, &mut buffer), Ok(23));
-    assert_eq!(rt; buffer, ASK);
-    let Datagram::Ask {
-        replica,
-        boot,
-        request,
-    } = read(&ASK)?
-    else {
-        return Err("another kind".into());
-    };
-    assert_eq!(rt; (replica, boot, request), (0, 1, 1));
-    Ok(())
+fn a_frame_holds_whole_entries(rt: HostRuntime) {
+    for (form, table, next, len, fault) in &ENTRIES {
+        let found = fault_of(*form, *table, *next, *len);
+        assert_eq!(rt; found, *fault, "form {form}, table {table}, {len} bytes");
+    }
 }
 
 /// The Head of replica 0, its boot 1 and request 1, at version 1: the first worker has one frame,
@@ -321,47 +214,60 @@ fn head_of(others: u8) -> Datagram<'static>
     }
 }
 
+/// A buffer that they fill, and `Packet`, have the bytes.
 #[test]
-fn a_head_is_written(rt: HostRuntime) {
+fn an_ask_a_head_and_a_want_are_written(rt: HostRuntime) {
+    let ask = Datagram::Ask {
+        replica: 0,
+        boot: 1,
+        request: 1,
+    };
+    let mut buffer = [0xee; 23];
+    assert_eq!(rt; (write(&ask, &mut buffer), buffer), (Ok(23), ASK));
     let mut buffer = [0xee; 40];
-    assert_eq!(rt; write(&head_of(0), &mut buffer), Ok(40));
-    assert_eq!(rt; buffer, HEAD);
+    assert_eq!(rt; (write(&head_of(0), &mut buffer), buffer), (Ok(40), HEAD));
     assert_eq!(rt; Packet::of(&head_of(1)).bytes(), HEAD_OF_TWO.as_slice());
-}
-
-#[test]
-fn a_head_is_read(rt: HostRuntime) -> Result<(), Fail> {
-    for (bytes, expected) in [
-        (HEAD.as_slice(), [1].as_slice()),
-        (HEAD_OF_TWO.as_slice(), [1, 0].as_slice()),
-    ] {
-        let Datagram::Head {
-            replica,
-            boot,
-            request,
-            version,
-            counts,
-        } = read(bytes)?
-        else {
-            return Err("another kind".into());
-        };
-        assert_eq!(rt; (replica, boot, request, version), (0, 1, 1, 1));
-        assert_eq!(rt; counts.as_slice(), expected);
-    }
-    Ok(())
-}
-
-#[test]
-fn a_want_is_written_and_not_read(rt: HostRuntime) {
     let want = Datagram::Want {
         replica: 0,
         worker: 0,
         from: 0,
     };
     let mut buffer = [0xee; 16];
-    assert_eq!(rt; write(&want, &mut buffer), Ok(16));
-    assert_eq!(rt; buffer, WANT);
-    assert_eq!(rt; read(&WANT).err(), Some(WireFault::Kind));
+    assert_eq!(rt; (write(&want, &mut buffer), buffer), (Ok(16), WANT));
+}
+
+#[test]
+fn a_frame_is_written(rt: HostRuntime) -> Result<(), Fail> {
+    let frame = frame_in(rt.alloc(), &FRAME)?;
+    let mut buffer = [0xee; 60];
+    assert_eq!(rt; write_frame(&frame, &mut buffer), Ok(54));
+    let (front, rest) = buffer.split_at(54);
+    assert_eq!(rt; (front, rest), (FRAME.as_slice(), [0xee; 6].as_slice()));
+    let mut short = [0xee; 53];
+    assert_eq!(rt;
+        (write_frame(&frame, &mut short), short),
+        (Err(TooSmall), [0xee; 53])
+    );
+    Ok(())
+}
+
+/// Whether the frame that these bytes spell is written as they are, as a frame and as its commit.
+fn is_packet(alloc: Global, bytes: &[u8]) -> Result<bool, Fail> {
+    let frame = frame_in(alloc, bytes)?;
+    if Packet::of_frame(&frame).bytes() != bytes {
+        return Ok(false);
+    }
+    let Frame { entries, .. } = frame;
+    let commit = Commit { worker: 0, entries };
+    Ok(Packet::of_commit(&commit, 1, 0).bytes() == bytes)
+}
+
+#[test]
+fn a_frame_is_a_packet(rt: HostRuntime) -> Result<(), Fail> {
+    assert_eq!(rt; Packet::of(&read(&FRAME)?).bytes(), FRAME.as_slice());
+    assert!(rt; is_packet(rt.alloc(), &FRAME)?);
+    assert!(rt; is_packet(rt.alloc(), &THREE)?);
+    Ok(())
 }
 
 #[test]
@@ -369,8 +275,24 @@ fn spellings_tell_datagrams_apart() {
     one_spelling();
 }
 
+/// A place of the frame, another byte there, and the first fault.
+const FAULTS: [(usize, u8, WireFault); 8] = [
+    (1, 0x45, WireFault::Magic),
+    (2, 2, WireFault::Version),
+    (3, 4, WireFault::Kind),
+    (3, 0, WireFault::Kind),
+    (6, 16, WireFault::Body),
+    (22, 0, WireFault::Body),
+    (23, 2, WireFault::Body),
+    (25, 2, WireFault::Body),
+];
+
 #[test]
-fn the_length_is_that_of_the_bytes(rt: HostRuntime) {
+fn the_first_fault_is_named(rt: HostRuntime) {
+    for (place, byte, fault) in &FAULTS {
+        let found = read(&changed(FRAME, *place, *byte)).err();
+        assert_eq!(rt; found, Some(*fault), "{byte} at {place}");
+    }
     assert_eq!(rt; read(&FRAME[..5]).err(), Some(WireFault::Short));
     assert_eq!(rt; read(&FRAME[..53]).err(), Some(WireFault::Length));
     let mut longer = [0; 55];
@@ -383,35 +305,17 @@ fn the_length_is_that_of_the_bytes(rt: HostRuntime) {
     assert_eq!(rt; read(&above).err(), Some(WireFault::Length));
 }
 
-#[test]
-fn the_first_fault_is_named(rt: HostRuntime) {
-    for (place, byte, fault) in [
-        (1, 0x45, WireFault::Magic),
-        (2, 2, WireFault::Version),
-        (3, 4, WireFault::Kind),
-        (3, 0, WireFault::Kind),
-        (6, 16, WireFault::Body),
-        (22, 0, WireFault::Body),
-        (23, 2, WireFault::Body),
-        (25, 2, WireFault::Body),
-    ] {
-        let mut bytes = FRAME;
-        bytes[place] = byte;
-        assert_eq!(rt; read(&bytes).err(), Some(fault), "{byte} at {place}");
-    }
+/// How many entries fill the bytes, where so many do.
+fn filled(count: u16, bytes: &[u8]) -> Option<usize> {
+    Some(LentEntries::filling(count, bytes)?.len())
 }
 
 #[test]
 fn entries_fill_their_bytes(rt: HostRuntime) {
     let bytes = &FRAME[26..];
-    for (count, bytes, expected) in [
-        (1, bytes, Some(1)),
-        (0, &[], Some(0)),
-        (0, bytes, None),
-        (2, bytes, None),
-        (1, &bytes[..27], None),
-    ] {
-        let found = LentEntries::filling(count, bytes);
-        assert_eq!(rt; found.map(|entries| entries.len()), expected, "{count}");
-    }
+    assert_eq!(rt; filled(1, bytes), Some(1));
+    assert_eq!(rt; filled(0, &[]), Some(0));
+    assert_eq!(rt; filled(0, bytes), None);
+    assert_eq!(rt; filled(2, bytes), None);
+    assert_eq!(rt; filled(1, &bytes[..27]), None);
 }

@@ -1,12 +1,8 @@
 //! Each entry's spelling byte by byte, what is read as none, and which entries fit.
 
-ghost use Rattle.std.specs.Prelude.{◌≤◌, length};
-
-use rows::{
-    ByteList, Entry, EntryFault, EntryRef, Kind, RowId, Schema, SchemaFault, Value, entry_len,
-    fits, read_entry, row_bytes, write_entry,
-};
-use std::alloc::{AllocError, Global};
+use crate::wanted::{Wanted, bank, made};
+use rows::{Entry, EntryFault, EntryRef, Schema, entry_len, fits, read_entry, write_entry};
+use std::alloc::Global;
 use std::test::Fail;
 
 /// The insert of row 7 into table 0 with the values 5 and -1.
@@ -24,48 +20,155 @@ const PATCH: [u8; 22] = [
 /// The delete of row 7 of table 0.
 const DELETE: [u8; 10] = [0x03, 0x00, 0x00, 0x00, 0x00, 0x00, 0x00, 0x00, 0x00, 0x07];
 
-/// An entry of row 7 that is to be made.
-#[derive(Clone, Copy)]
-enum Wanted<'a> {
-    /// An insert into the table, of a row with these values.
-    Insert(u8, &'a [Value]),
-    /// A patch of the table: these bytes at that offset.
-    Patch(u8, u16, &'a [u8]),
-    /// A delete from the table.
-    Delete(u8),
+/// The number 6.
+const SIX: [u8; 8] = [0, 0, 0, 0, 0, 0, 0, 6];
+
+/// What an entry is: its form, its table, its row, its offset, and its data.
+type Parts<'a> = (u8, u8, u64, u16, &'a [u8]);
+
+/// Entries that are wanted, each with its spelling and its parts.
+const SPELLINGS: [(Wanted<'static>, &[u8], Parts<'static>); 3] = [
+    (
+        Wanted::Insert(0, 7, 5, -1),
+        &INSERT,
+        (
+            1,
+            0,
+            7,
+            0,
+            b"\0\0\0\0\0\0\0\x05\xff\xff\xff\xff\xff\xff\xff\xff",
+        ),
+    ),
+    (Wanted::Patch(0, 7, 8, &SIX), &PATCH, (2, 0, 7, 8, &SIX)),
+    (Wanted::Delete(0, 7), &DELETE, (3, 0, 7, 0, &[])),
+];
+
+/// The place of the first of these that is not written so, where each fits the bank.
+fn other_spelling(alloc: Global) -> Result<Option<usize>, Fail> {
+    let schema = bank(alloc)?;
+    for (place, (wanted, bytes, _)) in SPELLINGS.iter().enumerate() {
+        let entry = made(alloc, *wanted)?;
+        if !is_spelled(&schema, &entry, bytes) {
+            return Ok(Some(place));
+        }
+    }
+    Ok(None)
 }
 
-/// The entry that is wanted.
-fn made(alloc: Global, wanted: Wanted<'_>) -> Result<Entry, AllocError> {
-    let row = RowId(7);
-    Ok(match wanted {
-        Wanted::Insert(table, values) => Entry::Insert {
-            table,
-            row,
-            bytes: row_bytes(alloc, values)?,
-        },
-        Wanted::Patch(table, offset, bytes) => Entry::Patch {
-            table,
-            row,
-            offset,
-            bytes: ByteList::from_vec(Vec::from_slice(alloc, bytes)?),
-        },
-        Wanted::Delete(table) => Entry::Delete { table, row },
-    })
+/// Whether an entry fits and is written as these bytes, at the front of a buffer that keeps the
+/// rest of what it had: their length is foretold and answered.
+fn is_spelled(schema: &Schema, entry: &Entry, bytes: &[u8]) -> bool {
+    let mut buffer = [0xee; 30];
+    if fits(schema, entry).is_err() || entry_len(entry) != bytes.len() || bytes.len() > 30 {
+        return false;
+    }
+    let written = write_entry(entry, &mut buffer);
+    let (front, rest) = buffer.split_at(bytes.len());
+    written == bytes.len() && front == bytes && rest.iter().all(|byte| *byte == 0xee)
 }
 
-/// Accounts of two columns, and an audit of one.
-fn bank(alloc: Global) -> Result<Schema, SchemaFault> {
-    let accounts = [Kind::Int, Kind::Int];
-    let audit = [Kind::Int];
-    Schema::new(
-        alloc,
-        &[
-            ("accounts", accounts.as_slice()),
-            ("audit", audit.as_slice()),
-        ],
-    )
+/// What is read of an entry, and how many bytes it takes.
+fn parts(bytes: &[u8]) -> Option<(Parts<'_>, usize)> {
+    match read_entry(bytes) {
+        Some((EntryRef::Insert { table, row, bytes }, taken)) => {
+            Some(((1, table, row.0, 0, bytes), taken))
+        }
+        Some(
+            (
+                EntryRef::Patch {
+                    table,
+                    row,
+                    offset,
+                    bytes,
+                },
+                taken,
+            ),
+        ) => Some(((2, table, row.0, offset, bytes), taken)),
+        Some((EntryRef::Delete { table, row }, taken)) => Some(((3, table, row.0, 0, &[]), taken)),
+        None => None,
+    }
 }
+
+/// Whether an entry is read from some of the bytes at the front, but not from all of them.
+fn is_read_early(bytes: &[u8]) -> bool {
+    (0..bytes.len()).any(|len| read_entry(&bytes[..len]).is_some())
+}
+
+#[test]
+fn entries_are_written_and_read(rt: HostRuntime) -> Result<(), Fail> {
+    assert_eq!(rt; other_spelling(rt.alloc())?, None);
+    for (_, bytes, expected) in &SPELLINGS {
+        assert_eq!(rt; parts(bytes), Some((*expected, bytes.len())));
+        assert!(rt; !is_read_early(bytes));
+    }
+    Ok(())
+}
+
+/// Whether an entry is read from a form, a table, row 7, these four bytes, and zeros behind them.
+fn is_read(form: u8, table: u8, next: [u8; 4]) -> bool {
+    let mut bytes = [0; 525];
+    bytes[0] = form;
+    bytes[1] = table;
+    bytes[9] = 7;
+    bytes[10..14].copy_from_slice(&next);
+    read_entry(&bytes).is_some()
+}
+
+/// What begins an entry, and whether one is read.
+const FRONTS: [(u8, u8, [u8; 4], bool); 14] = [
+    (1, 0, [0, 16, 0, 0], true),
+    // There are the operations 1 to 3, the tables 0 to 15, and no insert without data.
+    (0, 0, [0, 16, 0, 0], false),
+    (4, 0, [0, 16, 0, 0], false),
+    (1, 15, [0, 16, 0, 0], true),
+    (1, 16, [0, 16, 0, 0], false),
+    (1, 0, [0, 0, 0, 0], false),
+    // An insert has 512 bytes of data at the most.
+    (1, 0, [2, 0, 0, 0], true),
+    (1, 0, [2, 1, 0, 0], false),
+    // A patch has 1 to 64 bytes, at an offset within 512.
+    (2, 0, [0, 0, 0, 64], true),
+    (2, 0, [0, 0, 0, 65], false),
+    (2, 0, [0, 0, 0, 0], false),
+    (2, 0, [0x01, 0xf8, 0, 8], true),
+    (2, 0, [0x01, 0xf9, 0, 8], false),
+    (2, 0, [0xff, 0xff, 0, 1], false),
+];
+
+#[test]
+fn what_is_no_entry_is_not_read(rt: HostRuntime) {
+    for (form, table, next, expected) in &FRONTS {
+        assert_eq!(rt;
+            is_read(*form, *table, *next),
+            *expected,
+            "{form} {table} {next:?}"
+        );
+    }
+}
+
+/// One column of a number, and two.
+const COLUMN: [u8; 8] = [0; 8];
+
+const COLUMNS: [u8; 16] = [0; 16];
+
+const NO_TABLE: Option<EntryFault> = Some(EntryFault::NoTable);
+
+const NOT_A_COLUMN: Option<EntryFault> = Some(EntryFault::NotAColumn);
+
+/// Entries that are wanted, and why they do not fit the bank.
+const FAULTS: [(Wanted<'static>, Option<EntryFault>); 10] = [
+    (Wanted::Insert(0, 7, 1, 2), None),
+    (Wanted::Insert(1, 7, 1, 2), Some(EntryFault::WrongSize)),
+    (Wanted::Insert(2, 7, 1, 2), NO_TABLE),
+    (Wanted::Patch(0, 7, 8, &COLUMN), None),
+    // Behind the row; parts of two columns; two columns.
+    (Wanted::Patch(1, 7, 8, &COLUMN), NOT_A_COLUMN),
+    (Wanted::Patch(0, 7, 4, &COLUMN), NOT_A_COLUMN),
+    (Wanted::Patch(0, 7, 0, &COLUMNS), NOT_A_COLUMN),
+    (Wanted::Patch(2, 7, 0, &COLUMN), NO_TABLE),
+    (Wanted::Delete(1, 7), None),
+    (Wanted::Delete(2, 7), NO_TABLE),
+];
 
 /// Why the wanted entry does not fit the bank; `None` where it fits.
 fn fault_of(alloc: Global, wanted: Wanted<'_>) -> Result<Option<EntryFault>, Fail> {
@@ -74,192 +177,18 @@ fn fault_of(alloc: Global, wanted: Wanted<'_>) -> Result<Option<EntryFault>, Fai
     Ok(fits(&schema, &entry).err())
 }
 
-/// What is written of an entry that fits: the length that is foretold, the length that is
-/// answered, and the buffer, which was full of `ee`.
-fn spelled(schema: &Schema, entry: &Entry) -> Option<(usize, usize, [u8; 30])> {
-    fits(schema, entry).ok()?;
-    let mut buffer = [0xee; 30];
-    let len = entry_len(entry);
-    if len > 30 {
-        return None;
-    }
-    let written = write_entry(entry, &mut buffer);
-    Some((len, written, buffer))
-}
-
-/// What is written of the wanted entry, which fits the bank.
-fn spelled_of(alloc: Global, wanted: Wanted<'_>) -> Result<Option<(usize, usize, [u8; 30])>, Fail> {
-    let schema = bank(alloc)?;
-    let entry = made(alloc, wanted)?;
-    Ok(spelled(&schema, &entry))
-}
-
-/// These bytes at the front of a buffer that was full of `ee`.
-fn at_the_front(bytes: &[u8]) -> [u8; 30]
-    requires { length bytes.now ≤ 30 }
-{
-    let mut buffer = [0xee; 30];
-    buffer[..bytes.len()].copy_from_slice(bytes);
-    buffer
-}
-
-#[test]
-fn entries_are_written(rt: HostRuntime) -> Result<(), Fail> {
-    let alloc = rt.alloc();
-    let insert = spelled_of(alloc, Wanted::Insert(0, &[Value::Int(5), Value::Int(-1)]))?;
-    assert_eq!(rt; insert, Some((28, 28, at_the_front(&INSERT))));
-    let patch = spelled_of(alloc, Wanted::Patch(0, 8, &[0, 0, 0, 0, 0, 0, 0, 6]))?;
-    assert_eq!(rt; patch, Some((22, 22, at_the_front(&PATCH))));
-    let delete = spelled_of(alloc, Wanted::Delete(0))?;
-    assert_eq!(rt; delete, Some((10, 10, at_the_front(&DELETE))));
-    Ok(())
-}
-
-/// What is read of an entry: its form, its table, its row, its offset, its data, and how many bytes
-/// it takes.
-fn parts(bytes: &[u8]) -> Option<(u8, u8, u64, u16, &[u8], usize)> {
-    let (entry, taken) = read_entry(bytes)?;
-    Some(match entry {
-        EntryRef::Insert { table, row, bytes } => (1, table, row.0, 0, bytes, taken),
-        EntryRef::Patch {
-            table,
-            row,
-            offset,
-            bytes,
-        } => (2, table, row.0, offset, bytes, taken),
-        EntryRef::Delete { table, row } => (3, table, row.0, 0, &[], taken),
-    })
-}
-
-#[test]
-fn entries_are_read(rt: HostRuntime) {
-    assert_eq!(rt; parts(&INSERT), Some((1, 0, 7, 0, &INSERT[12..], 28)));
-    let six = [0, 0, 0, 0, 0, 0, 0, 6];
-    assert_eq!(rt; parts(&PATCH), Some((2, 0, 7, 8, six.as_slice(), 22)));
-    let none = [];
-    assert_eq!(rt; parts(&DELETE), Some((3, 0, 7, 0, none.as_slice(), 10)));
-}
-
-/// How many bytes of an entry's front have to be there before an entry is read.
-fn wanted_bytes(entry: &[u8]) -> usize {
-    for len in 0..entry.len() {
-        if read_entry(&entry[..len]).is_some() {
-            return len;
+/// The place of the first of these that has another fault.
+fn other_fault(alloc: Global) -> Result<Option<usize>, Fail> {
+    for (place, (wanted, fault)) in FAULTS.iter().enumerate() {
+        if fault_of(alloc, *wanted)? != *fault {
+            return Ok(Some(place));
         }
     }
-    entry.len()
+    Ok(None)
 }
 
 #[test]
-fn a_part_of_an_entry_is_not_read(rt: HostRuntime) {
-    assert_eq!(rt; wanted_bytes(&INSERT), 28);
-    assert_eq!(rt; wanted_bytes(&PATCH), 22);
-    assert_eq!(rt; wanted_bytes(&DELETE), 10);
-}
-
-/// Whether an entry is read from the insert's bytes once one of them is another.
-fn is_read_with(place: usize, byte: u8) -> bool {
-    let mut bytes = INSERT;
-    if let Some(at) = bytes.get_mut(place) {
-        *at = byte;
-    }
-    read_entry(&bytes).is_some()
-}
-
-#[test]
-fn what_is_no_entry_is_not_read(rt: HostRuntime) {
-    for (place, byte, is_read) in [
-        (0, 1, true),
-        // There are the operations 1 to 3, the tables 0 to 15, and no insert without data.
-        (0, 0, false),
-        (0, 4, false),
-        (1, 15, true),
-        (1, 16, false),
-        (11, 0, false),
-    ] {
-        assert_eq!(rt; is_read_with(place, byte), is_read, "{byte} at {place}");
-    }
-}
-
-#[test]
-fn an_insert_has_512_bytes_at_most(rt: HostRuntime) {
-    let mut bytes = [0; 525];
-    bytes[0] = 1;
-    bytes[10] = 2;
-    assert!(rt; read_entry(&bytes).is_some(), "512 bytes of data");
-    bytes[11] = 1;
-    assert!(rt; read_entry(&bytes).is_none(), "513 bytes of data");
-}
-
-/// Whether a patch at that offset, of that size, is read from bytes that hold it.
-fn is_patch_read(offset: u16, size: u8) -> bool {
-    let mut bytes = [0; 80];
-    bytes[0] = 2;
-    bytes[10] = (offset / 256) as u8;
-    bytes[11] = (offset % 256) as u8;
-    bytes[13] = size;
-    read_entry(&bytes).is_some()
-}
-
-#[test]
-fn a_patch_has_1_to_64_bytes_within_512(rt: HostRuntime) {
-    for (offset, size, is_read) in [
-        (0, 64, true),
-        (0, 65, false),
-        (0, 0, false),
-        (504, 8, true),
-        (505, 8, false),
-        (65535, 1, false),
-    ] {
-        assert_eq!(rt; is_patch_read(offset, size), is_read, "{size} at {offset}");
-    }
-}
-
-#[test]
-fn an_insert_fits_by_its_width(rt: HostRuntime) -> Result<(), Fail> {
-    let values = [Value::Int(1), Value::Int(2)];
-    for (table, fault) in [
-        (0, None),
-        (1, Some(EntryFault::WrongSize)),
-        (2, Some(EntryFault::NoTable)),
-    ] {
-        let wanted = Wanted::Insert(table, &values);
-        assert_eq!(rt; fault_of(rt.alloc(), wanted)?, fault, "table {table}");
-    }
-    Ok(())
-}
-
-#[test]
-fn a_patch_fits_one_column(rt: HostRuntime) -> Result<(), Fail> {
-    let two_columns = [0; 16];
-    let two_columns = two_columns.as_slice();
-    let one_column = &two_columns[..8];
-    let fault = Some(EntryFault::NotAColumn);
-    for (table, offset, bytes, fault) in [
-        (0, 8, one_column, None),
-        // Behind the row; parts of two columns; two columns.
-        (1, 8, one_column, fault),
-        (0, 4, one_column, fault),
-        (0, 0, two_columns, fault),
-        (2, 0, one_column, Some(EntryFault::NoTable)),
-    ] {
-        let wanted = Wanted::Patch(table, offset, bytes);
-        assert_eq!(rt;
-            fault_of(rt.alloc(), wanted)?,
-            fault,
-            "table {table} at {offset}"
-        );
-    }
-    Ok(())
-}
-
-#[test]
-fn a_delete_fits_a_table(rt: HostRuntime) -> Result<(), Fail> {
-    let alloc = rt.alloc();
-    assert_eq!(rt; fault_of(alloc, Wanted::Delete(1))?, None);
-    assert_eq!(rt;
-        fault_of(alloc, Wanted::Delete(2))?,
-        Some(EntryFault::NoTable)
-    );
+fn entries_fit_by_their_table(rt: HostRuntime) -> Result<(), Fail> {
+    assert_eq!(rt; other_fault(rt.alloc())?, None);
     Ok(())
 }

@@ -26,6 +26,8 @@ mod schemas;
 #[cfg(test)]
 mod script_faults;
 #[cfg(test)]
+mod script_memory;
+#[cfg(test)]
 mod script_transactions;
 #[cfg(test)]
 mod scripts;
@@ -37,5 +39,7 @@ mod streams;
 mod transactions;
 #[cfg(test)]
 mod versions;
+#[cfg(test)]
+mod wanted;
 #[cfg(test)]
 mod worker_datagrams;

@@ -57,36 +57,31 @@ pub enum Answer {
     Several,
 }
 
-/// What steps answered, how many commits were durable and how many pending after each of them,
-/// and all bytes that were sent.
-#[derive(Drop)]
-pub struct Told {
-    pub answers: Vec<(Answer, u64, usize)>,
-    pub sent: Vec<u8>,
-}
+/// A line of a story: a step, what it is to answer, and how many commits are then to be durable
+/// and how many pending.
+pub type Line = (Step, Answer, u64, usize);
 
-/// What these steps answer, of a primary with this many workers and no commits.
-pub fn run(alloc: Global, workers: u8, steps: &[Step]) -> Result<Told, Fail> {
-    let mut told = Told {
-        answers: Vec::new(alloc),
-        sent: Vec::new(alloc),
-    };
-    take_steps(alloc, workers, steps, &mut told)?;
-    Ok(told)
-}
-
-/// Takes these steps from the first on.
-fn take_steps(alloc: Global, workers: u8, steps: &[Step], told: &mut Told) -> Result<(), Fail> {
+/// The place of the first step that a primary with this many workers and no commits answers
+/// otherwise. Adds all bytes that are sent.
+pub fn other_answer(
+    alloc: Global,
+    workers: u8,
+    story: &[Line],
+    sent: &mut Vec<u8>,
+) -> Result<Option<usize>, Fail> {
     if workers == 0 || workers > 16 {
         return Err("no such number of workers".into());
     }
     let mut primary = start(alloc, workers)?;
-    for step in steps {
-        let answer = take(alloc, workers, &mut primary, *step, &mut told.sent)?;
-        told.answers
-            .push((answer, primary.durable(), primary.pending()))?;
+    for (place, (step, answer, durable, pending)) in story.iter().enumerate() {
+        if take(alloc, workers, &mut primary, *step, sent)? != *answer
+            || primary.durable() != *durable
+            || primary.pending() != *pending
+        {
+            return Ok(Some(place));
+        }
     }
-    Ok(())
+    Ok(None)
 }
 
 /// A primary without commits.

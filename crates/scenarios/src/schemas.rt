@@ -1,163 +1,172 @@
 //! The faults of schemas, what schemas and kinds tell, and the limits.
 
+use crate::wanted::{BANK, bank};
 use rows::{Kind, Schema, SchemaFault, column_at, limits};
 use std::alloc::Global;
 use std::test::Fail;
+
+/// A table: its name and its columns.
+type Table = (&'static str, &'static [Kind]);
+
+const INT: &[Kind] = &[Kind::Int];
+
+/// The widest column.
+const WIDE: Kind = Kind::Octets(64);
+
+/// As many tables as there may be, and one more, whose name is empty.
+const TABLES: [Table; 17] = [
+    ("a", INT),
+    ("b", INT),
+    ("c", INT),
+    ("d", INT),
+    ("e", INT),
+    ("f", INT),
+    ("g", INT),
+    ("h", INT),
+    ("i", INT),
+    ("j", INT),
+    ("k", INT),
+    ("l", INT),
+    ("m", INT),
+    ("n", INT),
+    ("o", INT),
+    ("p", INT),
+    ("", INT),
+];
+
+/// Columns of a table named `a`, and its fault.
+const COLUMNS: [(&[Kind], Option<SchemaFault>); 11] = [
+    (INT, None),
+    (&[], Some(SchemaFault::Empty)),
+    // 16 columns at most. A bad width comes behind too many columns.
+    (&[Kind::Int; 16], None),
+    (&[Kind::Octets(0); 17], Some(SchemaFault::TooManyColumns)),
+    // Octets are 1 to 64 bytes.
+    (&[Kind::Octets(0)], Some(SchemaFault::BadWidth)),
+    (&[Kind::Octets(1)], None),
+    (&[Kind::Octets(64)], None),
+    (&[Kind::Int, Kind::Octets(65)], Some(SchemaFault::BadWidth)),
+    // A row has 512 bytes at most. A bad width comes before a row too wide.
+    (&[WIDE; 8], None),
+    (
+        &[
+            WIDE,
+            WIDE,
+            WIDE,
+            WIDE,
+            WIDE,
+            WIDE,
+            WIDE,
+            WIDE,
+            Kind::Octets(1),
+        ],
+        Some(SchemaFault::RowTooWide),
+    ),
+    (
+        &[
+            WIDE,
+            WIDE,
+            WIDE,
+            WIDE,
+            WIDE,
+            WIDE,
+            WIDE,
+            WIDE,
+            Kind::Octets(65),
+        ],
+        Some(SchemaFault::BadWidth),
+    ),
+];
 
 /// How many tables the schema of these tables has, or why they are none.
 fn count_of(alloc: Global, tables: &[(&str, &[Kind])]) -> Result<usize, SchemaFault> {
     Ok(Schema::new(alloc, tables)?.len())
 }
 
-/// The fault of one table of that name, with so many columns of the first kind and one of the
-/// second behind them.
-fn fault_of(alloc: Global, name: &str, before: u8, first: Kind, last: Kind) -> Option<SchemaFault> {
-    let mut kinds = [first; 17];
-    let before = usize::from(before).min(16);
-    kinds[before] = last;
-    count_of(alloc, &[(name, &kinds[..before + 1])]).err()
-}
-
-#[test]
-fn columns_are_good(rt: HostRuntime) {
-    let int = Kind::Int;
-    let bad = Some(SchemaFault::BadWidth);
-    for (name, before, first, last, fault) in [
-        ("a", 0, int, int, None),
-        ("", 0, int, int, Some(SchemaFault::Empty)),
-        // 16 columns at most. A bad width comes behind too many columns.
-        ("a", 15, int, int, None),
-        (
-            "a",
-            16,
-            Kind::Octets(0),
-            Kind::Octets(0),
-            Some(SchemaFault::TooManyColumns),
-        ),
-        // Octets are 1 to 64 bytes.
-        ("a", 0, int, Kind::Octets(0), bad),
-        ("a", 0, int, Kind::Octets(1), None),
-        ("a", 0, int, Kind::Octets(64), None),
-        ("a", 1, int, Kind::Octets(65), bad),
-        // A row has 512 bytes at most. A bad width comes before a row too wide.
-        ("a", 7, Kind::Octets(64), Kind::Octets(64), None),
-        (
-            "a",
-            8,
-            Kind::Octets(64),
-            Kind::Octets(1),
-            Some(SchemaFault::RowTooWide),
-        ),
-        ("a", 8, Kind::Octets(64), Kind::Octets(65), bad),
-    ] {
-        let found = fault_of(rt.alloc(), name, before, first, last);
-        assert_eq!(rt; found, fault, "{name}: {before} and {last:?}");
+/// The place of the first of these columns that have another fault.
+fn other_fault(alloc: Global) -> Option<usize> {
+    for (place, (columns, fault)) in COLUMNS.iter().enumerate() {
+        if count_of(alloc, &[("a", *columns)]).err() != *fault {
+            return Some(place);
+        }
     }
+    None
 }
 
 #[test]
-fn tables_have_names_and_columns(rt: HostRuntime) {
+fn schemas_are_good_or_have_a_fault(rt: HostRuntime) {
     let alloc = rt.alloc();
-    let one = [Kind::Int];
-    let one = one.as_slice();
-    assert_eq!(rt; count_of(alloc, &[]), Err(SchemaFault::Empty), "no table");
+    assert_eq!(rt; other_fault(alloc), None);
+    assert_eq!(rt; count_of(alloc, &[]), Err(SchemaFault::Empty));
+    assert_eq!(rt; count_of(alloc, &TABLES[16..]), Err(SchemaFault::Empty));
     assert_eq!(rt;
-        count_of(alloc, &[("a", &[])]),
-        Err(SchemaFault::Empty),
-        "no column"
+        count_of(alloc, &[("a", INT), ("b", INT), ("a", &[])]),
+        Err(SchemaFault::NameTwice)
     );
-    let tables = [("a", one), ("b", one), ("a", &[])];
-    assert_eq!(rt; count_of(alloc, &tables), Err(SchemaFault::NameTwice));
-}
-
-#[test]
-fn there_are_16_tables_at_most(rt: HostRuntime) {
-    let one = [Kind::Int];
-    let one = one.as_slice();
-    let tables = [
-        ("a", one),
-        ("b", one),
-        ("c", one),
-        ("d", one),
-        ("e", one),
-        ("f", one),
-        ("g", one),
-        ("h", one),
-        ("i", one),
-        ("j", one),
-        ("k", one),
-        ("l", one),
-        ("m", one),
-        ("n", one),
-        ("o", one),
-        ("p", one),
-        ("", one),
-    ];
-    assert_eq!(rt; count_of(rt.alloc(), &tables[..16]), Ok(16));
+    assert_eq!(rt; count_of(alloc, &TABLES[..16]), Ok(16));
     // Too many tables come before an empty name.
-    assert_eq!(rt;
-        count_of(rt.alloc(), &tables),
-        Err(SchemaFault::TooManyTables)
-    );
+    assert_eq!(rt; count_of(alloc, &TABLES), Err(SchemaFault::TooManyTables));
 }
 
+/// Columns that are looked for by their place.
+const KINDS: [Kind; 3] = [Kind::Octets(2), Kind::Int, Kind::Octets(2)];
+
+/// An offset and a size, and which column stands there.
+const PLACES: [(usize, usize, Option<(usize, Kind)>); 7] = [
+    (0, 2, Some((0, Kind::Octets(2)))),
+    (2, 8, Some((1, Kind::Int))),
+    (10, 2, Some((2, Kind::Octets(2)))),
+    // Two columns; a part of a column; parts of two; behind the row.
+    (0, 10, None),
+    (2, 2, None),
+    (1, 2, None),
+    (12, 2, None),
+];
+
+/// Kinds, each with its width, and whether it is good.
+const WIDTHS: [(Kind, usize, bool); 5] = [
+    (Kind::Int, 8, true),
+    (Kind::Octets(3), 3, true),
+    (Kind::Octets(64), 64, true),
+    (Kind::Octets(65), 65, false),
+    (Kind::Octets(0), 0, false),
+];
+
 #[test]
-fn columns_are_found_by_their_place(rt: HostRuntime) {
-    let kinds = [Kind::Octets(2), Kind::Int, Kind::Octets(2)];
-    for (offset, size, column) in [
-        (0, 2, Some((0, Kind::Octets(2)))),
-        (2, 8, Some((1, Kind::Int))),
-        (10, 2, Some((2, Kind::Octets(2)))),
-        // Two columns; a part of a column; parts of two; behind the row.
-        (0, 10, None),
-        (2, 2, None),
-        (1, 2, None),
-        (12, 2, None),
-    ] {
-        assert_eq!(rt;
-            column_at(&kinds, offset, size),
-            column,
-            "{size} at {offset}"
-        );
+fn columns_have_their_places_and_widths(rt: HostRuntime) {
+    for (offset, size, column) in &PLACES {
+        assert_eq!(rt; column_at(&KINDS, *offset, *size), *column);
+    }
+    for (kind, width, is_good) in &WIDTHS {
+        assert_eq!(rt; (kind.width(), kind.is_good()), (*width, *is_good));
     }
 }
 
-#[test]
-fn kinds_tell_their_width(rt: HostRuntime) {
-    assert_eq!(rt; Kind::Int.width(), 8);
-    assert_eq!(rt; Kind::Octets(3).width(), 3);
-    assert!(rt; Kind::Int.is_good());
-    assert!(rt; Kind::Octets(64).is_good());
-    assert!(rt; !Kind::Octets(65).is_good());
-    assert!(rt; !Kind::Octets(0).is_good());
-}
-
-/// Whether the schema tells the tables of a bank: accounts of two numbers, and an audit of one.
-fn tells_a_bank(schema: &Schema) -> bool {
+/// Whether the schema tells the tables of the bank.
+fn tells_the_bank(schema: &Schema) -> bool {
+    for (table, (name, kinds)) in BANK.iter().enumerate() {
+        if schema.name(table) != Some(*name)
+            || schema.kinds(table) != Some(*kinds)
+            || schema.table_named(name) != Some(table)
+        {
+            return false;
+        }
+    }
     schema.len() == 2
-        && schema.kinds(0) == Some([Kind::Int, Kind::Int].as_slice())
-        && schema.kinds(1) == Some([Kind::Int].as_slice())
-        && schema.kinds(2).is_none()
-        && schema.name(0) == Some("accounts")
         && schema.name(2).is_none()
-        && schema.table_named("audit") == Some(1)
+        && schema.kinds(2).is_none()
         && schema.table_named("audits").is_none()
 }
 
 #[test]
 fn a_schema_and_its_copy_tell_their_tables(rt: HostRuntime) -> Result<(), Fail> {
-    let accounts = [Kind::Int, Kind::Int];
-    let audit = [Kind::Int];
-    let tables = [
-        ("accounts", accounts.as_slice()),
-        ("audit", audit.as_slice()),
-    ];
-    let schema = Schema::new(rt.alloc(), &tables)?;
-    assert!(rt; tells_a_bank(&schema));
-    assert!(rt; tells_a_bank(&schema.clone()?));
+    let schema = bank(rt.alloc())?;
+    assert!(rt; tells_the_bank(&schema));
+    assert!(rt; tells_the_bank(&schema.clone()?));
     Ok(())
 }
 
+/// Its contract says them.
 #[test]
 fn limits_are_those_of_the_definitions() {
     limits::are_as_defined();

@@ -43,13 +43,6 @@ const WRITE_SKEW: [(&str, &str); 13] = [
     ("commit 2 0", "ticket 3"),
 ];
 
-#[test]
-fn commits_answer_by_what_they_write(rt: HostRuntime) -> Result<(), Fail> {
-    expect(&rt, rt.alloc(), SETTINGS, &FIRST_TICKET)?;
-    expect(&rt, rt.alloc(), SETTINGS, &CONFLICT)?;
-    expect(&rt, rt.alloc(), SETTINGS, &WRITE_SKEW)
-}
-
 /// What a transaction's calls answer, each refusal among them.
 const CALLS: [(&str, &str); 39] = [
     ("begin", "tx 0 at 0"),
@@ -93,11 +86,6 @@ const CALLS: [(&str, &str); 39] = [
     ("get 2 item 7 0", "missing"),
 ];
 
-#[test]
-fn calls_of_transactions_answer_as_they_should(rt: HostRuntime) -> Result<(), Fail> {
-    expect(&rt, rt.alloc(), TWO_TABLES, &CALLS)
-}
-
 /// The widest values of each kind, as they are printed.
 const VALUES: [(&str, &str); 8] = [
     ("begin", "tx 0 at 0"),
@@ -117,12 +105,6 @@ const VALUES: [(&str, &str); 8] = [
     ("commit 0 0", "ticket 1"),
     ("flush 1", "durable 1"),
 ];
-
-#[test]
-fn values_are_printed_as_they_are_written(rt: HostRuntime) -> Result<(), Fail> {
-    let settings = "workers 1\nreplicas 1\ntable item int bytes64\n";
-    expect(&rt, rt.alloc(), settings, &VALUES)
-}
 
 /// A patch and a delete, each a commit of its own, on their way to a replica.
 const CHANGES: [(&str, &str); 26] = [
@@ -160,7 +142,20 @@ const CHANGES: [(&str, &str); 26] = [
     ("run 0", "version 3 queries 1\nquery 0 rows 1\n0"),
 ];
 
+/// Settings, and stories behind them.
+const STORIES: [(&str, &[(&str, &str)]); 6] = [
+    (SETTINGS, &FIRST_TICKET),
+    (SETTINGS, &CONFLICT),
+    (SETTINGS, &WRITE_SKEW),
+    (TWO_TABLES, &CALLS),
+    ("workers 1\nreplicas 1\ntable item int bytes64\n", &VALUES),
+    (SETTINGS, &CHANGES),
+];
+
 #[test]
-fn changes_are_sent_to_the_byte(rt: HostRuntime) -> Result<(), Fail> {
-    expect(&rt, rt.alloc(), SETTINGS, &CHANGES)
+fn transactions_answer_as_they_should(rt: HostRuntime) -> Result<(), Fail> {
+    for (settings, story) in &STORIES {
+        expect(&rt, rt.alloc(), settings, story)?;
+    }
+    Ok(())
 }

@@ -5,8 +5,8 @@ use std::alloc::{AllocError, Global};
 use std::process::Abort;
 use std::test::Fail;
 use world::{
-    Echo, Event, Node, Output, RunFault, Setup, read_script, run, run_script, steps_are_allowed,
-    worked_scripts,
+    Echo, Event, Node, Output, RunFault, Setup, allowed_runs_are_exact, read_script, run,
+    run_script, runs_keep_promises, worked_scripts,
 };
 
 /// What a script prints.
@@ -127,11 +127,60 @@ const STORY: [(&str, &str); 37] = [
     ),
 ];
 
+/// Values are of their columns' kinds.
+const KINDS: [(&str, &str); 7] = [
+    ("begin", "tx 0 at 0"),
+    ("insert 0 item 7 5 xab", "unfit"),
+    ("insert 0 item 7 5 xabcdef", "unfit"),
+    ("insert 0 item 7 xabcd 5", "unfit"),
+    ("insert 0 item 7 5 5", "unfit"),
+    ("insert 0 acct 7 5 xabcd", "unfit"),
+    ("insert 0 item 7 5 xabcd", "ok"),
+];
+
+/// A value of bytes is sent as it is.
+const BYTES: [(&str, &str); 6] = [
+    ("begin", "tx 0 at 0"),
+    ("insert 0 item 7 5 xabcd", "ok"),
+    ("commit 0 0", "ticket 1"),
+    ("flush 1", "durable 1"),
+    ("push 0 0", "sent 0 48"),
+    (
+        "show 0",
+        "424401010030000000000000000000000000000000000101000101010000000000000007000a0000000000000005abcd",
+    ),
+];
+
+/// A report counts each table.
+const REPORT: [(&str, &str); 13] = [
+    ("begin", "tx 0 at 0"),
+    ("insert 0 item 7 5 xabcd", "ok"),
+    ("insert 0 item 8 5 xabcd", "ok"),
+    ("commit 0 0", "ticket 1"),
+    ("flush 1", "durable 1"),
+    ("push 0 0", "sent 0 70"),
+    ("deliver 0 r0", "stored"),
+    ("open 0 query acct get count", "opened 1"),
+    ("open 0 query item get count", "opened 2"),
+    ("ask 0", "sent 1 23"),
+    ("deliver 1 p", "sent 2 40"),
+    ("deliver 2 r0", "head 1"),
+    (
+        "run 0",
+        "version 1 queries 2\nquery 0 rows 1\n0\nquery 1 rows 1\n2",
+    ),
+];
+
 #[test]
 fn events_answer_as_they_should(rt: HostRuntime) -> Result<(), Fail> {
-    expect(&rt, rt.alloc(), SETTINGS, &STORY)
+    expect(&rt, rt.alloc(), SETTINGS, &STORY)?;
+    for story in [KINDS.as_slice(), BYTES.as_slice(), REPORT.as_slice()] {
+        expect(&rt, rt.alloc(), TWO_TABLES, story)?;
+    }
+    Ok(())
 }
 
+/// The last line may lack its end.
 #[test]
 fn a_frame_is_shown_to_the_byte(rt: HostRuntime) -> Result<(), Fail> {
     let script = "begin\ninsert 0 acct 7 5 -1\ncommit 0 0\nflush 1\npush 0 0\nshow 0";
@@ -140,41 +189,6 @@ fn a_frame_is_shown_to_the_byte(rt: HostRuntime) -> Result<(), Fail> {
     let frame =
         "42440101003600000000000000000000000000000000010100010100000000000000000700100000000000000005ffffffffffffffff\n";
     assert!(rt; text.as_slice().ends_with(frame.as_bytes()));
-    Ok(())
-}
-
-#[test]
-fn values_are_of_their_columns_kinds(rt: HostRuntime) -> Result<(), Fail> {
-    let events = "begin\ninsert 0 item 7 5 xab\ninsert 0 item 7 5 xabcdef\n\
-        insert 0 item 7 xabcd 5\ninsert 0 item 7 5 5\ninsert 0 acct 7 5 xabcd\ninsert 0 item 7 5 xabcd\n";
-    let script = format!(in rt.alloc(); "{TWO_TABLES}{events}")?;
-    let text = printed(rt.alloc(), script.as_bytes())?;
-    let answers = "tx 0 at 0\nunfit\nunfit\nunfit\nunfit\nunfit\nok\n";
-    assert_eq!(rt; text.as_slice(), answers.as_bytes());
-    Ok(())
-}
-
-#[test]
-fn a_value_of_bytes_is_sent_as_it_is(rt: HostRuntime) -> Result<(), Fail> {
-    let events = "begin\ninsert 0 item 7 5 xabcd\ncommit 0 0\nflush 1\npush 0 0\nshow 0\n";
-    let script = format!(in rt.alloc(); "{TWO_TABLES}{events}")?;
-    let text = printed(rt.alloc(), script.as_bytes())?;
-    let frame =
-        "424401010030000000000000000000000000000000000101000101010000000000000007000a0000000000000005abcd\n";
-    assert!(rt; text.as_slice().ends_with(frame.as_bytes()));
-    Ok(())
-}
-
-#[test]
-fn a_report_counts_each_table(rt: HostRuntime) -> Result<(), Fail> {
-    let commit =
-        "begin\ninsert 0 item 7 5 xabcd\ninsert 0 item 8 5 xabcd\ncommit 0 0\nflush 1\npush 0 0\ndeliver 0 r0\n";
-    let report =
-        "open 0 query acct get count\nopen 0 query item get count\nask 0\ndeliver 1 p\ndeliver 2 r0\nrun 0\n";
-    let script = format!(in rt.alloc(); "{TWO_TABLES}{commit}{report}")?;
-    let text = printed(rt.alloc(), script.as_bytes())?;
-    let answers = "head 1\nversion 1 queries 2\nquery 0 rows 1\n0\nquery 1 rows 1\n2\n";
-    assert!(rt; text.as_slice().ends_with(answers.as_bytes()));
     Ok(())
 }
 
@@ -233,6 +247,7 @@ fn a_run_answers_each_event(rt: HostRuntime) -> Result<(), Fail> {
 
 #[test]
 fn the_laws_can_be_called() {
-    steps_are_allowed();
+    runs_keep_promises();
+    allowed_runs_are_exact();
     worked_scripts();
 }

@@ -1,5 +1,8 @@
 //! Transactions: what each sees of the rows at its snapshot and of its own entries, each refusal,
 //! and what refused memory leaves.
+//!
+//! At version 1 account 7 has the number 5, at 2 it has 6, at 3 it is not there; at 4 it has 8, and
+//! account 8 has 10. The other column of each is `ab`.
 
 use crate::accounts::{Cell, cell_of, history, value_of};
 use mvcc::{Transaction, TxFault, Versions};
@@ -28,28 +31,28 @@ enum Answer {
     Count(usize),
 }
 
-/// What these calls answer on a version of accounts; the last answer is how many entries the
-/// transaction then hands out. At version 1 account 7 has the number 5, at 2 it has 6, at 3 it is
-/// not there; at 4 it has 8, and account 8 has 10. The other column of each is `ab`.
-fn answers(alloc: Global, version: u64, calls: &[Call]) -> Result<Vec<Answer>, Fail> {
-    let versions = history(alloc)?;
-    answers_on(alloc, &versions, version, calls)
-}
+/// A line of a story: a call, and what it is to answer.
+type Line = (Call, Answer);
 
-/// What they answer on these versions.
-fn answers_on(
+/// The place of the first call on a version that answers otherwise; the story's length, where the
+/// transaction then hands out another number of entries.
+fn other_answer(
     alloc: Global,
     versions: &Versions,
     version: u64,
-    calls: &[Call],
-) -> Result<Vec<Answer>, Fail> {
+    story: &[Line],
+    count: usize,
+) -> Result<Option<usize>, Fail> {
     let mut transaction = Transaction::begin(alloc, version);
-    let mut answers = Vec::new(alloc);
-    for call in calls {
-        answers.push(make(alloc, versions, &mut transaction, *call)?)?;
+    for (place, (call, expected)) in story.iter().enumerate() {
+        if make(alloc, versions, &mut transaction, *call)? != *expected {
+            return Ok(Some(place));
+        }
     }
-    answers.push(Answer::Count(transaction.into_entries().len()))?;
-    Ok(answers)
+    if transaction.into_entries().len() != count {
+        return Ok(Some(story.len()));
+    }
+    Ok(None)
 }
 
 /// What this call answers.
@@ -112,11 +115,6 @@ fn values_of(alloc: Global, cells: &[Cell]) -> Result<Vec<Value>, Fail> {
     Ok(values)
 }
 
-/// The answer to a look at a number.
-fn number(number: i64) -> Answer {
-    Answer::Holds(Cell::Number(number))
-}
-
 /// The name that the transactions write.
 const NAME: Cell = Cell::Pair(b'c', b'd');
 
@@ -128,194 +126,156 @@ const EXISTS: Answer = Answer::Refused(TxFault::Exists);
 
 const TOO_MANY: Answer = Answer::Refused(TxFault::TooManyEntries);
 
-#[test]
-fn rows_at_its_snapshot_are_seen(rt: HostRuntime) -> Result<(), Fail> {
-    for (version, seven) in [
-        (0, MISSING),
-        (1, number(5)),
-        (2, number(6)),
-        (3, MISSING),
-        (4, number(8)),
-    ] {
-        let answers = answers(rt.alloc(), version, &[Call::Snapshot, Call::Get(0, 7, 0)])?;
-        let expected = [Answer::Snapshot(version), seven, Answer::Count(0)];
-        assert_eq!(rt; answers.as_slice(), expected.as_slice(), "at {version}");
-    }
-    Ok(())
-}
-
-#[test]
-fn a_row_of_its_own_is_seen(rt: HostRuntime) -> Result<(), Fail> {
-    let calls = [
+/// A row of its own is seen, until it deletes it.
+const OWN_ROW: [Line; 6] = [
+    (
         Call::Insert(0, 9, &[Cell::Number(-1), NAME]),
-        Call::Get(0, 9, 0),
-        Call::Get(0, 9, 1),
-        Call::Delete(0, 9),
-        Call::Get(0, 9, 0),
-        Call::Get(0, 8, 0),
-    ];
-    let expected = [
         Answer::Accepted,
-        number(-1),
-        Answer::Holds(NAME),
-        Answer::Accepted,
-        MISSING,
-        number(10),
-        Answer::Count(2),
-    ];
-    let answers = answers(rt.alloc(), 4, &calls)?;
-    assert_eq!(rt; answers.as_slice(), expected.as_slice());
-    Ok(())
-}
+    ),
+    (Call::Get(0, 9, 0), Answer::Holds(Cell::Number(-1))),
+    (Call::Get(0, 9, 1), Answer::Holds(NAME)),
+    (Call::Delete(0, 9), Answer::Accepted),
+    (Call::Get(0, 9, 0), MISSING),
+    (Call::Get(0, 8, 0), Answer::Holds(Cell::Number(10))),
+];
 
-#[test]
-fn its_own_values_are_seen(rt: HostRuntime) -> Result<(), Fail> {
-    let calls = [
-        Call::Set(0, 7, 1, NAME),
-        Call::Get(0, 7, 0),
-        Call::Get(0, 7, 1),
-        Call::Set(0, 7, 0, Cell::Number(11)),
-        Call::Get(0, 7, 0),
-        Call::Get(0, 7, 1),
-    ];
-    let expected = [
-        Answer::Accepted,
-        number(5),
-        Answer::Holds(NAME),
-        Answer::Accepted,
-        number(11),
-        Answer::Holds(NAME),
-        Answer::Count(2),
-    ];
-    let answers = answers(rt.alloc(), 1, &calls)?;
-    assert_eq!(rt; answers.as_slice(), expected.as_slice());
-    Ok(())
-}
+/// Its own values are seen.
+const OWN_VALUES: [Line; 6] = [
+    (Call::Set(0, 7, 1, NAME), Answer::Accepted),
+    (Call::Get(0, 7, 0), Answer::Holds(Cell::Number(5))),
+    (Call::Get(0, 7, 1), Answer::Holds(NAME)),
+    (Call::Set(0, 7, 0, Cell::Number(11)), Answer::Accepted),
+    (Call::Get(0, 7, 0), Answer::Holds(Cell::Number(11))),
+    (Call::Get(0, 7, 1), Answer::Holds(NAME)),
+];
 
-#[test]
-fn the_last_of_its_values_is_seen(rt: HostRuntime) -> Result<(), Fail> {
-    let calls = [
-        Call::Set(0, 7, 0, Cell::Number(11)),
-        Call::Set(0, 7, 0, Cell::Number(12)),
-        Call::Get(0, 7, 0),
-        Call::Count,
-    ];
-    let expected = [
-        Answer::Accepted,
-        Answer::Accepted,
-        number(12),
-        Answer::Count(2),
-        Answer::Count(2),
-    ];
-    let answers = answers(rt.alloc(), 4, &calls)?;
-    assert_eq!(rt; answers.as_slice(), expected.as_slice());
-    Ok(())
-}
+/// The last of its values for a column is seen.
+const LAST_VALUE: [Line; 4] = [
+    (Call::Set(0, 7, 0, Cell::Number(11)), Answer::Accepted),
+    (Call::Set(0, 7, 0, Cell::Number(12)), Answer::Accepted),
+    (Call::Get(0, 7, 0), Answer::Holds(Cell::Number(12))),
+    (Call::Count, Answer::Count(2)),
+];
 
-#[test]
-fn a_row_that_it_deleted_is_missing(rt: HostRuntime) -> Result<(), Fail> {
-    let calls = [
-        Call::Delete(0, 7),
-        Call::Get(0, 7, 0),
-        Call::Set(0, 7, 0, Cell::Number(11)),
-        Call::Delete(0, 7),
+/// A row that it deleted is missing, and may be put in again.
+const DELETED_ROW: [Line; 7] = [
+    (Call::Delete(0, 7), Answer::Accepted),
+    (Call::Get(0, 7, 0), MISSING),
+    (Call::Set(0, 7, 0, Cell::Number(11)), MISSING),
+    (Call::Delete(0, 7), MISSING),
+    (
         Call::Insert(0, 7, &[Cell::Number(12), NAME]),
-        Call::Get(0, 7, 0),
-        Call::Count,
-    ];
-    let expected = [
         Answer::Accepted,
-        MISSING,
-        MISSING,
-        MISSING,
-        Answer::Accepted,
-        number(12),
-        Answer::Count(2),
-        Answer::Count(2),
-    ];
-    let answers = answers(rt.alloc(), 4, &calls)?;
-    assert_eq!(rt; answers.as_slice(), expected.as_slice());
-    Ok(())
-}
+    ),
+    (Call::Get(0, 7, 0), Answer::Holds(Cell::Number(12))),
+    (Call::Count, Answer::Count(2)),
+];
 
-/// Too few values, a table, a kind, a width, a column, and tables and columns of each other call.
-#[test]
-fn what_does_not_fit_is_refused(rt: HostRuntime) -> Result<(), Fail> {
-    let calls = [
-        Call::Insert(0, 9, &[Cell::Number(11)]),
-        Call::Insert(1, 9, &[Cell::Number(11), NAME]),
-        Call::Set(0, 7, 0, NAME),
-        Call::Set(0, 7, 1, Cell::Byte(b'c')),
-        Call::Set(0, 7, 2, Cell::Number(11)),
-        Call::Set(1, 7, 0, Cell::Number(11)),
-        Call::Delete(1, 7),
-        Call::Get(0, 7, 2),
-        Call::Count,
-    ];
-    let expected = [
-        UNFIT,
-        UNFIT,
-        UNFIT,
-        UNFIT,
-        UNFIT,
-        UNFIT,
-        UNFIT,
-        UNFIT,
-        Answer::Count(0),
-        Answer::Count(0),
-    ];
-    let answers = answers(rt.alloc(), 4, &calls)?;
-    assert_eq!(rt; answers.as_slice(), expected.as_slice());
-    Ok(())
-}
+/// What does not fit is refused: too few values, a table, a kind, a width, a column, and tables and
+/// columns of each other call.
+const UNFIT_CALLS: [Line; 9] = [
+    (Call::Insert(0, 9, &[Cell::Number(11)]), UNFIT),
+    (Call::Insert(1, 9, &[Cell::Number(11), NAME]), UNFIT),
+    (Call::Set(0, 7, 0, NAME), UNFIT),
+    (Call::Set(0, 7, 1, Cell::Byte(b'c')), UNFIT),
+    (Call::Set(0, 7, 2, Cell::Number(11)), UNFIT),
+    (Call::Set(1, 7, 0, Cell::Number(11)), UNFIT),
+    (Call::Delete(1, 7), UNFIT),
+    (Call::Get(0, 7, 2), UNFIT),
+    (Call::Count, Answer::Count(0)),
+];
 
-#[test]
-fn a_row_that_is_there_or_not_is_refused(rt: HostRuntime) -> Result<(), Fail> {
-    let calls = [
-        Call::Set(0, 9, 0, Cell::Number(11)),
-        Call::Delete(0, 9),
-        Call::Insert(0, 7, &[Cell::Number(11), NAME]),
+/// A row that is not there is not changed, and one that is there is not put in.
+const ROWS_THERE_OR_NOT: [Line; 6] = [
+    (Call::Set(0, 9, 0, Cell::Number(11)), MISSING),
+    (Call::Delete(0, 9), MISSING),
+    (Call::Insert(0, 7, &[Cell::Number(11), NAME]), EXISTS),
+    (
         Call::Insert(0, 9, &[Cell::Number(11), NAME]),
-        Call::Insert(0, 9, &[Cell::Number(11), NAME]),
-        Call::Count,
-    ];
-    let expected = [
-        MISSING,
-        MISSING,
-        EXISTS,
         Answer::Accepted,
-        EXISTS,
-        Answer::Count(1),
-        Answer::Count(1),
-    ];
-    let answers = answers(rt.alloc(), 4, &calls)?;
-    assert_eq!(rt; answers.as_slice(), expected.as_slice());
-    Ok(())
+    ),
+    (Call::Insert(0, 9, &[Cell::Number(11), NAME]), EXISTS),
+    (Call::Count, Answer::Count(1)),
+];
+
+/// A third entry is refused.
+const THIRD_ENTRY: [Line; 7] = [
+    (Call::Set(0, 7, 0, Cell::Number(11)), Answer::Accepted),
+    (Call::Delete(0, 8), Answer::Accepted),
+    (Call::Insert(0, 8, &[Cell::Number(12), NAME]), TOO_MANY),
+    (Call::Set(0, 7, 0, Cell::Number(12)), TOO_MANY),
+    (Call::Delete(0, 7), TOO_MANY),
+    (Call::Delete(0, 8), MISSING),
+    (Call::Get(0, 7, 0), Answer::Holds(Cell::Number(11))),
+];
+
+/// Versions, each with the calls of a transaction on it, what they answer, and how many entries it
+/// then has.
+const STORIES: [(u64, &[Line], usize); 12] = [
+    // What is seen at each snapshot.
+    (
+        0,
+        &[
+            (Call::Snapshot, Answer::Snapshot(0)),
+            (Call::Get(0, 7, 0), MISSING),
+        ],
+        0,
+    ),
+    (
+        1,
+        &[
+            (Call::Snapshot, Answer::Snapshot(1)),
+            (Call::Get(0, 7, 0), Answer::Holds(Cell::Number(5))),
+        ],
+        0,
+    ),
+    (
+        2,
+        &[
+            (Call::Snapshot, Answer::Snapshot(2)),
+            (Call::Get(0, 7, 0), Answer::Holds(Cell::Number(6))),
+        ],
+        0,
+    ),
+    (
+        3,
+        &[
+            (Call::Snapshot, Answer::Snapshot(3)),
+            (Call::Get(0, 7, 0), MISSING),
+        ],
+        0,
+    ),
+    (
+        4,
+        &[
+            (Call::Snapshot, Answer::Snapshot(4)),
+            (Call::Get(0, 7, 0), Answer::Holds(Cell::Number(8))),
+        ],
+        0,
+    ),
+    (4, &OWN_ROW, 2),
+    (1, &OWN_VALUES, 2),
+    (4, &LAST_VALUE, 2),
+    (4, &DELETED_ROW, 2),
+    (4, &UNFIT_CALLS, 0),
+    (4, &ROWS_THERE_OR_NOT, 1),
+    (4, &THIRD_ENTRY, 2),
+];
+
+/// The first of these stories that goes otherwise, and its place.
+fn other_story(alloc: Global) -> Result<Option<(usize, usize)>, Fail> {
+    let versions = history(alloc)?;
+    for (number, (version, story, count)) in STORIES.iter().enumerate() {
+        if let Some(place) = other_answer(alloc, &versions, *version, story, *count)? {
+            return Ok(Some((number, place)));
+        }
+    }
+    Ok(None)
 }
 
 #[test]
-fn a_third_entry_is_refused(rt: HostRuntime) -> Result<(), Fail> {
-    let calls = [
-        Call::Set(0, 7, 0, Cell::Number(11)),
-        Call::Delete(0, 8),
-        Call::Insert(0, 8, &[Cell::Number(12), NAME]),
-        Call::Set(0, 7, 0, Cell::Number(12)),
-        Call::Delete(0, 7),
-        Call::Delete(0, 8),
-        Call::Get(0, 7, 0),
-    ];
-    let expected = [
-        Answer::Accepted,
-        Answer::Accepted,
-        TOO_MANY,
-        TOO_MANY,
-        TOO_MANY,
-        MISSING,
-        number(11),
-        Answer::Count(2),
-    ];
-    let answers = answers(rt.alloc(), 4, &calls)?;
-    assert_eq!(rt; answers.as_slice(), expected.as_slice());
+fn transactions_answer_as_they_should(rt: HostRuntime) -> Result<(), Fail> {
+    assert_eq!(rt; other_story(rt.alloc())?, None);
     Ok(())
 }
 
@@ -355,9 +315,15 @@ fn a_change_without_memory_changes_nothing(rt: HostRuntime) -> Result<(), Fail> 
         assert!(rt; insert(&versions, &mut transaction, name)?);
     }
     if !set(&versions, &mut transaction)? {
-        assert_eq!(rt; told(&versions, &transaction)?, (1, number(11)));
+        assert_eq!(rt;
+            told(&versions, &transaction)?,
+            (1, Answer::Holds(Cell::Number(11)))
+        );
         assert!(rt; set(&versions, &mut transaction)?);
     }
-    assert_eq!(rt; told(&versions, &transaction)?, (2, number(12)));
+    assert_eq!(rt;
+        told(&versions, &transaction)?,
+        (2, Answer::Holds(Cell::Number(12)))
+    );
     Ok(())
 }

@@ -38,20 +38,19 @@ enum Found {
     Sizes(u64, usize, usize, bool),
 }
 
-/// What looks find behind that history.
-fn found_in_history(alloc: Global, more: &[&[Change]], looks: &[Look]) -> Result<Vec<Found>, Fail> {
+/// A line of a story: a look, and what it is to find.
+type Line = (Look, Found);
+
+/// The place of the first look that finds something else behind that history and more commits.
+fn other_found(alloc: Global, more: &[&[Change]], story: &[Line]) -> Result<Option<usize>, Fail> {
     let mut versions = history(alloc)?;
     absorb_all(alloc, &mut versions, more)?;
-    found_in(alloc, &versions, looks)
-}
-
-/// What these looks find.
-fn found_in(alloc: Global, versions: &Versions, looks: &[Look]) -> Result<Vec<Found>, Fail> {
-    let mut found = Vec::new(alloc);
-    for look in looks {
-        found.push(look_at(alloc, versions, *look)?)?;
+    for (place, (look, expected)) in story.iter().enumerate() {
+        if look_at(alloc, &versions, *look)? != *expected {
+            return Ok(Some(place));
+        }
     }
-    Ok(found)
+    Ok(None)
 }
 
 /// What this look finds.
@@ -124,102 +123,61 @@ fn entries_at(versions: &Versions, number: u64) -> Option<usize> {
     }
 }
 
-/// The number of an account.
-fn number(number: i64) -> Found {
-    Found::Holds(Cell::Number(number))
-}
+/// The numbers of the accounts 7 and 8 are those of each version.
+const VALUES: [Line; 10] = [
+    (Look::Value(0, 7, 0), Found::Nothing),
+    (Look::Value(0, 8, 0), Found::Nothing),
+    (Look::Value(1, 7, 0), Found::Holds(Cell::Number(5))),
+    (Look::Value(1, 8, 0), Found::Nothing),
+    (Look::Value(2, 7, 0), Found::Holds(Cell::Number(6))),
+    (Look::Value(2, 8, 0), Found::Nothing),
+    (Look::Value(3, 7, 0), Found::Nothing),
+    (Look::Value(3, 8, 0), Found::Nothing),
+    (Look::Value(4, 7, 0), Found::Holds(Cell::Number(8))),
+    (Look::Value(4, 8, 0), Found::Holds(Cell::Number(10))),
+];
 
-#[test]
-fn a_value_is_that_of_its_version(rt: HostRuntime) -> Result<(), Fail> {
-    let looks = [
-        Look::Value(0, 7, 0),
-        Look::Value(0, 8, 0),
-        Look::Value(1, 7, 0),
-        Look::Value(1, 8, 0),
-        Look::Value(2, 7, 0),
-        Look::Value(2, 8, 0),
-        Look::Value(3, 7, 0),
-        Look::Value(3, 8, 0),
-        Look::Value(4, 7, 0),
-        Look::Value(4, 8, 0),
-    ];
-    let nothing = Found::Nothing;
-    let expected = [
-        nothing,
-        nothing,
-        number(5),
-        nothing,
-        number(6),
-        nothing,
-        nothing,
-        nothing,
-        number(8),
-        number(10),
-    ];
-    let found = found_in_history(rt.alloc(), &[], &looks)?;
-    assert_eq!(rt; found.as_slice(), expected.as_slice());
-    Ok(())
-}
-
-#[test]
-fn a_value_is_that_of_its_column(rt: HostRuntime) -> Result<(), Fail> {
-    let looks = [
+/// A value is that of its column, its table and its row; commits are counted from 1.
+const COLUMNS_AND_COMMITS: [Line; 11] = [
+    (
         Look::NewestValue(0, 8, 1),
-        Look::NewestValue(0, 8, 2),
-        Look::NewestValue(1, 8, 0),
-        Look::IsPresent(4, 8),
-        Look::IsPresent(4, 9),
-        Look::IsPresent(0, 8),
-    ];
-    let expected = [
         Found::Holds(Cell::Pair(b'a', b'b')),
-        Found::Nothing,
-        Found::Nothing,
-        Found::IsPresent(true),
-        Found::IsPresent(false),
-        Found::IsPresent(false),
-    ];
-    let found = found_in_history(rt.alloc(), &[], &looks)?;
-    assert_eq!(rt; found.as_slice(), expected.as_slice());
-    Ok(())
-}
+    ),
+    (Look::NewestValue(0, 8, 2), Found::Nothing),
+    (Look::NewestValue(1, 8, 0), Found::Nothing),
+    (Look::IsPresent(4, 8), Found::IsPresent(true)),
+    (Look::IsPresent(4, 9), Found::IsPresent(false)),
+    (Look::IsPresent(0, 8), Found::IsPresent(false)),
+    (Look::Sizes, Found::Sizes(4, 4, 1, false)),
+    (Look::CommitAt(0), Found::Entries(None)),
+    (Look::CommitAt(1), Found::Entries(Some(1))),
+    (Look::CommitAt(4), Found::Entries(Some(3))),
+    (Look::CommitAt(5), Found::Entries(None)),
+];
 
-#[test]
-fn the_newest_commit_of_a_row_is_told(rt: HostRuntime) -> Result<(), Fail> {
-    let looks = [
-        Look::Newest(0, 7),
-        Look::Newest(0, 8),
-        Look::Newest(0, 9),
-        Look::Newest(1, 7),
-        Look::LastTouching(&[Change::Delete(7)]),
+/// Behind a fifth commit, of account 8.
+const NEWEST: [Line; 8] = [
+    (Look::Newest(0, 7), Found::Commit(4)),
+    (Look::Newest(0, 8), Found::Commit(5)),
+    (Look::Newest(0, 9), Found::Commit(0)),
+    (Look::Newest(1, 7), Found::Commit(0)),
+    (Look::LastTouching(&[Change::Delete(7)]), Found::Commit(4)),
+    (
         Look::LastTouching(&[Change::Delete(8), Change::Delete(7)]),
-        Look::LastTouching(&[Change::Delete(9)]),
-        Look::LastTouching(&[]),
-    ];
-    let expected = [4, 5, 0, 0, 4, 5, 0, 0].map(|number| Found::Commit(number));
-    let found = found_in_history(rt.alloc(), &[&[Change::Patch(8, 11)]], &looks)?;
-    assert_eq!(rt; found.as_slice(), expected.as_slice());
-    Ok(())
-}
+        Found::Commit(5),
+    ),
+    (Look::LastTouching(&[Change::Delete(9)]), Found::Commit(0)),
+    (Look::LastTouching(&[]), Found::Commit(0)),
+];
 
 #[test]
-fn commits_are_counted_from_1(rt: HostRuntime) -> Result<(), Fail> {
-    let looks = [
-        Look::Sizes,
-        Look::CommitAt(0),
-        Look::CommitAt(1),
-        Look::CommitAt(4),
-        Look::CommitAt(5),
-    ];
-    let expected = [
-        Found::Sizes(4, 4, 1, false),
-        Found::Entries(None),
-        Found::Entries(Some(1)),
-        Found::Entries(Some(3)),
-        Found::Entries(None),
-    ];
-    let found = found_in_history(rt.alloc(), &[], &looks)?;
-    assert_eq!(rt; found.as_slice(), expected.as_slice());
+fn versions_tell_their_history(rt: HostRuntime) -> Result<(), Fail> {
+    assert_eq!(rt; other_found(rt.alloc(), &[], &VALUES)?, None);
+    assert_eq!(rt; other_found(rt.alloc(), &[], &COLUMNS_AND_COMMITS)?, None);
+    assert_eq!(rt;
+        other_found(rt.alloc(), &[&[Change::Patch(8, 11)]], &NEWEST)?,
+        None
+    );
     Ok(())
 }
 
@@ -267,11 +225,19 @@ fn a_commit_absorbed_without_memory_changes_nothing(rt: HostRuntime) -> Result<(
     ];
     let commit = commit_of(rt.alloc(), &changes)?;
     if !is_absorbed(&mut versions, &commit)? {
-        let numbers = [number(8), number(10), Found::Nothing];
+        let numbers = [
+            Found::Holds(Cell::Number(8)),
+            Found::Holds(Cell::Number(10)),
+            Found::Nothing,
+        ];
         assert_eq!(rt; told_at(&versions, 4)?, (4, [4, 0], numbers));
         absorb(&mut versions, &commit)?;
     }
-    let numbers = [number(12), Found::Nothing, number(13)];
+    let numbers = [
+        Found::Holds(Cell::Number(12)),
+        Found::Nothing,
+        Found::Holds(Cell::Number(13)),
+    ];
     assert_eq!(rt; told_at(&versions, 5)?, (5, [5, 5], numbers));
     Ok(())
 }

@@ -33,6 +33,7 @@ fn push_event(
     event: &Event,
 ) -> Result<(), AllocError> {
     match event {
+        Event::Begin => push_words(alloc, text, "begin", &[]),
         Event::Insert {
             transaction,
             table,
@@ -67,20 +68,6 @@ fn push_event(
             push_row(alloc, text, schema, "get", *transaction, *table, *row)?;
             push_numbers(alloc, text, &[u64::from(*column)])
         }
-        Event::Open { replica, plan } => {
-            push_words(alloc, text, "open", &[u64::from(*replica)])?;
-            text.extend_from_slice(b" query")?;
-            push_table(text, schema, plan.table)?;
-            text.extend_from_slice(b" get count")
-        }
-        other => push_plain_event(alloc, text, other),
-    }
-}
-
-/// Adds the line of an event that names no table.
-fn push_plain_event(alloc: Global, text: &mut Vec<u8>, event: &Event) -> Result<(), AllocError> {
-    match event {
-        Event::Begin => push_words(alloc, text, "begin", &[]),
         Event::Commit {
             transaction,
             worker,
@@ -95,9 +82,14 @@ fn push_plain_event(alloc: Global, text: &mut Vec<u8>, event: &Event) -> Result<
             push_node(alloc, text, *node)
         }
         Event::Show { place } => push_words(alloc, text, "show", &[*place]),
+        Event::Open { replica, plan } => {
+            push_words(alloc, text, "open", &[u64::from(*replica)])?;
+            text.extend_from_slice(b" query")?;
+            push_table(text, schema, plan.table)?;
+            text.extend_from_slice(b" get count")
+        }
         Event::Ask { replica } => push_words(alloc, text, "ask", &[u64::from(*replica)]),
         Event::Run { replica } => push_words(alloc, text, "run", &[u64::from(*replica)]),
-        _ => Ok(()),
     }
 }
 

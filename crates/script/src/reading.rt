@@ -10,7 +10,7 @@ use crate::line_fault::LineFault;
 use crate::script_fault::{Reason, ScriptFault};
 use crate::settings::{Settings, is_table, read_setting};
 use crate::setup::Setup;
-use crate::words::{column_of, is_name, number, number_below, text, value_of, words_of};
+use crate::words::{is_name, number, number_below, small_number, text, value_of, words_of};
 use dispatcher::Plan;
 use rows::{Row, RowId, Value};
 use std::alloc::Global;
@@ -282,7 +282,7 @@ fn read_set(setup: &Setup, rest: &[&[u8]]) -> Result<Event, LineFault>
         return Err(LineFault::Because(Reason::BadWords));
     };
     let (transaction, row) = transaction_and_row(transaction, row)?;
-    let (Some(column), Some(value)) = (column_of(column), value_of(value)) else {
+    let (Some(column), Some(value)) = (small_number(column), value_of(value)) else {
         return Err(LineFault::Because(Reason::BadWords));
     };
     Ok(Event::Set {
@@ -317,7 +317,7 @@ fn read_get(setup: &Setup, rest: &[&[u8]]) -> Result<Event, LineFault>
         return Err(LineFault::Because(Reason::BadWords));
     };
     let (transaction, row) = transaction_and_row(transaction, row)?;
-    let Some(column) = column_of(column) else {
+    let Some(column) = small_number(column) else {
         return Err(LineFault::Because(Reason::BadWords));
     };
     Ok(Event::Get {

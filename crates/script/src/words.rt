@@ -11,33 +11,16 @@ use std::alloc::{AllocError, Global};
 /// The words of a line, which one space parts. A space at an end of the line, or two in a row,
 /// make an empty word.
 pub fn words_of(alloc: Global, line: &[u8]) -> Result<Vec<&[u8]>, AllocError> {
-    let mut words = Vec::new(alloc);
-    let mut start = 0;
-    for (at, byte) in line.iter().enumerate() {
-        if *byte == b' ' && start <= at {
-            words.push(&line[start..at])?;
-            start = at + 1;
-        }
-    }
-    if start <= line.len() {
-        words.push(&line[start..])?;
-    }
-    Ok(words)
+    line.split(|byte| *byte == b' ').collect(alloc)
 }
 
 /// A decimal number without needless zeros, up to 64 bits.
 pub fn number(word: &[u8]) -> Option<u64> {
-    if word.is_empty() || (word.len() > 1 && word[0] == b'0') {
-        return None;
+    match word {
+        [b'0'] => Some(0),
+        [b'1'..=b'9', ..] => text(word)?.parse().ok(),
+        _ => None,
     }
-    let mut value: u64 = 0;
-    for byte in word {
-        if !byte.is_ascii_digit() {
-            return None;
-        }
-        value = value.checked_mul(10)?.checked_add(u64::from(*byte - b'0'))?;
-    }
-    Some(value)
 }
 
 /// A decimal number below a limit of at most 256.
@@ -52,37 +35,19 @@ pub fn number_below(word: &[u8], limit: u8) -> Option<u8>
     }
 }
 
-/// A column's number: a decimal number up to 255.
-pub fn column_of(word: &[u8]) -> Option<u8> {
+/// A decimal number up to 255.
+pub fn small_number(word: &[u8]) -> Option<u8> {
     u8::try_from(number(word)?).ok()
 }
 
 /// A signed decimal number of 64 bits; `-` stands only before a number that is not 0.
 pub fn int(word: &[u8]) -> Option<i64> {
     match word {
-        [b'-', digits @ ..] => {
-            let size = number(digits)?;
-            if size == 0 || size > MIN_SIZE {
-                return None;
-            }
-            if size == MIN_SIZE {
-                return Some(i64::MIN);
-            }
-            Some(-(size as i64))
-        }
-        digits => {
-            let value = number(digits)?;
-            if value < MIN_SIZE {
-                Some(value as i64)
-            } else {
-                None
-            }
-        }
+        [b'0'] => Some(0),
+        [b'1'..=b'9', ..] | [b'-', b'1'..=b'9', ..] => text(word)?.parse().ok(),
+        _ => None,
     }
 }
-
-/// The size of the least number of 64 bits.
-const MIN_SIZE: u64 = 1 << 63;
 
 /// The value that a word stands for: `x` and hexadecimal digits, or else a number.
 pub fn value_of(word: &[u8]) -> Option<Value>
@@ -123,14 +88,11 @@ fn hex_digit(digit: u8) -> Option<u8>
 /// The kind that a word stands for: `int`, or `bytes` and how many there are. Which numbers may
 /// stand there is the schema's to say.
 pub fn kind_of(word: &[u8]) -> Option<Kind> {
-    match word {
-        b"int" => Some(Kind::Int),
-        [b'b', b'y', b't', b'e', b's', width @ ..] => {
-            let width = u8::try_from(number(width)?).ok()?;
-            Some(Kind::Octets(width))
-        }
-        _ => None,
+    if word == b"int".as_slice() {
+        return Some(Kind::Int);
     }
+    let width = word.strip_prefix(b"bytes")?;
+    Some(Kind::Octets(small_number(width)?))
 }
 
 /// Whether the word has the form of a table's name: 1 to 16 of `a` to `z`, `0` to `9` and `_`,

@@ -4,8 +4,7 @@ use Rattle.std.specs.Prelude.{IsSomeAnd}
 use Rattle.std.specs.Option.{option_map}
 use Rattle.rows.specs.declared.entry.Entry.{Entry}
 use Rattle.rows.specs.declared.value.Value.{Value}
-use Rattle.rows.specs.Shape.{Shape}
-use Rattle.rows.specs.Tables.{Table, Tables, Refusal, Unfit, Exists, Missing, change_of, changes_of}
+use Rattle.rows.specs.Tables.{Rows, Tables, Refusal, Unfit, Exists, Missing, change_of, changes_of}
 
 -- a column of a row, where the row is there and has that column
 abbrev pub column_of : Option (List Value) → ℕ → Option Value
@@ -13,11 +12,11 @@ column_of None column = None
 column_of (Some values) column = slice_get values column
 
 -- the identifier of the row at a place of the table's order
-abbrev pub id_in : Table → ℕ → Option ℕ
+abbrev pub id_in : Rows → ℕ → Option ℕ
 id_in rows i = option_map (λ row. row.0) (slice_get rows i)
 
 -- each row before that place has an identifier below this one
-abbrev pub IsAboveAllBefore : Table → ℕ → ℕ → Type 0
+abbrev pub IsAboveAllBefore : Rows → ℕ → ℕ → Type 0
 IsAboveAllBefore rows i id = (j : ℕ) → j < i → IfSome (id_in rows j) (λ before. before < id)
 
 -- the number of each refusal
@@ -35,8 +34,8 @@ fault_kind true (Ok tables) = 4
 
 -- a run of entries that stopped at one of them: those before it made these tables of the old ones, and on these it is
 -- refused; a store that is not whole refuses the first
-pub record StopsAt (whole : Bool) (shape : Shape) (old new : Tables) (entries : List Entry) (i kind : ℕ) : Type 0 where
+pub record StopsAt (whole : Bool) (old new : Tables) (entries : List Entry) (i kind : ℕ) : Type 0 where
   pub within : i < length entries
-  pub before : changes_of shape old (take i entries) ≡ Ok new
-  pub refused : IsSomeAnd (slice_get entries i) (λ entry. kind ≡ fault_kind whole (change_of shape new entry))
+  pub before : changes_of old (take i entries) ≡ Ok new
+  pub refused : IsSomeAnd (slice_get entries i) (λ entry. kind ≡ fault_kind whole (change_of new entry))
   pub first : whole ≡ false → i ≡ 0

@@ -1,13 +1,14 @@
 //! Changes of tables.
 
-ghost use Rattle.std.specs.Prelude.{◌≡◌, ◌≤◌, [], length, replicate, true, false, Ok, Err, OnOk, OnErr, IfOk, IfErr, if◌then◌else◌};
+ghost use Rattle.std.specs.Prelude.{◌≡◌, ◌≤◌, [], length, replicate, true, false, Ok, Err, OnOk, OnErr, IfOk, IfErr, if◌then◌else◌, nat_lt};
 ghost use Rattle.std.specs.List.{list_all};
 ghost use Rattle.rows.specs.Shape.{shape_of, row_width, is_good};
 ghost use Rattle.rows.specs.Values.{values_of};
 ghost use Rattle.rows.specs.Tables.{change_of, changes_of, is_present, with_row};
 ghost use Rattle.rows.specs.Commits.{commits_of};
 ghost use Rattle.store.specs.Changes.{fault_kind};
-ghost use Rattle.store.specs.Faults.{number_of, FailsAs};
+ghost use Rattle.store.specs.Faults.{number_of, FailsAs, have_entries};
+ghost use Rattle.store.specs.State.{tables_of};
 
 use crate::apply_store::ApplyFault;
 use crate::store_fault::StoreFault;
@@ -36,9 +37,11 @@ pub fn change_tables(
     entry: &Entry,
 ) -> Result<(), StoreFault>
     requires { length tables.old ≡ length schema.now }
-    ensures ok { OnOk result (change_of (shape_of schema.now) tables.old entry.now ≡ Ok tables.new) }
+    ensures ok { OnOk result
+        (change_of (tables_of (shape_of schema.now) tables.old) entry.now ≡ Ok (tables_of (shape_of schema.now) tables.new)) }
     ensures err { OnErr result (tables.new ≡ tables.old) }
-    ensures refused { IfErr result (λ fault. number_of fault ≡ fault_kind true (change_of (shape_of schema.now) tables.old entry.now)) }
+    ensures refused { IfErr result
+        (λ fault. number_of fault ≡ fault_kind true (change_of (tables_of (shape_of schema.now) tables.old) entry.now)) }
 {
     if fits(schema, entry).is_err() {
         return Err(StoreFault::Unfit);
@@ -108,8 +111,10 @@ fn apply_entries(
     entries: &[Entry],
 ) -> Result<(), ApplyFault>
     requires { length tables.old ≡ length schema.now }
-    ensures ok { OnOk result (changes_of (shape_of schema.now) tables.old entries.now ≡ Ok tables.new) }
-    ensures err { IfErr result (FailsAs true (changes_of (shape_of schema.now) tables.old entries.now)) }
+    ensures ok { OnOk result
+        (changes_of (tables_of (shape_of schema.now) tables.old) entries.now ≡ Ok (tables_of (shape_of schema.now) tables.new)) }
+    ensures err { IfErr result
+        (FailsAs true (nat_lt 0 (length entries.now)) (changes_of (tables_of (shape_of schema.now) tables.old) entries.now)) }
 {
     for entry in entries {
         match change_tables(alloc, schema, tables, entry) {
@@ -129,8 +134,10 @@ pub fn apply_commits(
     commits: &[Commit],
 ) -> Result<(), ApplyFault>
     requires { length tables.old ≡ length schema.now }
-    ensures ok { OnOk result (commits_of (shape_of schema.now) tables.old commits.now ≡ Ok tables.new) }
-    ensures err { IfErr result (FailsAs true (commits_of (shape_of schema.now) tables.old commits.now)) }
+    ensures ok { OnOk result
+        (commits_of (tables_of (shape_of schema.now) tables.old) commits.now ≡ Ok (tables_of (shape_of schema.now) tables.new)) }
+    ensures err { IfErr result
+        (FailsAs true (have_entries commits.now) (commits_of (tables_of (shape_of schema.now) tables.old) commits.now)) }
 {
     for commit in commits {
         apply_entries(alloc, schema, tables, commit.entries.as_slice())?;

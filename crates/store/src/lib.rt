@@ -6,8 +6,9 @@
 //! the lists of commits that a replica applies. `PlainStore` keeps each table in an ordered map.
 //!
 //! Promised of every store, while it is whole: what it finds, reads, counts and lists agrees with
-//! one list of tables, and a change makes of them what its definition says or leaves them as they
-//! were. A store that could not apply a list of commits is not whole, for good.
+//! one list of tables, each row of which has a value of each column's kind, and a change makes of
+//! them what its definition says or leaves them as they were. A store that could not apply a list
+//! of commits is not whole, for good.
 //! It stands on `rows`, whose definitions its contracts speak of; its own are few
 //! (`specs/Changes.antt`).
 #![tactic(auto)]

@@ -1,22 +1,22 @@
 //! A store that keeps each table in an ordered map.
 
-ghost use Rattle.std.specs.Prelude.{◌≡◌, true, IfOk};
+ghost use Rattle.std.specs.Prelude.{◌≡◌, [], true, IfOk, MatchOption};
 ghost use Rattle.rows.specs.Shape.{shape_of};
-ghost use Rattle.rows.specs.Tables.{opening};
+ghost use Rattle.rows.specs.Tables.{opening, rows_of};
 
 use crate::apply_store::{ApplyFault, ApplyStore};
 use crate::changing::{apply_commits, change_tables, empty_tables};
 use crate::store::Store;
 use crate::store_fault::StoreFault;
 use crate::table_map::TableMap;
-use rows::{Commit, Entry, RowId, Schema, Value};
+use rows::{Commit, Entry, RowId, Schema, Value, laws};
 use std::alloc::{AllocError, Global};
 use std::marker::Model;
 
 /// A store that keeps the rows of each table in an ordered map.
 ///
-/// Contracts see the shape and the rows of its tables, and whether it is whole. It changes a row
-/// in place, and copies neither rows nor tables.
+/// Contracts see its tables, and whether it is whole. It changes a row in place, and copies neither
+/// rows nor tables.
 #[derive(Debug, Drop)]
 pub struct PlainStore {
     alloc: Global,
@@ -30,11 +30,11 @@ impl Model for PlainStore {
 
     ghost Value = { State };
 
-    ghost use Rattle.store.specs.Inside.{state_of, HasAllTables};
+    ghost use Rattle.store.specs.Inside.{state_of, IsStore};
 
     ghost view = { state_of };
 
-    ghost invariant = { HasAllTables };
+    ghost invariant = { IsStore };
 }
 
 impl PlainStore {
@@ -42,14 +42,22 @@ impl PlainStore {
     /// memory alone.
     pub fn new(alloc: Global, schema: &Schema) -> Result<PlainStore, AllocError>
         ensures { IfOk result (λ store.
-            store ≡ record { shape = shape_of schema.now; tables = opening (shape_of schema.now); whole = true }) }
+            store ≡ record { tables = opening (shape_of schema.now); whole = true }) }
     {
+        laws::rows_are_of_kinds();
         Ok(PlainStore {
             alloc,
             schema: schema.clone()?,
             tables: empty_tables(alloc, schema.len())?,
             whole: true,
         })
+    }
+
+    /// The rows of a table, lent; `None` where there is no table of that number.
+    fn rows(&self, table: u8) -> Option<&TableMap>
+        ensures { MatchOption result (rows_of self.now.tables table ≡ []) (λ rows. rows_of self.now.tables table ≡ rows.now) }
+    {
+        self.tables.get(table as usize)
     }
 }
 
@@ -61,8 +69,6 @@ impl Store for PlainStore {
     type Place = RowId;
 
     type Fault = StoreFault;
-
-    ghost shape = { λ s. s.shape };
 
     ghost tables = { λ s. s.tables };
 
@@ -77,9 +83,16 @@ impl Store for PlainStore {
         self.whole
     }
 
+    /// While it is whole, each row has a value for each of its table's columns, of the column's
+    /// kind.
+    fn keeps_kinds(&self) {
+        // A look at a field brings the invariant to the proof.
+        let _ = &self.whole;
+    }
+
     /// The identifier of a row of a table; `None` where the row or the table is not there.
     fn find(&self, table: u8, row: RowId) -> Option<RowId> {
-        if self.tables.get(table as usize)?.contains(row.0) {
+        if self.rows(table)?.contains(row.0) {
             Some(row)
         } else {
             None
@@ -88,7 +101,7 @@ impl Store for PlainStore {
 
     /// The value of one column of a row, columns being counted from 0.
     fn value(&self, table: u8, place: RowId, column: usize) -> Value {
-        let Some(rows) = self.tables.get(table as usize) else {
+        let Some(rows) = self.rows(table) else {
             unreachable!();
         };
         let Some(values) = rows.row(place.0) else {
@@ -99,7 +112,7 @@ impl Store for PlainStore {
 
     /// How many rows a table has; 0 where there is no table of that number.
     fn len(&self, table: u8) -> usize {
-        match self.tables.get(table as usize) {
+        match self.rows(table) {
             Some(rows) => rows.len(),
             None => 0,
         }
@@ -108,7 +121,7 @@ impl Store for PlainStore {
     /// The identifier of the row at a place of the table's order, counted from 0. It walks the
     /// rows before it: a walk over a whole table by `id_at` takes time of its square.
     fn id_at(&self, table: u8, i: usize) -> RowId {
-        let Some(rows) = self.tables.get(table as usize) else {
+        let Some(rows) = self.rows(table) else {
             unreachable!();
         };
         RowId(rows.id_at(i))
@@ -120,6 +133,7 @@ impl Store for PlainStore {
         if !self.whole {
             return Err(StoreFault::Broken);
         }
+        laws::rows_are_of_kinds();
         change_tables(self.alloc, &self.schema, &mut self.tables, entry)
     }
 
@@ -142,6 +156,7 @@ impl ApplyStore for PlainStore {
         if !self.whole {
             return Err(ApplyFault::Broken);
         }
+        laws::rows_are_of_kinds();
         let applied = apply_commits(self.alloc, &self.schema, &mut self.tables, commits);
         self.whole = applied.is_ok();
         applied

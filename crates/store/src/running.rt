@@ -1,7 +1,7 @@
 //! Runs of entries.
 
 ghost use Rattle.std.specs.Prelude.{◌≡◌, Ok, OnOk, IfErr};
-ghost use Rattle.rows.specs.Tables.{changes_of};
+ghost use Rattle.rows.specs.Tables.{shape_in, changes_of};
 ghost use Rattle.store.specs.Changes.{StopsAt};
 
 use crate::store::Store;
@@ -13,11 +13,11 @@ use rows::Entry;
 /// it. The changes of the entries before it are then made, and no other. A store that is not whole
 /// refuses the first entry.
 pub fn run<S: Store>(store: &mut S, entries: &[Entry]) -> Result<(), (usize, S::Fault)>
-    ensures ok { OnOk result (changes_of (S.shape store.old) (S.tables store.old) entries.now ≡ Ok (S.tables store.new)) }
-    ensures err { IfErr result (λ stop. StopsAt (S.is_whole store.old) (S.shape store.old) (S.tables store.old)
+    ensures ok { OnOk result (changes_of (S.tables store.old) entries.now ≡ Ok (S.tables store.new)) }
+    ensures err { IfErr result (λ stop. StopsAt (S.is_whole store.old) (S.tables store.old)
         (S.tables store.new) entries.now stop.0 (S.kind_of stop.1)) }
     ensures whole { S.is_whole store.new ≡ S.is_whole store.old }
-    ensures shape { S.shape store.new ≡ S.shape store.old }
+    ensures kinds { shape_in (S.tables store.new) ≡ shape_in (S.tables store.old) }
 {
     for (i, entry) in entries.iter().enumerate() {
         match store.change(entry) {

@@ -1,20 +1,19 @@
 //! The interface to a store of rows.
 
 ghost use Rattle.std.specs.Prelude.{◌≡◌, ℕ, ◌<◌, length, true, Ok, Some, is_some, IsSome, IfSome, OnOk, OnErr, IfErr};
-ghost use Rattle.rows.specs.Tables.{rows_of, row_at, is_present, change_of};
+ghost use Rattle.rows.specs.Tables.{shape_in, rows_of, row_at, is_row_at, RowsAreOfKinds, change_of};
 ghost use Rattle.store.specs.Changes.{column_of, id_in, IsAboveAllBefore, fault_kind};
 
 use rows::{Entry, RowId, Value};
 
 /// A store of rows: a map from a table and a row to the row's values, and the way to change it.
 ///
-/// Contracts see its shape, which never changes, its tables, and whether it is whole. What a store
-/// answers means its tables only while it is whole, and a store that is no longer whole is never
-/// whole again. All calls but `change` take no memory.
+/// Contracts see its tables, and whether it is whole. What a store answers means its tables only
+/// while it is whole, and a store that is no longer whole is never whole again. All calls but
+/// `change` take no memory.
 pub trait Store {
     ghost use Rattle.std.specs.Prelude.{ℕ, List, Bool, Option};
     ghost use Rattle.rows.specs.declared.value.Value.{Value};
-    ghost use Rattle.rows.specs.Shape.{Shape};
     ghost use Rattle.rows.specs.Tables.{Tables};
 
     /// Where a row of a table stands. It is used only until the next change.
@@ -23,10 +22,7 @@ pub trait Store {
     /// Why a change was refused.
     type Fault: Drop;
 
-    /// The kinds of its tables' columns.
-    ghost shape: { Self → Shape };
-
-    /// Its rows.
+    /// Its tables, each with the kinds of its columns and its rows.
     ghost tables: { Self → Tables };
 
     /// Whether its tables stand as its changes made them.
@@ -42,9 +38,14 @@ pub trait Store {
     fn whole(&self) -> bool
         ensures { result ≡ is_whole self.now };
 
+    /// While the store is whole, each row has a value for each of its table's columns, of the
+    /// column's kind. It does nothing: its contract is the law.
+    fn keeps_kinds(&self)
+        ensures { is_whole self.now ≡ true → RowsAreOfKinds (tables self.now) };
+
     /// The place of a row of a table; `None` where the row or the table is not there.
     fn find(&self, table: u8, row: RowId) -> Option<Self::Place>
-        ensures found { is_whole self.now ≡ true → is_some result ≡ is_present (rows_of (tables self.now) table) row.0 }
+        ensures found { is_whole self.now ≡ true → is_some result ≡ is_row_at (tables self.now) table row.0 }
         ensures place { is_whole self.now ≡ true
             → IfSome result (λ place. values_at self.now table place ≡ row_at (rows_of (tables self.now) table) row.0) };
 
@@ -71,13 +72,13 @@ pub trait Store {
     /// whole; 3 Unfit, the entry does not fit the schema; 1 Exists, an insert of a row that is
     /// there; 2 Missing, a patch or a delete of a row that is not there; 4 Memory.
     fn change(&mut self, entry: &Entry) -> Result<(), Self::Fault>
-        ensures ok { OnOk result (change_of (shape self.old) (tables self.old) entry.now ≡ Ok (tables self.new)) }
+        ensures ok { OnOk result (change_of (tables self.old) entry.now ≡ Ok (tables self.new)) }
         ensures only_whole { OnOk result (is_whole self.old ≡ true) }
         ensures err { OnErr result (tables self.new ≡ tables self.old) }
         ensures refused { IfErr result
-            (λ fault. kind_of fault ≡ fault_kind (is_whole self.old) (change_of (shape self.old) (tables self.old) entry.now)) }
+            (λ fault. kind_of fault ≡ fault_kind (is_whole self.old) (change_of (tables self.old) entry.now)) }
         ensures whole { is_whole self.new ≡ is_whole self.old }
-        ensures shape { shape self.new ≡ shape self.old };
+        ensures kinds { shape_in (tables self.new) ≡ shape_in (tables self.old) };
 
     /// The number of a fault: 1 Exists, 2 Missing, 3 Unfit, 4 Memory, 5 Broken.
     fn kind(fault: &Self::Fault) -> u8

@@ -7,7 +7,7 @@ use Rattle.byteorder.specs.Endian.{big_bytes, big_number}
 use Rattle.byteorder.specs.Numbers.{big_number-reads_back}
 use Rattle.rows.specs.Spelling.{AreBytes}
 use Rattle.wire.specs.Reading.{counts_at}
-use Rattle.wire.proofs.Bytes.{AreBytes-drop, cut_8, number_fits}
+use Rattle.rows.proofs.Bytes.{AreBytes-drop, cut_8, number_fits}
 
 -- one step of a loop
 pub counted_more : (front : List ℕ) (workers i : ℕ) (bytes all : List ℕ) → i < workers → front ++ counts_at (workers - i) bytes ≡ all

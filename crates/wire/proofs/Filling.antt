@@ -1,16 +1,17 @@
 -- Entries that fill bytes: read one after the other, what is read is spelled so, and what is spelled so is read.
-use Rattle.std.proofs.Common.{◌≡◌, ℕ, zero, suc, ◌+◌, ◌-◌, ◌<◌, Bool, false, List, [], ◌∷◌, ◌++◌, length, drop, Option, Some, None, refl}
-use Rattle.std.proofs.Common.{sym, ap, subst, ◌∙◌, append_assoc, arith}
+use Rattle.std.proofs.Common.{◌≡◌, ℕ, zero, suc, ◌+◌, ◌-◌, ◌<◌, ◌≤◌, Bool, true, false, List, [], ◌∷◌, ◌++◌, length, drop}
+use Rattle.std.proofs.Common.{Option, Some, None}
+use Rattle.std.proofs.Common.{refl, sym, ap, subst, ◌∙◌, append_assoc, arith}
 use Rattle.std.specs.Prelude.{is_some}
 use Rattle.std.specs.Option.{option_map}
 use Rattle.std.proofs.lemmas.List.{drop_at}
-use Rattle.std.specs.List.{flat_map, AllByRecursion}
+use Rattle.std.specs.List.{flat_map, list_all, AllByRecursion}
 use Rattle.rows.specs.declared.entry.Entry.{Entry}
-use Rattle.rows.specs.Reading.{entry_at}
+use Rattle.rows.specs.Reading.{entry_at, IsSpelledAt}
 use Rattle.rows.specs.Spelling.{AreBytes, HasSpelling, entry_spelling}
-use Rattle.wire.specs.Entries.{behind, entries_filling}
-use Rattle.wire.proofs.Bytes.{AreBytes-drop}
-use Rattle.wire.proofs.Entries.{IsSpelledAt, entry_at-spelled, entry_at-again}
+use Rattle.rows.specs.Laws.{FoundIsSpelled, SpelledIsFound}
+use Rattle.wire.specs.Entries.{behind, entries_filling, or_none}
+use Rattle.rows.proofs.Bytes.{AreBytes-drop}
 
 some_option_map : {A B : Type 0} (f : A → B) (o : Option A) → is_some (option_map f o) ≡ is_some o
 some_option_map f None = refl
@@ -59,6 +60,50 @@ pub gathered_not : (front : List Entry) (count i : ℕ) (bytes : List ℕ) (all 
 gathered_not front count i bytes all lt e so_far =
     so_far ∙ ap (option_map (λ (others : List Entry). front ++ others)) (filling_none count i bytes lt e)
 
+-- whether each entry that fills the bytes passes a test, as a loop finds out
+pub passed_first : (test : Entry → Bool) (all : Option (List Entry)) → is_some all ≡ true
+    → Some (list_all test (or_none all)) ≡ option_map (list_all test) all
+passed_first test None there = absurd cc
+passed_first test (Some entries) there = refl
+
+pub passed_more : (test : Entry → Bool) (count i : ℕ) (bytes : List ℕ) (found : Entry × ℕ) (answer : Bool) → i < count
+    → entry_at bytes ≡ Some found → test found.0 ≡ true → Some answer ≡ option_map (list_all test) (entries_filling (count - i) bytes)
+    → Some answer ≡ option_map (list_all test) (entries_filling (count - (i + 1)) (drop found.1 bytes))
+passed_more test count i bytes found answer lt e passes so_far =
+    so_far ∙ ap (option_map (list_all test)) (filling_more count i bytes found lt e)
+    ∙ by (entries_filling (count - (i + 1)) (drop found.1 bytes))
+  where
+    by : (o : Option (List Entry)) → option_map (list_all test) (option_map (λ others. found.0 ∷ others) o) ≡ option_map (list_all test) o
+    by None = refl
+    by (Some others) = rw passes refl
+
+pub passed_not : (test : Entry → Bool) (count i : ℕ) (bytes : List ℕ) (found : Entry × ℕ) (answer : Bool) → i < count
+    → entry_at bytes ≡ Some found → test found.0 ≡ false → Some answer ≡ option_map (list_all test) (entries_filling (count - i) bytes)
+    → false ≡ answer
+passed_not test count i bytes found answer lt e fails so_far =
+    by (entries_filling (count - (i + 1)) (drop found.1 bytes))
+    (so_far ∙ ap (option_map (list_all test)) (filling_more count i bytes found lt e))
+  where
+    by : (o : Option (List Entry)) → Some answer ≡ option_map (list_all test) (option_map (λ others. found.0 ∷ others) o) → false ≡ answer
+    by None h = absurd cc
+    by (Some others) h = (let fails_all : list_all test (found.0 ∷ others) ≡ false = rw fails refl in cc)
+
+pub passed_none : (test : Entry → Bool) (count i : ℕ) (bytes : List ℕ) (answer : Bool) → i < count → entry_at bytes ≡ None
+    → Some answer ≡ option_map (list_all test) (entries_filling (count - i) bytes) → ⊥
+passed_none test count i bytes answer lt e so_far =
+    let none = so_far ∙ ap (option_map (list_all test)) (filling_none count i bytes lt e) in
+    cc
+
+pub passed_all : (test : Entry → Bool) (count i : ℕ) (bytes : List ℕ) (answer : Bool) → count ≤ i
+    → Some answer ≡ option_map (list_all test) (entries_filling (count - i) bytes) → true ≡ answer
+passed_all test count i bytes answer past so_far =
+    let none_left : count - i ≡ 0 = omega arith in
+    by bytes (rw none_left at so_far)
+  where
+    by : (bytes : List ℕ) → Some answer ≡ option_map (list_all test) (entries_filling 0 bytes) → true ≡ answer
+    by [] h = cc
+    by (byte ∷ bytes) h = absurd cc
+
 -- as many entries as were asked for
 behind-length : (count : ℕ) (found : Option (Entry × ℕ)) (others : ℕ → Option (List Entry)) (entries : List Entry)
     → ((len : ℕ) (rest : List Entry) → others len ≡ Some rest → length rest ≡ count) → behind found others ≡ Some entries
@@ -80,16 +125,17 @@ filling-length (suc count) bytes entries e =
     (λ len rest. filling-length count (drop len bytes) rest) e
 
 -- what is read is spelled so
-behind-spelled : (count : ℕ) (bytes : List ℕ) (found : Option (Entry × ℕ)) (entries : List Entry) → AreBytes bytes → entry_at bytes ≡ found
+behind-spelled : (law : FoundIsSpelled) (count : ℕ) (bytes : List ℕ) (found : Option (Entry × ℕ)) (entries : List Entry)
+    → AreBytes bytes → entry_at bytes ≡ found
     → ((len : ℕ) (others : List Entry) → entries_filling count (drop len bytes) ≡ Some others → AllByRecursion HasSpelling others
     × (drop len bytes ≡ flat_map entry_spelling others))
     → behind found (λ len. entries_filling count (drop len bytes)) ≡ Some entries → AllByRecursion HasSpelling entries
     × (bytes ≡ flat_map entry_spelling entries)
-behind-spelled count bytes None entries fits is h e = absurd cc
-behind-spelled count bytes (Some found) entries fits is h e = mapped (entries_filling count (drop found.1 bytes)) (h found.1) e
+behind-spelled law count bytes None entries fits is h e = absurd cc
+behind-spelled law count bytes (Some found) entries fits is h e = mapped (entries_filling count (drop found.1 bytes)) (h found.1) e
   where
     first : IsSpelledAt bytes found
-    first = entry_at-spelled bytes found fits is
+    first = law bytes found fits is
 
     mapped : (o : Option (List Entry))
         → ((others : List Entry) → o ≡ Some others → AllByRecursion HasSpelling others
@@ -101,26 +147,27 @@ behind-spelled count bytes (Some found) entries fits is h e = mapped (entries_fi
         let same : (found.0 ∷ others) ≡ entries = cc in
         let rest = h others refl in
         subst (λ (es : List Entry). AllByRecursion HasSpelling es × (bytes ≡ flat_map entry_spelling es)) same
-        ((first.spelled, rest.0), first.parts ∙ ap (λ (t : List ℕ). entry_spelling found.0 ++ t) rest.1)
+        ((first.spelled, rest.0), first.front ∙ ap (λ (t : List ℕ). entry_spelling found.0 ++ t) rest.1)
 
-pub filling-spelled : (count : ℕ) (bytes : List ℕ) (entries : List Entry) → AreBytes bytes → entries_filling count bytes ≡ Some entries
+pub filling-spelled : (law : FoundIsSpelled) (count : ℕ) (bytes : List ℕ) (entries : List Entry) → AreBytes bytes
+    → entries_filling count bytes ≡ Some entries
     → AllByRecursion HasSpelling entries × (bytes ≡ flat_map entry_spelling entries)
-filling-spelled zero [] entries fits e =
+filling-spelled law zero [] entries fits e =
     let same : [] ≡ entries = cc in
     subst (λ (es : List Entry). AllByRecursion HasSpelling es × ([] ≡ flat_map entry_spelling es)) same (tt, refl)
-filling-spelled zero (byte ∷ bytes) entries fits e = absurd cc
-filling-spelled (suc count) bytes entries fits e =
-    behind-spelled count bytes (entry_at bytes) entries fits refl
-    (λ len others is. filling-spelled count (drop len bytes) others (AreBytes-drop len bytes fits) is) e
+filling-spelled law zero (byte ∷ bytes) entries fits e = absurd cc
+filling-spelled law (suc count) bytes entries fits e =
+    behind-spelled law count bytes (entry_at bytes) entries fits refl
+    (λ len others is. filling-spelled law count (drop len bytes) others (AreBytes-drop len bytes fits) is) e
 
 -- what is spelled so is read
-pub filling-again : (entries : List Entry) → AllByRecursion HasSpelling entries
+pub filling-again : (law : SpelledIsFound) (entries : List Entry) → AllByRecursion HasSpelling entries
     → entries_filling (length entries) (flat_map entry_spelling entries) ≡ Some entries
-filling-again [] fits = refl
-filling-again (entry ∷ entries) fits =
+filling-again law [] fits = refl
+filling-again law (entry ∷ entries) fits =
     let rest = flat_map entry_spelling entries in
     ap (λ (o : Option (Entry × ℕ)). behind o (λ len. entries_filling (length entries) (drop len (entry_spelling entry ++ rest))))
-    (entry_at-again entry rest fits.0)
+    (law entry rest fits.0)
     ∙ ap (λ (t : List ℕ). option_map (λ others. entry ∷ others) (entries_filling (length entries) t))
     (drop_at (entry_spelling entry) rest (length (entry_spelling entry)) refl)
-    ∙ ap (option_map (λ (others : List Entry). entry ∷ others)) (filling-again entries fits.1)
+    ∙ ap (option_map (λ (others : List Entry). entry ∷ others)) (filling-again law entries fits.1)

@@ -1,8 +1,6 @@
 pub mod Passing
-pub mod Bytes
 pub mod Joining
 pub mod Lengths
-pub mod Entries
 pub mod Filling
 pub mod Counting
 pub mod Bodies

@@ -6,6 +6,7 @@ use Rattle.byteorder.specs.Endian.{big_bytes, big_number}
 use Rattle.byteorder.specs.Numbers.{big_number-reads_back}
 use Rattle.rows.specs.declared.limits.TheConstants.{DATAGRAM_MAX}
 use Rattle.rows.specs.Spelling.{entry_spelling}
+use Rattle.rows.specs.Laws.{SpelledIsFound}
 use Rattle.wire.specs.declared.datagram.Datagram.{Datagram}
 use Rattle.wire.specs.declared.datagram.Datagram.TheVariants.{Frame, Ask, Head, Want}
 use Rattle.wire.specs.Spelling.{datagram_of, frame_head, ask_body, head_head, want_body, spelling, HasSpelling}
@@ -31,9 +32,9 @@ total_is (Head replica boot request version counts) rest fits =
     ∙ omega arith
 total_is (Want replica worker from) rest fits = total_in_front 4 (want_body replica worker from) rest (omega arith)
 
-both_read : (d e : Datagram) → HasSpelling d → HasSpelling e → IsRead d → IsRead e → spelling d ≡ spelling e → d ≡ e
-both_read d e fits_d fits_e read_d read_e same =
-    let found = sym (reading-again d fits_d read_d) ∙ ap reading same ∙ reading-again e fits_e read_e in
+both_read : (law : SpelledIsFound) (d e : Datagram) → HasSpelling d → HasSpelling e → IsRead d → IsRead e → spelling d ≡ spelling e → d ≡ e
+both_read law d e fits_d fits_e read_d read_e same =
+    let found = sym (reading-again law d fits_d read_d) ∙ ap reading same ∙ reading-again law e fits_e read_e in
     cc
 
 -- the kind stands in the fourth byte
@@ -63,24 +64,24 @@ not_want datagram replica worker from is_read same =
     let kinds : kind_of datagram ≡ 4 = sym (kind_is datagram) ∙ ap (λ (bytes : List ℕ). get_or bytes 3 0) same in
     omega (arith, read_kind datagram is_read)
 
-pub is_one_to_one : (d e : Datagram) → HasSpelling d → HasSpelling e → spelling d ≡ spelling e → d ≡ e
-is_one_to_one (Want replica worker from) (Want replica' worker' from') fits_d fits_e same =
+pub is_one_to_one : (law : SpelledIsFound) (d e : Datagram) → HasSpelling d → HasSpelling e → spelling d ≡ spelling e → d ≡ e
+is_one_to_one law (Want replica worker from) (Want replica' worker' from') fits_d fits_e same =
     let one : replica ≡ replica' = ap (λ (bytes : List ℕ). get_or bytes 6 0) same in
     let two : worker ≡ worker' = ap (λ (bytes : List ℕ). get_or bytes 7 0) same in
     let three : from ≡ from' =
     sym (big_number-reads_back 8 from [] fits_d.2) ∙ ap (λ (bytes : List ℕ). big_number 8 (drop 8 bytes)) same
     ∙ big_number-reads_back 8 from' [] fits_e.2 in
     cc
-is_one_to_one (Want replica worker from) e fits_d fits_e same = absurd (not_want e replica worker from tt (sym same))
-is_one_to_one d (Want replica worker from) fits_d fits_e same = absurd (not_want d replica worker from tt same)
-is_one_to_one d e fits_d fits_e same = both_read d e fits_d fits_e tt tt same
+is_one_to_one law (Want replica worker from) e fits_d fits_e same = absurd (not_want e replica worker from tt (sym same))
+is_one_to_one law d (Want replica worker from) fits_d fits_e same = absurd (not_want d replica worker from tt same)
+is_one_to_one law d e fits_d fits_e same = both_read law d e fits_d fits_e tt tt same
 
-pub is_prefix_free : (d e : Datagram) (rest : List ℕ) → HasSpelling d → HasSpelling e → spelling d ++ rest ≡ spelling e → (d ≡ e)
-    × (rest ≡ [])
-is_prefix_free d e rest fits_d fits_e same =
+pub is_prefix_free : (law : SpelledIsFound) (d e : Datagram) (rest : List ℕ) → HasSpelling d → HasSpelling e
+    → spelling d ++ rest ≡ spelling e → (d ≡ e) × (rest ≡ [])
+is_prefix_free law d e rest fits_d fits_e same =
     let total : length (spelling d) ≡ length (spelling e) =
     sym (total_is d rest fits_d) ∙ ap (λ (bytes : List ℕ). big_number 2 (drop 4 bytes)) (same ∙ sym (append-nil (spelling e)))
     ∙ total_is e [] fits_e in
     let none : rest ≡ [] = nil_from_length rest (omega (arith, length-append (spelling d) rest, ap length same)) in
     let whole : spelling d ≡ spelling e = sym (append-nil (spelling d)) ∙ ap (λ (t : List ℕ). spelling d ++ t) (sym none) ∙ same in
-    (is_one_to_one d e fits_d fits_e whole, none)
+    (is_one_to_one law d e fits_d fits_e whole, none)

@@ -9,13 +9,14 @@ use Rattle.std.proofs.lemmas.List.{nil_from_length}
 use Rattle.byteorder.specs.Endian.{big_bytes, big_number}
 use Rattle.rows.specs.declared.limits.TheConstants.{DATAGRAM_MAX}
 use Rattle.rows.specs.Spelling.{AreBytes, entry_spelling}
+use Rattle.rows.specs.Laws.{FoundIsSpelled}
 use Rattle.wire.specs.declared.datagram.Datagram.{Datagram}
 use Rattle.wire.specs.declared.fault.WireFault.{WireFault}
 use Rattle.wire.specs.declared.fault.WireFault.TheVariants.{Short, Magic, Version, Kind, Length, Body}
 use Rattle.wire.specs.Spelling.{datagram_of, frame_head, ask_body, head_head, spelling, HasSpelling, flag}
 use Rattle.wire.specs.Reading.{reading, body_at, frame_at, ask_at, head_at, counts_at}
 use Rattle.wire.proofs.Passing.{passed}
-use Rattle.wire.proofs.Bytes.{AreBytes-drop, cut_1, cut_2, cut_8, number_fits}
+use Rattle.rows.proofs.Bytes.{AreBytes-drop, cut_1, cut_2, cut_8, number_fits}
 use Rattle.wire.proofs.Bodies.{frame_of, frame_at-only, ask_of, ask_at-only, head_of, head_at-only}
 use Rattle.wire.proofs.Filling.{filling-spelled, filling-length}
 use Rattle.wire.proofs.Counting.{counts_at-spelled, length-counts_at}
@@ -30,9 +31,9 @@ flag_is zero h = refl
 flag_is (suc zero) h = refl
 flag_is (suc (suc n)) h = absurd (omega arith)
 
-frame_at-spelled : (body : List ℕ) (found : Datagram) → AreBytes body → 6 + length body ≤ DATAGRAM_MAX → frame_at body ≡ Some found
-    → IsSpelledBody 1 body found
-frame_at-spelled body found fits few e =
+frame_at-spelled : (law : FoundIsSpelled) (body : List ℕ) (found : Datagram) → AreBytes body → 6 + length body ≤ DATAGRAM_MAX
+    → frame_at body ≡ Some found → IsSpelledBody 1 body found
+frame_at-spelled law body found fits few e =
     let only = frame_at-only body found e in
     let tested = only.0 in
     let long = tested.long in
@@ -43,7 +44,7 @@ frame_at-spelled body found fits few e =
     let last = eqb (get_or body 17 0) 1 in
     let worker = get_or body 0 0 in
     let as_many = filling-length count (drop 20 body) entries only.1.1 in
-    let rest = filling-spelled count (drop 20 body) entries (AreBytes-drop 20 body fits) only.1.1 in
+    let rest = filling-spelled law count (drop 20 body) entries (AreBytes-drop 20 body fits) only.1.1 in
     let joined = flat_map entry_spelling entries in
     let at_18 : big_bytes 2 (length entries) ++ joined ≡ drop 18 body =
     ap (λ (n : ℕ). big_bytes 2 n ++ joined) as_many ∙ ap (λ (t : List ℕ). big_bytes 2 count ++ t) (sym rest.1)
@@ -145,13 +146,13 @@ unknown kind = not (eqb kind 1) && not (eqb kind 2) && not (eqb kind 3)
 known_kind : (n : ℕ) → unknown (suc (suc (suc (suc n)))) ≡ false → ⊥
 known_kind n known = grind (arith, nat_tests)
 
-body_at-spelled : (kind : ℕ) (body : List ℕ) (found : Datagram) → AreBytes body → 6 + length body ≤ DATAGRAM_MAX
+body_at-spelled : (law : FoundIsSpelled) (kind : ℕ) (body : List ℕ) (found : Datagram) → AreBytes body → 6 + length body ≤ DATAGRAM_MAX
     → unknown kind ≡ false → body_at kind body ≡ Some found → IsSpelledBody kind body found
-body_at-spelled zero body found fits few known e = absurd cc
-body_at-spelled (suc zero) body found fits few known e = frame_at-spelled body found fits few e
-body_at-spelled (suc (suc zero)) body found fits few known e = ask_at-spelled body found fits e
-body_at-spelled (suc (suc (suc zero))) body found fits few known e = head_at-spelled body found fits e
-body_at-spelled (suc (suc (suc (suc kind)))) body found fits few known e = absurd (known_kind kind known)
+body_at-spelled law zero body found fits few known e = absurd cc
+body_at-spelled law (suc zero) body found fits few known e = frame_at-spelled law body found fits few e
+body_at-spelled law (suc (suc zero)) body found fits few known e = ask_at-spelled body found fits e
+body_at-spelled law (suc (suc (suc zero))) body found fits few known e = head_at-spelled body found fits e
+body_at-spelled law (suc (suc (suc (suc kind)))) body found fits few known e = absurd (known_kind kind known)
 
 -- what the tests of the front let through
 record IsFront (bytes : List ℕ) : Type 0 where
@@ -204,19 +205,19 @@ reading-only bytes found e =
       ok_or_ok (body_at kind (drop 6 bytes)) found p4.1,
     )
 
-pub reading-spelled : (bytes : List ℕ) (found : Datagram) → AreBytes bytes → reading bytes ≡ Ok found → HasSpelling found
-    × (bytes ≡ spelling found)
-reading-spelled bytes found fits e =
+pub reading-spelled : (law : FoundIsSpelled) (bytes : List ℕ) (found : Datagram) → AreBytes bytes → reading bytes ≡ Ok found
+    → HasSpelling found × (bytes ≡ spelling found)
+reading-spelled law bytes found fits e =
     let only = reading-only bytes found e in
     let front = only.0 in
     let kind = get_or bytes 3 0 in
     let body =
-    body_at-spelled kind (drop 6 bytes) found (AreBytes-drop 6 bytes fits)
+    body_at-spelled law kind (drop 6 bytes) found (AreBytes-drop 6 bytes fits)
     (omega (arith, front.few, front.long, length-drop 6 bytes)) front.known only.1 in
     (body.spelled, front_parts bytes fits front ∙ body.whole)
 
 -- the same of what a reader returned
-pub is_found : (bytes : List ℕ) (result : Result Datagram WireFault) → AreBytes bytes → result ≡ reading bytes
+pub is_found : (law : FoundIsSpelled) (bytes : List ℕ) (result : Result Datagram WireFault) → AreBytes bytes → result ≡ reading bytes
     → IfOk result (λ found. HasSpelling found × (bytes ≡ spelling found))
-is_found bytes (Ok found) fits is = reading-spelled bytes found fits (sym is)
-is_found bytes (Err fault) fits is = tt
+is_found law bytes (Ok found) fits is = reading-spelled law bytes found fits (sym is)
+is_found law bytes (Err fault) fits is = tt

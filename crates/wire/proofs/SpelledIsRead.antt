@@ -8,6 +8,7 @@ use Rattle.byteorder.specs.Numbers.{big_number-reads_back}
 use Rattle.rows.specs.declared.entry.Entry.{Entry}
 use Rattle.rows.specs.declared.limits.TheConstants.{DATAGRAM_MAX}
 use Rattle.rows.specs.Spelling.{entry_spelling}
+use Rattle.rows.specs.Laws.{SpelledIsFound}
 use Rattle.wire.specs.declared.datagram.Datagram.{Datagram}
 use Rattle.wire.specs.declared.datagram.Datagram.TheVariants.{Frame, Ask, Head, Want}
 use Rattle.wire.specs.Entries.{entries_filling}
@@ -26,10 +27,10 @@ flag_few : (last : Bool) → flag last ≤ 1
 flag_few false = omega arith
 flag_few true = omega arith
 
-frame_at-again : (worker seq commit : ℕ) (last : Bool) (entries : List Entry) → IsFrame worker seq commit entries
+frame_at-again : (law : SpelledIsFound) (worker seq commit : ℕ) (last : Bool) (entries : List Entry) → IsFrame worker seq commit entries
     → frame_at (frame_head worker seq commit last (length entries) ++ flat_map entry_spelling entries) ≡ Some
     (Frame worker seq commit last entries)
-frame_at-again worker seq commit last entries fits =
+frame_at-again law worker seq commit last entries fits =
     let joined = flat_map entry_spelling entries in
     let body : List ℕ = frame_head worker seq commit last (length entries) ++ joined in
     let count_is : big_number 2 (drop 18 body) ≡ length entries =
@@ -37,7 +38,7 @@ frame_at-again worker seq commit last entries fits =
     let commit_is : big_number 8 (drop 9 body) ≡ commit = big_number-reads_back 8 commit (drop 17 body) fits.commit_below in
     let seq_is : big_number 8 (drop 1 body) ≡ seq = big_number-reads_back 8 seq (drop 9 body) fits.seq_below in
     let filled : entries_filling (big_number 2 (drop 18 body)) joined ≡ Some entries =
-    ap (λ (n : ℕ). entries_filling n joined) count_is ∙ filling-again entries fits.spelled in
+    ap (λ (n : ℕ). entries_filling n joined) count_is ∙ filling-again law entries fits.spelled in
     frame_at-is body entries (record {
       long = omega arith;
       worker = fits.worker_below;
@@ -106,15 +107,16 @@ module _ (kind : ℕ) (body : List ℕ) where
       let whole = takes_total few in
       rw (long, known, whole, is) refl
 
-pub reading-again : (datagram : Datagram) → HasSpelling datagram → IsRead datagram → reading (spelling datagram) ≡ Ok datagram
-reading-again (Frame worker seq commit last entries) fits is_read =
+pub reading-again : (law : SpelledIsFound) (datagram : Datagram) → HasSpelling datagram → IsRead datagram
+    → reading (spelling datagram) ≡ Ok datagram
+reading-again law (Frame worker seq commit last entries) fits is_read =
     let few = spelling_few (Frame worker seq commit last entries) fits in
     reading-front 1 (frame_head worker seq commit last (length entries) ++ flat_map entry_spelling entries)
-    (Frame worker seq commit last entries) refl (omega arith) (frame_at-again worker seq commit last entries fits)
-reading-again (Ask replica boot request) fits is_read =
+    (Frame worker seq commit last entries) refl (omega arith) (frame_at-again law worker seq commit last entries fits)
+reading-again law (Ask replica boot request) fits is_read =
     reading-front 2 (ask_body replica boot request) (Ask replica boot request) refl (omega arith) (ask_at-again replica boot request fits)
-reading-again (Head replica boot request version counts) fits is_read =
+reading-again law (Head replica boot request version counts) fits is_read =
     let few = spelling_few (Head replica boot request version counts) fits in
     reading-front 3 (head_head replica boot request version (length counts) ++ flat_map (big_bytes 8) counts)
     (Head replica boot request version counts) refl (omega arith) (head_at-again replica boot request version counts fits)
-reading-again (Want replica worker from) fits is_read = absurd is_read
+reading-again law (Want replica worker from) fits is_read = absurd is_read

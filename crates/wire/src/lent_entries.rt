@@ -1,12 +1,14 @@
 //! The entries of a frame, still in the bytes that they were read from.
 
-ghost use Rattle.std.specs.Prelude.{◌≡◌, Some, IfOk, is_some, true, length};
-ghost use Rattle.std.specs.List.{flat_map};
+ghost use Rattle.std.specs.Prelude.{◌≡◌, Some, IfOk, is_ok, is_some, true, length};
+ghost use Rattle.std.specs.List.{flat_map, list_all};
+ghost use Rattle.rows.specs.Entries.{fitting};
 ghost use Rattle.rows.specs.Reading.{entry_of};
+ghost use Rattle.rows.specs.Shape.{shape_of};
 ghost use Rattle.rows.specs.Spelling.{entry_spelling};
-ghost use Rattle.wire.specs.Entries.{entries_filling};
+ghost use Rattle.wire.specs.Entries.{entries_filling, or_none};
 
-use rows::{ByteList, Entry, EntryList, EntryRef, read_entry};
+use rows::{ByteList, Entry, EntryList, EntryRef, Schema, fits_lent, laws, read_entry};
 use std::alloc::{AllocError, Global};
 use std::marker::Model;
 
@@ -55,7 +57,15 @@ impl<'a> LentEntries<'a> {
     pub fn as_bytes(&self) -> &'a [u8]
         ensures { result.now ≡ flat_map entry_spelling self.now }
     {
+        laws::entries_are_read_as_spelled();
         self.bytes
+    }
+
+    /// Whether every entry fits the schema. Takes no memory.
+    pub fn fit(&self, schema: &Schema) -> bool
+        ensures { result ≡ list_all (λ entry. is_ok (fitting (shape_of schema.now) entry)) self.now }
+    {
+        are_fit(schema, self.count, self.bytes)
     }
 
     /// The entries, owned. Fails for want of memory alone.
@@ -78,6 +88,26 @@ fn are_entries(count: u16, bytes: &[u8]) -> bool
         }
     }
     rest.is_empty()
+}
+
+/// Whether every entry that fills the bytes fits the schema.
+fn are_fit(schema: &Schema, count: u16, bytes: &[u8]) -> bool
+    requires { is_some (entries_filling count bytes.now) ≡ true }
+    ensures { result ≡ list_all (λ entry. is_ok (fitting (shape_of schema.now) entry)) (or_none (entries_filling count bytes.now)) }
+{
+    let mut rest = bytes;
+    for _ in 0..count {
+        match read_entry(rest) {
+            None => unreachable!(),
+            Some((entry, len)) => {
+                if fits_lent(schema, entry).is_err() {
+                    return false;
+                }
+                rest = rest.split_at(len).1;
+            }
+        }
+    }
+    true
 }
 
 /// The entries that fill the bytes, owned.

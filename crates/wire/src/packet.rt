@@ -8,8 +8,8 @@ use crate::datagram::Datagram;
 use crate::fault::TooSmall;
 use crate::frame::Frame;
 use crate::writing::{write, write_frame, write_frame_of};
-use rows::Commit;
 use rows::limits::DATAGRAM_MAX;
+use rows::{Commit, laws};
 use std::marker::Model;
 
 /// The bytes of a datagram, at most 1200, kept inline.
@@ -36,6 +36,7 @@ impl Packet {
         ensures spelled { result ≡ spelling datagram.now }
         ensures reads_back { IsRead datagram.now → reading result ≡ Ok datagram.now }
     {
+        laws::entries_are_read_as_spelled();
         let mut buffer = [0u8; DATAGRAM_MAX];
         match write(datagram, &mut buffer) {
             Ok(len) => Packet { buffer, len },
@@ -49,6 +50,7 @@ impl Packet {
         ensures spelled { result ≡ frame_spelling frame.now }
         ensures reads_back { reading result ≡ Ok (datagram_of_frame frame.now) }
     {
+        laws::entries_are_read_as_spelled();
         let mut buffer = [0u8; DATAGRAM_MAX];
         match write_frame(frame, &mut buffer) {
             Ok(len) => Packet { buffer, len },

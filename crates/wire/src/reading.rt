@@ -10,6 +10,7 @@ use crate::datagram::Datagram;
 use crate::fault::WireFault;
 use crate::lent_entries::LentEntries;
 use byteorder::{BigEndian, ByteOrder};
+use rows::laws;
 use rows::limits::{DATAGRAM_MAX, REPLICAS_MAX, WORKERS_MAX};
 
 /// The first bytes of every datagram.
@@ -30,6 +31,7 @@ pub fn read(bytes: &[u8]) -> Result<Datagram<'_>, WireFault>
     ensures found { IfOk result (λ datagram. HasSpelling datagram × (bytes.now ≡ spelling datagram)) }
     ensures only { (datagram : Datagram) → HasSpelling datagram → IsRead datagram → bytes.now ≡ spelling datagram → result ≡ Ok datagram }
 {
+    laws::entries_are_read_as_spelled();
     read_datagram(bytes)
 }
 

@@ -1,5 +1,6 @@
 -- A change of a transaction that is taken adds one entry, and its row stands as the entry needs it.
 use Rattle.std.proofs.Common.{◌≡◌, ℕ, ◌<◌, Bool, true, false, cond, not, List, [], ◌∷◌, ◌++◌, length, Ok, Err, nat_lt, refl, sym, ap}
+use Rattle.std.proofs.Common.{subst, ◌∙◌}
 use Rattle.std.specs.List.{slice_get}
 use Rattle.std.specs.Option.{is_some}
 use Rattle.std.proofs.lemmas.Bool.{ltb-true}
@@ -14,7 +15,9 @@ use Rattle.rows.specs.Values.{bytes_of, value_bytes}
 use Rattle.mvcc.specs.declared.faults.TxFault.TheVariants.{Exists, Missing, Unfit, TooManyEntries}
 use Rattle.mvcc.specs.declared.transaction.TheConstants.{TRANSACTION_ENTRIES_MAX}
 use Rattle.mvcc.specs.Draft.{Draft}
-use Rattle.mvcc.specs.Transactions.{match_table, match_column, column_kind, column_offset, sees, draft_with, insert_answer, set_answer}
+use Rattle.mvcc.proofs.Seen.{seen-shape}
+use Rattle.mvcc.specs.Transactions.{match_table, match_column, column_kind, column_offset, seen_shape, sees, draft_with, insert_answer}
+use Rattle.mvcc.specs.Transactions.{set_answer}
 use Rattle.mvcc.specs.Transactions.{delete_answer}
 
 -- the transaction with this entry behind its others
@@ -46,43 +49,59 @@ module _ (shape : Shape) (commits : List Commit) (draft : Draft) (table row : �
   pub insert-added : (values : List Value) → insert_answer shape commits draft table row values ≡ Ok new
       → (match_table values (slice_get shape table) ≡ true)
       × IsAdded shape commits draft (Insert table (record { 0 = row }) (bytes_of values)) new
-  insert-added values h = by (match_table values (slice_get shape table)) (sees shape commits draft table row) refl refl h
+  insert-added values h =
+      by (match_table values (slice_get (seen_shape shape commits draft) table)) (sees shape commits draft table row) refl refl h
     where
       entry : Entry
       entry = Insert table (record { 0 = row }) (bytes_of values)
 
-      by : (a b : Bool) → match_table values (slice_get shape table) ≡ a → sees shape commits draft table row ≡ b
+      by : (a b : Bool) → match_table values (slice_get (seen_shape shape commits draft) table) ≡ a → sees shape commits draft table row ≡ b
           → cond (not a) (Err Unfit) (cond b (Err Exists) (draft_with draft entry)) ≡ Ok new
           → (match_table values (slice_get shape table) ≡ true) × IsAdded shape commits draft entry new
       by false b e f h = absurd (cc)
       by true true e f h = absurd (cc)
-      by true false e f h = (e, added_to shape commits draft entry new (ap not f) h)
+      by true false e f h = (
+        ap (λ (s : Shape). match_table values (slice_get s table)) (sym (seen-shape shape commits draft)) ∙ e,
+        added_to shape commits draft entry new (ap not f) h,
+      )
 
   pub set-added : (column : ℕ) (value : Value) → set_answer shape commits draft table row column value ≡ Ok new
       → (match_column value (column_kind shape table column) ≡ true)
       × IsAdded shape commits draft (Patch table (record { 0 = row }) (column_offset shape table column) (value_bytes value)) new
-  set-added column value h = by (match_column value (column_kind shape table column)) (sees shape commits draft table row) refl refl h
+  set-added column value h =
+      by (match_column value (column_kind (seen_shape shape commits draft) table column)) (sees shape commits draft table row) refl refl h
     where
       entry : Entry
-      entry = Patch table (record { 0 = row }) (column_offset shape table column) (value_bytes value)
+      entry = Patch table (record { 0 = row }) (column_offset (seen_shape shape commits draft) table column) (value_bytes value)
 
-      by : (a b : Bool) → match_column value (column_kind shape table column) ≡ a → sees shape commits draft table row ≡ b
+      by : (a b : Bool) → match_column value (column_kind (seen_shape shape commits draft) table column) ≡ a
+          → sees shape commits draft table row ≡ b
           → cond (not a) (Err Unfit) (cond (not b) (Err Missing) (draft_with draft entry)) ≡ Ok new
-          → (match_column value (column_kind shape table column) ≡ true) × IsAdded shape commits draft entry new
+          → (match_column value (column_kind shape table column) ≡ true)
+          × IsAdded shape commits draft (Patch table (record { 0 = row }) (column_offset shape table column) (value_bytes value)) new
       by false b e f h = absurd (cc)
       by true false e f h = absurd (cc)
-      by true true e f h = (e, added_to shape commits draft entry new f h)
+      by true true e f h =
+          let seen = seen-shape shape commits draft in (
+            ap (λ (s : Shape). match_column value (column_kind s table column)) (sym seen) ∙ e,
+            subst (λ (s : Shape). IsAdded shape commits draft
+                (Patch table (record { 0 = row }) (column_offset s table column) (value_bytes value)) new) seen
+                (added_to shape commits draft entry new f h),
+          )
 
   pub delete-added : delete_answer shape commits draft table row ≡ Ok new → (is_some (slice_get shape table) ≡ true)
       × IsAdded shape commits draft (Delete table (record { 0 = row })) new
-  delete-added h = by (is_some (slice_get shape table)) (sees shape commits draft table row) refl refl h
+  delete-added h = by (is_some (slice_get (seen_shape shape commits draft) table)) (sees shape commits draft table row) refl refl h
     where
       entry : Entry
       entry = Delete table (record { 0 = row })
 
-      by : (a b : Bool) → is_some (slice_get shape table) ≡ a → sees shape commits draft table row ≡ b
+      by : (a b : Bool) → is_some (slice_get (seen_shape shape commits draft) table) ≡ a → sees shape commits draft table row ≡ b
           → cond (not a) (Err Unfit) (cond (not b) (Err Missing) (draft_with draft entry)) ≡ Ok new
           → (is_some (slice_get shape table) ≡ true) × IsAdded shape commits draft entry new
       by false b e f h = absurd (cc)
       by true false e f h = absurd (cc)
-      by true true e f h = (e, added_to shape commits draft entry new f h)
+      by true true e f h = (
+        ap (λ (s : Shape). is_some (slice_get s table)) (sym (seen-shape shape commits draft)) ∙ e,
+        added_to shape commits draft entry new f h,
+      )

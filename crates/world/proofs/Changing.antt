@@ -19,15 +19,15 @@ use Rattle.rows.specs.declared.value.Value.TheVariants.{Int as IntValue, Octets 
 use Rattle.rows.specs.Entries.{listed, fitting}
 use Rattle.rows.specs.Shape.{Shape, AreColumns, row_width, width_of, is_good, AreTables}
 use Rattle.rows.specs.Spelling.{AreBytes, HasSpelling}
-use Rattle.rows.specs.Values.{value_bytes, bytes_of}
+use Rattle.rows.specs.Values.{value_bytes, bytes_of, is_of_kind, are_of_kinds}
 use Rattle.rows.proofs.Presence.{fitting-within}
 use Rattle.mvcc.specs.Draft.{Draft}
-use Rattle.mvcc.specs.Transactions.{is_of_kind, are_of_kinds, match_table, match_column, column_kind, column_offset, insert_answer}
+use Rattle.mvcc.specs.Transactions.{match_table, match_column, column_kind, column_offset, insert_answer}
 use Rattle.mvcc.specs.Transactions.{set_answer, delete_answer}
 use Rattle.mvcc.proofs.Columns.{column-within}
 use Rattle.script.specs.Events.{IsValue}
 use Rattle.world.proofs.Lists.{All-append, All-get}
-use Rattle.world.proofs.Sound.{IsSmallDraft}
+use Rattle.world.specs.Inner.Sound.{IsSmallDraft}
 use Rattle.world.proofs.Datagrams.{bytes-below}
 use Rattle.world.proofs.Adding.{IsAdded, insert-added, set-added, delete-added}
 use Rattle.world.proofs.Placing.{length-value, width-some, width-few, good-at, column-matched}

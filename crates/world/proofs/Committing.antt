@@ -1,18 +1,15 @@
 -- What the primary does with transactions, commits and bytes leaves sound parts.
-use Rattle.std.proofs.Common.{◌≡◌, ℕ, ◌^◌, ◌<◌, ◌≤◌, Bool, true, false, cond, not, ◌==◌, List, [], ◌∷◌, ◌++◌, length, Option, Some, None}
+use Rattle.std.proofs.Common.{◌≡◌, ℕ, ◌^◌, ◌<◌, ◌≤◌, Bool, true, false, cond, ◌==◌, List, [], ◌∷◌, ◌++◌, length, Option, Some, None}
 use Rattle.std.proofs.Common.{Result, Ok, Err, nat_lt, refl, sym, ap, subst, ◌∙◌, inl, inr, arith}
 use Rattle.std.specs.List.{slice_get, slice_set, AllByRecursion}
 use Rattle.std.specs.Option.{option_map, option_and_then}
-use Rattle.std.specs.Result.{is_ok}
-use Rattle.std.proofs.lemmas.Bool.{ltb-true, ltb-false, eqb-false, not-false, or_parts}
+use Rattle.std.proofs.lemmas.Bool.{ltb-true, eqb-false}
 use Rattle.std.proofs.lemmas.List.{append_assoc, length-append}
 use Rattle.std.proofs.lemmas.Option.{none-some, same_Some, slice_get_within}
 use Rattle.rows.specs.declared.commit.Commit.{Commit}
 use Rattle.rows.specs.declared.value.Value.{Value}
 use Rattle.rows.specs.Shape.{Shape}
-use Rattle.rows.specs.Tables.{opening, changes_of}
-use Rattle.rows.specs.Commits.{commits_of, tables_after}
-use Rattle.rows.proofs.TableLaws.{still_defined, commits_of-push}
+use Rattle.rows.specs.Commits.{IsLegal, last_touching}
 use Rattle.wire.specs.declared.datagram.Datagram.{Datagram}
 use Rattle.wire.specs.declared.datagram.Datagram.TheVariants as datagrams
 use Rattle.wire.specs.declared.fault.WireFault.{WireFault}
@@ -24,21 +21,22 @@ use Rattle.mvcc.specs.declared.faults.TxFault.{TxFault}
 use Rattle.primary.specs.declared.faults.CommitFault.{CommitFault}
 use Rattle.primary.specs.declared.faults.CommitFault.TheVariants as faults
 use Rattle.mvcc.specs.Draft.{Draft}
-use Rattle.primary.specs.Primary.{commit_answer, committed, is_foreign, last_writer, next_number}
+use Rattle.primary.specs.Primary.{commit_answer, committed, flushed, is_foreign, next_number}
 use Rattle.primary.specs.Sending.{answers, answers_to, head_for, counts_of}
 use Rattle.primary.specs.State.{Primary}
 use Rattle.dispatcher.specs.Replica.{Replica}
 use Rattle.dispatcher.proofs.Streams.{count-is, frame-commit}
-use Rattle.dispatcher.proofs.Versions.{tables-stay}
+use Rattle.script.specs.declared.event.Node.TheVariants as nodes
+use Rattle.script.specs.declared.output.Output.{Output}
 use Rattle.world.specs.Outputs.{of_look, packets_of}
 use Rattle.world.specs.Parts.{Parts}
-use Rattle.world.specs.Steps.{changing, change_by, look_by, committing, commit_by, abort_by, push_by, to_primary}
-use Rattle.world.specs.World.{open_draft, change_happens, commit_happens, abort_happens, on_draft, push_happens}
+use Rattle.world.specs.World.{World, open_draft, change_happens, commit_happens, abort_happens, on_draft, push_happens, deliver_happens}
 use Rattle.world.proofs.Lists.{get-set, get-append, get-one, All-get, All-left, All-append}
-use Rattle.world.proofs.Sound.{Sound, IsSoundPrimary, IsSmall, IsSmallDraft, Means}
+use Rattle.world.specs.Inner.Sound.{Sound, IsSoundPrimary, IsSmall, IsSmallDraft, Means}
 use Rattle.world.proofs.Datagrams.{frame-read, head-read}
 use Rattle.world.specs.Standing.{world_of}
-use Rattle.world.proofs.Moves.{Follows, legal-durable, Sound-drafts, Sound-sent, Sound-one, Sound-primary}
+use Rattle.world.proofs.Moves.{each-durable, Sound-drafts, Sound-sent, Sound-one, Sound-primary, Sound-flushed}
+use Rattle.world.proofs.Worlds.{beside_of}
 
 -- ---- transactions
 
@@ -83,101 +81,68 @@ drafts-ended shape p number sound =
 
 changed : (shape : Shape) (p : Parts) (number : ℕ) (answer : Result Draft TxFault) → Sound shape p
     → ((new : Draft) → answer ≡ Ok new → IsSmallDraft (length p.primary.durable) new)
-    → Follows shape (change_happens (world_of p) number answer) (changing p number answer)
-changed shape p number (Ok new) sound small = (refl, drafts-changed shape p number new sound (small new refl))
-changed shape p number (Err fault) sound small = (refl, sound)
+    → Sound shape (beside_of (change_happens (world_of p) number answer).1 p)
+changed shape p number (Ok new) sound small = drafts-changed shape p number new sound (small new refl)
+changed shape p number (Err fault) sound small = sound
 
--- what a transaction's call answers in the world, where it is told what is durable, and what it answers to the program,
--- which tells it all commits
-pub change-follows : (shape : Shape) (p : Parts) (number : ℕ) (there here : Draft → Result Draft TxFault) (found : Option Draft)
+pub change-sound : (shape : Shape) (p : Parts) (number : ℕ) (change : Draft → Result Draft TxFault) (found : Option Draft)
     → Sound shape p
-    → ((draft : Draft) → draft.snapshot ≤ length p.primary.durable → here draft ≡ there draft)
-    → ((draft new : Draft) → IsSmallDraft (length p.primary.durable) draft → there draft ≡ Ok new
+    → ((draft new : Draft) → IsSmallDraft (length p.primary.durable) draft → change draft ≡ Ok new
     → IsSmallDraft (length p.primary.durable) new) → open_draft p.transactions number ≡ found
-    → Follows shape (on_draft (world_of p) found (λ draft. change_happens (world_of p) number (there draft)))
-    (change_by p number here found)
-change-follows shape p number there here None sound same small at = (refl, sound)
-change-follows shape p number there here (Some draft) sound same small at =
+    → Sound shape (beside_of (on_draft (world_of p) found (λ draft. change_happens (world_of p) number (change draft))).1 p)
+change-sound shape p number change None sound small at = sound
+change-sound shape p number change (Some draft) sound small at =
     let begun = sound.drafts_are number draft (opened (slice_get p.transactions number) draft at) in
-    subst (λ (answer : Result Draft TxFault). Follows shape (change_happens (world_of p) number (there draft)) (changing p number answer))
-    (sym (same draft begun.known))
-    (changed shape p number (there draft) sound (λ new h. small draft new begun h))
+    changed shape p number (change draft) sound (λ new h. small draft new begun h)
 
-pub look-follows : (shape : Shape) (p : Parts) (number : ℕ) (there here : Draft → Result Value TxFault) (found : Option Draft)
-    → Sound shape p
-    → ((draft : Draft) → draft.snapshot ≤ length p.primary.durable → here draft ≡ there draft) → open_draft p.transactions number ≡ found
-    → Follows shape (on_draft (world_of p) found (λ draft. (of_look (there draft), world_of p))) (look_by here found, p)
-look-follows shape p number there here None sound same at = (refl, sound)
-look-follows shape p number there here (Some draft) sound same at =
-    let begun = sound.drafts_are number draft (opened (slice_get p.transactions number) draft at) in
-    subst (λ (answer : Result Value TxFault). Follows shape (of_look (there draft), world_of p) (of_look answer, p))
-    (sym (same draft begun.known)) (refl, sound)
+pub look-sound : (shape : Shape) (p : Parts) (look : Draft → Result Value TxFault) (found : Option Draft) → Sound shape p
+    → Sound shape (beside_of (on_draft (world_of p) found (λ draft. (of_look (look draft), world_of p))).1 p)
+look-sound shape p look None sound = sound
+look-sound shape p look (Some draft) sound = sound
 
-pub abort-follows : (shape : Shape) (p : Parts) (number : ℕ) (found : Option Draft) → Sound shape p
-    → Follows shape (on_draft (world_of p) found (λ draft. abort_happens (world_of p) number)) (abort_by p number found)
-abort-follows shape p number None sound = (refl, sound)
-abort-follows shape p number (Some draft) sound = (refl, drafts-ended shape p number sound)
+pub abort-sound : (shape : Shape) (p : Parts) (number : ℕ) (found : Option Draft) → Sound shape p
+    → Sound shape (beside_of (on_draft (world_of p) found (λ draft. abort_happens (world_of p) number)).1 p)
+abort-sound shape p number None sound = sound
+abort-sound shape p number (Some draft) sound = drafts-ended shape p number sound
 
 -- ---- commits
 
--- what a commit that is answered by its number needs
+-- what a commit that is answered by its number has
 pub record IsTaken (p : Primary) (draft : Draft) : Type 0 where
   pub some : 0 < length draft.entries
-  pub known : draft.snapshot ≤ length p.durable
-  pub defined : is_ok (changes_of p.shape (tables_after p.shape p.durable draft.snapshot) draft.entries) ≡ true
-  pub last : last_writer p draft.entries ≤ draft.snapshot
   pub numbered : next_number p < 2 ^ 64
 
 pub commit-taken : (p : Primary) (draft : Draft) (number : ℕ) → commit_answer p draft ≡ Ok number → IsTaken p draft
 commit-taken p draft number h =
-    by p.failed (length draft.entries == 0) (is_foreign p draft) (nat_lt draft.snapshot (last_writer p draft.entries))
-    (nat_lt (next_number p) (2 ^ 64)) refl refl refl refl h
+    by p.failed (length draft.entries == 0) (is_foreign p draft)
+    (nat_lt draft.snapshot (last_touching draft.entries 0 (p.durable ++ p.pending)))
+    (nat_lt (next_number p) (2 ^ 64)) refl refl h
   where
-    by : (a b c d e : Bool) → (length draft.entries == 0) ≡ b → is_foreign p draft ≡ c
-        → nat_lt draft.snapshot (last_writer p draft.entries) ≡ d → nat_lt (next_number p) (2 ^ 64) ≡ e
+    by : (a b c d e : Bool) → (length draft.entries == 0) ≡ b → nat_lt (next_number p) (2 ^ 64) ≡ e
         → cond a (Err faults.Failed) (cond b (Err faults.ReadOnly)
-        (cond c (Err faults.Foreign) (cond d (Err (faults.Conflict (last_writer p draft.entries)))
+        (cond c (Err faults.Foreign) (cond d (Err (faults.Conflict (last_touching draft.entries 0 (p.durable ++ p.pending))))
         (cond e (Ok (next_number p)) (Err faults.NumbersUsedUp))))) ≡ Ok number
         → IsTaken p draft
-    by true b c d e q r s t h = absurd (cc)
-    by false true c d e q r s t h = absurd (cc)
-    by false false true d e q r s t h = absurd (cc)
-    by false false false true e q r s t h = absurd (cc)
-    by false false false false false q r s t h = absurd (cc)
-    by false false false false true q r s t h =
+    by true b c d e q t h = absurd (cc)
+    by false true c d e q t h = absurd (cc)
+    by false false true d e q t h = absurd (cc)
+    by false false false true e q t h = absurd (cc)
+    by false false false false false q t h = absurd (cc)
+    by false false false false true q t h =
         let there = eqb-false (length draft.entries) 0 q in
-        let parts =
-        or_parts (nat_lt (length p.durable) draft.snapshot)
-        (not (is_ok (changes_of p.shape (tables_after p.shape p.durable draft.snapshot) draft.entries))) r in
-        record {
-          some = omega arith;
-          known = ltb-false (length p.durable) draft.snapshot parts.0;
-          defined = not-false (is_ok (changes_of p.shape (tables_after p.shape p.durable draft.snapshot) draft.entries)) parts.1;
-          last = ltb-false draft.snapshot (last_writer p draft.entries) s;
-          numbered = ltb-true (next_number p) (2 ^ 64) t;
-        }
+        record { some = omega arith; numbered = ltb-true (next_number p) (2 ^ 64) t }
 
 primary-committed : (shape : Shape) (p : Primary) (worker : ℕ) (draft : Draft) → IsSoundPrimary shape p
     → IsSmallDraft (length p.durable) draft → worker < 1 → IsTaken p draft → IsSoundPrimary shape (committed p worker draft.entries)
 primary-committed shape p worker draft sound small below taken =
-    let commits = p.durable ++ p.pending in
     let commit : Commit = record { worker = worker; entries = draft.entries } in
-    let whole : commits ++ commit ∷ [] ≡ p.durable ++ (p.pending ++ commit ∷ []) = append_assoc p.durable p.pending (commit ∷ []) in
-    let defined : is_ok (changes_of shape (tables_after shape commits draft.snapshot) draft.entries) ≡ true =
-    ap (λ t. is_ok (changes_of shape t draft.entries)) (tables-stay shape p.durable p.pending draft.snapshot taken.known)
-    ∙ ap (λ (s : Shape). is_ok (changes_of s (tables_after s p.durable draft.snapshot) draft.entries)) (sym sound.shape_is)
-    ∙ taken.defined in
-    let still = still_defined shape commits draft.snapshot draft.entries sound.legal taken.last defined in
     let numbered = taken.numbered in
     record {
       shape_is = sound.shape_is;
       workers_are = sound.workers_are;
-      legal =
-          ap (λ (l : List Commit). is_ok (commits_of shape (opening shape) l)) (sym whole)
-          ∙ commits_of-push shape commits commit sound.legal still;
       small =
-          subst (AllByRecursion IsSmall) whole
-          (All-append IsSmall commits (commit ∷ []) sound.small
+          subst (AllByRecursion IsSmall) (append_assoc p.durable p.pending (commit ∷ []))
+          (All-append IsSmall (p.durable ++ p.pending) (commit ∷ []) sound.small
           (record { worker = omega arith; some = taken.some; few = small.few; spelled = small.spelled }, tt));
       numbered = omega (arith, length-append p.pending (commit ∷ []));
     }
@@ -185,56 +150,61 @@ primary-committed shape p worker draft sound small below taken =
 commits : (shape : Shape) (p : Parts) (number worker : ℕ) (draft : Draft) (answer : Result ℕ CommitFault) → Sound shape p
     → IsSmallDraft (length p.primary.durable) draft → worker < 1
     → commit_answer p.primary draft ≡ answer
-    → Follows shape (commit_happens (world_of p) number worker draft answer) (committing p number worker draft answer)
-commits shape p number worker draft (Ok ticket) sound small below h = (
-  refl,
-  Sound-primary shape (record p { transactions = slice_set p.transactions number None })
-      (p.primary.pending ++ record { worker = worker; entries = draft.entries } ∷ []) (drafts-ended shape p number sound)
-      (primary-committed shape p.primary worker draft sound.primary_is small below (commit-taken p.primary draft ticket h)),
-)
-commits shape p number worker draft (Err fault) sound small below h = (refl, drafts-ended shape p number sound)
+    → Sound shape (beside_of (commit_happens (world_of p) number worker draft answer).1 p)
+commits shape p number worker draft (Ok ticket) sound small below h =
+    Sound-primary shape (record p { transactions = slice_set p.transactions number None })
+    (p.primary.pending ++ record { worker = worker; entries = draft.entries } ∷ []) (drafts-ended shape p number sound)
+    (primary-committed shape p.primary worker draft sound.primary_is small below (commit-taken p.primary draft ticket h))
+commits shape p number worker draft (Err fault) sound small below h = drafts-ended shape p number sound
 
-pub commit-follows : (shape : Shape) (p : Parts) (number worker : ℕ) (found : Option Draft) → Sound shape p → worker < 1
+pub commit-sound : (shape : Shape) (p : Parts) (number worker : ℕ) (found : Option Draft) → Sound shape p → worker < 1
     → open_draft p.transactions number ≡ found
-    → Follows shape (on_draft (world_of p) found (λ draft. commit_happens (world_of p) number worker draft (commit_answer p.primary draft)))
-    (commit_by p number worker found)
-commit-follows shape p number worker None sound below here = (refl, sound)
-commit-follows shape p number worker (Some draft) sound below here =
+    → Sound shape (beside_of (on_draft (world_of p) found
+    (λ draft. commit_happens (world_of p) number worker draft (commit_answer p.primary draft))).1 p)
+commit-sound shape p number worker None sound below here = sound
+commit-sound shape p number worker (Some draft) sound below here =
     commits shape p number worker draft (commit_answer p.primary draft) sound
     (sound.drafts_are number draft (opened (slice_get p.transactions number) draft here)) below refl
+
+pub flush-sound : (shape : Shape) (p : Parts) (count : ℕ) (failed : Bool) (refused answered : Output)
+    → IsLegal shape 1 (p.primary.durable ++ p.primary.pending) → Sound shape p
+    → Sound shape (beside_of (cond {A = Output × World} failed (refused, world_of p)
+    (answered, world_of (record p { primary = flushed p.primary count }))).1 p)
+flush-sound shape p count true refused answered legal sound = sound
+flush-sound shape p count false refused answered legal sound = Sound-flushed shape p count legal sound
 
 -- ---- what the primary sends
 
 small-durable : (shape : Shape) (p : Parts) → Sound shape p → AllByRecursion IsSmall p.primary.durable
 small-durable shape p sound = All-left IsSmall p.primary.durable p.primary.pending sound.primary_is.small
 
-frame-means : (shape : Shape) (p : Parts) (place : ℕ) (frame : Frame) → Sound shape p
-    → slice_get (stream_of p.primary.durable 0) place ≡ Some frame → Means p.primary.durable p.replicas (reading (frame_spelling frame))
-frame-means shape p place frame sound h =
+frame-means : (shape : Shape) (p : Parts) (seq : ℕ) (frame : Frame) → Sound shape p
+    → slice_get (stream_of p.primary.durable 0) seq ≡ Some frame → Means p.primary.durable p.replicas (reading (frame_spelling frame))
+frame-means shape p seq frame sound h =
     let durable = p.primary.durable in
-    let found = frame-commit durable place frame (legal-durable shape p sound).each h in
-    let within = slice_get_within durable place found.0 found.1 in
+    let found = frame-commit durable seq frame (each-durable shape p sound) h in
+    let within = slice_get_within durable seq found.0 found.1 in
     let numbered = sound.primary_is.numbered in
-    let small = All-get IsSmall durable (small-durable shape p sound) place found.0 found.1 in
+    let small = All-get IsSmall durable (small-durable shape p sound) seq found.0 found.1 in
     subst (λ (f : Frame). Means durable p.replicas (reading (frame_spelling f))) found.2
-    (subst (Means durable p.replicas) (sym (frame-read place found.0 small (omega arith)))
-    (record { tells = ap (λ (w : ℕ). slice_get (stream_of durable w) place) small.worker ∙ h ∙ ap Some (sym found.2); requests = tt }))
+    (subst (Means durable p.replicas) (sym (frame-read seq found.0 small (omega arith)))
+    (record { tells = ap (λ (w : ℕ). slice_get (stream_of durable w) seq) small.worker ∙ h ∙ ap Some (sym found.2); requests = tt }))
 
-pub push-follows : (shape : Shape) (p : Parts) (worker place : ℕ) (found : Option Frame) → Sound shape p → worker < 1
-    → slice_get (stream_of p.primary.durable worker) place ≡ found
-    → Follows shape (push_happens (world_of p) (option_map frame_spelling found)) (push_by p (option_map frame_spelling found))
-push-follows shape p worker place None sound below here = (refl, sound)
-push-follows shape p worker place (Some frame) sound below here =
+pub push-sound : (shape : Shape) (p : Parts) (worker seq : ℕ) (found : Option Frame) → Sound shape p → worker < 1
+    → slice_get (stream_of p.primary.durable worker) seq ≡ found
+    → Sound shape (beside_of (push_happens (world_of p) (option_map frame_spelling found)).1 p)
+push-sound shape p worker seq None sound below here = sound
+push-sound shape p worker seq (Some frame) sound below here =
     let only : 0 ≡ worker = omega arith in
-    let at : slice_get (stream_of p.primary.durable 0) place ≡ Some frame =
-    ap (λ (w : ℕ). slice_get (stream_of p.primary.durable w) place) only ∙ here in
-    (refl, Sound-one shape p (frame_spelling frame) sound (frame-means shape p place frame sound at))
+    let at : slice_get (stream_of p.primary.durable 0) seq ≡ Some frame =
+    ap (λ (w : ℕ). slice_get (stream_of p.primary.durable w) seq) only ∙ here in
+    Sound-one shape p (frame_spelling frame) sound (frame-means shape p seq frame sound at)
 
 -- the count of the only worker
 counts-all : (shape : Shape) (p : Parts) → Sound shape p
     → frame_count p.primary.durable 0 (length p.primary.durable) ∷ [] ≡ length p.primary.durable ∷ []
 counts-all shape p sound =
-    ap (λ (n : ℕ). n ∷ []) (count-is p.primary.durable (length p.primary.durable) (legal-durable shape p sound).each (omega arith))
+    ap (λ (n : ℕ). n ∷ []) (count-is p.primary.durable (length p.primary.durable) (each-durable shape p sound) (omega arith))
 
 head-is : (shape : Shape) (p : Parts) (replica boot request : ℕ) → Sound shape p
     → head_for p.primary replica boot request ≡ datagrams.Head replica boot request (length p.primary.durable)
@@ -271,7 +241,9 @@ answers-mean shape p (Ok (datagrams.Ask replica boot request)) sound means i byt
 answers-mean shape p (Ok (datagrams.Head replica boot request version counts)) sound means i bytes h = absurd (none-some bytes h)
 answers-mean shape p (Ok (datagrams.Want replica worker from)) sound means i bytes h = absurd (none-some bytes h)
 
-pub primary-answers : (shape : Shape) (p : Parts) (bytes : List ℕ) → Sound shape p → Means p.primary.durable p.replicas (reading bytes)
-    → Sound shape (to_primary p bytes).1
-primary-answers shape p bytes sound means =
-    Sound-sent shape p (packets_of (answers p.primary bytes)) sound (answers-mean shape p (reading bytes) sound means)
+pub deliver-sound : (shape : Shape) (p : Parts) (index : ℕ) (found : Option (List ℕ)) → Sound shape p → slice_get p.sent index ≡ found
+    → Sound shape (beside_of (deliver_happens (world_of p) nodes.Primary found).1 p)
+deliver-sound shape p index None sound here = sound
+deliver-sound shape p index (Some bytes) sound here =
+    Sound-sent shape p (packets_of (answers p.primary bytes)) sound
+    (answers-mean shape p (reading bytes) sound (sound.sent_is index bytes here))

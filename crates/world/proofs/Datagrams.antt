@@ -22,9 +22,10 @@ use Rattle.wire.specs.declared.frame.Frame.{Frame}
 use Rattle.wire.specs.Entries.{entries_filling}
 use Rattle.wire.specs.Reading.{reading, body_at, counts_at}
 use Rattle.wire.specs.Spelling.{datagram_of, spelling, frame_spelling, IsAsk}
+use Rattle.rows.proofs.EntryReading.{entry_at-again}
 use Rattle.wire.proofs.SpelledIsRead.{reading-again}
 use Rattle.dispatcher.proofs.Streams.{whole_frame}
-use Rattle.world.proofs.Sound.{IsSmall}
+use Rattle.world.specs.Inner.Sound.{IsSmall}
 
 -- entries of a small commit take few bytes
 entries_few : (entries : List Entry) → AllByRecursion EntryHasSpelling entries
@@ -43,13 +44,13 @@ entries_few (Delete table row ∷ entries) h =
     omega arith
 
 -- the frame of a small commit reads as itself
-pub frame-read : (place : ℕ) (commit : Commit) → IsSmall commit → place + 1 < 2 ^ 64
-    → reading (frame_spelling (whole_frame place commit)) ≡ Ok (datagrams.Frame commit.worker place (place + 1) true commit.entries)
-frame-read place commit small below =
+pub frame-read : (seq : ℕ) (commit : Commit) → IsSmall commit → seq + 1 < 2 ^ 64
+    → reading (frame_spelling (whole_frame seq commit)) ≡ Ok (datagrams.Frame commit.worker seq (seq + 1) true commit.entries)
+frame-read seq commit small below =
     let bytes = entries_few commit.entries small.spelled in
     let few = small.few in
     let worker = small.worker in
-    reading-again (datagrams.Frame commit.worker place (place + 1) true commit.entries) (record {
+    reading-again entry_at-again (datagrams.Frame commit.worker seq (seq + 1) true commit.entries) (record {
       worker_below = omega arith;
       seq_below = omega arith;
       commit_numbered = omega arith;
@@ -64,7 +65,7 @@ pub head-read : (replica boot request version : ℕ) → IsAsk replica boot requ
     → reading (spelling (datagrams.Head replica boot request version (version ∷ []))) ≡ Ok
     (datagrams.Head replica boot request version (version ∷ []))
 head-read replica boot request version ask below =
-    reading-again (datagrams.Head replica boot request version (version ∷ []))
+    reading-again entry_at-again (datagrams.Head replica boot request version (version ∷ []))
     (ask, below, record { some = omega arith; few = omega arith; below = (below, tt) }) tt
 
 byte-below : (k n : ℕ) → byte_at k n < 256
@@ -93,7 +94,8 @@ pub ask-read : (replica boot request : ℕ) → replica < REPLICAS_MAX → boot 
     → reading (spelling (datagrams.Ask replica boot request)) ≡ Ok (datagrams.Ask replica boot (request % 2 ^ 64))
 ask-read replica boot request replica_below boot_below =
     ap (λ (bytes : List ℕ). reading (datagram_of 2 ((replica ∷ []) ++ big_bytes 8 boot ++ bytes))) (sym (bytes-kept request))
-    ∙ reading-again (datagrams.Ask replica boot (request % 2 ^ 64)) (ask-kept replica boot request replica_below boot_below) tt
+    ∙ reading-again entry_at-again (datagrams.Ask replica boot (request % 2 ^ 64))
+    (ask-kept replica boot request replica_below boot_below) tt
 
 -- a Want is not read
 pub want-read : (replica worker from : ℕ) → reading (spelling (datagrams.Want replica worker from)) ≡ Err Kind

@@ -12,11 +12,11 @@ use Rattle.rows.specs.declared.row_id.RowId.{RowId}
 use Rattle.rows.specs.declared.value.Value.{Value}
 use Rattle.rows.specs.Shape.{Shape, row_width}
 use Rattle.rows.specs.Entries.{table_of, row_of, sized, fitting}
-use Rattle.rows.specs.Tables.{is_present, rows_of, changes_of}
+use Rattle.rows.specs.Tables.{is_row_at, changes_of}
 use Rattle.rows.specs.Commits.{tables_after}
 use Rattle.rows.specs.Presence.{stands_for, is_there_after}
 use Rattle.rows.specs.Values.{bytes_of}
-use Rattle.rows.proofs.TableLaws.{there-seen, is_there_after_fit-defined, defined_behind}
+use Rattle.rows.proofs.TableLaws.{shape-at, there-seen, is_there_after_fit-defined, defined_behind}
 use Rattle.mvcc.specs.Draft.{Draft}
 use Rattle.mvcc.specs.Transactions.{match_table, sees, insert_answer, set_answer, delete_answer}
 use Rattle.world.proofs.Adding.{IsAdded, insert-added, set-added, delete-added}
@@ -38,10 +38,10 @@ values-fit shape table row values h =
 -- a transaction that reads the same version, whose entries are defined there
 pub record IsDefined (shape : Shape) (commits : List Commit) (draft new : Draft) : Type 0 where
   pub reads : new.snapshot ≡ draft.snapshot
-  pub defined : is_ok (changes_of shape (tables_after shape commits draft.snapshot) new.entries) ≡ true
+  pub defined : is_ok (changes_of (tables_after shape commits draft.snapshot) new.entries) ≡ true
 
 module _ (shape : Shape) (commits : List Commit) (draft new : Draft)
-    (defined : is_ok (changes_of shape (tables_after shape commits draft.snapshot) draft.entries) ≡ true) where
+    (defined : is_ok (changes_of (tables_after shape commits draft.snapshot) draft.entries) ≡ true) where
   -- an entry that fits, and whose row stands as it needs it, is defined behind the others
   added-defined : (entry : Entry) → is_ok (fitting shape entry) ≡ true → IsAdded shape commits draft entry new
       → IsDefined shape commits draft new
@@ -49,11 +49,11 @@ module _ (shape : Shape) (commits : List Commit) (draft new : Draft)
       let tables = tables_after shape commits draft.snapshot in
       let table = table_of entry in
       let row = row_of entry in
-      let was = is_present (rows_of tables table) row in
+      let was = is_row_at tables table row in
       let seen : is_there_after table row draft.entries was ≡ sees shape commits draft table row =
-      sym (is_there_after_fit-defined shape tables draft.entries table row was defined)
+      sym (is_there_after_fit-defined shape tables draft.entries table row was (shape-at shape commits draft.snapshot) defined)
       ∙ sym (there-seen shape commits draft.snapshot draft.entries table row) in
-      let is : is_ok (changes_of shape tables (draft.entries ++ entry ∷ [])) ≡ true =
+      let is : is_ok (changes_of tables (draft.entries ++ entry ∷ [])) ≡ true =
       defined_behind shape commits draft.snapshot draft.entries entry defined
       ∙ and_from (is_ok (fitting shape entry)) (stands_for entry (is_there_after table row draft.entries was)) fits
       (ap (stands_for entry) seen ∙ added.stands) in

@@ -1,5 +1,6 @@
 -- What the primary or a replica makes of a datagram is what a delivery may.
-use Rattle.std.proofs.Common.{◌≡◌, ℕ, ◌<◌, ◌++◌, ◌⊎◌, inl, inr, List, [], ◌∷◌, length, Some, slice_get, sym, ap, subst, ◌∙◌, arith}
+use Rattle.std.proofs.Common.{◌≡◌, ℕ, ◌<◌, ◌++◌, ◌⊎◌, inl, inr, List, [], ◌∷◌, length, Option, Some, slice_get, refl, sym, ap, subst}
+use Rattle.std.proofs.Common.{◌∙◌, arith}
 use Rattle.std.proofs.lemmas.List.{append-nil}
 use Rattle.wire.specs.declared.out.Out.{Out}
 use Rattle.primary.specs.Sending.{answers}
@@ -8,45 +9,59 @@ use Rattle.dispatcher.specs.declared.outcome.Got.TheVariants as gots
 use Rattle.dispatcher.specs.Replica.{Replica}
 use Rattle.dispatcher.specs.Steps.{received}
 use Rattle.script.specs.declared.event.Event.TheVariants.{Deliver}
-use Rattle.script.specs.declared.event.Node.{Node}
 use Rattle.script.specs.declared.event.Node.TheVariants as nodes
 use Rattle.script.specs.declared.output.Output.{Output}
 use Rattle.script.specs.declared.output.Output.TheVariants as outputs
 use Rattle.script.specs.declared.sent.Sent.{Sent}
 use Rattle.world.specs.Outputs.{of_got, of_answers, packets_of, sent_from}
 use Rattle.world.specs.Parts.{Parts}
-use Rattle.world.specs.Steps.{to_primary, to_replica, to_node, got_by, deliver_by, with_replica, MayStep}
-use Rattle.world.proofs.Moving.{replica_same}
+use Rattle.world.specs.Standing.{world_of}
+use Rattle.world.specs.World.{delivered, deliver_happens}
+use Rattle.world.specs.Inner.Steps.{HappensBeside, MayStep, with_replica, got_by, to_replica, come_by}
+use Rattle.world.proofs.Moving.{beside, replica_same}
 
-module _ (p old : Parts) (seen : p ≡ old) (place : ℕ) (bytes : List ℕ) (at : slice_get p.sent place ≡ Some bytes) where
-  by_node : (node : Node) (output : Output) (new : Parts) → to_node p bytes node ≡ (output, new)
-      → MayStep old (Deliver place node) output new
-  by_node node output new is = subst (λ x. MayStep x (Deliver place node) output new) seen (inl (ap (deliver_by p node) at ∙ is))
+module _ (p old : Parts) (seen : p ≡ old) (index : ℕ) where
+  by_found : (found : Option (List ℕ)) (output : Output) (new : Parts) → slice_get p.sent index ≡ found
+      → deliver_happens (world_of p) nodes.Primary found ≡ (output, world_of new) → new.replicas ≡ p.replicas → new.asked_at ≡ p.asked_at
+      → HappensBeside old (Deliver index nodes.Primary) output new
+  by_found found output new at is replicas asked_at =
+      beside p old new (Deliver index nodes.Primary) output seen (ap (deliver_happens (world_of p) nodes.Primary) at ∙ is) replicas asked_at
 
-  answered : (outs : List Out) → outs ≡ answers p.primary bytes
-      → to_primary p bytes ≡ (of_answers (length p.sent) outs, record p { sent = p.sent ++ packets_of outs })
-  answered outs is = ap (λ outs. (of_answers (length p.sent) outs, record p { sent = p.sent ++ packets_of outs })) (sym is)
+  -- nothing changes
+  by_same : (found : Option (List ℕ)) (output : Output) → slice_get p.sent index ≡ found
+      → deliver_happens (world_of p) nodes.Primary found ≡ (output, world_of p) → HappensBeside old (Deliver index nodes.Primary) output old
+  by_same found output at is =
+      subst (λ (x : Parts). HappensBeside old (Deliver index nodes.Primary) output x) seen (by_found found output p at is refl refl)
 
-  pub nothing_sent : (outs : List Out) → outs ≡ answers p.primary bytes → length outs ≡ 0
-      → MayStep old (Deliver place nodes.Primary) outputs.Ignored old
-  nothing_sent [] is none =
-      subst (λ x. MayStep old (Deliver place nodes.Primary) outputs.Ignored x) seen
-      (by_node nodes.Primary _ _ (answered [] is
-      ∙ ap (λ (sent : List (List ℕ)). (outputs.Ignored, record p { sent = sent })) (append-nil p.sent)))
-  nothing_sent (out ∷ outs) is none = absurd (omega arith)
+  module _ (bytes : List ℕ) (at : slice_get p.sent index ≡ Some bytes) where
+    -- the primary's answers, all sent
+    answered : (outs : List Out) → outs ≡ answers p.primary bytes
+        → delivered (world_of p) bytes nodes.Primary
+        ≡ (of_answers (length p.sent) outs, world_of (record p { sent = p.sent ++ packets_of outs }))
+    answered outs is =
+        ap (λ outs. (of_answers (length p.sent) outs, world_of (record p { sent = p.sent ++ packets_of outs }))) (sym is)
 
-  pub all_sent : (outs : List Out) (list : List Sent) (sent : List (List ℕ)) → outs ≡ answers p.primary bytes → 0 < length outs
-      → list ≡ sent_from (length p.sent) outs → sent ≡ p.sent ++ packets_of outs
-      → MayStep old (Deliver place nodes.Primary) (outputs.Sent list) (record p { sent = sent })
-  all_sent [] list sent is some list_is sent_is = absurd (omega arith)
-  all_sent (out ∷ outs) list sent is some list_is sent_is =
-      by_node nodes.Primary _ _
-      (answered (out ∷ outs) is ∙ ap (λ (x : List Sent × List (List ℕ)). (outputs.Sent x.0, record p { sent = x.1 })) (sym cc))
+    pub nothing_sent : (outs : List Out) → outs ≡ answers p.primary bytes → length outs ≡ 0
+        → HappensBeside old (Deliver index nodes.Primary) outputs.Ignored old
+    nothing_sent [] is none =
+        by_same (Some bytes) outputs.Ignored at
+        (answered [] is ∙ ap (λ (sent : List (List ℕ)). (outputs.Ignored, world_of (record p { sent = sent }))) (append-nil p.sent))
+    nothing_sent (out ∷ outs) is none = absurd (omega arith)
 
-  pub came_to : (number : ℕ) (before after : Replica) (got : Got) → slice_get p.replicas number ≡ Some before
-      → ((got ≡ gots.Memory) × (after ≡ before)) ⊎ (received before bytes ≡ (got, after))
-      → MayStep old (Deliver place (nodes.Replica number)) (of_got got) (with_replica p number after)
-  came_to number before after got there (inl memory) =
-      inr (inl (ap of_got memory.0, sym (replica_same p old seen number before after there memory.1) ∙ seen))
-  came_to number before after got there (inr came) =
-      by_node (nodes.Replica number) _ _ (ap (to_replica p number bytes) there ∙ ap (got_by p number) came)
+    pub all_sent : (outs : List Out) (list : List Sent) (sent : List (List ℕ)) → outs ≡ answers p.primary bytes → 0 < length outs
+        → list ≡ sent_from (length p.sent) outs → sent ≡ p.sent ++ packets_of outs
+        → HappensBeside old (Deliver index nodes.Primary) (outputs.Sent list) (record p { sent = sent })
+    all_sent [] list sent is some list_is sent_is = absurd (omega arith)
+    all_sent (out ∷ outs) list sent is some list_is sent_is =
+        by_found (Some bytes) (outputs.Sent list) (record p { sent = sent }) at
+        (answered (out ∷ outs) is
+        ∙ ap (λ (x : List Sent × List (List ℕ)). (outputs.Sent x.0, world_of (record p { sent = x.1 }))) (sym cc)) refl refl
+
+    pub came_to : (number : ℕ) (before after : Replica) (got : Got) → slice_get p.replicas number ≡ Some before
+        → ((got ≡ gots.Memory) × (after ≡ before) × ((received before bytes).0 ≡ gots.Stored)) ⊎ (received before bytes ≡ (got, after))
+        → MayStep old (Deliver index (nodes.Replica number)) (of_got got) (with_replica p number after)
+    came_to number before after got there (inl memory) =
+        inr (ap of_got memory.0, sym (replica_same p old seen number before after there memory.1) ∙ seen)
+    came_to number before after got there (inr came) =
+        subst (λ (x : Parts). MayStep x (Deliver index (nodes.Replica number)) (of_got got) (with_replica p number after)) seen
+        (inl (ap (come_by p number) at ∙ ap (to_replica p number bytes) there ∙ ap (got_by p number) came))

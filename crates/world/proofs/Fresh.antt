@@ -1,5 +1,4 @@
--- What keeps reports fresh: no version that was fetched, and none of a Head that was ever sent, is older than the batch
--- that it may serve.
+-- The few moves of a fresh world, each of which leaves it fresh.
 use Rattle.std.proofs.Common.{◌≡◌, ℕ, zero, suc, ◌+◌, ◌^◌, ◌<◌, ◌≤◌, List, [], ◌∷◌, ◌++◌, length, take, drop, Option, Some, Result, Ok, Err}
 use Rattle.std.proofs.Common.{refl, sym, ap, subst, ◌∙◌, inl, inr, arith}
 use Rattle.std.specs.List.{slice_get, slice_set, AllByRecursion}
@@ -7,51 +6,16 @@ use Rattle.std.proofs.lemmas.List.{length-append, length-set, take-append-drop}
 use Rattle.std.proofs.lemmas.Option.{none-some, same_Some}
 use Rattle.rows.specs.declared.commit.Commit.{Commit}
 use Rattle.rows.specs.declared.limits.TheConstants.{REPLICAS_MAX}
-use Rattle.rows.specs.Shape.{Shape}
 use Rattle.wire.specs.declared.datagram.Datagram.{Datagram}
 use Rattle.wire.specs.declared.datagram.Datagram.TheVariants as datagrams
 use Rattle.wire.specs.declared.fault.WireFault.{WireFault}
 use Rattle.wire.specs.Reading.{reading}
-use Rattle.wire.specs.Spelling.{IsAsk}
 use Rattle.mvcc.specs.Draft.{Draft}
 use Rattle.primary.specs.Primary.{committed, flushed}
-use Rattle.dispatcher.specs.Replica.{Fetched}
+use Rattle.script.specs.declared.setup.Setup.{Setup}
 use Rattle.world.specs.World.{World, Member, Batch, fresh, fresh_from, opening_world, with_member}
+use Rattle.world.specs.Inner.Fresh.{IsFreshBatch, IsFreshMember, IsFreshHead, IsFreshReading, Fresh}
 use Rattle.world.proofs.Lists.{get-set, get-append, All-get}
-
--- a batch asked at a version that is durable, and what was fetched for it is at least as new
-pub record IsFreshBatch (durable : List Commit) (batch : Batch) : Type 0 where
-  pub asked : batch.asked_at ≤ length durable
-  pub fetched_is : (fetched : Fetched) → batch.fetched ≡ Some fetched → (batch.asked_at ≤ fetched.version)
-      × (fetched.version ≤ length durable)
-
--- a replica at its place, with a fresh batch
-pub record IsFreshMember (durable : List Commit) (number : ℕ) (m : Member) : Type 0 where
-  pub number_is : m.number ≡ number
-  pub boot_is : m.boot ≡ 1
-  pub batch_is : (batch : Batch) → m.batch ≡ Some batch → IsFreshBatch durable batch
-
--- a Head of this request and version, against the replica that it goes to: the request was made, and where it is the
--- newest one the version is at least what was durable when the batch asked
-pub record IsFreshHead (m : Member) (request version : ℕ) : Type 0 where
-  pub asked : request ≤ m.request
-  pub above : (batch : Batch) → m.batch ≡ Some batch → request ≡ m.request → batch.asked_at ≤ version
-
--- what is known of bytes that were sent, by what they read as
-abbrev pub IsFreshReading : List Commit → List Member → Result Datagram WireFault → Type 0
-IsFreshReading durable members (Err fault) = Unit {0}
-IsFreshReading durable members (Ok (datagrams.Frame worker seq commit last entries)) = Unit {0}
-IsFreshReading durable members (Ok (datagrams.Ask replica boot request)) =
-    IsAsk replica boot request × ((m : Member) → slice_get members replica ≡ Some m → request ≤ m.request)
-IsFreshReading durable members (Ok (datagrams.Head replica boot request version counts)) =
-    (version ≤ length durable) × ((m : Member) → slice_get members replica ≡ Some m → IsFreshHead m request version)
-IsFreshReading durable members (Ok (datagrams.Want replica worker from)) = Unit {0}
-
-pub record Fresh (w : World) : Type 0 where
-  pub numbered : length w.primary.durable + length w.primary.pending < 2 ^ 64
-  pub few : length w.members ≤ REPLICAS_MAX
-  pub members_are : (i : ℕ) (m : Member) → slice_get w.members i ≡ Some m → IsFreshMember w.primary.durable i m
-  pub sent_is : (i : ℕ) (bytes : List ℕ) → slice_get w.sent i ≡ Some bytes → IsFreshReading w.primary.durable w.members (reading bytes)
 
 -- ---- more commits
 
@@ -205,22 +169,22 @@ started-fresh : (number count i : ℕ) (m : Member) → slice_get (fresh_from nu
 started-fresh number zero i m here = absurd (none-some m here)
 started-fresh number (suc count) zero m here =
     let same : fresh number ≡ m = same_Some (fresh number) m here in
-    let place : number ≡ number + 0 = omega arith in
+    let index : number ≡ number + 0 = omega arith in
     subst (IsFreshMember [] (number + 0)) same
-    (record { number_is = place; boot_is = refl; batch_is = λ batch has. absurd (none-some batch has) })
+    (record { number_is = index; boot_is = refl; batch_is = λ batch has. absurd (none-some batch has) })
 started-fresh number (suc count) (suc i) m here =
-    let place : suc number + i ≡ number + suc i = omega arith in
-    subst (λ (n : ℕ). IsFreshMember [] n m) place (started-fresh (suc number) count i m here)
+    let index : suc number + i ≡ number + suc i = omega arith in
+    subst (λ (n : ℕ). IsFreshMember [] n m) index (started-fresh (suc number) count i m here)
 
 length-fresh : (number count : ℕ) → length (fresh_from number count) ≡ count
 length-fresh number zero = refl
 length-fresh number (suc count) = ap suc (length-fresh (suc number) count)
 
-pub opening-fresh : (shape : Shape) (workers replicas : ℕ) → replicas ≤ REPLICAS_MAX → Fresh (opening_world shape workers replicas)
-opening-fresh shape workers replicas few = record {
+pub opening-fresh : (setup : Setup) → setup.replicas ≤ REPLICAS_MAX → Fresh (opening_world setup)
+opening-fresh setup few = record {
   numbered = omega arith;
-  few = omega (arith, length-fresh 0 replicas);
-  members_are = λ i m here. let place : 0 + i ≡ i =
-      omega arith in subst (λ (n : ℕ). IsFreshMember [] n m) place (started-fresh 0 replicas i m here);
+  few = omega (arith, length-fresh 0 setup.replicas);
+  members_are = λ i m here. let index : 0 + i ≡ i =
+      omega arith in subst (λ (n : ℕ). IsFreshMember [] n m) index (started-fresh 0 setup.replicas i m here);
   sent_is = λ i bytes here. absurd (none-some bytes here);
 }

@@ -9,7 +9,7 @@ use Rattle.std.specs.Ordering.{nat_cmp}
 use Rattle.std.proofs.lemmas.Bool.{and_parts, eqb-true}
 use Rattle.std.proofs.lemmas.Option.{same_Some}
 use Rattle.rows.specs.declared.commit.Commit.{Commit}
-use Rattle.rows.specs.Shape.{Shape}
+use Rattle.rows.specs.Shape.{Shape, shape_of}
 use Rattle.rows.specs.Entries.{fitting}
 use Rattle.wire.specs.declared.datagram.Datagram.{Datagram}
 use Rattle.wire.specs.declared.datagram.Datagram.TheVariants as datagrams
@@ -31,7 +31,8 @@ use Rattle.world.specs.Outputs.{of_answers, packets_of}
 use Rattle.world.specs.World.{World, Member, Batch, send, push_happens, head_happens, datagram_happens, on_member, member_output}
 use Rattle.world.specs.World.{deliver_happens, shown}
 use Rattle.world.proofs.Datagrams.{frame-reads, head-reads}
-use Rattle.world.proofs.Fresh.{IsFreshBatch, IsFreshMember, IsFreshHead, IsFreshReading, Fresh, Fresh-sent, Follows, alike, Fresh-member}
+use Rattle.world.specs.Inner.Fresh.{IsFreshBatch, IsFreshMember, IsFreshHead, IsFreshReading, Fresh}
+use Rattle.world.proofs.Fresh.{Fresh-sent, Follows, alike, Fresh-member}
 use Rattle.world.proofs.Serving.{IsNoReport, Serves, quiet}
 
 -- one more datagram is sent
@@ -46,9 +47,9 @@ push-serves w event (Some frame) h =
     send-serves w w event (frame_spelling frame) h
     (frame-reads (IsFreshReading w.primary.durable w.members) (λ fault. tt) (λ worker seq commit last entries. tt) frame)
 
-answers-silent : (place : ℕ) (outs : List Out) → IsNoReport (of_answers place outs)
-answers-silent place [] = tt
-answers-silent place (out ∷ outs) = tt
+answers-silent : (index : ℕ) (outs : List Out) → IsNoReport (of_answers index outs)
+answers-silent index [] = tt
+answers-silent index (out ∷ outs) = tt
 
 -- the Head of an Ask has what is durable now, and no batch asked later
 answers-fresh : (w : World) (read : Result Datagram WireFault) → Fresh w → IsFreshReading w.primary.durable w.members read
@@ -141,8 +142,8 @@ own-takes durable members i m replica boot request version counts here is below 
 own-takes durable members i m replica boot request version counts here is below told true e =
     let parts = and_parts ((replica == m.number) && (boot == m.boot)) (request == m.request) e in
     let front = and_parts (replica == m.number) (boot == m.boot) parts.0 in
-    let place : replica ≡ i = eqb-true replica m.number front.0 ∙ is.number_is in
-    let head = told m (ap (slice_get members) place ∙ here) in
+    let index : replica ≡ i = eqb-true replica m.number front.0 ∙ is.number_is in
+    let head = told m (ap (slice_get members) index ∙ here) in
     head-takes durable i m version counts m.batch is refl (λ batch has. head.above batch has (eqb-true request m.request parts.1)) below
 
 datagram-takes : (durable : List Commit) (shape : Shape) (workers : ℕ) (members : List Member) (i : ℕ) (m : Member)
@@ -163,29 +164,30 @@ datagram-takes durable shape workers members i m here is (Ok (datagrams.Want rep
 bytes-serve : (w : World) (event : Event) (bytes : List ℕ) (i : ℕ) (found : Option Member) → Fresh w → slice_get w.members i ≡ found
     → IsFreshReading w.primary.durable w.members (reading bytes)
     → Serves w event (on_member w found
-    (λ m. cond m.broken (outputs.Broken, w) (member_output w (datagram_happens w.primary.shape w.primary.workers m (reading bytes)))))
+    (λ m. cond m.broken (outputs.Broken, w)
+    (member_output w (datagram_happens (shape_of w.primary.schema) w.primary.workers m (reading bytes)))))
 bytes-serve w event bytes i None h here told = quiet w event (outputs.Ignored, w) h tt
 bytes-serve w event bytes i (Some m) h here told = by m.broken
   where
     answer : Output × Member
-    answer = datagram_happens w.primary.shape w.primary.workers m (reading bytes)
+    answer = datagram_happens (shape_of w.primary.schema) w.primary.workers m (reading bytes)
 
     by : (b : Bool) → Serves w event (cond b (outputs.Broken, w) (member_output w answer))
     by true = quiet w event (outputs.Broken, w) h tt
     by false =
         let takes =
-        datagram-takes w.primary.durable w.primary.shape w.primary.workers w.members i m here (h.members_are i m here)
+        datagram-takes w.primary.durable (shape_of w.primary.schema) w.primary.workers w.members i m here (h.members_are i m here)
         (reading bytes) told in
         quiet w event (member_output w answer) (Fresh-member w i m answer.1 h here takes.follows) takes.silent
 
-pub deliver-serves : (w : World) (event : Event) (place : ℕ) (node : Node) (found : Option (List ℕ)) → Fresh w
-    → slice_get w.sent place ≡ found → Serves w event (deliver_happens w node found)
-deliver-serves w event place node None h there = quiet w event (outputs.NeverSent, w) h tt
-deliver-serves w event place nodes.Primary (Some bytes) h there =
+pub deliver-serves : (w : World) (event : Event) (index : ℕ) (node : Node) (found : Option (List ℕ)) → Fresh w
+    → slice_get w.sent index ≡ found → Serves w event (deliver_happens w node found)
+deliver-serves w event index node None h there = quiet w event (outputs.NeverSent, w) h tt
+deliver-serves w event index nodes.Primary (Some bytes) h there =
     quiet w event _ (Fresh-sent w (packets_of (answers w.primary bytes)) h
-    (answers-fresh w (reading bytes) h (h.sent_is place bytes there))) (answers-silent (length w.sent) (answers w.primary bytes))
-deliver-serves w event place (nodes.Replica number) (Some bytes) h there =
-    bytes-serve w event bytes number (slice_get w.members number) h refl (h.sent_is place bytes there)
+    (answers-fresh w (reading bytes) h (h.sent_is index bytes there))) (answers-silent (length w.sent) (answers w.primary bytes))
+deliver-serves w event index (nodes.Replica number) (Some bytes) h there =
+    bytes-serve w event bytes number (slice_get w.members number) h refl (h.sent_is index bytes there)
 
 pub show-serves : (w : World) (event : Event) (found : Option (List ℕ)) → Fresh w → Serves w event (shown found, w)
 show-serves w event None h = quiet w event (outputs.NeverSent, w) h tt

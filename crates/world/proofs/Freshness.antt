@@ -4,6 +4,7 @@ use Rattle.std.proofs.Common.{Ok, Err, nat_le, refl, sym, ap, subst, ◌∙◌, 
 use Rattle.std.specs.List.{slice_get, slice_set}
 use Rattle.std.proofs.lemmas.Option.{none-some, same_Some, slice_get_within}
 use Rattle.rows.specs.declared.limits.TheConstants.{REPLICAS_MAX, WAITING_QUERIES_MAX}
+use Rattle.rows.specs.Shape.{shape_of}
 use Rattle.wire.specs.Reading.{reading}
 use Rattle.wire.specs.Streams.{stream_of}
 use Rattle.dispatcher.specs.declared.plan.Plan.{Plan}
@@ -11,17 +12,21 @@ use Rattle.dispatcher.specs.declared.plan.PlanFault.{PlanFault}
 use Rattle.mvcc.specs.Transactions.{insert_answer, set_answer, delete_answer, get_answer}
 use Rattle.dispatcher.specs.Known.{first_missing}
 use Rattle.dispatcher.specs.Plans.{checked}
+use Rattle.dispatcher.specs.Report.{report_of}
+use Rattle.dispatcher.specs.Steps.{lacks_frame}
+use Rattle.rows.specs.Commits.{tables_after}
 use Rattle.dispatcher.specs.Replica.{Fetched}
 use Rattle.script.specs.declared.event.Event.{Event}
 use Rattle.script.specs.declared.event.Event.TheVariants as events
 use Rattle.script.specs.declared.output.Output.{Output}
 use Rattle.script.specs.declared.output.Output.TheVariants as outputs
 use Rattle.world.specs.World.{World, Member, Batch, open_draft, happens, with_member, send, on_member, open_happens, ask_happens, new_batch}
-use Rattle.world.specs.World.{ask_bytes, run_happens, lacks_frame, wait_happens, want_bytes, batch_report}
+use Rattle.world.specs.World.{ask_bytes, run_happens, wait_happens, want_bytes}
 use Rattle.world.specs.Allowed.{RunIsCut, RunIsCutAt, MayHappen}
 use Rattle.world.proofs.Lists.{get-set_same}
 use Rattle.world.proofs.Datagrams.{ask-read, ask-kept}
-use Rattle.world.proofs.Fresh.{IsFreshBatch, IsFreshReading, Fresh, Fresh-drafts, Fresh-sent, Follows, alike, Fresh-member}
+use Rattle.world.specs.Inner.Fresh.{IsFreshBatch, IsFreshReading, Fresh}
+use Rattle.world.proofs.Fresh.{Fresh-drafts, Fresh-sent, Follows, alike, Fresh-member}
 use Rattle.world.proofs.Serving.{IsNoReport, Serves, quiet, change-serves, look-serves, commit-serves, abort-serves, flush-serves}
 use Rattle.world.proofs.FreshDatagrams.{send-serves, push-serves, deliver-serves, show-serves}
 
@@ -31,9 +36,10 @@ open-serves : (w : World) (event : Event) (plan : Plan) (i : ℕ) (found : Optio
     → Serves w event (on_member w found
     (λ m. cond m.broken (outputs.Broken, w)
     (cond (nat_le WAITING_QUERIES_MAX (length m.waiting)) (outputs.BatchFull, w)
-    (open_happens w m plan (checked w.primary.shape plan)))))
+    (open_happens w m plan (checked (shape_of w.primary.schema) plan)))))
 open-serves w event plan i None h here = quiet w event (outputs.Ignored, w) h tt
-open-serves w event plan i (Some m) h here = by m.broken (nat_le WAITING_QUERIES_MAX (length m.waiting)) (checked w.primary.shape plan)
+open-serves w event plan i (Some m) h here = by m.broken (nat_le WAITING_QUERIES_MAX (length m.waiting))
+    (checked (shape_of w.primary.schema) plan)
   where
     by : (a b : Bool) (check : Result (Unit {0}) PlanFault)
         → Serves w event (cond a (outputs.Broken, w) (cond b (outputs.BatchFull, w) (open_happens w m plan check)))
@@ -123,13 +129,16 @@ fetched-serves : (w : World) (i : ℕ) (m : Member) (plans : List Plan) (asked_a
     → m.batch ≡ Some (record { plans = plans; asked_at = asked_at; fetched = fetched })
     → Serves w (events.Run i) (run_happens w m (Some (record { plans = plans; asked_at = asked_at; fetched = fetched })))
 fetched-serves w i m plans asked_at None h here has = quiet w (events.Run i) (outputs.WaitingHead, w) h tt
-fetched-serves w i m plans asked_at (Some fetched) h here has = by (lacks_frame m fetched)
+fetched-serves w i m plans asked_at (Some fetched) h here has = by (lacks_frame m.known fetched)
   where
     batch : Batch
     batch = record { plans = plans; asked_at = asked_at; fetched = Some fetched }
 
-    by : (b : Bool) → Serves w (events.Run i) (cond b (wait_happens w 0 (first_missing m.known) (want_bytes m 0 (first_missing m.known)))
-        (outputs.Report (batch_report w plans fetched.version), with_member w (record m { version = fetched.version; batch = None })))
+    by : (b : Bool) → Serves w (events.Run i) (cond b (wait_happens w 0 (first_missing m.known) (want_bytes m 0 (first_missing m.known))) (
+      outputs.Report (report_of (tables_after (shape_of w.primary.schema) w.primary.durable fetched.version) fetched.version
+          plans),
+      with_member w (record m { version = fetched.version; batch = None }),
+    ))
     by true = quiet w (events.Run i) _ (Fresh-sent w (want_bytes m 0 (first_missing m.known) ∷ []) h (tt, tt)) tt
     by false =
         let is = ((h.members_are i m here).batch_is batch has).fetched_is fetched refl in
@@ -173,22 +182,22 @@ happens-serves : (w : World) (event : Event) → Fresh w → Serves w event (hap
 happens-serves w events.Begin h = quiet w events.Begin _ (Fresh-drafts w _ h) tt
 happens-serves w (events.Insert transaction table row values) h =
     change-serves w _ transaction (open_draft w.transactions transaction)
-    (λ draft. insert_answer w.primary.shape w.primary.durable draft table row.0 values) h
+    (λ draft. insert_answer (shape_of w.primary.schema) w.primary.durable draft table row.0 values) h
 happens-serves w (events.Set transaction table row column value) h =
     change-serves w _ transaction (open_draft w.transactions transaction)
-    (λ draft. set_answer w.primary.shape w.primary.durable draft table row.0 column value) h
+    (λ draft. set_answer (shape_of w.primary.schema) w.primary.durable draft table row.0 column value) h
 happens-serves w (events.Delete transaction table row) h =
     change-serves w _ transaction (open_draft w.transactions transaction)
-    (λ draft. delete_answer w.primary.shape w.primary.durable draft table row.0) h
+    (λ draft. delete_answer (shape_of w.primary.schema) w.primary.durable draft table row.0) h
 happens-serves w (events.Get transaction table row column) h =
     look-serves w _ (open_draft w.transactions transaction)
-    (λ draft. get_answer w.primary.shape w.primary.durable draft table row.0 column) h
+    (λ draft. get_answer (shape_of w.primary.schema) w.primary.durable draft table row.0 column) h
 happens-serves w (events.Commit transaction worker) h = commit-serves w _ transaction worker (open_draft w.transactions transaction) h
 happens-serves w (events.Abort transaction) h = abort-serves w _ transaction (open_draft w.transactions transaction) h
 happens-serves w (events.Flush count) h = flush-serves w _ count w.primary.failed h
 happens-serves w (events.Push worker seq) h = push-serves w _ (slice_get (stream_of w.primary.durable worker) seq) h
-happens-serves w (events.Deliver place node) h = deliver-serves w _ place node (slice_get w.sent place) h refl
-happens-serves w (events.Show place) h = show-serves w _ (slice_get w.sent place) h
+happens-serves w (events.Deliver index node) h = deliver-serves w _ index node (slice_get w.sent index) h refl
+happens-serves w (events.Show index) h = show-serves w _ (slice_get w.sent index) h
 happens-serves w (events.Open replica plan) h = open-serves w _ plan replica (slice_get w.members replica) h refl
 happens-serves w (events.Ask replica) h = ask-serves w _ replica (slice_get w.members replica) h refl
 happens-serves w (events.Run replica) h = run-serves w replica (slice_get w.members replica) h refl
@@ -197,19 +206,7 @@ cut-event : (w : World) (event : Event) (output : Output) (new : World) → Fres
     → Serves w event (output, new)
 cut-event w (events.Run replica) output new h cut =
     cut-serves w (events.Run replica) replica (slice_get w.members replica) output new h refl cut
-cut-event w events.Begin output new h cut = absurd cut
-cut-event w (events.Insert transaction table row values) output new h cut = absurd cut
-cut-event w (events.Set transaction table row column value) output new h cut = absurd cut
-cut-event w (events.Delete transaction table row) output new h cut = absurd cut
-cut-event w (events.Get transaction table row column) output new h cut = absurd cut
-cut-event w (events.Commit transaction worker) output new h cut = absurd cut
-cut-event w (events.Abort transaction) output new h cut = absurd cut
-cut-event w (events.Flush count) output new h cut = absurd cut
-cut-event w (events.Push worker seq) output new h cut = absurd cut
-cut-event w (events.Deliver place node) output new h cut = absurd cut
-cut-event w (events.Show place) output new h cut = absurd cut
-cut-event w (events.Open replica plan) output new h cut = absurd cut
-cut-event w (events.Ask replica) output new h cut = absurd cut
+cut-event w other output new h cut = absurd cut
 
 pub step-serves : (old : World) (event : Event) (output : Output) (new : World) → Fresh old → MayHappen old event output new
     → Serves old event (output, new)

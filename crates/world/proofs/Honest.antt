@@ -1,21 +1,20 @@
 -- In the world what is durable stays, and nothing is damaged.
-use Rattle.std.proofs.Common.{◌≡◌, ℕ, ◌+◌, ◌^◌, ◌≤◌, Bool, true, false, cond, not, ◌||◌, ◌&&◌, ◌==◌, List, [], ◌∷◌, ◌++◌, length, take}
-use Rattle.std.proofs.Common.{Option, Some, None, Result, Ok, Err, nat_lt, nat_le, refl, sym, ap, subst, ◌∙◌, inl, inr, arith}
-use Rattle.std.specs.List.{slice_get, slice_set, AllByRecursion, list_all}
+use Rattle.std.proofs.Common.{◌≡◌, ℕ, ◌+◌, ◌^◌, Bool, true, false, cond, not, ◌||◌, ◌&&◌, ◌==◌, List, [], ◌∷◌, length, take}
+use Rattle.std.proofs.Common.{◌++◌, Option, Some, None, Result, Ok, Err, nat_lt, nat_le, refl, sym, ap, subst, ◌∙◌, inl, inr, arith}
+use Rattle.std.specs.List.{slice_get, slice_set, list_all}
 use Rattle.std.specs.Result.{is_ok}
 use Rattle.std.specs.BTreeSet.{insert_key}
 use Rattle.std.specs.Ordering.{nat_cmp}
 use Rattle.std.proofs.lemmas.Bool.{true≢false, le-ltb, or_from, not_from_true}
-use Rattle.std.proofs.lemmas.List.{append-nil, append_assoc, length-append}
+use Rattle.std.proofs.lemmas.List.{append-nil, length-append}
 use Rattle.std.proofs.lemmas.Option.{none-some, same_Some}
-use Rattle.rows.specs.declared.commit.Commit.{Commit}
 use Rattle.rows.specs.declared.entry.Entry.{Entry}
 use Rattle.rows.specs.declared.limits.TheConstants.{WAITING_QUERIES_MAX}
 use Rattle.rows.specs.declared.value.Value.{Value}
-use Rattle.rows.specs.Shape.{Shape}
+use Rattle.rows.specs.Shape.{Shape, shape_of}
 use Rattle.rows.specs.Entries.{fitting}
 use Rattle.rows.specs.Tables.{changes_of}
-use Rattle.rows.specs.Commits.{tables_after}
+use Rattle.rows.specs.Commits.{tables_after, last_touching}
 use Rattle.wire.specs.declared.datagram.Datagram.{Datagram}
 use Rattle.wire.specs.declared.datagram.Datagram.TheVariants as datagrams
 use Rattle.wire.specs.declared.fault.WireFault.{WireFault}
@@ -27,13 +26,15 @@ use Rattle.primary.specs.declared.faults.CommitFault.{CommitFault}
 use Rattle.primary.specs.declared.faults.CommitFault.TheVariants as faults
 use Rattle.mvcc.specs.Draft.{Draft}
 use Rattle.mvcc.specs.Transactions.{insert_answer, set_answer, delete_answer, get_answer}
-use Rattle.primary.specs.Primary.{commit_answer, committed, flushed, is_foreign, last_writer, next_number}
+use Rattle.primary.specs.Primary.{commit_answer, committed, flushed, is_foreign, next_number}
 use Rattle.primary.specs.Sending.{pushed, answers}
 use Rattle.primary.specs.State.{Primary}
 use Rattle.dispatcher.specs.declared.plan.Plan.{Plan}
 use Rattle.dispatcher.specs.declared.plan.PlanFault.{PlanFault}
 use Rattle.dispatcher.specs.Known.{is_known, is_ahead, first_missing}
 use Rattle.dispatcher.specs.Plans.{checked}
+use Rattle.dispatcher.specs.Report.{report_of}
+use Rattle.dispatcher.specs.Steps.{lacks_frame}
 use Rattle.dispatcher.specs.Replica.{Fetched}
 use Rattle.dispatcher.proofs.Versions.{tables-stay}
 use Rattle.script.specs.declared.event.Event.{Event}
@@ -42,31 +43,24 @@ use Rattle.script.specs.declared.event.Node.{Node}
 use Rattle.script.specs.declared.event.Node.TheVariants as nodes
 use Rattle.script.specs.declared.output.Output.{Output}
 use Rattle.script.specs.declared.output.Output.TheVariants as outputs
+use Rattle.script.specs.declared.setup.Setup.{Setup}
 use Rattle.world.specs.Outputs.{of_change, of_look, of_commit, of_answers}
-use Rattle.world.specs.Theorem.{DurableOnlyGrows, IsFaultless, AllowedAreFaultless}
+use Rattle.world.specs.Theorem.{IsBeginning, IsFaultless}
 use Rattle.world.specs.World.{World, Member, Batch, open_draft, happens, opening_world, with_member, send, on_draft, change_happens}
 use Rattle.world.specs.World.{commit_happens, abort_happens, push_happens, head_happens, datagram_happens, on_member, member_output}
-use Rattle.world.specs.World.{deliver_happens, shown, open_happens, ask_happens, new_batch, ask_bytes, run_happens, lacks_frame}
-use Rattle.world.specs.World.{wait_happens, want_bytes, batch_report}
-use Rattle.world.specs.Allowed.{RunIsCut, RunIsCutAt, MayHappen, Runs}
+use Rattle.world.specs.World.{deliver_happens, shown, open_happens, ask_happens, new_batch, ask_bytes, run_happens}
+use Rattle.world.specs.World.{wait_happens, want_bytes}
+use Rattle.world.specs.Inner.Honest.{IsBegun, IsHonest}
+use Rattle.world.specs.Allowed.{RunIsCut, RunIsCutAt, MayHappen}
 use Rattle.world.proofs.Lists.{get-set, get-append, get-one}
 use Rattle.world.proofs.Defined.{IsDefined, insert-defined, set-defined, delete-defined}
 use Rattle.world.proofs.Committing.{opened}
 
--- a transaction that the primary began: its entries are defined on the rows at a version that is durable
-record IsBegun (p : Primary) (draft : Draft) : Type 0 where
-  known : draft.snapshot ≤ length p.durable
-  defined : is_ok (changes_of p.shape (tables_after p.shape p.durable draft.snapshot) draft.entries) ≡ true
-
-record IsHonest (w : World) : Type 0 where
-  whole : w.primary.failed ≡ false
-  begun : (i : ℕ) (draft : Draft) → slice_get w.transactions i ≡ Some (Some draft) → IsBegun w.primary draft
-
 -- what a step is to be
-record IsFine (old : World) (answer : Output × World) : Type 0 where
-  grows : (more : List Commit) × (answer.1.primary.durable ≡ old.primary.durable ++ more)
-  output : IsHonest old → IsFaultless answer.0
-  honest : IsHonest old → IsHonest answer.1
+pub record IsFine (old : World) (answer : Output × World) : Type 0 where
+  pub grows : IsBeginning old.primary.durable answer.1.primary.durable
+  pub output : IsHonest old → IsFaultless answer.0
+  pub honest : IsHonest old → IsHonest answer.1
 
 -- a step that leaves the primary and the transactions
 plain : (old new : World) (output : Output) → new.primary ≡ old.primary → new.transactions ≡ old.transactions → IsFaultless output
@@ -130,15 +124,15 @@ look-faultless (Err fault) = change-faultless fault
 
 -- a transaction that reads the same version, with entries that are defined there
 made-begun : (p : Primary) (draft new : Draft) → IsBegun p draft
-    → (is_ok (changes_of p.shape (tables_after p.shape p.durable draft.snapshot) draft.entries) ≡ true
-    → IsDefined p.shape p.durable draft new) → IsBegun p new
+    → (is_ok (changes_of (tables_after (shape_of p.schema) p.durable draft.snapshot) draft.entries) ≡ true
+    → IsDefined (shape_of p.schema) p.durable draft new) → IsBegun p new
 made-begun p draft new begun makes =
     let made = makes begun.defined in
     let known = begun.known in
     let same = made.reads in
     record {
       known = omega arith;
-      defined = ap (λ (n : ℕ). is_ok (changes_of p.shape (tables_after p.shape p.durable n) new.entries)) same ∙ made.defined;
+      defined = ap (λ (n : ℕ). is_ok (changes_of (tables_after (shape_of p.schema) p.durable n) new.entries)) same ∙ made.defined;
     }
 
 changed : (w : World) (number : ℕ) (answer : Result Draft TxFault) → (IsHonest w → (new : Draft) → answer ≡ Ok new → IsBegun w.primary new)
@@ -154,8 +148,8 @@ changed w number (Ok new) begun = record {
 change-fine : (w : World) (number : ℕ) (change : Draft → Result Draft TxFault) (found : Option Draft)
     → open_draft w.transactions number ≡ found
     → ((draft new : Draft) → change draft ≡ Ok new
-    → is_ok (changes_of w.primary.shape (tables_after w.primary.shape w.primary.durable draft.snapshot) draft.entries) ≡ true
-    → IsDefined w.primary.shape w.primary.durable draft new)
+    → is_ok (changes_of (tables_after (shape_of w.primary.schema) w.primary.durable draft.snapshot) draft.entries) ≡ true
+    → IsDefined (shape_of w.primary.schema) w.primary.durable draft new)
     → IsFine w (on_draft w found (λ draft. change_happens w number (change draft)))
 change-fine w number change None here makes = plain w w outputs.NoTx refl refl tt
 change-fine w number change (Some draft) here makes =
@@ -180,14 +174,15 @@ abort-fine w number (Some draft) = record {
 not-foreign : (p : Primary) (draft : Draft) → IsBegun p draft → is_foreign p draft ≡ false
 not-foreign p draft begun =
     or_from (nat_lt (length p.durable) draft.snapshot)
-    (not (is_ok (changes_of p.shape (tables_after p.shape p.durable draft.snapshot) draft.entries)))
+    (not (is_ok (changes_of (tables_after (shape_of p.schema) p.durable draft.snapshot) draft.entries)))
     (le-ltb (length p.durable) draft.snapshot begun.known) (not_from_true _ begun.defined)
 
 -- a refused commit, where the journal is whole and the transaction was begun here
 commit-faultless : (p : Primary) (draft : Draft) (fault : CommitFault) → p.failed ≡ false → is_foreign p draft ≡ false
     → commit_answer p draft ≡ Err fault → IsFaultless (of_commit fault)
 commit-faultless p draft fault whole known h =
-    by p.failed (length draft.entries == 0) (is_foreign p draft) (nat_lt draft.snapshot (last_writer p draft.entries))
+    by p.failed (length draft.entries == 0) (is_foreign p draft)
+    (nat_lt draft.snapshot (last_touching draft.entries 0 (p.durable ++ p.pending)))
     (nat_lt (next_number p) (2 ^ 64)) whole known h
   where
     is : (other : CommitFault) → IsFaultless (of_commit other) → ◌≡◌ {A = Result ℕ CommitFault} (Err other) (Err fault)
@@ -196,13 +191,13 @@ commit-faultless p draft fault whole known h =
 
     by : (a b c d e : Bool) → a ≡ false → c ≡ false
         → cond a (Err faults.Failed) (cond b (Err faults.ReadOnly)
-        (cond c (Err faults.Foreign) (cond d (Err (faults.Conflict (last_writer p draft.entries)))
+        (cond c (Err faults.Foreign) (cond d (Err (faults.Conflict (last_touching draft.entries 0 (p.durable ++ p.pending))))
         (cond e (Ok (next_number p)) (Err faults.NumbersUsedUp))))) ≡ Err fault
         → IsFaultless (of_commit fault)
     by true b c d e q r h = absurd (true≢false q)
     by false true c d e q r h = is faults.ReadOnly tt h
     by false false true d e q r h = absurd (true≢false r)
-    by false false false true e q r h = is (faults.Conflict (last_writer p draft.entries)) tt h
+    by false false false true e q r h = is (faults.Conflict (last_touching draft.entries 0 (p.durable ++ p.pending))) tt h
     by false false false false true q r h = absurd (cc)
     by false false false false false q r h = is faults.NumbersUsedUp tt h
 
@@ -243,8 +238,8 @@ flushed-begun p count draft begun =
     record {
       known = omega (arith, length-append p.durable (take count p.pending));
       defined =
-          ap (λ t. is_ok (changes_of p.shape t draft.entries))
-          (tables-stay p.shape p.durable (take count p.pending) draft.snapshot begun.known) ∙ begun.defined;
+          ap (λ t. is_ok (changes_of t draft.entries))
+          (tables-stay (shape_of p.schema) p.durable (take count p.pending) draft.snapshot begun.known) ∙ begun.defined;
     }
 
 flush-fine : (w : World) (count : ℕ) (failed : Bool) → w.primary.failed ≡ failed
@@ -302,22 +297,22 @@ datagram-faultless shape workers m (Ok (datagrams.Head replica boot request vers
     head-faultless m version counts m.batch ((replica == m.number) && (boot == m.boot) && (request == m.request))
 datagram-faultless shape workers m (Ok (datagrams.Want replica worker from)) = tt
 
-answers-faultless : (place : ℕ) (outs : List Out) → IsFaultless (of_answers place outs)
-answers-faultless place [] = tt
-answers-faultless place (out ∷ outs) = tt
+answers-faultless : (index : ℕ) (outs : List Out) → IsFaultless (of_answers index outs)
+answers-faultless index [] = tt
+answers-faultless index (out ∷ outs) = tt
 
 bytes-fine : (w : World) (bytes : List ℕ) (found : Option Member)
     → IsFine w (on_member w found (λ m. cond m.broken (outputs.Broken, w)
-    (member_output w (datagram_happens w.primary.shape w.primary.workers m (reading bytes)))))
+    (member_output w (datagram_happens (shape_of w.primary.schema) w.primary.workers m (reading bytes)))))
 bytes-fine w bytes None = plain w w outputs.Ignored refl refl tt
 bytes-fine w bytes (Some m) = by m.broken
   where
     by : (b : Bool) → IsFine w (cond b (outputs.Broken, w)
-        (member_output w (datagram_happens w.primary.shape w.primary.workers m (reading bytes))))
+        (member_output w (datagram_happens (shape_of w.primary.schema) w.primary.workers m (reading bytes))))
     by true = plain w w outputs.Broken refl refl tt
     by false =
-        member-fine w (datagram_happens w.primary.shape w.primary.workers m (reading bytes))
-        (datagram-faultless w.primary.shape w.primary.workers m (reading bytes))
+        member-fine w (datagram_happens (shape_of w.primary.schema) w.primary.workers m (reading bytes))
+        (datagram-faultless (shape_of w.primary.schema) w.primary.workers m (reading bytes))
 
 deliver-fine : (w : World) (node : Node) (found : Option (List ℕ)) → IsFine w (deliver_happens w node found)
 deliver-fine w node None = plain w w outputs.NeverSent refl refl tt
@@ -333,9 +328,9 @@ show-fine w (Some bytes) = plain w w (outputs.Shown bytes) refl refl tt
 open-fine : (w : World) (plan : Plan) (found : Option Member)
     → IsFine w (on_member w found (λ m. cond m.broken (outputs.Broken, w)
     (cond (nat_le WAITING_QUERIES_MAX (length m.waiting)) (outputs.BatchFull, w)
-    (open_happens w m plan (checked w.primary.shape plan)))))
+    (open_happens w m plan (checked (shape_of w.primary.schema) plan)))))
 open-fine w plan None = plain w w outputs.Ignored refl refl tt
-open-fine w plan (Some m) = by m.broken (nat_le WAITING_QUERIES_MAX (length m.waiting)) (checked w.primary.shape plan)
+open-fine w plan (Some m) = by m.broken (nat_le WAITING_QUERIES_MAX (length m.waiting)) (checked (shape_of w.primary.schema) plan)
   where
     by : (a b : Bool) (check : Result (Unit {0}) PlanFault)
         → IsFine w (cond a (outputs.Broken, w) (cond b (outputs.BatchFull, w) (open_happens w m plan check)))
@@ -369,10 +364,13 @@ ask-fine w (Some m) = by m.broken
 run-fetched : (w : World) (m : Member) (plans : List Plan) (asked_at : ℕ) (fetched : Option Fetched)
     → IsFine w (run_happens w m (Some (record { plans = plans; asked_at = asked_at; fetched = fetched })))
 run-fetched w m plans asked_at None = plain w w outputs.WaitingHead refl refl tt
-run-fetched w m plans asked_at (Some fetched) = by (lacks_frame m fetched)
+run-fetched w m plans asked_at (Some fetched) = by (lacks_frame m.known fetched)
   where
-    by : (b : Bool) → IsFine w (cond b (wait_happens w 0 (first_missing m.known) (want_bytes m 0 (first_missing m.known)))
-        (outputs.Report (batch_report w plans fetched.version), with_member w (record m { version = fetched.version; batch = None })))
+    by : (b : Bool) → IsFine w (cond b (wait_happens w 0 (first_missing m.known) (want_bytes m 0 (first_missing m.known))) (
+      outputs.Report (report_of (tables_after (shape_of w.primary.schema) w.primary.durable fetched.version) fetched.version
+          plans),
+      with_member w (record m { version = fetched.version; batch = None }),
+    ))
     by true = plain w _ _ refl refl tt
     by false = plain w _ _ refl refl tt
 
@@ -394,25 +392,26 @@ run-fine w (Some m) = by m.broken
 happens-fine : (w : World) (event : Event) → IsFine w (happens w event)
 happens-fine w events.Begin = begins w
 happens-fine w (events.Insert transaction table row values) =
-    change-fine w transaction (λ draft. insert_answer w.primary.shape w.primary.durable draft table row.0 values)
+    change-fine w transaction (λ draft. insert_answer (shape_of w.primary.schema) w.primary.durable draft table row.0 values)
     (open_draft w.transactions transaction) refl
-    (λ draft new h defined. insert-defined w.primary.shape w.primary.durable draft new defined table row.0 values h)
+    (λ draft new h defined. insert-defined (shape_of w.primary.schema) w.primary.durable draft new defined table row.0 values h)
 happens-fine w (events.Set transaction table row column value) =
-    change-fine w transaction (λ draft. set_answer w.primary.shape w.primary.durable draft table row.0 column value)
+    change-fine w transaction (λ draft. set_answer (shape_of w.primary.schema) w.primary.durable draft table row.0 column value)
     (open_draft w.transactions transaction) refl
-    (λ draft new h defined. set-defined w.primary.shape w.primary.durable draft new defined table row.0 column value h)
+    (λ draft new h defined. set-defined (shape_of w.primary.schema) w.primary.durable draft new defined table row.0 column value h)
 happens-fine w (events.Delete transaction table row) =
-    change-fine w transaction (λ draft. delete_answer w.primary.shape w.primary.durable draft table row.0)
+    change-fine w transaction (λ draft. delete_answer (shape_of w.primary.schema) w.primary.durable draft table row.0)
     (open_draft w.transactions transaction) refl
-    (λ draft new h defined. delete-defined w.primary.shape w.primary.durable draft new defined table row.0 h)
+    (λ draft new h defined. delete-defined (shape_of w.primary.schema) w.primary.durable draft new defined table row.0 h)
 happens-fine w (events.Get transaction table row column) =
-    look-fine w (λ draft. get_answer w.primary.shape w.primary.durable draft table row.0 column) (open_draft w.transactions transaction)
+    look-fine w (λ draft. get_answer (shape_of w.primary.schema) w.primary.durable draft table row.0 column)
+    (open_draft w.transactions transaction)
 happens-fine w (events.Commit transaction worker) = commit-fine w transaction worker (open_draft w.transactions transaction) refl
 happens-fine w (events.Abort transaction) = abort-fine w transaction (open_draft w.transactions transaction)
 happens-fine w (events.Flush count) = flush-fine w count w.primary.failed refl
 happens-fine w (events.Push worker seq) = push-fine w (pushed w.primary worker seq)
-happens-fine w (events.Deliver place node) = deliver-fine w node (slice_get w.sent place)
-happens-fine w (events.Show place) = show-fine w (slice_get w.sent place)
+happens-fine w (events.Deliver index node) = deliver-fine w node (slice_get w.sent index)
+happens-fine w (events.Show index) = show-fine w (slice_get w.sent index)
 happens-fine w (events.Open replica plan) = open-fine w plan (slice_get w.members replica)
 happens-fine w (events.Ask replica) = ask-fine w (slice_get w.members replica)
 happens-fine w (events.Run replica) = run-fine w (slice_get w.members replica)
@@ -430,21 +429,9 @@ cut-fine w (Some m) output new cut = elim cut.2 [
 
 cut-event : (w : World) (event : Event) (output : Output) (new : World) → RunIsCutAt w event output new → IsFine w (output, new)
 cut-event w (events.Run replica) output new cut = cut-fine w (slice_get w.members replica) output new cut
-cut-event w events.Begin output new cut = absurd cut
-cut-event w (events.Insert transaction table row values) output new cut = absurd cut
-cut-event w (events.Set transaction table row column value) output new cut = absurd cut
-cut-event w (events.Delete transaction table row) output new cut = absurd cut
-cut-event w (events.Get transaction table row column) output new cut = absurd cut
-cut-event w (events.Commit transaction worker) output new cut = absurd cut
-cut-event w (events.Abort transaction) output new cut = absurd cut
-cut-event w (events.Flush count) output new cut = absurd cut
-cut-event w (events.Push worker seq) output new cut = absurd cut
-cut-event w (events.Deliver place node) output new cut = absurd cut
-cut-event w (events.Show place) output new cut = absurd cut
-cut-event w (events.Open replica plan) output new cut = absurd cut
-cut-event w (events.Ask replica) output new cut = absurd cut
+cut-event w other output new cut = absurd cut
 
-step-fine : (old : World) (event : Event) (output : Output) (new : World) → MayHappen old event output new → IsFine old (output, new)
+pub step-fine : (old : World) (event : Event) (output : Output) (new : World) → MayHappen old event output new → IsFine old (output, new)
 step-fine old event output new may = elim may [
   | inl made ↦ subst (IsFine old) made (happens-fine old event)
   | inr other ↦ elim other [
@@ -454,27 +441,7 @@ step-fine old event output new may = elim may [
   ]
 ]
 
--- ---- whole runs
+-- ---- the beginning
 
-pub durable-grows : DurableOnlyGrows
-durable-grows old new [] [] run = ([], ap (λ (w : World). w.primary.durable) run ∙ sym (append-nil old.primary.durable))
-durable-grows old new [] (output ∷ done) run = absurd run
-durable-grows old new (event ∷ todo) [] run = absurd run
-durable-grows old new (event ∷ todo) (output ∷ done) run =
-    let first = (step-fine old event output run.0 run.1).grows in
-    let rest = durable-grows run.0 new todo done run.2 in
-    (first.0 ++ rest.0, rest.1 ∙ ap (λ (l : List Commit). l ++ rest.0) first.1 ∙ append_assoc old.primary.durable first.0 rest.0)
-
-runs-faultless : (old new : World) (todo : List Event) (done : List Output) → IsHonest old → Runs old todo done new
-    → AllByRecursion IsFaultless done
-runs-faultless old new [] [] honest run = tt
-runs-faultless old new [] (output ∷ done) honest run = absurd run
-runs-faultless old new (event ∷ todo) [] honest run = tt
-runs-faultless old new (event ∷ todo) (output ∷ done) honest run =
-    let first = step-fine old event output run.0 run.1 in
-    (first.output honest, runs-faultless run.0 new todo done (first.honest honest) run.2)
-
-pub allowed-faultless : AllowedAreFaultless
-allowed-faultless shape workers replicas todo done allowed =
-    runs-faultless (opening_world shape workers replicas) allowed.0 todo done
-    (record { whole = refl; begun = λ i draft here. absurd (none-some (Some draft) here) }) allowed.1
+pub opening-honest : (setup : Setup) → IsHonest (opening_world setup)
+opening-honest setup = record { whole = refl; begun = λ i draft here. absurd (none-some (Some draft) here) }

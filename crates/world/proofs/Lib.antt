@@ -1,5 +1,4 @@
 pub mod Lists
-pub mod Sound
 pub mod Worlds
 pub mod Datagrams
 pub mod Moves
@@ -21,8 +20,7 @@ pub mod Freshness
 pub mod Reports
 pub mod Delivering
 pub mod Moving
-pub mod Readiness
-pub mod Requests
+pub mod Requested
 pub mod Slots
 pub mod Starting
 pub mod Continuing

@@ -1,14 +1,14 @@
--- What stands at a place of a list after one more element, or one changed.
+-- What stands at an index of a list after one more element, or one changed.
 use Rattle.std.proofs.Common.{◌≡◌, ℕ, zero, suc, List, [], ◌∷◌, ◌++◌, Some, refl, sym, ap, ◌⊎◌, inl, inr}
 use Rattle.std.specs.List.{slice_get, slice_set, AllByRecursion}
 
--- a list with what stands at a place put there again
+-- a list with what stands at an index put there again
 pub set-same : {A : Type 0} (xs : List A) (i : ℕ) (x : A) → slice_get xs i ≡ Some x → slice_set xs i x ≡ xs
 set-same [] i x h = refl
 set-same (y ∷ xs) zero x h = let e : y ≡ x = cc in ap (λ z. z ∷ xs) (sym e)
 set-same (y ∷ xs) (suc i) x h = ap (λ l. y ∷ l) (set-same xs i x h)
 
--- what stands at a place after a change
+-- what stands at an index after a change
 pub get-set : {A : Type 0} (xs : List A) (i : ℕ) (x : A) (j : ℕ) (y : A) → slice_get (slice_set xs i x) j ≡ Some y → ((j ≡ i) × (y ≡ x))
     ⊎ (slice_get xs j ≡ Some y)
 get-set [] i x j y h = inr h
@@ -17,14 +17,14 @@ get-set (z ∷ xs) zero x (suc j) y h = inr h
 get-set (z ∷ xs) (suc i) x zero y h = inr h
 get-set (z ∷ xs) (suc i) x (suc j) y h = elim (get-set xs i x j y h) [ inl e ↦ inl (ap suc e.0, e.1) | inr e ↦ inr e ]
 
--- what stands at a place of two lists joined
+-- what stands at an index of two lists joined
 pub get-append : {A : Type 0} (xs ys : List A) (i : ℕ) (x : A) → slice_get (xs ++ ys) i ≡ Some x → (slice_get xs i ≡ Some x)
     ⊎ ((j : ℕ) × (slice_get ys j ≡ Some x))
 get-append [] ys i x h = inr (i, h)
 get-append (y ∷ xs) ys zero x h = inl h
 get-append (y ∷ xs) ys (suc i) x h = get-append xs ys i x h
 
--- the only place of a list of one
+-- the only index of a list of one
 pub get-one : {A : Type 0} (y : A) (i : ℕ) (x : A) → slice_get (y ∷ []) i ≡ Some x → x ≡ y
 get-one y zero x h = cc
 get-one y (suc i) x h = absurd cc
@@ -43,7 +43,7 @@ pub All-left : {A : Type 0} (P : A → Type 0) (xs ys : List A) → AllByRecursi
 All-left P [] ys h = tt
 All-left P (x ∷ xs) ys h = (h.0, All-left P xs ys h.1)
 
--- what was put at a place is there
+-- what was put at an index is there
 pub get-set_same : {A : Type 0} (xs : List A) (i : ℕ) (x y : A) → slice_get (slice_set xs i x) i ≡ Some y → y ≡ x
 get-set_same [] i x y h = absurd cc
 get-set_same (z ∷ xs) zero x y h = cc

@@ -2,12 +2,10 @@
 use Rattle.std.proofs.Common.{◌≡◌, ℕ, ◌≤◌, true, List, [], ◌∷◌, ◌++◌, length, take, drop, Option, Some, Result, Ok, Err, refl, sym, ap}
 use Rattle.std.proofs.Common.{subst, ◌∙◌, inl, inr, arith}
 use Rattle.std.specs.List.{slice_get, slice_set, AllByRecursion}
-use Rattle.std.specs.Result.{is_ok}
 use Rattle.std.proofs.lemmas.List.{append_assoc, length-append, length-set, take-append-drop}
 use Rattle.rows.specs.declared.commit.Commit.{Commit}
 use Rattle.rows.specs.Shape.{Shape}
-use Rattle.rows.specs.Commits.{IsCommit, commits_of, IsLegal}
-use Rattle.rows.specs.Tables.{opening}
+use Rattle.rows.specs.Commits.{IsCommit, IsLegal}
 use Rattle.wire.specs.declared.datagram.Datagram.{Datagram}
 use Rattle.wire.specs.declared.datagram.Datagram.TheVariants as datagrams
 use Rattle.wire.specs.declared.fault.WireFault.{WireFault}
@@ -21,10 +19,10 @@ use Rattle.dispatcher.proofs.Lists.{All-map}
 use Rattle.dispatcher.proofs.Versions.{legal-left}
 use Rattle.script.specs.declared.output.Output.{Output}
 use Rattle.world.specs.Parts.{Parts}
-use Rattle.world.specs.Steps.{with_replica, with_sent}
+use Rattle.world.specs.Inner.Steps.{with_replica, with_sent}
 use Rattle.world.specs.World.{World}
 use Rattle.world.proofs.Lists.{get-set, get-append, get-one, set-same, All-left}
-use Rattle.world.proofs.Sound.{Sound, IsSoundPrimary, IsSmall, IsSmallDraft, IsFed, IsAnswer, IsOfRequests, Means, awaits}
+use Rattle.world.specs.Inner.Sound.{Sound, IsSoundPrimary, IsSmall, IsSmallDraft, IsFed, IsAnswer, IsOfRequests, Means, awaits}
 use Rattle.world.specs.Standing.{world_of}
 use Rattle.world.proofs.Worlds.{seen}
 
@@ -174,20 +172,24 @@ Sound-drafts shape p transactions sound are = record {
 
 -- ---- commits
 
--- the durable list is legal
-pub legal-durable : (shape : Shape) (p : Parts) → Sound shape p → IsLegal shape 1 p.primary.durable
-legal-durable shape p sound = record {
-  each = All-map IsSmall (IsCommit 1) (λ commit small.
-      let worker = small.worker in
-      let few = small.few in
-      record { worker = omega arith; some = small.some; few = omega arith }) p.primary.durable
-      (All-left IsSmall p.primary.durable p.primary.pending sound.primary_is.small);
-  defined = legal-left shape p.primary.durable p.primary.pending sound.primary_is.legal;
-}
+-- each durable commit is one of the only worker
+pub each-durable : (shape : Shape) (p : Parts) → Sound shape p → AllByRecursion (IsCommit 1) p.primary.durable
+each-durable shape p sound =
+    All-map IsSmall (IsCommit 1) (λ commit small.
+    let worker = small.worker in
+    let few = small.few in
+    record { worker = omega arith; some = small.some; few = omega arith }) p.primary.durable
+    (All-left IsSmall p.primary.durable p.primary.pending sound.primary_is.small)
 
-fed-grows : (shape : Shape) (durable more : List Commit) (i : ℕ) (r : Replica) → IsFed shape durable i r → IsFed shape (durable ++ more) i r
-fed-grows shape durable more i r fed =
-    record { feeding = commits-feed shape durable more r fed.feeding; number_is = fed.number_is; boot_is = fed.boot_is }
+-- the beginning of a legal list is legal
+legal-front : (shape : Shape) (workers : ℕ) (front back : List Commit) → IsLegal shape workers (front ++ back) → IsLegal shape workers front
+legal-front shape workers front back legal =
+    record { each = All-left (IsCommit workers) front back legal.each; defined = legal-left shape front back legal.defined }
+
+fed-grows : (shape : Shape) (durable more : List Commit) (i : ℕ) (r : Replica) → IsLegal shape 1 (durable ++ more) → IsFed shape durable i r
+    → IsFed shape (durable ++ more) i r
+fed-grows shape durable more i r legal fed =
+    record { feeding = commits-feed shape durable more r legal fed.feeding; number_is = fed.number_is; boot_is = fed.boot_is }
 
 means-grows : (durable more : List Commit) (replicas : List Replica) (datagram : Result Datagram WireFault)
     → Means durable replicas datagram → Means (durable ++ more) replicas datagram
@@ -200,26 +202,27 @@ draft-stays durable more draft small =
     record { known = omega (arith, length-append durable more); few = small.few; spelled = small.spelled }
 
 -- the first pending commits become durable
-pub Sound-flushed : (shape : Shape) (p : Parts) (count : ℕ) → Sound shape p → Sound shape (record p { primary = flushed p.primary count })
-Sound-flushed shape p count sound =
+pub Sound-flushed : (shape : Shape) (p : Parts) (count : ℕ) → IsLegal shape 1 (p.primary.durable ++ p.primary.pending) → Sound shape p
+    → Sound shape (record p { primary = flushed p.primary count })
+Sound-flushed shape p count legal sound =
     let durable = p.primary.durable in
     let pending = p.primary.pending in
     let whole : (durable ++ take count pending) ++ drop count pending ≡ durable ++ pending =
     append_assoc durable (take count pending) (drop count pending)
     ∙ ap (λ (l : List Commit). durable ++ l) (take-append-drop count pending) in
+    let grown = legal-front shape 1 (durable ++ take count pending) (drop count pending) (subst (IsLegal shape 1) (sym whole) legal) in
     let numbered = sound.primary_is.numbered in
     record {
       primary_is = record {
         shape_is = sound.primary_is.shape_is;
         workers_are = sound.primary_is.workers_are;
-        legal = ap (λ (l : List Commit). is_ok (commits_of shape (opening shape) l)) whole ∙ sound.primary_is.legal;
         small = subst (AllByRecursion IsSmall) (sym whole) sound.primary_is.small;
         numbered = omega (arith, length-append {A = Commit}, ap length whole);
       };
       drafts_are = λ i draft here. draft-stays durable (take count pending) draft (sound.drafts_are i draft here);
       asked_there = sound.asked_there;
       few = sound.few;
-      fed = λ i r here. fed-grows shape durable (take count pending) i r (sound.fed i r here);
+      fed = λ i r here. fed-grows shape durable (take count pending) i r grown (sound.fed i r here);
       sent_is = λ i bytes here. means-grows durable (take count pending) p.replicas (reading bytes) (sound.sent_is i bytes here);
     }
 

@@ -1,11 +1,14 @@
 -- What the calls of the cores answer and leave is what an event may.
-use Rattle.std.proofs.Common.{◌≡◌, ℕ, ◌⊎◌, inl, inr, List, Option, None, Some, Result, Ok, Err, IsOk, slice_get, slice_set, ap, sym, subst}
-use Rattle.std.proofs.Common.{◌∙◌}
+use Rattle.std.proofs.Common.{◌≡◌, ℕ, ◌⊎◌, inl, inr, List, Option, None, Some, Result, Ok, Err, IsOk, slice_get, slice_set, refl, ap, sym}
+use Rattle.std.proofs.Common.{subst, ◌∙◌}
 use Rattle.std.proofs.lemmas.List.{set-set}
-use Rattle.rows.specs.declared.row_id.RowId.{RowId}
+use Rattle.rows.specs.declared.value.Value.{Value}
 use Rattle.mvcc.specs.declared.faults.TxFault.{TxFault}
 use Rattle.mvcc.specs.declared.faults.TxFault.TheVariants as changes
 use Rattle.mvcc.specs.Draft.{Draft}
+use Rattle.primary.specs.declared.faults.CommitFault.{CommitFault}
+use Rattle.primary.specs.Primary.{commit_answer, committed}
+use Rattle.primary.specs.State.{Primary}
 use Rattle.dispatcher.specs.declared.faults.AskFault.{AskFault}
 use Rattle.dispatcher.specs.declared.faults.OpenFault.{OpenFault}
 use Rattle.dispatcher.specs.declared.faults.OpenFault.TheVariants as opens
@@ -16,87 +19,170 @@ use Rattle.script.specs.declared.event.Event.{Event}
 use Rattle.script.specs.declared.event.Event.TheVariants as events
 use Rattle.script.specs.declared.output.Output.{Output}
 use Rattle.script.specs.declared.output.Output.TheVariants as outputs
-use Rattle.world.specs.Outputs.{of_change, of_open, of_ask}
+use Rattle.world.specs.Outputs.{of_change, of_commit, of_look, of_open, of_ask}
 use Rattle.world.specs.Parts.{Parts}
-use Rattle.world.specs.Steps.{looking, changing, change_by, look_by, commit_by, abort_by, with_replica, opening_query, open_by, asking}
-use Rattle.world.specs.Steps.{ask_by, stepped, MayStep}
-use Rattle.world.specs.World.{open_draft}
+use Rattle.world.specs.Standing.{world_of}
+use Rattle.world.specs.World.{World, open_draft, happens, on_draft, change_happens, commit_happens, abort_happens}
+use Rattle.world.specs.Inner.Steps.{HappensBeside, MayStep, with_replica, opening_query, open_by, asking, ask_by}
 use Rattle.world.proofs.Slots.{set_same, slot_same}
 
--- what stood at a place is put back there
+-- ---- beside the replicas
+
+-- what happens in the world, where the replicas stay
+pub beside : (p old new : Parts) (event : Event) (output : Output) → p ≡ old → happens (world_of p) event ≡ (output, world_of new)
+    → new.replicas ≡ p.replicas → new.asked_at ≡ p.asked_at → HappensBeside old event output new
+beside p old new event output seen is replicas asked_at =
+    subst (λ x. HappensBeside x event output new) seen (record { happens = inl is; replicas = replicas; asked_at = asked_at })
+
+-- memory is wanted, and nothing has changed
+pub beside_memory : (old new : Parts) (event : Event) (output : Output) → output ≡ outputs.Memory → new ≡ old
+    → HappensBeside old event output new
+beside_memory old new event output memory same = record {
+  happens = inr (inl (memory, ap world_of same));
+  replicas = ap (λ (x : Parts). x.replicas) same;
+  asked_at = ap (λ (x : Parts). x.asked_at) same;
+}
+
+-- the parts with these transactions
+abbrev with_slots : Parts → List (Option Draft) → Parts
+with_slots p slots = record p { transactions = slots }
+
+-- what stood in a slot is put back there
 put_same : (p : Parts) (number : ℕ) (slot : Option Draft) (left : List (Option Draft)) → open_draft p.transactions number ≡ slot
-    → left ≡ slice_set p.transactions number slot → p ≡ record p { transactions = left }
-put_same p number slot left at is =
-    ap (λ (slots : List (Option Draft)). record p { transactions = slots }) (sym (is ∙ slot_same p.transactions number slot at))
+    → left ≡ slice_set p.transactions number slot → p ≡ with_slots p left
+put_same p number slot left at is = ap (with_slots p) (sym (is ∙ slot_same p.transactions number slot at))
+
+-- a change of a transaction, as the world has it
+abbrev change_in : World → ℕ → (Draft → Result Draft TxFault) → Option Draft → Output × World
+change_in w number change slot = on_draft w slot (λ draft. change_happens w number (change draft))
 
 module _ (p old : Parts) (seen : p ≡ old) (number : ℕ) where
-  -- a change of a transaction, which is taken out of its place, changed or not, and put back
+  -- a change of a transaction, which is taken out of its slot, changed or not, and put back
   module _ (event : Event) (change : Draft → Result Draft TxFault)
-      (is_change : stepped p event ≡ change_by p number change (open_draft p.transactions number)) where
-    by_slot : (slot : Option Draft) (output : Output) (new : Parts) → open_draft p.transactions number ≡ slot
-        → change_by p number change slot ≡ (output, new) → MayStep old event output new
-    by_slot slot output new at is = subst (λ x. MayStep x event output new) seen (inl (is_change ∙ ap (change_by p number change) at ∙ is))
+      (is_change : happens (world_of p) event ≡ change_in (world_of p) number change (open_draft p.transactions number)) where
+    by_slot : (slot : Option Draft) (output : Output) (left : List (Option Draft)) → open_draft p.transactions number ≡ slot
+        → change_in (world_of p) number change slot ≡ (output, world_of (with_slots p left))
+        → HappensBeside old event output (with_slots p left)
+    by_slot slot output left at is =
+        beside p old (with_slots p left) event output seen (is_change ∙ ap (change_in (world_of p) number change) at ∙ is) refl refl
 
     pub change_nothing : (left : List (Option Draft)) → open_draft p.transactions number ≡ None
         → left ≡ slice_set p.transactions number None
-        → MayStep old event outputs.NoTx (record p { transactions = left })
-    change_nothing left at is = by_slot None _ _ at (ap (λ x. (outputs.NoTx, x)) (put_same p number None left at is))
+        → HappensBeside old event outputs.NoTx (with_slots p left)
+    change_nothing left at is = by_slot None outputs.NoTx left at (ap (λ x. (outputs.NoTx, world_of x)) (put_same p number None left at is))
 
     pub changed : (draft after : Draft) (left : List (Option Draft)) → open_draft p.transactions number ≡ Some draft
         → left ≡ slice_set (slice_set p.transactions number None) number (Some after) → change draft ≡ Ok after
-        → MayStep old event outputs.Accepted (record p { transactions = left })
+        → HappensBeside old event outputs.Accepted (with_slots p left)
     changed draft after left at is ok =
-        by_slot (Some draft) _ _ at
-        (ap (changing p number) ok ∙ ap (λ (slots : List (Option Draft)). (outputs.Accepted, record p { transactions = slots }))
+        by_slot (Some draft) outputs.Accepted left at
+        (ap (change_happens (world_of p) number) ok
+        ∙ ap (λ (slots : List (Option Draft)). (outputs.Accepted, world_of (with_slots p slots)))
         (sym (is ∙ set-set p.transactions number None (Some after))))
 
-    pub change_refused : (draft after : Draft) (fault : TxFault) (left : List (Option Draft))
+    pub change_refused : (draft after : Draft) (fault : TxFault) (left : List (Option Draft)) (told : Result Draft TxFault)
         → open_draft p.transactions number ≡ Some draft
-        → left ≡ slice_set (slice_set p.transactions number None) number (Some after) → after ≡ draft
-        → ((fault ≡ changes.Memory) × IsOk (change draft)) ⊎ (change draft ≡ Err fault)
-        → MayStep old event (of_change fault) (record p { transactions = left })
-    change_refused draft after fault left at is same refusal =
+        → left ≡ slice_set (slice_set p.transactions number None) number (Some after) → after ≡ draft → change draft ≡ told
+        → ((fault ≡ changes.Memory) × IsOk told) ⊎ (told ≡ Err fault)
+        → HappensBeside old event (of_change fault) (with_slots p left)
+    change_refused draft after fault left told at is same tells refusal =
         let stays =
         put_same p number (Some draft) left at
         (is ∙ set-set p.transactions number None (Some after) ∙ ap (λ x. slice_set p.transactions number (Some x)) same) in
         elim refusal [
-          | inl memory ↦ inr (inl (ap of_change memory.0, sym stays ∙ seen))
-          | inr refused ↦ by_slot (Some draft) _ _ at (ap (changing p number) refused ∙ ap (λ x. (of_change fault, x)) stays)
+          | inl memory ↦ beside_memory old (with_slots p left) event (of_change fault) (ap of_change memory.0) (sym stays ∙ seen)
+          | inr refused ↦ by_slot (Some draft) (of_change fault) left at
+              (ap (change_happens (world_of p) number) (tells ∙ refused) ∙ ap (λ x. (of_change fault, world_of x)) stays)
         ]
 
   -- a look at a column
-  pub looked : (table : ℕ) (row : RowId) (column : ℕ) (slot : Option Draft) → open_draft p.transactions number ≡ slot
-      → MayStep old (events.Get number table row column) (look_by (looking p.primary table row.0 column) slot) old
-  looked table row column slot at =
-      let look = looking p.primary table row.0 column in
-      subst (λ x. MayStep x (events.Get number table row column) (look_by look slot) x) seen (inl (ap (λ s. (look_by look s, p)) at))
+  look_done : (event : Event) (look : Draft → Result Value TxFault)
+      → happens (world_of p) event
+      ≡ on_draft (world_of p) (open_draft p.transactions number) (λ draft. (of_look (look draft), world_of p))
+      → (slot : Option Draft) (output : Output) → open_draft p.transactions number ≡ slot
+      → on_draft (world_of p) slot (λ draft. (of_look (look draft), world_of p)) ≡ (output, world_of p)
+      → HappensBeside old event output old
+  look_done event look is_look slot output at is =
+      subst (λ (x : Parts). HappensBeside old event output x) seen
+      (beside p old p event output seen
+      (is_look ∙ ap (λ slot. on_draft (world_of p) slot (λ draft. (of_look (look draft), world_of p))) at ∙ is) refl refl)
 
-  -- a transaction is taken out of its place for good
+  pub look_nothing : (event : Event) (look : Draft → Result Value TxFault)
+      → happens (world_of p) event
+      ≡ on_draft (world_of p) (open_draft p.transactions number) (λ draft. (of_look (look draft), world_of p))
+      → open_draft p.transactions number ≡ None → HappensBeside old event outputs.NoTx old
+  look_nothing event look is_look at = look_done event look is_look None outputs.NoTx at refl
+
+  pub looked : (event : Event) (look : Draft → Result Value TxFault)
+      → happens (world_of p) event
+      ≡ on_draft (world_of p) (open_draft p.transactions number) (λ draft. (of_look (look draft), world_of p))
+      → (draft : Draft) (seen : Result Value TxFault) → open_draft p.transactions number ≡ Some draft → look draft ≡ seen
+      → HappensBeside old event (of_look seen) old
+  looked event look is_look draft seen at is =
+      look_done event look is_look (Some draft) (of_look seen) at (ap (λ answer. (of_look answer, world_of p)) is)
+
+  -- a transaction is taken out of its slot for good
   pub gave_up : (slot : Option Draft) (left : List (Option Draft)) → open_draft p.transactions number ≡ slot
       → left ≡ slice_set p.transactions number None
-      → MayStep old (events.Abort number) (abort_by p number slot).0 (record p { transactions = left })
+      → HappensBeside old (events.Abort number) (on_draft (world_of p) slot (λ draft. abort_happens (world_of p) number)).0
+      (with_slots p left)
   gave_up slot left at is =
-      subst (λ x. MayStep x (events.Abort number) (abort_by p number slot).0 (record p { transactions = left })) seen
-      (inl (ap (abort_by p number) at ∙ by slot at))
+      let world = world_of p in
+      beside p old (with_slots p left) (events.Abort number) (on_draft world slot (λ draft. abort_happens world number)).0 seen
+      (ap (λ slot. on_draft world slot (λ draft. abort_happens world number)) at ∙ by slot at) refl refl
     where
       by : (slot : Option Draft) → open_draft p.transactions number ≡ slot
-          → abort_by p number slot ≡ ((abort_by p number slot).0, record p { transactions = left })
-      by None at = ap (λ x. (outputs.NoTx, x)) (put_same p number None left at is)
-      by (Some draft) at = ap (λ (slots : List (Option Draft)). (outputs.Accepted, record p { transactions = slots })) (sym is)
+          → on_draft (world_of p) slot (λ draft. abort_happens (world_of p) number)
+          ≡ ((on_draft (world_of p) slot (λ draft. abort_happens (world_of p) number)).0, world_of (with_slots p left))
+      by None at = ap (λ x. (outputs.NoTx, world_of x)) (put_same p number None left at is)
+      by (Some draft) at =
+          ap (λ (slots : List (Option Draft)). (outputs.Accepted, world_of (with_slots p slots))) (sym is)
 
-  pub commit_nothing : (worker : ℕ) (left : List (Option Draft)) → open_draft p.transactions number ≡ None
-      → left ≡ slice_set p.transactions number None
-      → MayStep old (events.Commit number worker) outputs.NoTx (record p { transactions = left })
-  commit_nothing worker left at is =
-      subst (λ x. MayStep x (events.Commit number worker) outputs.NoTx (record p { transactions = left })) seen
-      (inl (ap (commit_by p number worker) at ∙ ap (λ x. (outputs.NoTx, x)) (put_same p number None left at is)))
+  module _ (worker : ℕ) where
+    commit_by : (slot : Option Draft) (output : Output) (new : Parts) → open_draft p.transactions number ≡ slot
+        → on_draft (world_of p) slot (λ draft. commit_happens (world_of p) number worker draft (commit_answer p.primary draft))
+        ≡ (output, world_of new)
+        → new.replicas ≡ p.replicas → new.asked_at ≡ p.asked_at → HappensBeside old (events.Commit number worker) output new
+    commit_by slot output new at is replicas asked_at =
+        beside p old new (events.Commit number worker) output seen
+        (ap (λ slot. on_draft (world_of p) slot
+        (λ draft. commit_happens (world_of p) number worker draft (commit_answer p.primary draft))) at ∙ is) replicas asked_at
+
+    pub commit_nothing : (left : List (Option Draft)) → open_draft p.transactions number ≡ None
+        → left ≡ slice_set p.transactions number None
+        → HappensBeside old (events.Commit number worker) outputs.NoTx (with_slots p left)
+    commit_nothing left at is =
+        commit_by None outputs.NoTx (with_slots p left) at (ap (λ x. (outputs.NoTx, world_of x)) (put_same p number None left at is)) refl
+        refl
+
+    pub commit_taken : (draft : Draft) (ticket : ℕ) (primary : Primary) (left : List (Option Draft))
+        → open_draft p.transactions number ≡ Some draft → left ≡ slice_set p.transactions number None
+        → commit_answer p.primary draft ≡ Ok ticket → primary ≡ committed p.primary worker draft.entries
+        → HappensBeside old (events.Commit number worker) (outputs.Ticket ticket) (record p { primary = primary; transactions = left })
+    commit_taken draft ticket primary left at is ok made =
+        commit_by (Some draft) (outputs.Ticket ticket) (record p { primary = primary; transactions = left }) at
+        (ap (commit_happens (world_of p) number worker draft) ok
+        ∙ ap (λ (x : Primary × List (Option Draft)).
+        (outputs.Ticket ticket, world_of (record p { primary = x.0; transactions = x.1 }))) (sym cc)) refl refl
+
+    pub commit_refused : (draft : Draft) (fault : CommitFault) (primary : Primary) (left : List (Option Draft))
+        → open_draft p.transactions number ≡ Some draft → left ≡ slice_set p.transactions number None
+        → commit_answer p.primary draft ≡ Err fault → primary ≡ p.primary
+        → HappensBeside old (events.Commit number worker) (of_commit fault) (record p { primary = primary; transactions = left })
+    commit_refused draft fault primary left at is refused same =
+        commit_by (Some draft) (of_commit fault) (record p { primary = primary; transactions = left }) at
+        (ap (commit_happens (world_of p) number worker draft) refused
+        ∙ ap (λ (x : Primary × List (Option Draft)).
+        (of_commit fault, world_of (record p { primary = x.0; transactions = x.1 }))) (sym cc)) refl refl
 
   -- a transaction that is put back leaves all as it was
   pub put_back_same : (draft after : Draft) (left : List (Option Draft)) → open_draft p.transactions number ≡ Some draft
-      → left ≡ slice_set (slice_set p.transactions number None) number (Some after) → after ≡ draft → record p { transactions = left } ≡ old
+      → left ≡ slice_set (slice_set p.transactions number None) number (Some after) → after ≡ draft → with_slots p left ≡ old
   put_back_same draft after left at is same =
       sym (put_same p number (Some draft) left at
       (is ∙ set-set p.transactions number None (Some after) ∙ ap (λ x. slice_set p.transactions number (Some x)) same)) ∙ seen
+
+  -- ---- calls on a replica
 
   module _ (before after : Replica) (at : slice_get p.replicas number ≡ Some before) where
     pub replica_same : after ≡ before → p ≡ with_replica p number after
@@ -116,7 +202,7 @@ module _ (p old : Parts) (seen : p ≡ old) (number : ℕ) where
       pub open_refused : (fault : OpenFault) → after ≡ before → ((fault ≡ opens.Memory) × IsOk (opened before plan))
           ⊎ (opened before plan ≡ Err fault)
           → MayStep old (events.Open number plan) (of_open fault) (with_replica p number after)
-      open_refused fault same (inl memory) = inr (inl (ap of_open memory.0, sym (replica_same same) ∙ seen))
+      open_refused fault same (inl memory) = inr (ap of_open memory.0, sym (replica_same same) ∙ seen)
       open_refused fault same (inr refused) =
           by_replica _ _ (ap (opening_query p number) refused ∙ ap (λ x. (of_open fault, x)) (replica_same same))
 

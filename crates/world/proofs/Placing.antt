@@ -1,4 +1,4 @@
--- The column that a value is for: its kind, and its place among its row's bytes.
+-- The column that a value is for: its kind, and where it is among its row's bytes.
 use Rattle.std.proofs.Common.{◌≡◌, ℕ, zero, suc, ◌+◌, ◌-◌, ◌<◌, ◌≤◌, Bool, true, false, cond, ◌==◌, ◌&&◌, List, [], ◌∷◌, length, take}
 use Rattle.std.proofs.Common.{Option, Some, None, Ok, Err, nat_lt, refl, sym, ap, ◌∙◌, arith}
 use Rattle.std.specs.List.{slice_get, list_all}
@@ -18,8 +18,8 @@ use Rattle.rows.specs.declared.value.Value.{Value}
 use Rattle.rows.specs.declared.value.Value.TheVariants.{Int as IntValue, Octets as OctetsValue}
 use Rattle.rows.specs.Shape.{Shape, row_width, width_of, is_good, column_from, column_at}
 use Rattle.rows.specs.Entries.{placed, fitting}
-use Rattle.rows.specs.Values.{value_bytes}
-use Rattle.mvcc.specs.Transactions.{is_of_kind, match_column, column_kind, column_offset}
+use Rattle.rows.specs.Values.{value_bytes, is_of_kind}
+use Rattle.mvcc.specs.Transactions.{match_column, column_kind, column_offset}
 
 -- a value of a kind has as many bytes as the kind is wide
 pub length-value : (value : Value) (kind : Kind) → is_of_kind value kind ≡ true → length (value_bytes value) ≡ width_of kind
@@ -43,7 +43,7 @@ good-at (first ∷ kinds) zero kind good h =
     ap is_good (sym (same_Some first kind h)) ∙ (and_parts (is_good first) (list_all is_good kinds) good).0
 good-at (first ∷ kinds) (suc column) kind good h = good-at kinds column kind (and_parts (is_good first) (list_all is_good kinds) good).1 h
 
--- a column that is there is found at its place
+-- a column that is there is found where it begins
 found-at : (before : ℕ) (kinds : List Kind) (column : ℕ) (kind : Kind) → slice_get kinds column ≡ Some kind
     → is_some (column_from before kinds (row_width (take column kinds)) (width_of kind)) ≡ true
 found-at before [] column kind h = absurd (none-some kind h)
@@ -89,15 +89,15 @@ column-matched shape table column value h = by (slice_get shape table) refl
         let found = of_kind (slice_get kinds column) (rw e at h) in
         record { kinds = kinds; kind = found.0; table_is = e; column_is = found.1; value_is = found.2; offset_is = rw e refl }
 
--- its bytes have just the column's place
+-- its bytes are just those of the column
 pub value-fits : (shape : Shape) (table : ℕ) (row : RowId) (column : ℕ) (value : Value) (at : IsColumn shape table column value)
     → is_ok (fitting shape (Patch table row (column_offset shape table column) (value_bytes value))) ≡ true
 value-fits shape table row column value at =
     let offset = column_offset shape table column in
     let size = length (value_bytes value) in
-    let place : is_some (column_at at.kinds offset size) ≡ true =
+    let index : is_some (column_at at.kinds offset size) ≡ true =
     ap (λ (n : ℕ). is_some (column_at at.kinds n size)) at.offset_is
     ∙ ap (λ (n : ℕ). is_some (column_at at.kinds (row_width (take column at.kinds)) n)) (length-value value at.kind at.value_is)
     ∙ found-at 0 at.kinds column at.kind at.column_is in
     ap (λ (o : Option (List Kind)). is_ok (placed o offset size)) at.table_is
-    ∙ ap (λ (b : Bool). is_ok (cond b (Ok tt) (Err NotAColumn))) place
+    ∙ ap (λ (b : Bool). is_ok (cond b (Ok tt) (Err NotAColumn))) index

@@ -8,7 +8,7 @@ use Rattle.std.proofs.lemmas.List.{length-set}
 use Rattle.std.proofs.lemmas.Option.{same_Some, slice_get_within}
 use Rattle.rows.specs.declared.commit.Commit.{Commit}
 use Rattle.rows.specs.declared.limits.TheConstants.{REPLICAS_MAX, WAITING_QUERIES_MAX}
-use Rattle.rows.specs.Shape.{Shape}
+use Rattle.rows.specs.Shape.{Shape, shape_of}
 use Rattle.wire.specs.declared.datagram.Datagram.TheVariants as datagrams
 use Rattle.wire.specs.Reading.{reading}
 use Rattle.wire.specs.Spelling.{spelling}
@@ -19,16 +19,16 @@ use Rattle.dispatcher.specs.declared.faults.OpenFault.TheVariants as opens
 use Rattle.dispatcher.specs.declared.faults.AskFault.TheVariants as asks
 use Rattle.dispatcher.specs.Plans.{checked}
 use Rattle.dispatcher.specs.Feeding.{IsFedFrom}
-use Rattle.dispatcher.specs.Replica.{Replica, Queries, Fetched}
+use Rattle.dispatcher.specs.Replica.{Replica, Batch as ReplicaBatch, Fetched}
 use Rattle.dispatcher.specs.Steps.{opened, asked, asked_by, ask_for, with_batch}
 use Rattle.dispatcher.proofs.Feeding.{plan-fed, batch-fed}
 use Rattle.script.specs.declared.output.Output.{Output}
 use Rattle.script.specs.declared.output.Output.TheVariants as outputs
 use Rattle.world.specs.Parts.{Parts}
-use Rattle.world.specs.Steps.{with_replica, with_sent, open_by, opening_query, ask_by, asking, sent_one}
+use Rattle.world.specs.Inner.Steps.{with_replica, with_sent, open_by, opening_query, ask_by, asking, sent_one}
 use Rattle.world.specs.World.{World, Member, open_happens, ask_happens, new_batch, send, ask_bytes, with_member, on_member}
 use Rattle.world.proofs.Lists.{set-same, get-set_same}
-use Rattle.world.proofs.Sound.{Sound, IsFed, Means}
+use Rattle.world.specs.Inner.Sound.{Sound, IsFed, Means}
 use Rattle.world.proofs.Datagrams.{ask-read, ask-kept}
 use Rattle.world.specs.Standing.{world_of, member_of, batch_of, members_of}
 use Rattle.world.proofs.Worlds.{members-asked}
@@ -58,12 +58,12 @@ pub query-opens : (shape : Shape) (p : Parts) (i : ℕ) (plan : Plan) (found : O
     → Follows shape
     (on_member (world_of p) (option_map (member_of (slice_index p.asked_at i)) found) (λ m.
     cond m.broken (outputs.Broken, world_of p) (cond (nat_le WAITING_QUERIES_MAX (length m.waiting)) (outputs.BatchFull, world_of p)
-    (open_happens (world_of p) m plan (checked p.primary.shape plan)))))
+    (open_happens (world_of p) m plan (checked (shape_of p.primary.schema) plan)))))
     (open_by p i plan found)
 query-opens shape p i plan None sound here = (refl, sound)
 query-opens shape p i plan (Some r) sound here =
     subst (λ (o : Result (ℕ × Replica) OpenFault). Follows shape there (opening_query p i o)) (sym (opened-is r plan))
-    (by r.broken (nat_le WAITING_QUERIES_MAX (length r.waiting)) (nat_lt plan.table (length p.primary.shape))
+    (by r.broken (nat_le WAITING_QUERIES_MAX (length r.waiting)) (nat_lt plan.table (length (shape_of p.primary.schema)))
     (nat_lt plan.table (length r.shape))
     (ap (λ (shape : Shape). nat_lt plan.table (length shape)) (sound.primary_is.shape_is ∙ sym fed.feeding.shape_is)))
   where
@@ -76,7 +76,8 @@ query-opens shape p i plan (Some r) sound here =
     there : Output × World
     there =
         cond r.broken (outputs.Broken, w)
-        (cond (nat_le WAITING_QUERIES_MAX (length r.waiting)) (outputs.BatchFull, w) (open_happens w m plan (checked p.primary.shape plan)))
+        (cond (nat_le WAITING_QUERIES_MAX (length r.waiting)) (outputs.BatchFull, w)
+        (open_happens w m plan (checked (shape_of p.primary.schema) plan)))
 
     fed : IsFed shape p.primary.durable i r
     fed = sound.fed i r here
@@ -160,7 +161,7 @@ asks-anew shape p i r sound here =
           omega arith)),
     )
 
-asks-again : (shape : Shape) (p : Parts) (i : ℕ) (r : Replica) (queries : Queries) → Sound shape p → slice_get p.replicas i ≡ Some r
+asks-again : (shape : Shape) (p : Parts) (i : ℕ) (r : Replica) (queries : ReplicaBatch) → Sound shape p → slice_get p.replicas i ≡ Some r
     → Follows shape (send (world_of p) (ask_bytes (member_of (slice_index p.asked_at i) r) r.request))
     (asking p i (Some queries) (Ok (ask_for r.number r.boot r.request, r)))
 asks-again shape p i r queries sound here =
@@ -186,7 +187,7 @@ asks-fetched : (shape : Shape) (p : Parts) (i : ℕ) (r : Replica) (plans : List
 asks-fetched shape p i r plans None sound here = asks-again shape p i r (record { plans = plans; fetched = None }) sound here
 asks-fetched shape p i r plans (Some fetched) sound here = (refl, sound)
 
-asks-by : (shape : Shape) (p : Parts) (i : ℕ) (r : Replica) (batch : Option Queries) → Sound shape p → slice_get p.replicas i ≡ Some r
+asks-by : (shape : Shape) (p : Parts) (i : ℕ) (r : Replica) (batch : Option ReplicaBatch) → Sound shape p → slice_get p.replicas i ≡ Some r
     → Follows shape (ask_happens (world_of p) (member_of (slice_index p.asked_at i) r)
     (option_map (batch_of (slice_index p.asked_at i)) batch)) (asking p i batch (asked_by r batch))
 asks-by shape p i r (Some queries) sound here = asks-fetched shape p i r queries.plans queries.fetched sound here

@@ -11,9 +11,8 @@ use Rattle.std.specs.Result.{is_ok}
 use Rattle.std.specs.Option.{is_none}
 use Rattle.std.proofs.lemmas.Bool.{false≢true, and_parts, eqb-true, le-ltb, eq-eqb}
 use Rattle.rows.specs.declared.commit.Commit.{Commit}
-use Rattle.rows.specs.Shape.{Shape}
+use Rattle.rows.specs.Shape.{Shape, shape_of}
 use Rattle.rows.specs.Entries.{fitting}
-use Rattle.rows.specs.Commits.{IsLegal}
 use Rattle.wire.specs.declared.datagram.Datagram.{Datagram}
 use Rattle.wire.specs.declared.datagram.Datagram.TheVariants as datagrams
 use Rattle.wire.specs.declared.fault.WireFault.{WireFault}
@@ -25,7 +24,7 @@ use Rattle.dispatcher.specs.declared.outcome.Got.TheVariants as got
 use Rattle.dispatcher.specs.declared.plan.Plan.{Plan}
 use Rattle.dispatcher.specs.Known.{is_known, is_ahead}
 use Rattle.dispatcher.specs.Feeding.{IsFedFrom}
-use Rattle.dispatcher.specs.Replica.{Replica, Queries, Fetched}
+use Rattle.dispatcher.specs.Replica.{Replica, Batch as ReplicaBatch, Fetched}
 use Rattle.dispatcher.specs.Steps.{frame_comes, own_head_comes, datagram_comes, known}
 use Rattle.dispatcher.proofs.CatchingUp.{applied-version}
 use Rattle.dispatcher.proofs.Feeding.{datagram-feeds}
@@ -35,12 +34,12 @@ use Rattle.script.specs.declared.output.Output.{Output}
 use Rattle.script.specs.declared.output.Output.TheVariants as outputs
 use Rattle.world.specs.Outputs.{of_got}
 use Rattle.world.specs.Parts.{Parts}
-use Rattle.world.specs.Steps.{with_replica, got_by, to_replica}
+use Rattle.world.specs.Inner.Steps.{with_replica, got_by, to_replica}
 use Rattle.world.specs.World.{World, Member, frame_happens, head_happens, datagram_happens, member_output, on_member}
-use Rattle.world.proofs.Sound.{Sound, IsFed, Means, awaits}
+use Rattle.world.specs.Inner.Sound.{Sound, IsFed, Means, awaits}
 use Rattle.world.specs.Standing.{world_of, member_of, batch_of}
 use Rattle.world.proofs.Worlds.{member-changes}
-use Rattle.world.proofs.Moves.{Moves, Goes, Follows, legal-durable, Sound-replica, Follows-same, Moves-same}
+use Rattle.world.proofs.Moves.{Moves, Goes, Follows, Sound-replica, Follows-same, Moves-same}
 
 -- what a replica answers, as its member does
 abbrev pub answered : ℕ → Got × Replica → Output × Member
@@ -82,7 +81,7 @@ frame-comes at r frame =
 -- ---- a Head of the replica's own request
 
 -- the replica with this batch
-abbrev pub batched : Replica → Option Queries → Replica
+abbrev pub batched : Replica → Option ReplicaBatch → Replica
 batched r batch = record r { batch = batch }
 
 -- whether a Head goes back, or is not of its number of workers
@@ -93,12 +92,11 @@ takes : (a b c : Bool) → a ≡ true → b ≡ false → c ≡ false → (not a
 takes a b c e f g = rw (e, f, g) refl
 
 -- one that tells the truth of the list and is no older than the replica does not
-not-refused : (shape : Shape) (durable : List Commit) (r : Replica) (version : ℕ) (counts : List ℕ) → IsLegal shape 1 durable
-    → IsFedFrom shape durable r
+not-refused : (shape : Shape) (durable : List Commit) (r : Replica) (version : ℕ) (counts : List ℕ) → IsFedFrom shape durable r
     → version ≤ length durable → counts ≡ frame_count durable 0 version ∷ [] → r.version ≤ version → refused r version counts ≡ false
-not-refused shape durable r version counts legal fed below are fresh =
-    let count : slice_index counts 0 ≡ version = ap (λ (l : List ℕ). slice_index l 0) are ∙ count-is durable version legal.each below in
-    let applied = applied-version shape durable r legal fed in
+not-refused shape durable r version counts fed below are fresh =
+    let count : slice_index counts 0 ≡ version = ap (λ (l : List ℕ). slice_index l 0) are ∙ count-is durable version fed.legal.each below in
+    let applied = applied-version shape durable r fed in
     takes (length counts == r.workers) (nat_lt version r.version) (nat_lt (slice_index counts 0) r.applied)
     (eq-eqb (length counts) r.workers (ap length are ∙ sym fed.workers_are)) (le-ltb version r.version fresh)
     (le-ltb (slice_index counts 0) r.applied (omega arith))
@@ -122,7 +120,7 @@ head-batch at r version counts plans None passes =
     (sym (passes refl))
     (refl, record { number_stays = refl; boot_stays = refl; request_grows = omega arith; waits = λ waits same. absurd (false≢true waits) })
 
-head-comes : (at : ℕ) (r : Replica) (version : ℕ) (counts : List ℕ) (batch : Option Queries)
+head-comes : (at : ℕ) (r : Replica) (version : ℕ) (counts : List ℕ) (batch : Option ReplicaBatch)
     → (awaits (batched r batch) ≡ true → refused r version counts ≡ false)
     → Comes at (batched r batch) (head_happens (member_of at (batched r batch)) version counts (option_map (batch_of at) batch))
     (own_head_comes (batched r batch) version counts)
@@ -132,14 +130,14 @@ head-comes at r version counts (Some queries) passes = head-batch at r version c
 -- ---- any datagram
 
 datagram-comes : (shape : Shape) (durable : List Commit) (replicas : List Replica) (i at : ℕ) (r : Replica)
-    (datagram : Result Datagram WireFault) → IsLegal shape 1 durable → IsFed shape durable i r
+    (datagram : Result Datagram WireFault) → IsFed shape durable i r
     → slice_get replicas i ≡ Some r → Means durable replicas datagram
     → Comes at r (datagram_happens r.shape r.workers (member_of at r) datagram) (datagram_comes r datagram)
-datagram-comes shape durable replicas i at r (Err fault) legal fed here means = Comes-same at r got.Ignored
-datagram-comes shape durable replicas i at r (Ok (datagrams.Frame worker seq commit last entries)) legal fed here means =
+datagram-comes shape durable replicas i at r (Err fault) fed here means = Comes-same at r got.Ignored
+datagram-comes shape durable replicas i at r (Ok (datagrams.Frame worker seq commit last entries)) fed here means =
     frame-comes at r (record { worker = worker; seq = seq; commit = commit; last = last; entries = entries })
-datagram-comes shape durable replicas i at r (Ok (datagrams.Ask replica boot request)) legal fed here means = Comes-same at r got.Ignored
-datagram-comes shape durable replicas i at r (Ok (datagrams.Head replica boot request version counts)) legal fed here means =
+datagram-comes shape durable replicas i at r (Ok (datagrams.Ask replica boot request)) fed here means = Comes-same at r got.Ignored
+datagram-comes shape durable replicas i at r (Ok (datagrams.Head replica boot request version counts)) fed here means =
     by ((replica == r.number) && (boot == r.boot) && (request == r.request)) refl
   where
     by : (own : Bool) → ((replica == r.number) && (boot == r.boot) && (request == r.request)) ≡ own → Comes at r
@@ -151,9 +149,9 @@ datagram-comes shape durable replicas i at r (Ok (datagrams.Head replica boot re
         let front = and_parts (replica == r.number) (boot == r.boot) parts.0 in
         let answer = means.requests r (ap (slice_get replicas) (eqb-true replica r.number front.0 ∙ fed.number_is) ∙ here) in
         head-comes at r version counts r.batch
-        (λ waits. not-refused shape durable r version counts legal fed.feeding means.tells.0 means.tells.1
+        (λ waits. not-refused shape durable r version counts fed.feeding means.tells.0 means.tells.1
         (answer.fresh waits (eqb-true request r.request parts.1)))
-datagram-comes shape durable replicas i at r (Ok (datagrams.Want replica worker from)) legal fed here means = Comes-same at r got.Ignored
+datagram-comes shape durable replicas i at r (Ok (datagrams.Want replica worker from)) fed here means = Comes-same at r got.Ignored
 
 -- ---- bytes
 
@@ -173,7 +171,7 @@ pub bytes-come : (shape : Shape) (p : Parts) (i : ℕ) (bytes : List ℕ) (found
     → Follows shape
     (on_member (world_of p) (option_map (member_of (slice_index p.asked_at i)) found)
     (λ m. cond m.broken (outputs.Broken, world_of p)
-    (member_output (world_of p) (datagram_happens p.primary.shape p.primary.workers m (reading bytes)))))
+    (member_output (world_of p) (datagram_happens (shape_of p.primary.schema) p.primary.workers m (reading bytes)))))
     (to_replica p i bytes found)
 bytes-come shape p i bytes None sound means here = (refl, sound)
 bytes-come shape p i bytes (Some r) sound means here = by r.broken
@@ -185,9 +183,9 @@ bytes-come shape p i bytes (Some r) sound means here = by r.broken
     fed = sound.fed i r here
 
     came : Comes at r (datagram_happens r.shape r.workers (member_of at r) (reading bytes)) (datagram_comes r (reading bytes))
-    came = datagram-comes shape p.primary.durable p.replicas i at r (reading bytes) (legal-durable shape p sound) fed here means
+    came = datagram-comes shape p.primary.durable p.replicas i at r (reading bytes) fed here means
 
-    same : datagram_happens p.primary.shape p.primary.workers (member_of at r) (reading bytes) ≡ answered at
+    same : datagram_happens (shape_of p.primary.schema) p.primary.workers (member_of at r) (reading bytes) ≡ answered at
         (datagram_comes r (reading bytes))
     same =
         ap (λ (shape : Shape). datagram_happens shape p.primary.workers (member_of at r) (reading bytes))
@@ -198,7 +196,7 @@ bytes-come shape p i bytes (Some r) sound means here = by r.broken
 
     by : (b : Bool) → Follows shape
         (cond b (outputs.Broken, world_of p)
-        (member_output (world_of p) (datagram_happens p.primary.shape p.primary.workers (member_of at r) (reading bytes))))
+        (member_output (world_of p) (datagram_happens (shape_of p.primary.schema) p.primary.workers (member_of at r) (reading bytes))))
         (got_by p i (cond b (got.Broken, r) (datagram_comes r (reading bytes))))
     by true = Follows-same shape p i r outputs.Broken sound here
     by false = Follows-goes shape p i r _ (of_got (datagram_comes r (reading bytes)).0) (datagram_comes r (reading bytes)).1 sound here same

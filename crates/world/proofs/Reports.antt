@@ -1,29 +1,44 @@
--- Each report of a run is exact by the one list that is durable at its end, and what is durable grows at each step.
-use Rattle.std.proofs.Common.{ℕ, ◌≤◌, List, [], ◌∷◌, ◌++◌, map, refl, sym, ap, subst, ◌∙◌}
+-- Each step of a run is by the one list of commits that is durable at its end.
+use Rattle.std.proofs.Common.{List, [], ◌∷◌, ◌++◌, sym, ap, subst, ◌∙◌}
+use Rattle.std.specs.List.{AllByRecursion}
+use Rattle.std.proofs.lemmas.List.{append-nil, append_assoc}
 use Rattle.rows.specs.declared.commit.Commit.{Commit}
-use Rattle.rows.specs.declared.limits.TheConstants.{REPLICAS_MAX}
-use Rattle.rows.specs.Shape.{Shape}
+use Rattle.rows.specs.Shape.{shape_of}
 use Rattle.rows.specs.Tables.{Tables}
-use Rattle.dispatcher.specs.Plans.{plain_answer}
-use Rattle.dispatcher.specs.Report.{report_text}
+use Rattle.rows.specs.Commits.{tables_after}
+use Rattle.dispatcher.specs.Feeding.{IsFedFrom}
+use Rattle.dispatcher.specs.Report.{report_of}
+use Rattle.dispatcher.proofs.Versions.{tables-stay}
 use Rattle.script.specs.declared.event.Event.{Event}
 use Rattle.script.specs.declared.output.Output.{Output}
 use Rattle.script.specs.declared.output.Output.TheVariants as outputs
-use Rattle.world.specs.Theorem.{ReportsItsBatch, KeepsDurable, HasExactReports, HasGrowingList, ReportsAreExact}
+use Rattle.script.specs.declared.setup.Setup.{Setup}
+use Rattle.world.specs.Parts.{Parts, parts_started}
 use Rattle.world.specs.World.{World, opening_world}
-use Rattle.world.specs.Allowed.{Runs, RunsWith}
-use Rattle.dispatcher.proofs.Versions.{tables-stay}
-use Rattle.world.proofs.Fresh.{Fresh, opening-fresh}
+use Rattle.world.specs.Allowed.{MayHappen, RunsBy, Runs, Allowed}
+use Rattle.world.specs.Standing.{world_of, AreFed, TablesAgree}
+use Rattle.world.specs.Theorem.{ReportsItsBatch, IsBeginning, IsFaultless, IsStep, IsCoreStep, OfEachRun, HasExactReports}
+use Rattle.world.specs.Theorem.{HasGrowingList, HasLegalList, HasNoFault, CoresStand, AllowedRunsAreExact}
+use Rattle.world.specs.Inner.Fresh.{Fresh}
+use Rattle.world.specs.Inner.Honest.{IsHonest}
+use Rattle.world.proofs.Fresh.{opening-fresh}
 use Rattle.world.proofs.Freshness.{step-serves}
-use Rattle.world.proofs.Honest.{durable-grows}
+use Rattle.world.proofs.Honest.{step-fine, opening-honest}
+use Rattle.world.proofs.Lists.{All-get}
+use Rattle.world.proofs.Worlds.{world-started}
+
+-- ---- one list
+
+pub begins-through : (first mid last : List Commit) → IsBeginning first mid → IsBeginning mid last → IsBeginning first last
+begins-through first mid last one two =
+    (one.0 ++ two.0, two.1 ∙ ap (λ (l : List Commit). l ++ two.0) one.1 ∙ append_assoc first one.0 two.0)
 
 -- a report stays exact when commits come behind
-report-stays : (more : List Commit) (old new : World) (event : Event) (output : Output)
-    → ReportsItsBatch old.primary.durable old event output new
-    → ReportsItsBatch (old.primary.durable ++ more) old event output new
-report-stays more old new event (outputs.Report text) h =
+report-stays : (more : List Commit) (old : World) (event : Event) (output : Output) → ReportsItsBatch old.primary.durable old event output
+    → ReportsItsBatch (old.primary.durable ++ more) old event output
+report-stays more old event (outputs.Report text) h =
     let version = h.6.0.version in
-    let same = tables-stay old.primary.shape old.primary.durable more version h.6.3 in (
+    let same = tables-stay (shape_of old.primary.schema) old.primary.durable more version h.6.3 in (
       h.0,
       h.1,
       h.2,
@@ -35,45 +50,136 @@ report-stays more old new event (outputs.Report text) h =
         h.6.1,
         h.6.2,
         h.6.3,
-        h.6.4
-            ∙ ap (λ (tables : Tables). report_text version (map (plain_answer tables) h.2.plans)) (sym same),
+        h.6.4 ∙ ap (λ (tables : Tables). report_of tables version h.2.plans) (sym same),
       ),
     )
-report-stays more old new event other h = tt
+report-stays more old event other h = tt
 
-runs-reported : (old end : World) (todo : List Event) (done : List Output) → Fresh old → Runs old todo done end
-    → RunsWith (ReportsItsBatch end.primary.durable) old todo done end
-runs-reported old end [] [] h run = run
-runs-reported old end [] (output ∷ done) h run = absurd run
-runs-reported old end (event ∷ todo) [] h run = absurd run
-runs-reported old end (event ∷ todo) (output ∷ done) h run =
-    let first = step-serves old event output run.0 h run.1 in
-    let grows = durable-grows old end (event ∷ todo) (output ∷ done) run in (
+-- a step by what is durable at it is one by every list that goes on from that
+pub step-by : (commits : List Commit) (old : World) (event : Event) (output : Output) (new : World)
+    → IsBeginning old.primary.durable commits
+    → IsStep old.primary.durable old event output new → IsStep commits old event output new
+step-by commits old event output new begins step = record {
+  happens = step.happens;
+  reports =
+      subst (λ (l : List Commit). ReportsItsBatch l old event output) (sym begins.1)
+      (report-stays begins.0 old event output step.reports);
+  durable = step.durable;
+  faultless = step.faultless;
+}
+
+-- what is durable at the beginning of a run is the beginning of what is durable at its end
+pub run-grows : {State : Type 0} (durable : State → List Commit) (Step : State → Event → Output → State → Type 0)
+    → ((old : State) (event : Event) (output : Output) (new : State) → Step old event output new → IsBeginning (durable old) (durable new))
+    → (old end : State) (todo : List Event) (done : List Output) → RunsBy Step old todo done end → IsBeginning (durable old) (durable end)
+run-grows durable Step grows old end [] [] run = ([], ap durable run ∙ sym (append-nil (durable old)))
+run-grows durable Step grows old end [] (output ∷ done) run = absurd run
+run-grows durable Step grows old end (event ∷ todo) [] run = absurd run
+run-grows durable Step grows old end (event ∷ todo) (output ∷ done) run =
+    begins-through (durable old) (durable run.0) (durable end) (grows old event output run.0 run.1)
+    (run-grows durable Step grows run.0 end todo done run.2)
+
+-- ---- the world, whoever makes it
+
+runs-exact : (old end : World) (todo : List Event) (done : List Output) → IsHonest old → Fresh old → Runs old todo done end
+    → RunsBy (IsStep end.primary.durable) old todo done end
+runs-exact old end [] [] honest fresh run = run
+runs-exact old end [] (output ∷ done) honest fresh run = absurd run
+runs-exact old end (event ∷ todo) [] honest fresh run = absurd run
+runs-exact old end (event ∷ todo) (output ∷ done) honest fresh run =
+    let fine = step-fine old event output run.0 run.1 in
+    let serves = step-serves old event output run.0 fresh run.1 in
+    let step : IsStep old.primary.durable old event output run.0 =
+    record { happens = run.1; reports = serves.reports; durable = fine.grows; faultless = fine.output honest } in
+    let begins = run-grows (λ (w : World). w.primary.durable) MayHappen
+    (λ first e o second may. (step-fine first e o second may).grows) old end (event ∷ todo) (output ∷ done) run in (
       run.0,
-      run.1,
-      subst (λ (commits : List Commit). ReportsItsBatch commits old event output run.0) (sym grows.1)
-          (report-stays grows.0 old run.0 event output first.reports),
-      runs-reported run.0 end todo done first.fresh run.2,
+      step-by end.primary.durable old event output run.0 begins step,
+      runs-exact run.0 end todo done (fine.honest honest) serves.fresh run.2,
     )
 
-pub reports-exact : ReportsAreExact
-reports-exact shape workers replicas todo done end few run =
-    runs-reported (opening_world shape workers replicas) end todo done (opening-fresh shape workers replicas few) run
+pub allowed-exact : AllowedRunsAreExact
+allowed-exact setup todo done end few run =
+    runs-exact (opening_world setup) end todo done (opening-honest setup)
+    (opening-fresh setup few) run
 
-pub runs-report : (shape : Shape) (workers replicas : ℕ) (todo : List Event) (done : List Output) (end : World) → replicas ≤ REPLICAS_MAX
-    → Runs (opening_world shape workers replicas) todo done end
-    → HasExactReports shape workers replicas todo done
-runs-report shape workers replicas todo done end few run = (end, reports-exact shape workers replicas todo done end few run)
+-- ---- what follows of a run of the cores
 
--- each step of a run keeps what is durable
-growing : (old end : World) (todo : List Event) (done : List Output) → Runs old todo done end → RunsWith KeepsDurable old todo done end
-growing old end [] [] run = run
-growing old end [] (output ∷ done) run = absurd run
-growing old end (event ∷ todo) [] run = absurd run
-growing old end (event ∷ todo) (output ∷ done) run =
-    (run.0, run.1, durable-grows old run.0 (event ∷ []) (output ∷ []) (run.0, run.1, refl), growing run.0 end todo done run.2)
+-- a run of states that are seen in another way
+run-seen : {State Other : Type 0} (see : State → Other) (Step : State → Event → Output → State → Type 0)
+    (As : Other → Event → Output → Other → Type 0)
+    → ((old : State) (event : Event) (output : Output) (new : State) → Step old event output new → As (see old) event output (see new))
+    → (old end : State) (todo : List Event) (done : List Output) → RunsBy Step old todo done end → RunsBy As (see old) todo done (see end)
+run-seen see Step As sees old end [] [] run = ap see run
+run-seen see Step As sees old end [] (output ∷ done) run = absurd run
+run-seen see Step As sees old end (event ∷ todo) [] run = absurd run
+run-seen see Step As sees old end (event ∷ todo) (output ∷ done) run =
+    (see run.0, sees old event output run.0 run.1, run-seen see Step As sees run.0 end todo done run.2)
 
-pub runs-grow : (shape : Shape) (workers replicas : ℕ) (todo : List Event) (done : List Output) (end : World)
-    → Runs (opening_world shape workers replicas) todo done end
-    → HasGrowingList shape workers replicas todo done
-runs-grow shape workers replicas todo done end run = (end, growing (opening_world shape workers replicas) end todo done run)
+-- the same from the opening world on
+world-seen : (setup : Setup) (commits : List Commit) (As : World → Event → Output → World → Type 0)
+    → ((old : World) (event : Event) (output : Output) (new : World) → IsStep commits old event output new → As old event output new)
+    → (end : Parts) (todo : List Event) (done : List Output)
+    → RunsBy (IsCoreStep commits) (parts_started setup) todo done end
+    → RunsBy As (opening_world setup) todo done (world_of end)
+world-seen setup commits As sees end todo done run =
+    subst (λ (w : World). RunsBy As w todo done (world_of end)) (world-started setup)
+    (run-seen world_of (IsCoreStep commits) As (λ old event output new step. sees (world_of old) event output (world_of new) step.0)
+    (parts_started setup) end todo done run)
+
+allowed-to : (setup : Setup) (commits : List Commit) (end : Parts) (todo : List Event) (done : List Output)
+    → RunsBy (IsCoreStep commits) (parts_started setup) todo done end
+    → Runs (opening_world setup) todo done (world_of end)
+allowed-to setup commits end todo done run =
+    world-seen setup commits MayHappen (λ old event output new step. step.happens) end todo done run
+
+pub run-allowed : OfEachRun Allowed
+run-allowed setup todo done run =
+    (world_of run.end, allowed-to setup run.end.primary.durable run.end todo done run.steps)
+
+pub run-reports : OfEachRun HasExactReports
+run-reports setup todo done run = (
+  world_of run.end,
+  world-seen setup run.end.primary.durable _ (λ old event output new step. (step.happens, step.reports)) run.end todo done
+      run.steps,
+)
+
+pub run-growing : OfEachRun HasGrowingList
+run-growing setup todo done run = (
+  world_of run.end,
+  world-seen setup run.end.primary.durable _ (λ old event output new step. (step.happens, step.durable)) run.end todo done
+      run.steps,
+)
+
+pub run-legal : OfEachRun HasLegalList
+run-legal setup todo done run =
+    (world_of run.end, allowed-to setup run.end.primary.durable run.end todo done run.steps, run.legal)
+
+steps-faultless : (commits : List Commit) (old end : Parts) (todo : List Event) (done : List Output)
+    → RunsBy (IsCoreStep commits) old todo done end → AllByRecursion IsFaultless done
+steps-faultless commits old end [] [] run = tt
+steps-faultless commits old end [] (output ∷ done) run = absurd run
+steps-faultless commits old end (event ∷ todo) [] run = tt
+steps-faultless commits old end (event ∷ todo) (output ∷ done) run =
+    (run.1.0.faultless, steps-faultless commits run.0 end todo done run.2)
+
+pub run-faultless : OfEachRun HasNoFault
+run-faultless setup todo done run =
+    steps-faultless run.end.primary.durable (parts_started setup) run.end todo done run.steps
+
+-- what is held at a version is told by the one list
+agree : (p : Parts) → AreFed p → TablesAgree p
+agree p fed i j r other here there whole sound same =
+    let shape = shape_of p.primary.schema in
+    let first = All-get (IsFedFrom shape p.primary.durable) p.replicas fed i r here in
+    let second = All-get (IsFedFrom shape p.primary.durable) p.replicas fed j other there in
+    first.tables_are whole ∙ ap (tables_after shape p.primary.durable) same ∙ sym (second.tables_are sound)
+
+pub run-stands : OfEachRun CoresStand
+run-stands setup todo done run = (
+  world-started setup,
+  run.end,
+  run-seen (λ (p : Parts). p) (IsCoreStep run.end.primary.durable) _
+      (λ old event output new step. (step.0.happens, step.1, agree new step.1))
+      (parts_started setup) run.end todo done run.steps,
+)

@@ -1,13 +1,13 @@
 -- Running a batch does at a replica of sound parts what it does at its member, also where it is cut short.
-use Rattle.std.proofs.Common.{◌≡◌, ℕ, Bool, true, false, cond, List, length, map, Option, Some, None, refl, sym, ap, subst, ◌∙◌, ◌⊎◌, inl}
+use Rattle.std.proofs.Common.{◌≡◌, ℕ, Bool, true, false, cond, List, length, Option, Some, None, refl, sym, ap, subst, ◌∙◌, ◌⊎◌, inl}
 use Rattle.std.proofs.Common.{inr, arith}
 use Rattle.std.specs.List.{slice_get, slice_index}
-use Rattle.std.specs.Option.{option_map, is_none}
+use Rattle.std.specs.Option.{option_map, option_and_then, is_none}
 use Rattle.std.proofs.lemmas.Bool.{false≢true, true≢false, ltb-false}
 use Rattle.std.proofs.lemmas.Option.{same_Some}
 use Rattle.rows.specs.declared.commit.Commit.{Commit}
-use Rattle.rows.specs.Shape.{Shape}
-use Rattle.rows.specs.Commits.{IsLegal, tables_after}
+use Rattle.rows.specs.Shape.{Shape, shape_of}
+use Rattle.rows.specs.Commits.{tables_after}
 use Rattle.wire.specs.declared.datagram.Datagram.TheVariants as datagrams
 use Rattle.wire.specs.Reading.{reading}
 use Rattle.wire.specs.Spelling.{spelling}
@@ -16,39 +16,39 @@ use Rattle.dispatcher.specs.declared.outcome.Run.TheVariants as runs
 use Rattle.dispatcher.specs.declared.plan.Plan.{Plan}
 use Rattle.dispatcher.specs.Feeding.{IsFedFrom}
 use Rattle.dispatcher.specs.Known.{first_missing}
-use Rattle.dispatcher.specs.Plans.{plain_answer}
-use Rattle.dispatcher.specs.Replica.{Replica, Queries, Fetched}
-use Rattle.dispatcher.specs.Report.{report_text}
-use Rattle.dispatcher.specs.Steps.{known, broken_of, caught_up, finished, is_waiting, ran_by, ready, ready_by, want_for, WantsMemory}
+use Rattle.dispatcher.specs.Replica.{Replica, Batch as ReplicaBatch, Fetched}
+use Rattle.dispatcher.specs.Report.{report_of}
+use Rattle.dispatcher.specs.Steps.{known, broken_of, caught_up, finished, lacks_frame, ran_by, ready, ready_of, want_for, WantsMemory}
 use Rattle.dispatcher.proofs.CatchingUp.{CanAnswer, ready-parts, caught, catches-up}
 use Rattle.dispatcher.proofs.Feeding.{broken-fed, caught-fed, finished-fed}
 use Rattle.script.specs.declared.output.Output.{Output}
 use Rattle.script.specs.declared.output.Output.TheVariants as outputs
 use Rattle.world.specs.Parts.{Parts}
-use Rattle.world.specs.Steps.{with_replica, with_sent, run_output, run_by, RunIsCut}
-use Rattle.world.specs.World.{World, Member, run_happens, wait_happens, want_bytes, batch_report, with_member, on_member}
-use Rattle.world.specs.Allowed.{ready_batch, ready_member, RunIsCut as MemberIsCut}
+use Rattle.world.specs.Inner.Steps.{with_replica, with_sent, run_output, run_by, RunIsCut}
+use Rattle.world.specs.World.{World, Member, run_happens, wait_happens, want_bytes, with_member, on_member, Batch}
+use Rattle.world.specs.Allowed.{ready_member, RunIsCut as MemberIsCut}
 use Rattle.world.proofs.Lists.{set-same}
-use Rattle.world.proofs.Sound.{Sound, Means, awaits_by}
+use Rattle.world.specs.Inner.Sound.{Sound, Means, awaits_by}
 use Rattle.world.specs.Standing.{world_of, member_of, batch_of}
 use Rattle.world.proofs.Worlds.{member-changes}
-use Rattle.world.proofs.Moves.{Goes, Follows, legal-durable, Sound-replica, Sound-one, Follows-same}
+use Rattle.world.proofs.Moves.{Goes, Follows, Sound-replica, Sound-one, Follows-same}
 use Rattle.world.proofs.Replicas.{Follows-goes}
 
 -- ---- what a run makes of a replica
 
 -- a batch for which something was fetched waits for nothing
-waits-not : (batch : Option Queries) (queries : Queries) (fetched : Fetched) → batch ≡ Some queries → queries.fetched ≡ Some fetched
+waits-not : (batch : Option ReplicaBatch) (queries : ReplicaBatch) (fetched : Fetched) → batch ≡ Some queries → queries.fetched
+    ≡ Some fetched
     → awaits_by batch ≡ false
 waits-not batch queries fetched e f = ap awaits_by e ∙ ap is_none f
 
-module _ (shape : Shape) (durable : List Commit) (r : Replica) (queries : Queries) (fetched : Fetched) (legal : IsLegal shape 1 durable)
+module _ (shape : Shape) (durable : List Commit) (r : Replica) (queries : ReplicaBatch) (fetched : Fetched)
     (fed : IsFedFrom shape durable r)
     (can : CanAnswer r queries fetched) where
   -- it stands at the version that was fetched, its batch still there
   caught-goes : Goes shape durable r (caught shape durable fetched r)
   caught-goes = record {
-    feeding = caught-fed shape durable r queries fetched legal fed can;
+    feeding = caught-fed shape durable r queries fetched fed can;
     moves = record {
       number_stays = refl;
       boot_stays = refl;
@@ -60,7 +60,7 @@ module _ (shape : Shape) (durable : List Commit) (r : Replica) (queries : Querie
   -- it stands there, its batch answered
   finished-goes : Goes shape durable r (record (caught shape durable fetched r) { batch = None })
   finished-goes = record {
-    feeding = finished-fed shape durable r queries fetched legal fed can;
+    feeding = finished-fed shape durable r queries fetched fed can;
     moves = record { number_stays = refl; boot_stays = refl; request_grows = omega arith; waits = λ waits same. absurd (false≢true waits) };
   }
 
@@ -79,39 +79,41 @@ module _ (shape : Shape) (durable : List Commit) (r : Replica) (queries : Querie
 -- ---- the run
 
 module _ (shape : Shape) (p : Parts) (i : ℕ) (r : Replica) (sound : Sound shape p) (here : slice_get p.replicas i ≡ Some r) where
-  run-waits : (place : ℕ) → Follows shape (wait_happens (world_of p) 0 place (want_bytes (member_of (slice_index p.asked_at i) r) 0 place))
-      (run_output p i (runs.Waiting 0 place (want_for r.number 0 place), r))
-  run-waits place =
-      let bytes = spelling (datagrams.Want r.number 0 place) in
-      let output = outputs.Waiting 0 place (record { place = length p.sent; len = length bytes }) in
+  run-waits : (seq : ℕ) → Follows shape (wait_happens (world_of p) 0 seq (want_bytes (member_of (slice_index p.asked_at i) r) 0 seq))
+      (run_output p i (runs.Waiting 0 seq (want_for r.number 0 seq), r))
+  run-waits seq =
+      let bytes = spelling (datagrams.Want r.number 0 seq) in
+      let output = outputs.Waiting 0 seq (record { place = length p.sent; len = length bytes }) in
       let same : with_sent p bytes ≡ with_sent (with_replica p i r) bytes =
       ap (λ (replicas : List Replica). with_sent (record p { replicas = replicas }) bytes) (sym (set-same p.replicas i r here)) in
       let means : Means p.primary.durable p.replicas (reading bytes) = record { tells = tt; requests = tt } in
       (ap (λ (p : Parts). (output, world_of p)) same, subst (Sound shape) same (Sound-one shape p bytes sound means))
 
-  run-finishes : (queries : Queries) (fetched : Fetched) → CanAnswer r queries fetched
+  run-finishes : (queries : ReplicaBatch) (fetched : Fetched) → CanAnswer r queries fetched
       → Follows shape (
-        outputs.Report (batch_report (world_of p) queries.plans fetched.version),
+        outputs.Report (report_of (tables_after (shape_of p.primary.schema) p.primary.durable fetched.version) fetched.version
+            queries.plans),
         with_member (world_of p) (record (member_of (slice_index p.asked_at i) r) { version = fetched.version; batch = None }),
       )
       (run_output p i (finished r queries.plans (caught_up r fetched)))
   run-finishes queries fetched can =
       let fed = (sound.fed i r here).feeding in
-      let legal = legal-durable shape p sound in
       let durable = p.primary.durable in
       let at = slice_index p.asked_at i in
       let after = record (caught shape durable fetched r) { batch = None } in
       let text =
-      λ (shape : Shape). report_text fetched.version (map (plain_answer (tables_after shape durable fetched.version)) queries.plans) in
+      λ (shape : Shape). report_of (tables_after shape durable fetched.version) fetched.version queries.plans in
       let there : Output × World = (
-        outputs.Report (batch_report (world_of p) queries.plans fetched.version),
+        outputs.Report (report_of (tables_after (shape_of p.primary.schema) p.primary.durable fetched.version) fetched.version
+            queries.plans),
         with_member (world_of p) (record (member_of at r) { version = fetched.version; batch = None }),
       ) in
       subst (λ (o : Option Replica). Follows shape there (run_output p i (finished r queries.plans o)))
-      (sym (catches-up shape durable r queries fetched legal fed can))
-      (Follows-goes shape p i r (outputs.Report (text p.primary.shape), member_of at after) (outputs.Report (text shape)) after sound here
+      (sym (catches-up shape durable r queries fetched fed can))
+      (Follows-goes shape p i r (outputs.Report (text (shape_of p.primary.schema)), member_of at after)
+      (outputs.Report (text shape)) after sound here
       (ap (λ (s : Shape). (outputs.Report (text s), member_of at after)) sound.primary_is.shape_is)
-      (finished-goes shape durable r queries fetched legal fed can))
+      (finished-goes shape durable r queries fetched fed can))
 
   run-fetched : (plans : List Plan) (fetched : Option Fetched) → r.broken ≡ false
       → r.batch ≡ Some (record { plans = plans; fetched = fetched })
@@ -119,12 +121,12 @@ module _ (shape : Shape) (p : Parts) (i : ℕ) (r : Replica) (sound : Sound shap
       (Some (record { plans = plans; asked_at = slice_index p.asked_at i; fetched = fetched })))
       (run_output p i (ran_by r (Some (record { plans = plans; fetched = fetched }))))
   run-fetched plans None whole batch = Follows-same shape p i r outputs.WaitingHead sound here
-  run-fetched plans (Some fetched) whole batch = by (is_waiting r fetched) refl
+  run-fetched plans (Some fetched) whole batch = by (lacks_frame (known r) fetched) refl
     where
-      by : (b : Bool) → is_waiting r fetched ≡ b → Follows shape
+      by : (b : Bool) → lacks_frame (known r) fetched ≡ b → Follows shape
           (cond b (wait_happens (world_of p) 0 (first_missing (known r))
           (want_bytes (member_of (slice_index p.asked_at i) r) 0 (first_missing (known r)))) (
-            outputs.Report (batch_report (world_of p) plans fetched.version),
+            outputs.Report (report_of (tables_after (shape_of p.primary.schema) p.primary.durable fetched.version) fetched.version plans),
             with_member (world_of p) (record (member_of (slice_index p.asked_at i) r) { version = fetched.version; batch = None }),
           ))
           (run_output p i (cond b (runs.Waiting 0 (first_missing (known r)) (want_for r.number 0 (first_missing (known r))), r)
@@ -138,7 +140,7 @@ module _ (shape : Shape) (p : Parts) (i : ℕ) (r : Replica) (sound : Sound shap
             complete = ltb-false (first_missing (known r)) (slice_index fetched.counts 0) e;
           })
 
-  run-batch : (batch : Option Queries) → r.broken ≡ false → r.batch ≡ batch
+  run-batch : (batch : Option ReplicaBatch) → r.broken ≡ false → r.batch ≡ batch
       → Follows shape (run_happens (world_of p) (member_of (slice_index p.asked_at i) r)
       (option_map (batch_of (slice_index p.asked_at i)) batch)) (run_output p i (ran_by r batch))
   run-batch None whole e = Follows-same shape p i r outputs.NoBatch sound here
@@ -161,19 +163,14 @@ batch-run shape p i (Some r) sound here = by r.broken refl
 
 -- ---- a run that is cut short
 
-ready-fetched : (at : ℕ) (r : Replica) (plans : List Plan) (fetched : Option Fetched)
-    → ready_batch (member_of at r) (Some (record { plans = plans; asked_at = at; fetched = fetched })) ≡ ready_by r
-    (Some (record { plans = plans; fetched = fetched }))
-ready-fetched at r plans None = refl
-ready-fetched at r plans (Some fetched) = refl
+batch-fetched : (at : ℕ) (batch : Option ReplicaBatch)
+    → option_and_then (λ (b : Batch). b.fetched) (option_map (batch_of at) batch)
+    ≡ option_and_then (λ (b : ReplicaBatch). b.fetched) batch
+batch-fetched at None = refl
+batch-fetched at (Some batch) = refl
 
-ready-batched : (at : ℕ) (r : Replica) (batch : Option Queries)
-    → ready_batch (member_of at r) (option_map (batch_of at) batch) ≡ ready_by r batch
-ready-batched at r None = refl
-ready-batched at r (Some queries) = ready-fetched at r queries.plans queries.fetched
-
-ready-same : (at : ℕ) (r : Replica) → ready_member (member_of at r) ≡ ready r
-ready-same at r = ap (λ (o : Option Fetched). cond r.broken None o) (ready-batched at r r.batch)
+ready-same : (at : ℕ) (r : Replica) → ready_member (member_of at r) ≡ ready_of r
+ready-same at r = ap (λ (o : Option Fetched). ready r.broken (known r) o) (batch-fetched at r.batch)
 
 -- what a cut run is in the world
 abbrev pub Cuts : World → Option Member → Output → World → Type 0
@@ -189,7 +186,7 @@ module _ (shape : Shape) (p : Parts) (i : ℕ) (r : Replica) (sound : Sound shap
       let follows = Follows-same shape p i r outputs.Memory sound here in
       (inl (refl, ap (λ (x : Output × World). x.1) (sym follows.0)), follows.1)
 
-  memory-caught : (queries : Queries) (fetched : Fetched) → ready_member (member_of (slice_index p.asked_at i) r) ≡ Some fetched
+  memory-caught : (queries : ReplicaBatch) (fetched : Fetched) → ready_member (member_of (slice_index p.asked_at i) r) ≡ Some fetched
       → CanAnswer r queries fetched
       → Ends shape p (member_of (slice_index p.asked_at i) r) (outputs.Memory, with_replica p i (caught shape p.primary.durable fetched r))
   memory-caught queries fetched is_ready can =
@@ -197,17 +194,17 @@ module _ (shape : Shape) (p : Parts) (i : ℕ) (r : Replica) (sound : Sound shap
       let after = caught shape p.primary.durable fetched r in (
         inr (fetched, is_ready, inl (refl, sym (member-changes p i after fed.number_is))),
         Sound-replica shape p i r after sound here
-            (caught-goes shape p.primary.durable r queries fetched (legal-durable shape p sound) fed.feeding can),
+            (caught-goes shape p.primary.durable r queries fetched fed.feeding can),
       )
 
-  cut-broken : (queries : Queries) (fetched : Fetched) → ready_member (member_of (slice_index p.asked_at i) r) ≡ Some fetched
+  cut-broken : (queries : ReplicaBatch) (fetched : Fetched) → ready_member (member_of (slice_index p.asked_at i) r) ≡ Some fetched
       → CanAnswer r queries fetched
       → Ends shape p (member_of (slice_index p.asked_at i) r) (outputs.Broken, with_replica p i (broken_of r))
   cut-broken queries fetched is_ready can =
       let fed = sound.fed i r here in (
         inr (fetched, is_ready, inr (refl, sym (member-changes p i (broken_of r) fed.number_is))),
         Sound-replica shape p i r (broken_of r) sound here
-            (broken-goes shape p.primary.durable r queries fetched (legal-durable shape p sound) fed.feeding can),
+            (broken-goes shape p.primary.durable r queries fetched fed.feeding can),
       )
 
   cut-ends : (answer : Run) (after : Replica) → WantsMemory r answer after
@@ -217,7 +214,7 @@ module _ (shape : Shape) (p : Parts) (i : ℕ) (r : Replica) (sound : Sound shap
       let fetched = wants.0 in
       let is_ready = ready-same (slice_index p.asked_at i) r ∙ wants.1 in
       let parts = ready-parts r fetched wants.1 in
-      let made = catches-up shape p.primary.durable r parts.0 fetched (legal-durable shape p sound) (sound.fed i r here).feeding parts.1 in
+      let made = catches-up shape p.primary.durable r parts.0 fetched (sound.fed i r here).feeding parts.1 in
       elim wants.2 [
         | inl memory ↦ subst (λ (a : Run). Ends shape p m (run_output p i (a, after))) (sym memory.0) (elim memory.1 [
           | inl same ↦ subst (λ (s : Replica). Ends shape p m (run_output p i (runs.Memory, s))) (sym same) memory-same

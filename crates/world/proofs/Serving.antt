@@ -15,26 +15,27 @@ use Rattle.script.specs.declared.output.Output.TheVariants as outputs
 use Rattle.world.specs.Outputs.{of_change, of_look, of_commit}
 use Rattle.world.specs.Theorem.{ReportsItsBatch}
 use Rattle.world.specs.World.{World, on_draft, change_happens, commit_happens, abort_happens}
-use Rattle.world.proofs.Fresh.{Fresh, Fresh-drafts, Fresh-committed, Fresh-flushed}
+use Rattle.world.specs.Inner.Fresh.{Fresh}
+use Rattle.world.proofs.Fresh.{Fresh-drafts, Fresh-committed, Fresh-flushed}
 use Rattle.world.proofs.Committing.{commit-taken}
 
 -- what a step is to be
 pub record Serves (old : World) (event : Event) (answer : Output × World) : Type 0 where
   pub fresh : Fresh answer.1
-  pub reports : ReportsItsBatch old.primary.durable old event answer.0 answer.1
+  pub reports : ReportsItsBatch old.primary.durable old event answer.0
 
 -- an output that is no report
 abbrev pub IsNoReport : Output → Type 0
 IsNoReport (outputs.Report text) = ⊥
 IsNoReport other = Unit {0}
 
-no-report : (commits : List Commit) (old new : World) (event : Event) (output : Output) → IsNoReport output
-    → ReportsItsBatch commits old event output new
-no-report commits old new event (outputs.Report text) h = absurd h
-no-report commits old new event other h = tt
+no-report : (commits : List Commit) (old : World) (event : Event) (output : Output) → IsNoReport output
+    → ReportsItsBatch commits old event output
+no-report commits old event (outputs.Report text) h = absurd h
+no-report commits old event other h = tt
 
 pub quiet : (old : World) (event : Event) (answer : Output × World) → Fresh answer.1 → IsNoReport answer.0 → Serves old event answer
-quiet old event answer fresh silent = record { fresh = fresh; reports = no-report old.primary.durable old answer.1 event answer.0 silent }
+quiet old event answer fresh silent = record { fresh = fresh; reports = no-report old.primary.durable old event answer.0 silent }
 
 -- ---- transactions and commits
 

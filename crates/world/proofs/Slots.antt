@@ -1,10 +1,10 @@
--- What holds of a list of places where one of them is set, and of what stands at a place.
+-- What holds of a list where one element is set, and of what stands at an index.
 use Rattle.std.proofs.Common.{◌≡◌, ℕ, zero, suc, List, [], ◌∷◌, ◌++◌, Option, None, Some, slice_get, slice_set, IfSome, refl, ap, sym}
 use Rattle.std.specs.List.{AllByRecursion}
 use Rattle.std.specs.Option.{option_and_then}
 use Rattle.std.proofs.lemmas.Option.{same_Some}
 
--- what is at a place may be put there again
+-- what is at an index may be put there again
 pub set_same : {X : Type 0} (xs : List X) (i : ℕ) (x : X) → slice_get xs i ≡ Some x → slice_set xs i x ≡ xs
 set_same [] i x at = refl
 set_same (y ∷ ys) zero x at = ap (λ z. z ∷ ys) (sym (same_Some y x at))
@@ -16,7 +16,7 @@ slot_same [] i slot at = refl
 slot_same (y ∷ ys) zero slot at = ap (λ z. z ∷ ys) (sym at)
 slot_same (y ∷ ys) (suc i) slot at = ap (λ zs. y ∷ zs) (slot_same ys i slot at)
 
--- what holds of each element holds of the one at a place
+-- what holds of each element holds of the one at an index
 pub all_at : {X : Type 0} (P : X → Type 0) (xs : List X) (i : ℕ) (x : X) → slice_get xs i ≡ Some x → AllByRecursion P xs → P x
 all_at P [] i x at all = absurd cc
 all_at P (y ∷ ys) zero x at all = rw (← same_Some y x at) all.0

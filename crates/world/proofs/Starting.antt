@@ -1,10 +1,9 @@
--- The parts at the beginning: what is still to be made, and that they are ready.
-use Rattle.std.proofs.Common.{◌≡◌, ℕ, zero, suc, ◌+◌, ◌-◌, ◌<◌, ◌≤◌, ◌∷◌, length, refl, ap, arith, add-one}
-use Rattle.std.specs.List.{AllByRecursion}
-use Rattle.rows.specs.Shape.{Shape}
-use Rattle.dispatcher.specs.Replica.{Replica}
+-- The parts at the beginning: what is still to be made.
+use Rattle.std.proofs.Common.{◌≡◌, ℕ, zero, suc, ◌+◌, ◌-◌, ◌<◌, ◌∷◌, length, refl, ap, arith, add-one}
+use Rattle.rows.specs.Shape.{Shape, shape_of}
+use Rattle.script.specs.declared.setup.Setup.{Setup}
 use Rattle.dispatcher.specs.Steps.{started}
-use Rattle.world.specs.Parts.{replicas_from, zeros, parts_started, IsReady}
+use Rattle.world.specs.Parts.{replicas_from, zeros, parts_started}
 
 pub replicas_left : (shape : Shape) (workers number count : ℕ) → number < count
     → replicas_from shape workers number (count - number) ≡ started shape workers number 1
@@ -22,21 +21,5 @@ length-replicas_from : (shape : Shape) (workers number count : ℕ) → length (
 length-replicas_from shape workers number zero = refl
 length-replicas_from shape workers number (suc count) = ap suc (length-replicas_from shape workers (suc number) count)
 
-length-zeros : (count : ℕ) → length (zeros count) ≡ count
-length-zeros zero = refl
-length-zeros (suc count) = ap suc (length-zeros count)
-
-none_asked : (shape : Shape) (workers number count : ℕ)
-    → AllByRecursion (λ (replica : Replica). replica.request ≤ 0) (replicas_from shape workers number count)
-none_asked shape workers number zero = tt
-none_asked shape workers number (suc count) = (omega arith, none_asked shape workers (suc number) count)
-
-pub as_many : (shape : Shape) (workers count : ℕ) → length (parts_started shape workers count).replicas ≡ count
-as_many shape workers count = length-replicas_from shape workers 0 count
-
-pub ready_at_start : (shape : Shape) (workers count : ℕ) → IsReady (parts_started shape workers count)
-ready_at_start shape workers count = record {
-  asked_there = cc (length-zeros count, length-replicas_from shape workers 0 count);
-  snapshots = tt;
-  requests = none_asked shape workers 0 count;
-}
+pub as_many : (setup : Setup) → length (parts_started setup).replicas ≡ setup.replicas
+as_many setup = length-replicas_from (shape_of setup.schema) setup.workers 0 setup.replicas

@@ -4,16 +4,21 @@ use Rattle.std.specs.List.{slice_get, slice_set, slice_index}
 use Rattle.std.specs.Option.{option_map}
 use Rattle.dispatcher.specs.Replica.{Replica}
 use Rattle.dispatcher.specs.Steps.{started}
-use Rattle.rows.specs.Shape.{Shape}
+use Rattle.rows.specs.Shape.{Shape, shape_of}
+use Rattle.script.specs.declared.setup.Setup.{Setup}
 use Rattle.script.specs.declared.output.Output.{Output}
 use Rattle.world.specs.Parts.{Parts, replicas_from, zeros, parts_started}
-use Rattle.world.specs.Steps.{with_replica}
+use Rattle.world.specs.Inner.Steps.{with_replica}
 use Rattle.world.specs.Standing.{member_of, members_of, world_of}
 use Rattle.world.specs.World.{World, Member, fresh_from, opening_world, with_member}
 
 -- what a step of the parts is in the world
 abbrev pub seen : Output × Parts → Output × World
 seen answer = (answer.0, world_of answer.1)
+
+-- the parts with another primary, other transactions and other datagrams: those of a world
+abbrev pub beside_of : World → Parts → Parts
+beside_of w p = record p { primary = w.primary; transactions = w.transactions; sent = w.sent }
 
 pub members-get : (replicas : List Replica) (asked_at : List ℕ) (i : ℕ)
     → slice_get (members_of replicas asked_at) i ≡ option_map (member_of (slice_index asked_at i)) (slice_get replicas i)
@@ -49,12 +54,13 @@ member-changes p i r h =
     ap (λ n. made (slice_set w.members n (member_of (slice_index p.asked_at i) r))) h
     ∙ ap made (sym (members-set p.replicas p.asked_at i r))
 
-members-started : (shape : Shape) (number count : ℕ)
-    → members_of (replicas_from shape 1 number count) (zeros count) ≡ fresh_from number count
-members-started shape number zero = refl
-members-started shape number (suc count) = ap (λ l. member_of 0 (started shape 1 number 1) ∷ l) (members-started shape (suc number) count)
+members-started : (shape : Shape) (workers number count : ℕ)
+    → members_of (replicas_from shape workers number count) (zeros count) ≡ fresh_from number count
+members-started shape workers number zero = refl
+members-started shape workers number (suc count) =
+    ap (λ l. member_of 0 (started shape workers number 1) ∷ l) (members-started shape workers (suc number) count)
 
-pub world-started : (shape : Shape) (replicas : ℕ) → world_of (parts_started shape 1 replicas) ≡ opening_world shape 1 replicas
-world-started shape replicas =
-    let w = opening_world shape 1 replicas in
-    ap (λ (members : List Member). record w { members = members }) (members-started shape 0 replicas)
+pub world-started : (setup : Setup) → world_of (parts_started setup) ≡ opening_world setup
+world-started setup =
+    let w = opening_world setup in
+    ap (λ (members : List Member). record w { members = members }) (members-started (shape_of setup.schema) setup.workers 0 setup.replicas)

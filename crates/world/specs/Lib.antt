@@ -3,6 +3,6 @@ pub mod World
 pub mod Allowed
 pub mod Worked
 pub mod Parts
-pub mod Steps
 pub mod Standing
 pub mod Theorem
+pub mod Inner

@@ -61,10 +61,10 @@ of_got got.Ignored = outputs.Ignored
 of_got got.Memory = outputs.Memory
 of_got got.Broken = outputs.Broken
 
--- the places and lengths of datagrams that are sent one after the other, the first at this place
+-- the indices and lengths of datagrams that are sent one after the other, from this index on
 abbrev pub sent_from : ℕ → List Out → List Sent
-sent_from place [] = []
-sent_from place (out ∷ outs) = record { place = place; len = length out.packet } ∷ sent_from (place + 1) outs
+sent_from index [] = []
+sent_from index (out ∷ outs) = record { place = index; len = length out.packet } ∷ sent_from (index + 1) outs
 
 -- the datagrams' bytes
 abbrev pub packets_of : List Out → List (List ℕ)
@@ -73,5 +73,5 @@ packets_of (out ∷ outs) = out.packet ∷ packets_of outs
 
 -- what the primary made of bytes
 abbrev pub of_answers : ℕ → List Out → Output
-of_answers place [] = outputs.Ignored
-of_answers place (out ∷ outs) = outputs.Sent (sent_from place (out ∷ outs))
+of_answers index [] = outputs.Ignored
+of_answers index (out ∷ outs) = outputs.Sent (sent_from index (out ∷ outs))

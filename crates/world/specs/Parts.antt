@@ -1,12 +1,12 @@
 -- The parts of a world that the program steps: the cores, the open transactions, and every datagram that was ever sent.
-use Rattle.std.specs.Prelude.{ℕ, zero, suc, ◌≤◌, ◌≡◌, List, [], ◌∷◌, length, Option, IfSome}
-use Rattle.std.specs.List.{AllByRecursion}
-use Rattle.rows.specs.Shape.{Shape}
+use Rattle.std.specs.Prelude.{ℕ, zero, suc, List, [], ◌∷◌, Option}
+use Rattle.rows.specs.Shape.{Shape, shape_of}
 use Rattle.mvcc.specs.Draft.{Draft}
 use Rattle.primary.specs.State.{Primary}
 use Rattle.primary.specs.Primary.{started as primary_started}
 use Rattle.dispatcher.specs.Replica.{Replica}
 use Rattle.dispatcher.specs.Steps.{started as replica_started}
+use Rattle.script.specs.declared.setup.Setup.{Setup}
 
 pub record Parts : Type 0 where
   pub primary : Primary
@@ -28,18 +28,11 @@ zeros zero = []
 zeros (suc count) = 0 ∷ zeros count
 
 -- the parts at the beginning: the primary on an empty journal, each replica with boot 1
-abbrev pub parts_started : Shape → ℕ → ℕ → Parts
-parts_started shape workers replicas = record {
-  primary = primary_started shape workers;
+abbrev pub parts_started : Setup → Parts
+parts_started setup = record {
+  primary = primary_started setup.schema setup.workers;
   transactions = [];
   sent = [];
-  replicas = replicas_from shape workers 0 replicas;
-  asked_at = zeros replicas;
+  replicas = replicas_from (shape_of setup.schema) setup.workers 0 setup.replicas;
+  asked_at = zeros setup.replicas;
 }
-
--- what the program needs of its parts to call the cores: each open transaction reads a durable version, and each
--- request was sent
-pub record IsReady (p : Parts) : Type 0 where
-  pub asked_there : length p.asked_at ≡ length p.replicas
-  pub snapshots : AllByRecursion (λ slot. IfSome slot (λ draft. draft.snapshot ≤ length p.primary.durable)) p.transactions
-  pub requests : AllByRecursion (λ (replica : Replica). replica.request ≤ length p.sent) p.replicas

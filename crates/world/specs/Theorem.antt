@@ -1,45 +1,44 @@
--- The theorem: whatever the program's parts answer is allowed in the world. And what follows of what is allowed.
-use Rattle.std.specs.Prelude.{◌≡◌, ℕ, ◌≤◌, List, ◌++◌, length, map, Some, slice_get}
+-- The theorem: what one step of the world keeps, and what a run of it is. And the promises that follow of each run.
+use Rattle.std.specs.Prelude.{◌≡◌, ℕ, ◌≤◌, List, ◌++◌, length, Some, slice_get}
 use Rattle.std.specs.List.{AllByRecursion}
 use Rattle.rows.specs.declared.commit.Commit.{Commit}
 use Rattle.rows.specs.Limits.{replicas_max}
-use Rattle.rows.specs.Shape.{Shape, AreTables}
-use Rattle.rows.specs.Commits.{tables_after}
-use Rattle.dispatcher.specs.Plans.{plain_answer}
+use Rattle.rows.specs.Shape.{shape_of}
+use Rattle.rows.specs.Commits.{IsLegal, tables_after}
 use Rattle.dispatcher.specs.Replica.{Fetched}
-use Rattle.dispatcher.specs.Report.{report_text}
+use Rattle.dispatcher.specs.Report.{report_of}
 use Rattle.script.specs.declared.event.Event.{Event}
 use Rattle.script.specs.declared.event.Event.TheVariants as events
 use Rattle.script.specs.declared.output.Output.{Output}
 use Rattle.script.specs.declared.output.Output.TheVariants as outputs
+use Rattle.script.specs.declared.setup.Setup.{Setup}
 use Rattle.world.specs.Parts.{Parts, parts_started}
-use Rattle.script.specs.Events.{IsPossible}
-use Rattle.world.specs.Steps.{Steps}
 use Rattle.world.specs.World.{World, Member, Batch, opening_world}
-use Rattle.world.specs.Allowed.{Runs, RunsWith, Allowed}
-use Rattle.world.specs.Standing.{CoresStand}
+use Rattle.world.specs.Allowed.{MayHappen, RunsBy, Runs}
+use Rattle.world.specs.Standing.{world_of, AreFed, TablesAgree}
 
--- whatever one primary of one worker and at most 16 replicas answer to events that are possible is allowed
-abbrev pub StepsAreAllowed : Type 0
-StepsAreAllowed =
-    (shape : Shape) (workers replicas : ℕ) (events : List Event) (outputs : List Output) (end : Parts) → AreTables shape → workers ≡ 1
-    → replicas ≤ replicas_max
-    → AllByRecursion (IsPossible workers replicas) events → Steps (parts_started shape workers replicas) events outputs end
-    → Allowed shape workers replicas events outputs
+-- ---- what a step keeps
 
--- and the cores stand where the world does at every step
-abbrev pub StepsStand : Type 0
-StepsStand =
-    (shape : Shape) (workers replicas : ℕ) (events : List Event) (outputs : List Output) (end : Parts) → AreTables shape → workers ≡ 1
-    → replicas ≤ replicas_max
-    → AllByRecursion (IsPossible workers replicas) events → Steps (parts_started shape workers replicas) events outputs end
-    → CoresStand shape workers replicas events outputs
+-- the report of a batch: for each of its queries, in order, the plain answer on the rows after exactly the commits of the
+-- list up to the version that was fetched for it; that version is at least what was durable when the batch asked, and at
+-- most what is durable now
+abbrev pub IsReportOf : List Commit → World → Batch → List ℕ → Type 0
+IsReportOf commits w batch text =
+    (fetched : Fetched) × (batch.fetched ≡ Some fetched)
+    × (batch.asked_at ≤ fetched.version) × (fetched.version ≤ length w.primary.durable)
+    × (text ≡ report_of (tables_after (shape_of w.primary.schema) commits fetched.version) fetched.version batch.plans)
 
--- what was durable is the beginning of what is durable later
-abbrev pub DurableOnlyGrows : Type 0
-DurableOnlyGrows =
-    (old new : World) (events : List Event) (outputs : List Output) → Runs old events outputs new
-    → (more : List Commit) × (new.primary.durable ≡ old.primary.durable ++ more)
+-- a report that is answered is that of the batch of the replica that ran
+abbrev pub ReportsItsBatch : List Commit → World → Event → Output → Type 0
+ReportsItsBatch commits old event (outputs.Report text) =
+    (replica : ℕ) × (member : Member) × (batch : Batch)
+    × (event ≡ events.Run replica) × (slice_get old.members replica ≡ Some member) × (member.batch ≡ Some batch)
+    × IsReportOf commits old batch text
+ReportsItsBatch commits old event other = Unit {0}
+
+-- a list of commits is the beginning of another
+abbrev pub IsBeginning : List Commit → List Commit → Type 0
+IsBeginning commits later = (more : List Commit) × (later ≡ commits ++ more)
 
 -- an output that does not speak of damage: of frames that are not those of one list, of a transaction that the primary
 -- did not begin, or of a journal that failed
@@ -49,46 +48,71 @@ IsFaultless outputs.Foreign = ⊥
 IsFaultless outputs.Failed = ⊥
 IsFaultless other = Unit {0}
 
--- no output that is allowed speaks of damage
-abbrev pub AllowedAreFaultless : Type 0
-AllowedAreFaultless =
-    (shape : Shape) (workers replicas : ℕ) (events : List Event) (outputs : List Output) → Allowed shape workers replicas events outputs
-    → AllByRecursion IsFaultless outputs
+-- ---- a run
 
--- the report of a batch: for each of its queries, in order, the plain answer on the rows after exactly the commits of the
--- list up to the version that was fetched for it; that version is at least what was durable when the batch asked, and at
--- most what is durable now
-abbrev pub IsReportOf : List Commit → World → Batch → List ℕ → Type 0
-IsReportOf commits w batch text =
-    (fetched : Fetched) × (batch.fetched ≡ Some fetched)
-    × (batch.asked_at ≤ fetched.version) × (fetched.version ≤ length w.primary.durable)
-    × (text ≡ report_text fetched.version (map (plain_answer (tables_after w.primary.shape commits fetched.version)) batch.plans))
+-- one step of the world, by a list of commits: what it answers and leaves may happen, a report is exact by that list, what
+-- was durable is the beginning of what is durable, and no damage is told
+pub record IsStep (commits : List Commit) (old : World) (event : Event) (output : Output) (new : World) : Type 0 where
+  pub happens : MayHappen old event output new
+  pub reports : ReportsItsBatch commits old event output
+  pub durable : IsBeginning old.primary.durable new.primary.durable
+  pub faultless : IsFaultless output
 
--- a report that is answered is that of the batch of the replica that ran
-abbrev pub ReportsItsBatch : List Commit → World → Event → Output → World → Type 0
-ReportsItsBatch commits old event (outputs.Report text) new =
-    (replica : ℕ) × (member : Member) × (batch : Batch)
-    × (event ≡ events.Run replica) × (slice_get old.members replica ≡ Some member) × (member.batch ≡ Some batch)
-    × IsReportOf commits old batch text
-ReportsItsBatch commits old event other new = Unit {0}
+-- one step of the cores: it is one of the world that they make, and leaves every replica fed from what is durable
+abbrev pub IsCoreStep : List Commit → Parts → Event → Output → Parts → Type 0
+IsCoreStep commits old event output new = IsStep commits (world_of old) event output (world_of new) × AreFed new
 
--- what was durable before a step is the beginning of what is durable after it
-abbrev pub KeepsDurable : World → Event → Output → World → Type 0
-KeepsDurable old event output new = (more : List Commit) × (new.primary.durable ≡ old.primary.durable ++ more)
+-- a run of the cores from their start on: all its steps are by the one list that is durable at its end, and that is legal
+pub record IsRun (setup : Setup) (events : List Event) (outputs : List Output) : Type 0 where
+  pub end : Parts
+  pub legal : IsLegal (shape_of setup.schema) setup.workers end.primary.durable
+  pub steps : RunsBy (IsCoreStep end.primary.durable) (parts_started setup) events outputs end
 
--- the outputs of a run from the opening world on, each report of which is exact by the one list that is durable at its end
-abbrev pub HasExactReports : Shape → ℕ → ℕ → List Event → List Output → Type 0
-HasExactReports shape workers replicas events outputs =
-    (end : World) × RunsWith (ReportsItsBatch end.primary.durable) (opening_world shape workers replicas) events outputs end
+-- ---- what follows of a run
 
--- the outputs of a run from the opening world on, each step of which keeps what is durable
-abbrev pub HasGrowingList : Shape → ℕ → ℕ → List Event → List Output → Type 0
-HasGrowingList shape workers replicas events outputs =
-    (end : World) × RunsWith KeepsDurable (opening_world shape workers replicas) events outputs end
+-- a fact of the outputs of each run
+abbrev pub OfEachRun : (Setup → List Event → List Output → Type 0) → Type 0
+OfEachRun Fact = (setup : Setup) (events : List Event) (outputs : List Output) → IsRun setup events outputs → Fact setup events outputs
 
--- each report of a run is exact, by the one list that is durable at its end, and no older than its batch
-abbrev pub ReportsAreExact : Type 0
-ReportsAreExact =
-    (shape : Shape) (workers replicas : ℕ) (events : List Event) (outputs : List Output) (end : World) → replicas ≤ replicas_max
-    → Runs (opening_world shape workers replicas) events outputs end
-    → RunsWith (ReportsItsBatch end.primary.durable) (opening_world shape workers replicas) events outputs end
+-- a run of the world from its beginning on, at each step of which something holds besides, by the list that is durable at
+-- its end
+abbrev pub RunsWith : (List Commit → World → Event → Output → World → Type 0) → Setup → List Event → List Output → Type 0
+RunsWith Fact setup events outputs =
+    (end : World)
+    × RunsBy (λ old event output new. MayHappen old event output new × Fact end.primary.durable old event output new)
+    (opening_world setup) events outputs end
+
+-- each report is exact by the one list that is durable at the end, and no older than its batch
+abbrev pub HasExactReports : Setup → List Event → List Output → Type 0
+HasExactReports setup events outputs =
+    RunsWith (λ commits old event output new. ReportsItsBatch commits old event output) setup events outputs
+
+-- each step keeps what is durable
+abbrev pub HasGrowingList : Setup → List Event → List Output → Type 0
+HasGrowingList setup events outputs =
+    RunsWith (λ commits old event output new. IsBeginning old.primary.durable new.primary.durable) setup events outputs
+
+-- the one list is legal
+abbrev pub HasLegalList : Setup → List Event → List Output → Type 0
+HasLegalList setup events outputs =
+    (end : World) × Runs (opening_world setup) events outputs end × IsLegal (shape_of setup.schema) setup.workers end.primary.durable
+
+-- no output speaks of damage
+abbrev pub HasNoFault : Setup → List Event → List Output → Type 0
+HasNoFault setup events outputs = AllByRecursion IsFaultless outputs
+
+-- the cores stand where the world does from the beginning on, every replica is fed from what is durable there, and those
+-- at one version hold the same tables
+abbrev pub CoresStand : Setup → List Event → List Output → Type 0
+CoresStand setup events outputs =
+    (world_of (parts_started setup) ≡ opening_world setup)
+    × (end : Parts)
+    × RunsBy (λ old event output new. MayHappen (world_of old) event output (world_of new) × AreFed new × TablesAgree new)
+    (parts_started setup) events outputs end
+
+-- and each run of the world itself, whoever makes it, is by the one list that is durable at its end
+abbrev pub AllowedRunsAreExact : Type 0
+AllowedRunsAreExact =
+    (setup : Setup) (events : List Event) (outputs : List Output) (end : World) → setup.replicas ≤ replicas_max
+    → Runs (opening_world setup) events outputs end
+    → RunsBy (IsStep end.primary.durable) (opening_world setup) events outputs end

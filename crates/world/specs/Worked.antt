@@ -15,7 +15,7 @@ use Rattle.world.specs.World.{World, opening_world}
 
 -- the world of the scripts: one worker, one replica, `table acct int int`
 abbrev pub worked_world : World
-worked_world = opening_world ((IntKind ∷ IntKind ∷ []) ∷ []) 1 1
+worked_world = opening_world (record { schema = (codes "acct", IntKind ∷ IntKind ∷ []) ∷ []; workers = 1; replicas = 1 })
 
 -- row 7 with the values 5 and -1 is committed, made durable, and pushed
 abbrev pub commit_and_push : List Event

@@ -1,14 +1,14 @@
 -- The world: one primary, its open transactions, every datagram that was ever sent, and of each replica what it knows.
 -- No replica's tables are held: what a batch answers is said by the one list of durable commits.
-use Rattle.std.specs.Prelude.{ℕ, zero, suc, ◌+◌, List, [], ◌∷◌, ◌++◌, length, map, Bool, false, Option, None, Some, Result, Ok, Err}
-use Rattle.std.specs.Prelude.{slice_get, slice_set, slice_index, ◌==◌, ◌||◌, ◌&&◌, not, nat_lt, nat_le, if◌then◌else◌, is_ok}
+use Rattle.std.specs.Prelude.{ℕ, zero, suc, ◌+◌, List, [], ◌∷◌, ◌++◌, length, Bool, false, Option, None, Some, Result, Ok, Err}
+use Rattle.std.specs.Prelude.{slice_get, slice_set, ◌==◌, ◌||◌, ◌&&◌, not, nat_lt, nat_le, if◌then◌else◌, is_ok}
 use Rattle.std.specs.List.{list_all}
 use Rattle.std.specs.Option.{option_and_then}
 use Rattle.std.specs.Ordering.{nat_cmp}
 use Rattle.std.specs.BTreeSet.{insert_key}
 use Rattle.rows.specs.Limits.{waiting_queries_max}
 use Rattle.rows.specs.declared.entry.Entry.{Entry}
-use Rattle.rows.specs.Shape.{Shape}
+use Rattle.rows.specs.Shape.{Shape, shape_of}
 use Rattle.rows.specs.Entries.{fitting}
 use Rattle.rows.specs.Commits.{tables_after}
 use Rattle.wire.specs.declared.datagram.Datagram.{Datagram}
@@ -26,15 +26,17 @@ use Rattle.primary.specs.Sending.{pushed, answers}
 use Rattle.dispatcher.specs.declared.plan.Plan.{Plan}
 use Rattle.dispatcher.specs.declared.plan.PlanFault.{PlanFault}
 use Rattle.dispatcher.specs.Known.{is_known, is_ahead, first_missing}
-use Rattle.dispatcher.specs.Plans.{checked, plain_answer}
+use Rattle.dispatcher.specs.Plans.{checked}
 use Rattle.dispatcher.specs.Replica.{Fetched}
-use Rattle.dispatcher.specs.Report.{report_text}
+use Rattle.dispatcher.specs.Report.{report_of}
+use Rattle.dispatcher.specs.Steps.{lacks_frame}
 use Rattle.script.specs.declared.event.Event.{Event}
 use Rattle.script.specs.declared.event.Event.TheVariants as events
 use Rattle.script.specs.declared.event.Node.{Node}
 use Rattle.script.specs.declared.event.Node.TheVariants as nodes
 use Rattle.script.specs.declared.output.Output.{Output}
 use Rattle.script.specs.declared.output.Output.TheVariants as outputs
+use Rattle.script.specs.declared.setup.Setup.{Setup}
 use Rattle.world.specs.Outputs.{of_change, of_look, of_commit, of_answers, packets_of}
 
 -- a batch: its queries, how many commits were durable when it asked, and what was fetched for it
@@ -49,7 +51,7 @@ pub record Member : Type 0 where
   pub boot : ℕ
   -- how many requests it has made
   pub request : ℕ
-  -- the places of the known frames of its worker, each once, in rising order
+  -- the seqs of the known frames of its worker, each once, in rising order
   pub known : List ℕ
   pub version : ℕ
   -- the queries that wait for the next batch
@@ -75,9 +77,9 @@ fresh_from number zero = []
 fresh_from number (suc count) = fresh number ∷ fresh_from (suc number) count
 
 -- the world at its beginning
-abbrev pub opening_world : Shape → ℕ → ℕ → World
-opening_world shape workers replicas =
-    record { primary = started shape workers; transactions = []; sent = []; members = fresh_from 0 replicas }
+abbrev pub opening_world : Setup → World
+opening_world setup =
+    record { primary = started setup.schema setup.workers; transactions = []; sent = []; members = fresh_from 0 setup.replicas }
 
 -- ---- transactions, commits and flushes
 
@@ -162,7 +164,8 @@ delivered w bytes nodes.Primary =
     (of_answers (length w.sent) (answers w.primary bytes), record w { sent = w.sent ++ packets_of (answers w.primary bytes) })
 delivered w bytes (nodes.Replica number) =
     on_member w (slice_get w.members number)
-    (λ m. if m.broken then (outputs.Broken, w) else member_output w (datagram_happens w.primary.shape w.primary.workers m (reading bytes)))
+    (λ m. if m.broken then (outputs.Broken, w) else member_output w
+    (datagram_happens (shape_of w.primary.schema) w.primary.workers m (reading bytes)))
 
 abbrev pub deliver_happens : World → Node → Option (List ℕ) → Output × World
 deliver_happens w node None = (outputs.NeverSent, w)
@@ -199,14 +202,6 @@ ask_happens w m (Some batch) = again batch.fetched
     again None = send w (ask_bytes m m.request)
     again (Some fetched) = (outputs.Busy, w)
 
--- the report of a batch: the plain answers on the rows after exactly the first `version` commits of the durable list
-abbrev pub batch_report : World → List Plan → ℕ → List ℕ
-batch_report w plans version = report_text version (map (plain_answer (tables_after w.primary.shape w.primary.durable version)) plans)
-
--- a frame below what was fetched is not known
-abbrev pub lacks_frame : Member → Fetched → Bool
-lacks_frame m fetched = nat_lt (first_missing m.known) (slice_index fetched.counts 0)
-
 abbrev pub want_bytes : Member → ℕ → ℕ → List ℕ
 want_bytes m worker from = spelling (datagrams.Want m.number worker from)
 
@@ -214,6 +209,8 @@ abbrev pub wait_happens : World → ℕ → ℕ → List ℕ → Output × World
 wait_happens w worker seq bytes =
     (outputs.Waiting worker seq (record { place = length w.sent; len = length bytes }), record w { sent = w.sent ++ bytes ∷ [] })
 
+-- a batch of which no frame is missing is answered by its report: the plain answers on the rows after exactly the first
+-- commits of the durable list, up to the version that was fetched
 abbrev pub run_happens : World → Member → Option Batch → Output × World
 run_happens w m None = (outputs.NoBatch, w)
 run_happens w m (Some batch) = on batch.fetched
@@ -221,10 +218,11 @@ run_happens w m (Some batch) = on batch.fetched
     on : Option Fetched → Output × World
     on None = (outputs.WaitingHead, w)
     on (Some fetched) =
-        if lacks_frame m fetched
+        if lacks_frame m.known fetched
         then wait_happens w 0 (first_missing m.known) (want_bytes m 0 (first_missing m.known))
         else (
-          outputs.Report (batch_report w batch.plans fetched.version),
+          outputs.Report (report_of (tables_after (shape_of w.primary.schema) w.primary.durable fetched.version) fetched.version
+              batch.plans),
           with_member w (record m { version = fetched.version; batch = None }),
         )
 
@@ -238,16 +236,16 @@ happens w events.Begin = (
 )
 happens w (events.Insert transaction table row values) =
     on_draft w (open_draft w.transactions transaction)
-    (λ draft. change_happens w transaction (insert_answer w.primary.shape w.primary.durable draft table row.0 values))
+    (λ draft. change_happens w transaction (insert_answer (shape_of w.primary.schema) w.primary.durable draft table row.0 values))
 happens w (events.Set transaction table row column value) =
     on_draft w (open_draft w.transactions transaction)
-    (λ draft. change_happens w transaction (set_answer w.primary.shape w.primary.durable draft table row.0 column value))
+    (λ draft. change_happens w transaction (set_answer (shape_of w.primary.schema) w.primary.durable draft table row.0 column value))
 happens w (events.Delete transaction table row) =
     on_draft w (open_draft w.transactions transaction)
-    (λ draft. change_happens w transaction (delete_answer w.primary.shape w.primary.durable draft table row.0))
+    (λ draft. change_happens w transaction (delete_answer (shape_of w.primary.schema) w.primary.durable draft table row.0))
 happens w (events.Get transaction table row column) =
     on_draft w (open_draft w.transactions transaction)
-    (λ draft. (of_look (get_answer w.primary.shape w.primary.durable draft table row.0 column), w))
+    (λ draft. (of_look (get_answer (shape_of w.primary.schema) w.primary.durable draft table row.0 column), w))
 happens w (events.Commit transaction worker) =
     on_draft w (open_draft w.transactions transaction)
     (λ draft. commit_happens w transaction worker draft (commit_answer w.primary draft))
@@ -256,13 +254,13 @@ happens w (events.Flush count) =
     if w.primary.failed then (outputs.Failed, w) else
     (outputs.Durable (length (flushed w.primary count).durable), record w { primary = flushed w.primary count })
 happens w (events.Push worker seq) = push_happens w (pushed w.primary worker seq)
-happens w (events.Deliver place node) = deliver_happens w node (slice_get w.sent place)
-happens w (events.Show place) = (shown (slice_get w.sent place), w)
+happens w (events.Deliver index node) = deliver_happens w node (slice_get w.sent index)
+happens w (events.Show index) = (shown (slice_get w.sent index), w)
 happens w (events.Open replica plan) =
     on_member w (slice_get w.members replica) (λ m.
     if m.broken then (outputs.Broken, w) else
     if nat_le waiting_queries_max (length m.waiting) then (outputs.BatchFull, w) else
-    open_happens w m plan (checked w.primary.shape plan))
+    open_happens w m plan (checked (shape_of w.primary.schema) plan))
 happens w (events.Ask replica) =
     on_member w (slice_get w.members replica) (λ m. if m.broken then (outputs.Broken, w) else ask_happens w m m.batch)
 happens w (events.Run replica) =

@@ -1,13 +1,14 @@
 //! The parts of a world: the cores, the open transactions, and what was sent.
 
-ghost use Rattle.std.specs.Prelude.{◌≡◌, ◌≤◌, IfOk};
+ghost use Rattle.std.specs.Prelude.{◌≡◌, ◌≤◌, ◌++◌, IfOk};
 ghost use Rattle.rows.specs.Shape.{shape_of};
+ghost use Rattle.rows.specs.Commits.{IsLegal};
 ghost use Rattle.world.specs.Parts.{Parts, parts_started};
 
 use dispatcher::ReplicaCore;
 use mvcc::Transaction;
 use primary::PrimaryCore;
-use rows::Schema;
+use script::Setup;
 use std::alloc::{AllocError, Global};
 use std::marker::Model;
 use store::PlainStore;
@@ -43,19 +44,16 @@ impl Model for Cores {
 impl Cores {
     /// A primary without commits, and replicas without frames, each with boot 1. Fails for want
     /// of memory alone.
-    pub fn start(
-        alloc: Global,
-        schema: &Schema,
-        workers: u8,
-        replicas: u8,
-    ) -> Result<Cores, AllocError>
-        requires workers { workers ≡ 1 }
-        requires replicas { replicas ≤ 16 }
-        ensures { IfOk result (λ cores. cores ≡ parts_started (shape_of schema.now) workers replicas) }
+    pub fn start(alloc: Global, setup: &Setup) -> Result<Cores, AllocError>
+        requires workers { setup.now.workers ≡ 1 }
+        requires replicas { setup.now.replicas ≤ 16 }
+        ensures { IfOk result (λ cores. cores ≡ parts_started setup.now) }
     {
+        let schema = &setup.schema;
+        let workers = setup.workers;
         let mut cores = Vec::new(alloc);
         let mut asked_at = Vec::new(alloc);
-        for number in 0..replicas {
+        for number in 0..setup.replicas {
             let store = PlainStore::new(alloc, schema)?;
             cores.push(ReplicaCore::start(alloc, store, schema, workers, number, 1)?)?;
             asked_at.push(0)?;
@@ -68,5 +66,15 @@ impl Cores {
             replicas: cores,
             asked_at,
         })
+    }
+
+    /// The durable list followed by the pending one is legal, and so is the durable list alone. It
+    /// does nothing: its contract is the law.
+    pub fn keeps_legal(&self)
+        ensures all { IsLegal (shape_of self.now.primary.schema) self.now.primary.workers
+            (self.now.primary.durable ++ self.now.primary.pending) }
+        ensures durable { IsLegal (shape_of self.now.primary.schema) self.now.primary.workers self.now.primary.durable }
+    {
+        self.primary.keeps_legal();
     }
 }

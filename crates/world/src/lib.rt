@@ -1,13 +1,15 @@
 //! The world: the cores of the primary and of its replicas, and all that was ever sent, stepped by
 //! events.
 //!
-//! `run` steps the cores through their public calls, and its contract is the main theorem;
-//! `run_script` does so with the events of a script. Losses, repeats and delays of the network, and
-//! whatever else may go wrong, are events.
+//! A `World` has one step, which calls the cores by their public calls alone; its contract says
+//! what each event may answer and leave. `run` steps a new world by a list of events, and its
+//! contract is the main theorem; `run_script` does so with the events of a script. Losses, repeats
+//! and delays of the network, and whatever else may go wrong, are events.
 //!
-//! `specs/` says what `run` may answer: the world as its users see it (`World.antt`) and which
-//! outputs are allowed in it (`Allowed.antt`), what follows of that (`Theorem.antt`), and the cores
-//! as parts with one step of them (`Parts.antt`, `Steps.antt`).
+//! `specs/` says what may happen: the world as its users see it (`World.antt`) and which outputs
+//! are allowed in it (`Allowed.antt`), the cores as parts and the world that they make
+//! (`Parts.antt`, `Standing.antt`), and what a step and a run are (`Theorem.antt`). What only helps
+//! proofs stands in `specs/Inner`.
 //!
 //! It stands on `primary` and `dispatcher`, which know nothing of each other, on `mvcc` for
 //! transactions, and on `script` for events and outputs.
@@ -21,9 +23,11 @@ mod stepping;
 mod theorem;
 mod transacting;
 mod worked;
+mod world;
 
 pub use script::{Event, Node, Output, Reason, ScriptFault, Sent, SentList, Setup, read_script};
 pub use script_running::{Echo, RunFault, run_script};
 pub use simulator::run;
-pub use theorem::steps_are_allowed;
+pub use theorem::{allowed_runs_are_exact, runs_keep_promises};
 pub use worked::worked_scripts;
+pub use world::World;

@@ -2,13 +2,10 @@
 
 ghost use Rattle.std.specs.Prelude.{◌≡◌, ◌≤◌, IfOk};
 ghost use Rattle.std.specs.List.{AllByRecursion};
-ghost use Rattle.rows.specs.Shape.{shape_of};
 ghost use Rattle.script.specs.Events.{IsPossible};
-ghost use Rattle.world.specs.Allowed.{Allowed};
-ghost use Rattle.world.specs.Standing.{CoresStand};
-ghost use Rattle.world.specs.Theorem.{HasExactReports, HasGrowingList, IsFaultless};
+ghost use Rattle.world.specs.Theorem.{IsRun};
 
-use crate::cores::Cores;
+use crate::world::World;
 use script::{Event, Output, Setup};
 use std::alloc::{AllocError, Global};
 
@@ -17,31 +14,23 @@ use std::alloc::{AllocError, Global};
 /// for now there is one worker. Fails for want of memory alone, where the world cannot be made or
 /// the outputs cannot be kept.
 ///
-/// The outputs are allowed for the events. Each report gives, for each query of its batch, the
-/// plain answer on the rows after exactly the commits up to the version that was fetched for the
-/// batch, by one list of commits, and that version is at least what was durable when the batch
-/// asked. What is durable only grows. No output speaks of damage. After each event the cores
-/// stand where the world does, and every replica is fed from what is durable.
+/// The outputs are those of one run, by one legal list of commits: at each of its steps what is
+/// answered and left may happen in the world, a report has the plain answers on the rows after
+/// exactly the commits of that list up to the version fetched for its batch, what is durable only
+/// grows, every replica is fed from it, and no damage is told. `runs_keep_promises` says what
+/// follows.
 pub fn run(alloc: Global, setup: &Setup, events: &[Event]) -> Result<Vec<Output>, AllocError>
     requires workers { setup.now.workers ≡ 1 }
     requires replicas { setup.now.replicas ≤ 16 }
     requires possible { AllByRecursion (IsPossible setup.now.workers setup.now.replicas) events.now }
-    ensures allowed { IfOk result (λ outputs. Allowed
-        (shape_of setup.now.schema) setup.now.workers setup.now.replicas events.now outputs.items) }
-    ensures reports { IfOk result (λ outputs. HasExactReports
-        (shape_of setup.now.schema) setup.now.workers setup.now.replicas events.now outputs.items) }
-    ensures durable { IfOk result (λ outputs. HasGrowingList
-        (shape_of setup.now.schema) setup.now.workers setup.now.replicas events.now outputs.items) }
-    ensures faultless { IfOk result (λ outputs. AllByRecursion IsFaultless outputs.items) }
-    ensures cores { IfOk result (λ outputs. CoresStand
-        (shape_of setup.now.schema) setup.now.workers setup.now.replicas events.now outputs.items) }
+    ensures { IfOk result (λ outputs. IsRun setup.now events.now outputs.items) }
 {
-    setup.schema.keeps_limits();
-    let mut cores = Cores::start(alloc, &setup.schema, setup.workers, setup.replicas)?;
+    let mut world = World::new(alloc, setup)?;
     let mut outputs = Vec::new(alloc);
     for event in events {
-        let output = cores.step(event);
+        let output = world.step(event);
         outputs.push(output)?;
     }
+    world.keeps_legal();
     Ok(outputs)
 }

@@ -3,9 +3,9 @@
 
 ghost use Rattle.std.specs.Prelude.{◌≡◌, ◌<◌, ◌++◌, ◌⊎◌, length, IfOk, OnErr};
 ghost use Rattle.world.specs.Outputs.{sent_from, packets_of};
-ghost use Rattle.world.specs.Parts.{IsReady};
+ghost use Rattle.world.specs.Inner.Kept.{IsReady};
 ghost use Rattle.script.specs.Events.{IsPossible, IsThere};
-ghost use Rattle.world.specs.Steps.{MayStep, sent_one, with_sent};
+ghost use Rattle.world.specs.Inner.Steps.{HappensBeside, MayStep, sent_one, with_sent};
 
 use crate::cores::Cores;
 use crate::naming::{ask_output, got_output, open_output};
@@ -17,20 +17,8 @@ use std::alloc::{AllocError, Global};
 use wire::{Out, Packet};
 
 impl Cores {
-    /// Lets an event happen, and answers what it gave.
-    pub fn step(&mut self, event: &Event) -> Output
-        requires ready { IsReady self.old }
-        requires possible { IsPossible self.old.primary.workers (length self.old.replicas) event.now }
-        ensures may_step { MayStep self.old event.now result self.new }
-        ensures ready { IsReady self.new }
-        ensures workers { self.new.primary.workers ≡ self.old.primary.workers }
-        ensures replicas { length self.new.replicas ≡ length self.old.replicas }
-    {
-        self.happen(event)
-    }
-
-    /// The call that an event is.
-    fn happen(&mut self, event: &Event) -> Output
+    /// Lets an event happen by the call that it is, and answers what it gave.
+    pub fn happen(&mut self, event: &Event) -> Output
         requires ready { IsReady self.old }
         requires possible { IsPossible self.old.primary.workers (length self.old.replicas) event.now }
         ensures { MayStep self.old event.now result self.new }
@@ -77,7 +65,7 @@ impl Cores {
     }
 
     fn flush(&mut self, count: u32) -> Output
-        ensures { MayStep self.old (Event.Flush count) result self.new }
+        ensures { HappensBeside self.old (Event.Flush count) result self.new }
     {
         match self.primary.flush(count as usize) {
             Ok(durable) => Output::Durable(durable),
@@ -88,7 +76,7 @@ impl Cores {
 
     fn push(&mut self, worker: u8, seq: u64) -> Output
         requires { worker < self.old.primary.workers }
-        ensures { MayStep self.old (Event.Push worker seq) result self.new }
+        ensures { HappensBeside self.old (Event.Push worker seq) result self.new }
     {
         match self.primary.push(worker, seq) {
             None => Output::NoFrame,
@@ -114,28 +102,23 @@ impl Cores {
         }
     }
 
-    fn deliver(&mut self, place: u64, node: Node) -> Output
+    fn deliver(&mut self, index: u64, node: Node) -> Output
         requires { IsThere (length self.old.replicas) node }
-        ensures { MayStep self.old (Event.Deliver place node) result self.new }
+        ensures { MayStep self.old (Event.Deliver index node) result self.new }
     {
-        if place >= self.sent.len() as u64 {
-            return Output::NeverSent;
-        }
         match node {
-            Node::Primary => self.deliver_to_primary(place as usize),
-            Node::Replica(number) => {
-                let bytes = self.sent[place as usize].bytes();
-                let replica = &mut self.replicas[number as usize];
-                got_output(replica.on_bytes(bytes))
-            }
+            Node::Primary => self.deliver_to_primary(index),
+            Node::Replica(number) => self.deliver_to_replica(index, number),
         }
     }
 
-    fn deliver_to_primary(&mut self, place: usize) -> Output
-        requires { place < length self.old.sent }
-        ensures { MayStep self.old (Event.Deliver place Node.Primary) result self.new }
+    fn deliver_to_primary(&mut self, index: u64) -> Output
+        ensures { HappensBeside self.old (Event.Deliver index Node.Primary) result self.new }
     {
-        let Ok(outs) = self.primary.on_bytes(self.sent[place].bytes()) else {
+        if index >= self.sent.len() as u64 {
+            return Output::NeverSent;
+        }
+        let Ok(outs) = self.primary.on_bytes(self.sent[index as usize].bytes()) else {
             return Output::Memory;
         };
         if outs.is_empty() {
@@ -147,13 +130,25 @@ impl Cores {
         }
     }
 
-    fn show(&self, place: u64) -> Output
-        ensures { MayStep self.now (Event.Show place) result self.now }
+    fn deliver_to_replica(&mut self, index: u64, number: u8) -> Output
+        requires { number < length self.old.replicas }
+        ensures { MayStep self.old (Event.Deliver index (Node.Replica number)) result self.new }
     {
-        if place >= self.sent.len() as u64 {
+        if index >= self.sent.len() as u64 {
             return Output::NeverSent;
         }
-        match Vec::from_slice(self.alloc, self.sent[place as usize].bytes()) {
+        let bytes = self.sent[index as usize].bytes();
+        let replica = &mut self.replicas[number as usize];
+        got_output(replica.on_bytes(bytes))
+    }
+
+    fn show(&self, index: u64) -> Output
+        ensures { HappensBeside self.now (Event.Show index) result self.now }
+    {
+        if index >= self.sent.len() as u64 {
+            return Output::NeverSent;
+        }
+        match Vec::from_slice(self.alloc, self.sent[index as usize].bytes()) {
             Ok(bytes) => Output::Shown(ByteList::from_vec(bytes)),
             Err(_) => Output::Memory,
         }
@@ -200,8 +195,8 @@ impl Cores {
         }
     }
 
-    /// Runs a batch. A place for the datagram that it may send is taken first, since the run
-    /// cannot be taken back.
+    /// Runs a batch. Room for the datagram that it may send is taken first, since the run cannot
+    /// be taken back.
     fn run(&mut self, number: u8) -> Output
         requires { number < length self.old.replicas }
         ensures { MayStep self.old (Event.Run number) result self.new }
@@ -240,14 +235,14 @@ fn send_all(alloc: Global, sent: &mut Vec<Packet>, outs: Vec<Out>) -> Result<Sen
         × (sent.new.items ≡ sent.old.items ++ packets_of outs.items)) }
     ensures err { OnErr result (sent.new.items ≡ sent.old.items) }
 {
-    let list = places_of(alloc, sent.as_slice(), outs.as_slice())?;
+    let list = sent_behind(alloc, sent.as_slice(), outs.as_slice())?;
     let mut packets = packets_in(alloc, outs)?;
     sent.append(&mut packets)?;
     Ok(SentList::from_vec(list))
 }
 
-/// Where datagrams are found that are sent behind these.
-fn places_of(alloc: Global, sent: &[Packet], outs: &[Out]) -> Result<Vec<Sent>, AllocError>
+/// The indices and lengths of datagrams that are sent behind these.
+fn sent_behind(alloc: Global, sent: &[Packet], outs: &[Out]) -> Result<Vec<Sent>, AllocError>
     ensures { IfOk result (λ list. list.items ≡ sent_from (length sent.now) outs.now) }
 {
     let mut list = Vec::new(alloc);

@@ -1,15 +1,24 @@
-//! What holds of every run of the parts.
+//! What follows of every run.
 
-ghost use Rattle.world.specs.Theorem.{StepsAreAllowed, StepsStand, DurableOnlyGrows, AllowedAreFaultless, ReportsAreExact};
+ghost use Rattle.world.specs.Allowed.{Allowed};
+ghost use Rattle.world.specs.Theorem.{OfEachRun, HasExactReports, HasGrowingList, HasLegalList, HasNoFault, CoresStand};
+ghost use Rattle.world.specs.Theorem.{AllowedRunsAreExact};
 
-/// Each list of outputs that the parts may give for possible events is one that the world allows,
-/// and the parts stand where the world does at every step. In the world what is durable stays, no
-/// output speaks of damage, and each report has the plain answers at one version, no older than
-/// what was durable when its batch asked. No code takes part.
-pub fn steps_are_allowed()
-    ensures allowed { StepsAreAllowed }
-    ensures cores { StepsStand }
-    ensures durable { DurableOnlyGrows }
-    ensures faultless { AllowedAreFaultless }
-    ensures reports { ReportsAreExact }
+/// What each run keeps, of which `run` says that it is one: its outputs are allowed; each report
+/// has the plain answers at one version of the one list, no older than what was durable when its
+/// batch asked; what is durable stays; the one list is legal; no output speaks of damage; and the
+/// cores stand where the world does at every step. No code takes part.
+pub fn runs_keep_promises()
+    ensures allowed { OfEachRun Allowed }
+    ensures reports { OfEachRun HasExactReports }
+    ensures durable { OfEachRun HasGrowingList }
+    ensures legal { OfEachRun HasLegalList }
+    ensures faultless { OfEachRun HasNoFault }
+    ensures cores { OfEachRun CoresStand }
+{}
+
+/// Whatever is allowed in the world, whoever answers it, keeps what is durable, speaks of no
+/// damage, and reports by the one list that is durable at the end. No code takes part.
+pub fn allowed_runs_are_exact()
+    ensures { AllowedRunsAreExact }
 {}

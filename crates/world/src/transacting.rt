@@ -3,8 +3,8 @@
 ghost use Rattle.std.specs.Prelude.{◌≡◌, ◌<◌, None, Some, IfSome, slice_set, vec_len};
 ghost use Rattle.std.specs.Option.{option_map};
 ghost use Rattle.script.specs.declared.event.Event.{Event};
-ghost use Rattle.world.specs.Parts.{IsReady};
-ghost use Rattle.world.specs.Steps.{MayStep};
+ghost use Rattle.world.specs.Inner.Kept.{IsReady};
+ghost use Rattle.world.specs.Inner.Steps.{HappensBeside};
 ghost use Rattle.world.specs.World.{open_draft};
 
 use crate::cores::Cores;
@@ -17,7 +17,7 @@ use script::Output;
 impl Cores {
     /// Begins a transaction on what is durable.
     pub fn begin(&mut self) -> Output
-        ensures { MayStep self.old Event.Begin result self.new }
+        ensures { HappensBeside self.old Event.Begin result self.new }
     {
         let number = self.transactions.len() as u64;
         let snapshot = self.primary.durable();
@@ -31,7 +31,7 @@ impl Cores {
     /// Puts a row in.
     pub fn insert(&mut self, number: u64, table: u8, row: RowId, values: &Row) -> Output
         requires { IsReady self.old }
-        ensures { MayStep self.old (Event.Insert number table row values.now) result self.new }
+        ensures { HappensBeside self.old (Event.Insert number table row values.now) result self.new }
     {
         let Some(mut transaction) = take_open(&mut self.transactions, number) else {
             return Output::NoTx;
@@ -48,7 +48,7 @@ impl Cores {
     /// Gives one column of a row another value.
     pub fn set(&mut self, number: u64, table: u8, row: RowId, column: u8, value: Value) -> Output
         requires { IsReady self.old }
-        ensures { MayStep self.old (Event.Set number table row column value) result self.new }
+        ensures { HappensBeside self.old (Event.Set number table row column value) result self.new }
     {
         let Some(mut transaction) = take_open(&mut self.transactions, number) else {
             return Output::NoTx;
@@ -65,7 +65,7 @@ impl Cores {
     /// Takes a row out.
     pub fn delete(&mut self, number: u64, table: u8, row: RowId) -> Output
         requires { IsReady self.old }
-        ensures { MayStep self.old (Event.Delete number table row) result self.new }
+        ensures { HappensBeside self.old (Event.Delete number table row) result self.new }
     {
         let Some(mut transaction) = take_open(&mut self.transactions, number) else {
             return Output::NoTx;
@@ -81,7 +81,7 @@ impl Cores {
     /// Looks at one column of a row, as the transaction sees it.
     pub fn get(&self, number: u64, table: u8, row: RowId, column: u8) -> Output
         requires { IsReady self.now }
-        ensures { MayStep self.now (Event.Get number table row column) result self.now }
+        ensures { HappensBeside self.now (Event.Get number table row column) result self.now }
     {
         match find_open(self.transactions.as_slice(), number) {
             None => Output::NoTx,
@@ -94,7 +94,7 @@ impl Cores {
     /// Commits a transaction for a worker.
     pub fn commit(&mut self, number: u64, worker: u8) -> Output
         requires { worker < self.old.primary.workers }
-        ensures { MayStep self.old (Event.Commit number worker) result self.new }
+        ensures { HappensBeside self.old (Event.Commit number worker) result self.new }
     {
         let Some(transaction) = take_open(&mut self.transactions, number) else {
             return Output::NoTx;
@@ -111,7 +111,7 @@ impl Cores {
 
     /// Gives a transaction up.
     pub fn abort(&mut self, number: u64) -> Output
-        ensures { MayStep self.old (Event.Abort number) result self.new }
+        ensures { HappensBeside self.old (Event.Abort number) result self.new }
     {
         match take_open(&mut self.transactions, number) {
             None => Output::NoTx,
@@ -130,7 +130,7 @@ fn find_open(transactions: &[Option<Transaction>], number: u64) -> Option<&Trans
     }
 }
 
-/// Takes the open transaction of that number out of its place, where there is one.
+/// Takes the open transaction of that number out of its slot, where there is one.
 fn take_open(transactions: &mut Vec<Option<Transaction>>, number: u64) -> Option<Transaction>
     ensures taken { result ≡ open_draft transactions.old.items number }
     ensures left { transactions.new.items ≡ slice_set transactions.old.items number None }
@@ -142,7 +142,7 @@ fn take_open(transactions: &mut Vec<Option<Transaction>>, number: u64) -> Option
     std::mem::replace(&mut transactions[number as usize], None)
 }
 
-/// Puts a transaction back into its place.
+/// Puts a transaction back into its slot.
 fn put_back(transactions: &mut Vec<Option<Transaction>>, number: u64, transaction: Transaction)
     requires { number < vec_len transactions.old }
     ensures { transactions.new.items ≡ slice_set transactions.old.items number (Some transaction) }

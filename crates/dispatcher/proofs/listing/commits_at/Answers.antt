@@ -1,6 +1,6 @@
--- Each place has a frame; one that holds the next commit is listed behind those before it.
+-- Each seq has a frame; one that holds the next commit is listed behind those before it.
 use Rattle.std.proofs.Common.{sym, ◌∙◌, arith}
-use Rattle.dispatcher.proofs.Replaying.{not_missing, commits_in-next}
+use Rattle.dispatcher.proofs.Commits.{not_missing, commits_in-next}
 use Rattle.dispatcher.proofs.listing.commits_at.Goals as goal
 
 pub unreachable-requires : goal.unreachable-requires

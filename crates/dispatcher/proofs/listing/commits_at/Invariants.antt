@@ -1,7 +1,7 @@
--- The commits of the frames before the place, followed by those of the frames from it on, are those of all.
+-- The commits of the frames before the seq, followed by those of the frames from it on, are those of all.
 use Rattle.std.proofs.Common.{◌≡◌, ◌+◌, ◌-◌, ◌++◌}
 use Rattle.std.specs.Option.{option_map}
-use Rattle.dispatcher.specs.Replay.{frames_at, commits_in}
+use Rattle.dispatcher.specs.Listing.{frames_at, commits_in}
 use Rattle.dispatcher.proofs.listing.commits_at.Given as goal
 
 abbrev pub invariant-loop-seq : goal.invariant-loop-seq

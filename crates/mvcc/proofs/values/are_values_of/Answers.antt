@@ -7,7 +7,7 @@ use Rattle.std.proofs.lemmas.Iterator.Consumers.{YieldsList-at}
 use Rattle.std.proofs.lemmas.Iterator.Search.{all_from_yields_List}
 use Rattle.rows.specs.declared.value.Value.{Value}
 use Rattle.rows.specs.declared.kind.Kind.{Kind}
-use Rattle.mvcc.specs.Transactions.{is_of_kind, are_of_kinds}
+use Rattle.rows.specs.Values.{is_of_kind, are_of_kinds}
 use Rattle.mvcc.proofs.values.are_values_of.Goals as goal
 
 in_pairs : (values : List Value) (kinds : List Kind) → length values ≡ length kinds

@@ -2,7 +2,8 @@
 use Rattle.std.proofs.Common.{sym, ap, ◌∙◌}
 use Rattle.rows.specs.Entries.{table_of, row_of}
 use Rattle.rows.specs.Presence.{is_there_after}
-use Rattle.mvcc.specs.History.{is_row_there}
+use Rattle.rows.specs.Tables.{is_row_at}
+use Rattle.mvcc.specs.History.{tables_at}
 use Rattle.primary.proofs.Definedness.{defined-more, not_defined-more, spelled-more}
 use Rattle.primary.proofs.judging.are_defined_by_walk.Goals as goal
 
@@ -13,7 +14,8 @@ returns-then-not-is_defined-clause-answer c =
     not_defined-more versions c.args.version c.args.entries.now c.loop-index.index entry c.is_row_there_after-there.result
     c.loop-index-test.true c.index-entries-index.is c.loop-index.invariant.defined
     (c.is_row_there_after-there.ensures
-    ∙ ap (λ before. is_there_after (table_of entry) (row_of entry) before (is_row_there versions c.args.version entry))
+    ∙ ap (λ before. is_there_after (table_of entry) (row_of entry) before
+    (is_row_at (tables_at versions c.args.version) (table_of entry) (row_of entry)))
     c.split_at.ensures.front) c.if-not-is_defined.ensures.answer
 
 pub loop-index-preserved : goal.loop-index-preserved
@@ -25,7 +27,8 @@ loop-index-preserved c =
           defined-more versions c.args.version c.args.entries.now c.loop-index.index entry c.is_row_there_after-there.result
           c.loop-index-test.true c.index-entries-index.is c.loop-index.invariant.defined
           (c.is_row_there_after-there.ensures
-          ∙ ap (λ before. is_there_after (table_of entry) (row_of entry) before (is_row_there versions c.args.version entry))
+          ∙ ap (λ before. is_there_after (table_of entry) (row_of entry) before
+          (is_row_at (tables_at versions c.args.version) (table_of entry) (row_of entry)))
           c.split_at.ensures.front)
           ∙ sym c.if-not-is_defined.ensures.answer;
       spelled =

@@ -1,13 +1,13 @@
 -- The entries before the index made the tables; a store that is not whole refused the first.
 use Rattle.std.proofs.Common.{◌≡◌, take, false, Ok}
-use Rattle.rows.specs.Tables.{changes_of}
+use Rattle.rows.specs.Tables.{shape_in, changes_of}
 use Rattle.store.proofs.running.run.Given as goal
 
 abbrev pub invariant-loop-i : goal.invariant-loop-i
 invariant-loop-i g l = record {
-  before : changes_of (g.S.Store.shape l.initial.store) (g.S.Store.tables l.initial.store) (take l.i l.entries) ≡ Ok
+  before : changes_of (g.S.Store.tables l.initial.store) (take l.i l.entries) ≡ Ok
       (g.S.Store.tables l.store);
   first : g.S.Store.is_whole l.initial.store ≡ false → l.i ≡ 0;
   whole : g.S.Store.is_whole l.store ≡ g.S.Store.is_whole l.initial.store;
-  shape : g.S.Store.shape l.store ≡ g.S.Store.shape l.initial.store;
+  kinds : shape_in (g.S.Store.tables l.store) ≡ shape_in (g.S.Store.tables l.initial.store);
 }

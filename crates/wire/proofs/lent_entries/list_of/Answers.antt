@@ -10,7 +10,7 @@ pub unreachable-requires : goal.unreachable-requires
 unreachable-requires c =
     let none =
     gathered_not c.loop.entries c.args.count c.loop.counter c.loop.rest.now
-    (entries_filling c.args.count c.args.bytes.now) c.loop-test.true (sym c.in-None.ensures) c.loop.invariant in
+    (entries_filling c.args.count c.args.bytes.now) c.loop-test.true (sym c.in-None.ensures.exact) c.loop.invariant in
     let wrong : false ≡ true = rw none at c.requires in
     absurd cc
 
@@ -18,7 +18,7 @@ pub loop-preserved : goal.loop-preserved
 loop-preserved c =
     let more =
     gathered_more c.loop.entries c.args.count c.loop.counter c.loop.rest.now (seen (c.in-Some.entry, c.in-Some.len))
-    (entries_filling c.args.count c.args.bytes.now) c.loop-test.true (sym c.in-Some.ensures) c.loop.invariant in
+    (entries_filling c.args.count c.args.bytes.now) c.loop-test.true (sym c.in-Some.ensures.exact) c.loop.invariant in
     let made : c.push.new.self ≡ c.loop.entries ++ entry_of c.in-Some.entry ∷ [] =
     c.in_ok-push-in-Some.ensures.ok ∙ ap (λ (entry : Entry). c.loop.entries ++ entry ∷ []) c.in_ok-owned-in-Some.ensures in
     rw (c.split_at.ensures.back, made) more

@@ -6,7 +6,11 @@ use Rattle.wire.proofs.SpelledIsRead.{reading-again}
 use Rattle.wire.proofs.reading.read.Goals as goal
 
 pub returns-clause-found : goal.returns-clause-found
-returns-clause-found c = is_found c.args.bytes.now c.read_datagram.result (λ i. omega (arith, c.type_inv.bytes i)) c.read_datagram.ensures
+returns-clause-found c =
+    is_found c.entries_are_read_as_spelled.ensures.found c.args.bytes.now c.read_datagram.result (λ i. omega (arith, c.type_inv.bytes i))
+    c.read_datagram.ensures
 
 pub returns-clause-only : goal.returns-clause-only
-returns-clause-only c = λ datagram spelled is_read e. c.read_datagram.ensures ∙ ap reading e ∙ reading-again datagram spelled is_read
+returns-clause-only c = λ datagram spelled is_read e.
+    c.read_datagram.ensures ∙ ap reading e
+    ∙ reading-again c.entries_are_read_as_spelled.ensures.spelled datagram spelled is_read

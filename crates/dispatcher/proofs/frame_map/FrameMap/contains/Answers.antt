@@ -1,5 +1,5 @@
--- The map finds a frame where its place is known.
-use Rattle.dispatcher.proofs.Places.{is_known-lookup}
+-- The map finds a frame where its seq is known.
+use Rattle.dispatcher.proofs.Seqs.{is_known-lookup}
 use Rattle.dispatcher.proofs.frame_map.FrameMap.contains.Goals as goal
 
 pub returns : goal.returns

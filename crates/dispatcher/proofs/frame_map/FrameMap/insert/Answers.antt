@@ -1,4 +1,4 @@
--- A frame that comes loses no known place, so the walk goes on from the place that was the first missing one, and stops at
+-- A frame that comes loses no known seq, so the walk goes on from the seq that was the first missing one, and stops at
 -- the next that is not known.
 use Rattle.std.proofs.Common.{◌≡◌, ℕ, ◌-◌, ◌≤◌, List, length, refl, sym, ap, ◌∙◌, arith}
 use Rattle.std.specs.Ordering.{nat_cmp}
@@ -6,12 +6,12 @@ use Rattle.std.specs.Map.{keys_of}
 use Rattle.std.specs.BTreeMap.{insert_entry}
 use Rattle.wire.specs.declared.frame.Frame.{Frame}
 use Rattle.dispatcher.specs.Known.{missing_from, first_missing}
-use Rattle.dispatcher.proofs.Places.{missing_from-unknown, missing_from-known, is_known-lookup, first_missing-on, length-keys_of}
-use Rattle.dispatcher.proofs.Places.{length-insert_entry}
+use Rattle.dispatcher.proofs.Seqs.{missing_from-unknown, missing_from-known, is_known-lookup, first_missing-on, length-keys_of}
+use Rattle.dispatcher.proofs.Seqs.{length-insert_entry}
 use Rattle.dispatcher.proofs.Stored.{known-insert}
 use Rattle.dispatcher.proofs.frame_map.FrameMap.insert.Goals as goal
 
--- the walk over the places with one more, from the place that was the first missing one
+-- the walk over the seqs with one more, from the seq that was the first missing one
 walk_from_missing : (entries after : List (ℕ × Frame)) (seq : ℕ) (frame : Frame) (missing len : ℕ)
     → after ≡ insert_entry nat_cmp entries seq frame → len ≡ length after → missing ≡ first_missing (keys_of entries)
     → missing_from (len - missing) missing (keys_of after) ≡ first_missing (keys_of after)

@@ -1,4 +1,4 @@
--- The walk from the first missing place on ends where the whole walk does.
+-- The walk from the first missing seq on ends where the whole walk does.
 use Rattle.std.proofs.Common.{◌≡◌, ◌-◌}
 use Rattle.std.specs.Map.{keys_of}
 use Rattle.dispatcher.specs.Known.{missing_from, first_missing}

@@ -2,6 +2,7 @@
 use Rattle.std.proofs.Common.{◌≡◌, true, [], ◌∷◌, ◌++◌, length, drop, subst, sym, ap, ◌∙◌}
 use Rattle.rows.specs.Shape.{shape_of}
 use Rattle.rows.specs.Commits.{tables_after}
+use Rattle.rows.proofs.TableLaws.{shape-at}
 use Rattle.mvcc.specs.History.{History, defined_at}
 use Rattle.mvcc.specs.Chains.{and_entries, AreChains}
 use Rattle.mvcc.proofs.Keeping.{all_fit, versions-push, take_put}
@@ -11,11 +12,12 @@ pub link_commit-requires-clause-fit : goal.link_commit-requires-clause-fit
 link_commit-requires-clause-fit c =
     let inside = c.self.inside in
     let shape = shape_of inside.schema in
-    let defined : defined_at (record { shape = shape; commits = inside.commits.items })
+    let defined : defined_at (record { schema = inside.schema; commits = inside.commits.items })
     (length inside.commits.items) c.args.commit.now.entries ≡ true =
     subst (λ (v : History). defined_at v (length v.commits) c.args.commit.now.entries ≡ true) (sym c.self.view_is) c.requires in
     rw c.as_slice-2.ensures (all_fit shape
-    (tables_after shape inside.commits.items (length inside.commits.items)) c.args.commit.now.entries defined)
+    (tables_after shape inside.commits.items (length inside.commits.items)) c.args.commit.now.entries
+    (shape-at shape inside.commits.items (length inside.commits.items)) defined)
 
 pub invariant_of-self-2 : goal.invariant_of-self-2
 invariant_of-self-2 c =
@@ -25,7 +27,7 @@ invariant_of-self-2 c =
     let items : c.push_reserved.new.self.items ≡ inside.commits.items ++ c.args.commit.now ∷ [] =
     c.push_reserved.ensures.items ∙ ap (λ before. before ++ c.in_ok-copy.copy ∷ []) c.in_ok-reserve.ensures.items
     ∙ ap (λ commit. inside.commits.items ++ commit ∷ []) copy in
-    let defined : defined_at (record { shape = shape; commits = inside.commits.items })
+    let defined : defined_at (record { schema = inside.schema; commits = inside.commits.items })
     (length inside.commits.items) c.args.commit.now.entries ≡ true =
     subst (λ (v : History). defined_at v (length v.commits) c.args.commit.now.entries ≡ true) (sym c.self.view_is) c.requires in
     let counted : length c.link_commit.new.tables ≡ length inside.chains.items =

@@ -1,6 +1,7 @@
 -- The records of the commits that are moved go behind the journal's text.
 use Rattle.std.proofs.Common.{◌≡◌, ◌+◌, ◌≤◌, length, drop, min, sym, ap, ◌∙◌, arith}
 use Rattle.std.proofs.lemmas.List.{length-drop, length-take-le}
+use Rattle.rows.specs.Shape.{shape_of}
 use Rattle.primary.specs.State.{Primary}
 use Rattle.primary.proofs.Flushing.{moved_text, flushed_is}
 use Rattle.primary.proofs.primary_core.PrimaryCore.flush.Goals as goal
@@ -17,12 +18,13 @@ invariant_of-self c =
       few_workers = kept.few_workers;
       within = omega (arith, length-drop inside.durable inside.versions.commits);
       numbered = kept.numbered;
+      each = kept.each;
       kept = kept.kept;
-      all_placed = kept.all_placed;
-      placed = kept.placed;
+      all_listed = kept.all_listed;
+      listed = kept.listed;
       text =
-          moved_text inside.workers inside.versions.shape inside.versions.commits c.commits.result.now inside.durable c.min-moved.result
-          inside.journal.items c.append.new.journal.items
+          moved_text inside.workers (shape_of inside.versions.schema) inside.versions.commits c.commits.result.now inside.durable
+          c.min-moved.result inside.journal.items c.append.new.journal.items
           c.commits.ensures kept.within kept.text c.in-Ok.ensures.ok;
     }
 

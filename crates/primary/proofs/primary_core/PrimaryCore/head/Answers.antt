@@ -17,7 +17,7 @@ of-requires c =
     let kept = c.self.invariant in
     let commits = inside.versions.commits in
     let counts = counts_for_head commits inside.durable inside.workers kept.numbered kept.some_workers kept.few_workers in
-    (c.requires, omega (arith, kept.within, kept.numbered), subst AreCounts (sym (c.counts.ensures commits kept.placed)) counts)
+    (c.requires, omega (arith, kept.within, kept.numbered), subst AreCounts (sym (c.counts.ensures commits kept.listed)) counts)
 
 pub returns : goal.returns
 returns c =
@@ -28,7 +28,7 @@ returns c =
     let boot = c.args.boot in
     let request = c.args.request in
     let counted : c.counts.result ≡ counts_of (take inside.durable commits) (length (take inside.durable commits)) inside.workers =
-    c.counts.ensures commits kept.placed ∙ sym (counts-durable commits inside.durable inside.workers kept.within) in
+    c.counts.ensures commits kept.listed ∙ sym (counts-durable commits inside.durable inside.workers kept.within) in
     let version : inside.durable ≡ length (take inside.durable commits) = sym (length-take-le inside.durable commits kept.within) in
     let here : c.of.result ≡ spelling
     (head_for (primary_of inside.versions inside.durable inside.workers inside.failed) replica boot request) =

@@ -1,4 +1,4 @@
--- The transaction is taken out of its place for good.
+-- The transaction is taken out of its slot for good.
 use Rattle.std.proofs.Common.{None, sym, ◌∙◌}
 use Rattle.world.proofs.Moving.{gave_up}
 use Rattle.world.proofs.cores.Cores.abort.Goals as goal

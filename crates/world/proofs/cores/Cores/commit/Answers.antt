@@ -1,6 +1,6 @@
--- The transaction is taken out of its place, and put back for want of memory.
-use Rattle.std.proofs.Common.{inl, inr, refl, sym, ◌∙◌}
-use Rattle.world.proofs.Moving.{commit_nothing, put_back_same}
+-- The transaction is taken out of its slot, and put back for want of memory.
+use Rattle.std.proofs.Common.{refl, sym, ◌∙◌}
+use Rattle.world.proofs.Moving.{beside_memory, commit_nothing, put_back_same}
 use Rattle.world.proofs.cores.Cores.commit.Goals as goal
 
 pub returns-in_default : goal.returns-in_default
@@ -15,4 +15,4 @@ returns-in-Err-default-Memory c =
     let same =
     put_back_same _ _ c.self.view_is c.args.number c.in-Some.transaction c.in-Err-default-Memory.transaction _
     (sym c.take_open.ensures.taken ∙ c.in-Some.is) left refused.0 in
-    rw (refused.1) (inr (inl (refl, same)))
+    rw (refused.1) (beside_memory _ _ _ _ refl same)

@@ -1,14 +1,20 @@
 -- The transaction reads a durable version, and looks at it.
-use Rattle.std.proofs.Common.{◌≤◌, length, None, Some, sym, arith, length-append}
+use Rattle.std.proofs.Common.{◌≤◌, length, refl, sym, arith, length-append}
+use Rattle.rows.specs.Shape.{shape_of}
 use Rattle.mvcc.specs.Draft.{Draft}
+use Rattle.mvcc.specs.Transactions.{get_answer}
+use Rattle.script.specs.declared.event.Event.TheVariants.{Get}
 use Rattle.world.proofs.Slots.{slot_at}
-use Rattle.world.proofs.Moving.{looked}
+use Rattle.world.proofs.Told.{get-told}
+use Rattle.world.proofs.Moving.{look_nothing, looked}
 use Rattle.world.proofs.cores.Cores.get.Goals as goal
 
 pub returns-in-None : goal.returns-in-None
 returns-in-None c =
+    let primary = c.self.inside.primary in
     let there = rw (c.as_slice.ensures.value, c.in-None.is) at c.find_open.ensures in
-    looked _ _ c.self.view_is c.args.number c.args.table c.args.row c.args.column None (sym there)
+    look_nothing _ _ c.self.view_is c.args.number (Get c.args.number c.args.table c.args.row c.args.column)
+    (λ draft. get_answer (shape_of primary.schema) primary.durable draft c.args.table c.args.row.0 c.args.column) refl (sym there)
 
 pub get-requires : goal.get-requires
 get-requires c =
@@ -22,6 +28,16 @@ get-requires c =
 
 pub returns-in-Some : goal.returns-in-Some
 returns-in-Some c =
+    let primary = c.self.inside.primary in
+    let draft = c.in-Some.transaction.now in
     let there = rw (c.as_slice.ensures.value, c.in-Some.is) at c.find_open.ensures in
+    let snapshots = rw (← c.self.view_is) at c.requires.snapshots in
+    let within =
+    slot_at (λ (draft : Draft). draft.snapshot ≤ length primary.durable) c.self.inside.transactions.items c.args.number
+    draft (sym there) snapshots in
+    let told = sym (get-told (shape_of primary.schema) primary.durable primary.pending draft c.args.table c.args.row.0 within
+    c.args.column) in
     rw (c.look_output.ensures, c.get.ensures, c.versions.ensures)
-    (looked _ _ c.self.view_is c.args.number c.args.table c.args.row c.args.column (Some c.in-Some.transaction.now) (sym there))
+    (looked _ _ c.self.view_is c.args.number (Get c.args.number c.args.table c.args.row c.args.column)
+    (λ draft. get_answer (shape_of primary.schema) primary.durable draft c.args.table c.args.row.0 c.args.column) refl draft _
+    (sym there) told)

@@ -6,7 +6,7 @@ use Rattle.world.proofs.cores.Cores.start.Given as goal
 
 abbrev pub invariant-loop-number : goal.invariant-loop-number
 invariant-loop-number l = record {
-  made : l.cores.items ++ replicas_from (shape_of l.schema) l.workers l.number (l.replicas - l.number) ≡ replicas_from
-      (shape_of l.schema) l.workers 0 l.replicas;
-  noted : l.asked_at.items ++ zeros (l.replicas - l.number) ≡ zeros l.replicas;
+  made : l.cores.items ++ replicas_from (shape_of l.setup.schema) l.setup.workers l.number (l.setup.replicas - l.number) ≡ replicas_from
+      (shape_of l.setup.schema) l.setup.workers 0 l.setup.replicas;
+  noted : l.asked_at.items ++ zeros (l.setup.replicas - l.number) ≡ zeros l.setup.replicas;
 }

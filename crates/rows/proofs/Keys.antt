@@ -1,0 +1,39 @@
+-- What a map of rows finds, and what it finds once one row's entry was replaced.
+use Rattle.std.proofs.Common.{◌≡◌, ℕ, Bool, cond, ◌&&◌, ◌==◌, List, [], ◌∷◌, Some, refl, sym, ap, ◌∙◌, arith}
+use Rattle.std.specs.Map.{lookup}
+use Rattle.std.specs.BTreeMap.{is_at}
+use Rattle.std.specs.Ordering.{nat_cmp, ordering_then}
+use Rattle.std.specs.declared.cmp.Ordering.{Ordering}
+use Rattle.std.proofs.lemmas.Bool.Decides.{nat_tests}
+use Rattle.rows.specs.Keys.{is_key_of}
+
+-- how a map compares its keys
+abbrev pub key_cmp : ℕ × ℕ → ℕ × ℕ → Ordering
+key_cmp x y = ordering_then (nat_cmp x.0 y.0) (nat_cmp x.1 y.1)
+
+-- two tests that answer alike find the same
+lookup-alike : {K X : Type 0} (f g : K → Bool) (es : List (K × X)) → ((k : K) → f k ≡ g k) → lookup f es ≡ lookup g es
+lookup-alike f g [] h = refl
+lookup-alike f g (e ∷ es) h = ap (λ b. cond b (Some e.1) (lookup f es)) (h e.0) ∙ ap (cond (g e.0) (Some e.1)) (lookup-alike f g es h)
+
+is_key-cmp : (table row : ℕ) (key : ℕ × ℕ) → is_at (key_cmp (table, row)) key ≡ is_key_of table row key
+is_key-cmp table row key = grind (arith, nat_tests)
+
+same_key : (table row t r : ℕ) → is_at (key_cmp (table, row)) (t, r) ≡ ((table == t) && (row == r))
+same_key table row t r = grind (arith, nat_tests)
+
+-- what the map finds
+pub lookup-key : {X : Type 0} (es : List ((ℕ × ℕ) × X)) (table row : ℕ)
+    → lookup (is_at (key_cmp (table, row))) es ≡ lookup (is_key_of table row) es
+lookup-key es table row = lookup-alike (is_at (key_cmp (table, row))) (is_key_of table row) es (λ key. is_key-cmp table row key)
+
+-- what it finds of a row, and of any other, once one row's entry was put into it
+pub lookup-put : {X : Type 0} (es after : List ((ℕ × ℕ) × X)) (table row : ℕ) (x : X)
+    → ((key : ℕ × ℕ) → lookup (is_at (key_cmp key)) after ≡ cond (is_at (key_cmp (table, row)) key) (Some x)
+    (lookup (is_at (key_cmp key)) es))
+    → (t r : ℕ) → lookup (is_key_of t r) after ≡ cond ((table == t) && (row == r)) (Some x) (lookup (is_key_of t r) es)
+lookup-put es after table row x h t r =
+    sym (lookup-key after t r)
+    ∙ h (t, r)
+    ∙ ap (λ here. cond here (Some x) (lookup (is_at (key_cmp (t, r))) es)) (same_key table row t r)
+    ∙ ap (cond ((table == t) && (row == r)) (Some x)) (lookup-key es t r)

@@ -1,0 +1,110 @@
+//! What a script prints where a request for memory is refused.
+
+use crate::scripts::{SETTINGS, expect, printed};
+use std::alloc::Global;
+use std::test::Fail;
+use world::{Echo, RunFault, run_script};
+
+/// Changes of the primary, of what was sent, and of a replica, each beside the line that it
+/// answers.
+const STORY: [(&str, &str); 21] = [
+    ("begin", "tx 0 at 0"),
+    ("insert 0 acct 7 5 -1", "ok"),
+    ("commit 0 0", "ticket 1"),
+    ("flush 1", "durable 1"),
+    ("begin", "tx 1 at 1"),
+    ("begin", "tx 2 at 1"),
+    ("set 1 acct 7 1 6", "ok"),
+    ("delete 2 acct 7", "ok"),
+    ("get 1 acct 7 1", "value 6"),
+    ("abort 2", "ok"),
+    ("commit 1 0", "ticket 2"),
+    ("flush 1", "durable 2"),
+    ("push 0 0", "sent 0 54"),
+    ("deliver 0 r0", "stored"),
+    ("open 0 query acct get count", "opened 1"),
+    ("ask 0", "sent 1 23"),
+    ("deliver 1 p", "sent 2 40"),
+    ("deliver 2 r0", "head 2"),
+    ("push 0 1", "sent 3 48"),
+    ("deliver 3 r0", "stored"),
+    ("deliver 3 r0", "repeat"),
+];
+
+/// With ample memory each event answers as it should.
+#[test]
+fn the_story_answers_as_it_should(rt: HostRuntime) -> Result<(), Fail> {
+    expect(&rt, rt.alloc(), SETTINGS, &STORY)
+}
+
+/// The script of the story without the event of that place; all of it, where there is none.
+fn script_without(alloc: Global, place: usize) -> Result<String, Fail> {
+    let mut script = String::from_str(alloc, SETTINGS)?;
+    for (other, (event, _)) in STORY.iter().enumerate() {
+        if other != place {
+            script.push_str(event)?;
+            script.push_str("\n")?;
+        }
+    }
+    Ok(script)
+}
+
+/// The first line of the text that tells of want of memory.
+fn place_of_memory(text: &[u8]) -> Option<usize> {
+    text.split(|byte| *byte == b'\n')
+        .position(|line| line == b"memory".as_slice())
+}
+
+/// Whether the text is what the story answers.
+fn is_answered(text: &[u8]) -> bool {
+    let mut lines = text.split(|byte| *byte == b'\n');
+    for (_, answer) in &STORY {
+        if lines.next() != Some(answer.as_bytes()) {
+            return false;
+        }
+    }
+    lines.next() == Some(b"".as_slice()) && lines.next().is_none()
+}
+
+/// Whether the text is that other text with a line put in at that place.
+fn has_one_more_line(text: &[u8], place: usize, other: &[u8]) -> bool {
+    let mut others = other.split(|byte| *byte == b'\n');
+    for (at, line) in text.split(|byte| *byte == b'\n').enumerate() {
+        if at != place && others.next() != Some(line) {
+            return false;
+        }
+    }
+    others.next().is_none()
+}
+
+/// Whether a text is what the story answers; or what it answers without one event, with the line
+/// `memory` for that one. One request is refused at the most, so that memory is ample then.
+fn is_allowed(alloc: Global, text: &[u8]) -> Result<bool, Fail> {
+    let Some(place) = place_of_memory(text) else {
+        return Ok(is_answered(text));
+    };
+    let script = script_without(alloc, place)?;
+    let other = printed(alloc, script.as_bytes())?;
+    Ok(has_one_more_line(text, place, other.as_slice()))
+}
+
+/// Whether the story's script ends as it may: for want of memory with nothing written, or with a
+/// text that is allowed.
+fn ends_as_allowed(alloc: Global) -> Result<bool, Fail> {
+    let script = script_without(alloc, STORY.len())?;
+    let mut reader = script.as_bytes();
+    let mut text = Vec::with_capacity(alloc, 1000)?;
+    match run_script(alloc, Echo::No, &mut reader, &mut text) {
+        Ok(()) => is_allowed(alloc, text.as_slice()),
+        Err(RunFault::Memory) => Ok(text.is_empty()),
+        Err(fault) => Err(fault.into()),
+    }
+}
+
+/// Whichever request for memory is refused: the run writes nothing and says so, or the event that
+/// lacked memory has changed nothing.
+#[test]
+fn an_event_without_memory_changes_nothing(rt: HostRuntime) -> Result<(), Fail> {
+    assert!(rt; ends_as_allowed(rt.alloc())?);
+    Ok(())
+}

@@ -1,0 +1,46 @@
+-- Only for proofs: what keeps reports fresh. No version that was fetched, and none of a Head that was ever sent, is older
+-- than the batch that it may serve.
+use Rattle.std.specs.Prelude.{◌≡◌, ℕ, ◌+◌, ◌^◌, ◌<◌, ◌≤◌, List, length, Some, Result, Ok, Err, slice_get}
+use Rattle.rows.specs.declared.commit.Commit.{Commit}
+use Rattle.rows.specs.declared.limits.TheConstants.{REPLICAS_MAX}
+use Rattle.wire.specs.declared.datagram.Datagram.{Datagram}
+use Rattle.wire.specs.declared.datagram.Datagram.TheVariants as datagrams
+use Rattle.wire.specs.declared.fault.WireFault.{WireFault}
+use Rattle.wire.specs.Reading.{reading}
+use Rattle.wire.specs.Spelling.{IsAsk}
+use Rattle.dispatcher.specs.Replica.{Fetched}
+use Rattle.world.specs.World.{World, Member, Batch}
+
+-- a batch asked at a version that is durable, and what was fetched for it is at least as new
+pub record IsFreshBatch (durable : List Commit) (batch : Batch) : Type 0 where
+  pub asked : batch.asked_at ≤ length durable
+  pub fetched_is : (fetched : Fetched) → batch.fetched ≡ Some fetched → (batch.asked_at ≤ fetched.version)
+      × (fetched.version ≤ length durable)
+
+-- a replica of its number, with a fresh batch
+pub record IsFreshMember (durable : List Commit) (number : ℕ) (m : Member) : Type 0 where
+  pub number_is : m.number ≡ number
+  pub boot_is : m.boot ≡ 1
+  pub batch_is : (batch : Batch) → m.batch ≡ Some batch → IsFreshBatch durable batch
+
+-- a Head of this request and version, against the replica that it goes to: the request was made, and where it is the
+-- newest one the version is at least what was durable when the batch asked
+pub record IsFreshHead (m : Member) (request version : ℕ) : Type 0 where
+  pub asked : request ≤ m.request
+  pub above : (batch : Batch) → m.batch ≡ Some batch → request ≡ m.request → batch.asked_at ≤ version
+
+-- what is known of bytes that were sent, by what they read as
+abbrev pub IsFreshReading : List Commit → List Member → Result Datagram WireFault → Type 0
+IsFreshReading durable members (Err fault) = Unit {0}
+IsFreshReading durable members (Ok (datagrams.Frame worker seq commit last entries)) = Unit {0}
+IsFreshReading durable members (Ok (datagrams.Ask replica boot request)) =
+    IsAsk replica boot request × ((m : Member) → slice_get members replica ≡ Some m → request ≤ m.request)
+IsFreshReading durable members (Ok (datagrams.Head replica boot request version counts)) =
+    (version ≤ length durable) × ((m : Member) → slice_get members replica ≡ Some m → IsFreshHead m request version)
+IsFreshReading durable members (Ok (datagrams.Want replica worker from)) = Unit {0}
+
+pub record Fresh (w : World) : Type 0 where
+  pub numbered : length w.primary.durable + length w.primary.pending < 2 ^ 64
+  pub few : length w.members ≤ REPLICAS_MAX
+  pub members_are : (i : ℕ) (m : Member) → slice_get w.members i ≡ Some m → IsFreshMember w.primary.durable i m
+  pub sent_is : (i : ℕ) (bytes : List ℕ) → slice_get w.sent i ≡ Some bytes → IsFreshReading w.primary.durable w.members (reading bytes)

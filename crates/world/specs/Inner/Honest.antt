@@ -1,0 +1,17 @@
+-- Only for proofs: a world in which nothing is damaged.
+use Rattle.std.specs.Prelude.{◌≡◌, ℕ, ◌≤◌, length, true, false, Some, slice_get, is_ok}
+use Rattle.rows.specs.Tables.{changes_of}
+use Rattle.rows.specs.Commits.{tables_after}
+use Rattle.rows.specs.Shape.{shape_of}
+use Rattle.mvcc.specs.Draft.{Draft}
+use Rattle.primary.specs.State.{Primary}
+use Rattle.world.specs.World.{World}
+
+-- a transaction that the primary began: its entries are defined on the rows at a version that is durable
+pub record IsBegun (p : Primary) (draft : Draft) : Type 0 where
+  pub known : draft.snapshot ≤ length p.durable
+  pub defined : is_ok (changes_of (tables_after (shape_of p.schema) p.durable draft.snapshot) draft.entries) ≡ true
+
+pub record IsHonest (w : World) : Type 0 where
+  pub whole : w.primary.failed ≡ false
+  pub begun : (i : ℕ) (draft : Draft) → slice_get w.transactions i ≡ Some (Some draft) → IsBegun w.primary draft

@@ -1,0 +1,80 @@
+-- Only for proofs: what is true of the parts at each step, and what makes them a world.
+use Rattle.std.specs.Prelude.{◌≡◌, ℕ, ◌+◌, ◌^◌, ◌<◌, ◌≤◌, List, ◌++◌, length, Bool, true, false, Option, None, Some, Result, Ok, Err}
+use Rattle.std.specs.Prelude.{slice_get, is_none}
+use Rattle.std.specs.List.{AllByRecursion}
+use Rattle.rows.specs.declared.commit.Commit.{Commit}
+use Rattle.rows.specs.declared.limits.TheConstants.{REPLICAS_MAX}
+use Rattle.rows.specs.Shape.{Shape, shape_of}
+use Rattle.rows.specs.Spelling.{HasSpelling}
+use Rattle.wire.specs.declared.datagram.Datagram.{Datagram}
+use Rattle.wire.specs.declared.datagram.Datagram.TheVariants as datagrams
+use Rattle.wire.specs.declared.fault.WireFault.{WireFault}
+use Rattle.wire.specs.Reading.{reading}
+use Rattle.wire.specs.Spelling.{IsAsk}
+use Rattle.mvcc.specs.declared.transaction.TheConstants.{TRANSACTION_ENTRIES_MAX}
+use Rattle.mvcc.specs.Draft.{Draft}
+use Rattle.primary.specs.State.{Primary}
+use Rattle.dispatcher.specs.Feeding.{IsFedFrom, Tells}
+use Rattle.dispatcher.specs.Replica.{Replica, Batch as ReplicaBatch}
+use Rattle.world.specs.Parts.{Parts}
+
+-- a commit of the only worker, with one or two entries, each of which has a spelling
+pub record IsSmall (commit : Commit) : Type 0 where
+  pub worker : commit.worker ≡ 0
+  pub some : 0 < length commit.entries
+  pub few : length commit.entries ≤ TRANSACTION_ENTRIES_MAX
+  pub spelled : AllByRecursion HasSpelling commit.entries
+
+-- the same of a transaction, which may have no entries yet, and reads a version that is durable
+pub record IsSmallDraft (durable : ℕ) (draft : Draft) : Type 0 where
+  pub known : draft.snapshot ≤ durable
+  pub few : length draft.entries ≤ TRANSACTION_ENTRIES_MAX
+  pub spelled : AllByRecursion HasSpelling draft.entries
+
+pub record IsSoundPrimary (shape : Shape) (p : Primary) : Type 0 where
+  pub shape_is : shape_of p.schema ≡ shape
+  pub workers_are : p.workers ≡ 1
+  pub small : AllByRecursion IsSmall (p.durable ++ p.pending)
+  pub numbered : length p.durable + length p.pending < 2 ^ 64
+
+-- a replica of this number in its first boot, which is fed from the durable list
+pub record IsFed (shape : Shape) (durable : List Commit) (number : ℕ) (r : Replica) : Type 0 where
+  pub feeding : IsFedFrom shape durable r
+  pub number_is : r.number ≡ number
+  pub boot_is : r.boot ≡ 1
+
+-- whether a replica waits for a Head
+abbrev pub awaits_by : Option ReplicaBatch → Bool
+awaits_by None = false
+awaits_by (Some queries) = is_none queries.fetched
+
+abbrev pub awaits : Replica → Bool
+awaits r = awaits_by r.batch
+
+-- a Head of this request and version, against the replica that it goes to
+pub record IsAnswer (r : Replica) (request version : ℕ) : Type 0 where
+  pub asked : request ≤ r.request
+  pub fresh : awaits r ≡ true → request ≡ r.request → r.version ≤ version
+
+-- what a datagram says of a replica's requests
+abbrev pub IsOfRequests : List Replica → Result Datagram WireFault → Type 0
+IsOfRequests replicas (Err fault) = Unit {0}
+IsOfRequests replicas (Ok (datagrams.Frame worker seq commit last entries)) = Unit {0}
+IsOfRequests replicas (Ok (datagrams.Ask replica boot request)) =
+    IsAsk replica boot request × ((r : Replica) → slice_get replicas replica ≡ Some r → request ≤ r.request)
+IsOfRequests replicas (Ok (datagrams.Head replica boot request version counts)) =
+    (r : Replica) → slice_get replicas replica ≡ Some r → IsAnswer r request version
+IsOfRequests replicas (Ok (datagrams.Want replica worker from)) = Unit {0}
+
+-- what is known of bytes that were sent, by what they read as
+pub record Means (durable : List Commit) (replicas : List Replica) (datagram : Result Datagram WireFault) : Type 0 where
+  pub tells : Tells durable datagram
+  pub requests : IsOfRequests replicas datagram
+
+pub record Sound (shape : Shape) (p : Parts) : Type 0 where
+  pub primary_is : IsSoundPrimary shape p.primary
+  pub drafts_are : (i : ℕ) (draft : Draft) → slice_get p.transactions i ≡ Some (Some draft) → IsSmallDraft (length p.primary.durable) draft
+  pub asked_there : length p.asked_at ≡ length p.replicas
+  pub few : length p.replicas ≤ REPLICAS_MAX
+  pub fed : (i : ℕ) (r : Replica) → slice_get p.replicas i ≡ Some r → IsFed shape p.primary.durable i r
+  pub sent_is : (i : ℕ) (bytes : List ℕ) → slice_get p.sent i ≡ Some bytes → Means p.primary.durable p.replicas (reading bytes)

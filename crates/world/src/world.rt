@@ -1,0 +1,72 @@
+//! The world: the cores and all that was ever sent, stepped by events.
+
+ghost use Rattle.std.specs.Prelude.{◌≡◌, ◌≤◌, length, IfOk};
+ghost use Rattle.rows.specs.Shape.{shape_of};
+ghost use Rattle.rows.specs.Commits.{IsLegal};
+ghost use Rattle.script.specs.Events.{IsPossible};
+ghost use Rattle.world.specs.Parts.{parts_started};
+ghost use Rattle.world.specs.Allowed.{MayHappen};
+ghost use Rattle.world.specs.Standing.{world_of, AreFed};
+ghost use Rattle.world.specs.Theorem.{ReportsItsBatch, IsBeginning, IsFaultless};
+
+use crate::cores::Cores;
+use script::{Event, Output, Setup};
+use std::alloc::{AllocError, Global};
+use std::marker::Model;
+
+/// One primary, its replicas, the open transactions, and every datagram that was ever sent.
+///
+/// Contracts see the cores as callers of each see it. `world_of` says which world they make.
+#[derive(Debug, Drop)]
+pub struct World {
+    cores: Cores,
+}
+
+impl Model for World {
+    ghost use Rattle.world.specs.Parts.{Parts};
+    ghost use Rattle.world.specs.Inner.Kept.{IsKept};
+
+    ghost Value = { Parts };
+
+    ghost view = { λ w. w.cores };
+
+    ghost invariant = { λ w. IsKept w.cores };
+}
+
+impl World {
+    /// A primary without commits, and replicas without frames, each with boot 1. For now there is
+    /// one worker. Fails for want of memory alone.
+    pub fn new(alloc: Global, setup: &Setup) -> Result<World, AllocError>
+        requires workers { setup.now.workers ≡ 1 }
+        requires replicas { setup.now.replicas ≤ 16 }
+        ensures { IfOk result (λ world. world ≡ parts_started setup.now) }
+    {
+        setup.schema.keeps_limits();
+        let cores = Cores::start(alloc, setup)?;
+        Ok(World { cores })
+    }
+
+    /// Lets an event happen, and answers what it gave. The worker and the replica that it names
+    /// are there. Where it answers `memory`, nothing has changed but for a run that was cut short.
+    pub fn step(&mut self, event: &Event) -> Output
+        requires possible { IsPossible self.old.primary.workers (length self.old.replicas) event.now }
+        ensures happens { MayHappen (world_of self.old) event.now result (world_of self.new) }
+        ensures reports { ReportsItsBatch self.old.primary.durable (world_of self.old) event.now result }
+        ensures durable { IsBeginning self.old.primary.durable self.new.primary.durable }
+        ensures fed { AreFed self.new }
+        ensures faultless { IsFaultless result }
+        ensures schema { self.new.primary.schema ≡ self.old.primary.schema }
+        ensures workers { self.new.primary.workers ≡ self.old.primary.workers }
+        ensures replicas { length self.new.replicas ≡ length self.old.replicas }
+    {
+        self.cores.keeps_legal();
+        self.cores.happen(event)
+    }
+
+    /// What is durable is a legal list for its workers.
+    pub fn keeps_legal(&self)
+        ensures { IsLegal (shape_of self.now.primary.schema) self.now.primary.workers self.now.primary.durable }
+    {
+        self.cores.keeps_legal();
+    }
+}
