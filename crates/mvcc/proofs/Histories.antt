@@ -11,51 +11,49 @@ use Rattle.std.proofs.Math.Seq.{take-append_seam}
 use Rattle.std.proofs.lemmas.Bool.Decides.{nat_tests}
 use Rattle.rows.specs.declared.commit.Commit.{Commit}
 use Rattle.rows.specs.declared.entry.Entry.{Entry}
-use Rattle.rows.specs.declared.value.Value.{Value}
-use Rattle.rows.specs.Shape.{Shape, kinds_in}
 use Rattle.rows.specs.Commits.{is_of, last_where}
-use Rattle.rows.specs.RowAfter.{row_after_one, row_after, row_after_commits}
-use Rattle.rows.proofs.RowLaws.{row_after-push, row_after_commits-push, row_after-unnamed}
+use Rattle.mvcc.specs.RowBytes.{bytes_after_one, bytes_after, bytes_after_commits}
+use Rattle.mvcc.proofs.RowBytes.{bytes_after-push, bytes_after_commits-push, bytes_after-unnamed}
 use Rattle.mvcc.specs.declared.link.Link.{Link}
 use Rattle.mvcc.specs.Newest.{writes, newest_of}
-use Rattle.mvcc.specs.Chains.{link_of, chain_behind, chain_of, newest_from, newest_in, latest_from, latest_in, values_from, values_at}
+use Rattle.mvcc.specs.Chains.{link_of, chain_behind, chain_of, newest_from, newest_in, latest_from, latest_in, bytes_from, bytes_at}
 use Rattle.mvcc.specs.Chains.{cut_at, linked, and_entries}
 use Rattle.mvcc.proofs.Links.{newest-push}
 
 -- a link, where there is one
-abbrev link_if : Bool → ℕ → Option (List Value) → List Link
-link_if b number values = cond b (record { version = number; values = values } ∷ []) []
+abbrev link_if : Bool → ℕ → Option (List ℕ) → List Link
+link_if b number bytes = cond b (record { version = number; bytes = bytes } ∷ []) []
 
 -- one more commit at the end of the list
-pub chain-push : (shape : Shape) (t r before : ℕ) (was : Option (List Value)) (commits : List Commit) (commit : Commit)
-    → chain_behind shape t r before was (commits ++ commit ∷ [])
-    ≡ chain_behind shape t r before was commits
-    ++ link_of t r (before + length commits + 1) commit (row_after shape t r commit.entries (row_after_commits shape t r commits was))
-chain-push shape t r before was [] commit =
-    ap (λ n. link_of t r (n + 1) commit (row_after shape t r commit.entries was) ++ []) (sym (add-zero before)) ∙ append-nil _
-chain-push shape t r before was (first ∷ commits) commit =
-    let now = row_after shape t r first.entries was in
+pub chain-push : (t r before : ℕ) (was : Option (List ℕ)) (commits : List Commit) (commit : Commit)
+    → chain_behind t r before was (commits ++ commit ∷ [])
+    ≡ chain_behind t r before was commits
+    ++ link_of t r (before + length commits + 1) commit (bytes_after t r commit.entries (bytes_after_commits t r commits was))
+chain-push t r before was [] commit =
+    ap (λ n. link_of t r (n + 1) commit (bytes_after t r commit.entries was) ++ []) (sym (add-zero before)) ∙ append-nil _
+chain-push t r before was (first ∷ commits) commit =
+    let now = bytes_after t r first.entries was in
     let same : before + 1 + length commits ≡ before + suc (length commits) = omega arith in
-    ap (λ links. link_of t r (before + 1) first now ++ links) (chain-push shape t r (before + 1) now commits commit)
-    ∙ sym (append_assoc (link_of t r (before + 1) first now) (chain_behind shape t r (before + 1) now commits)
+    ap (λ links. link_of t r (before + 1) first now ++ links) (chain-push t r (before + 1) now commits commit)
+    ∙ sym (append_assoc (link_of t r (before + 1) first now) (chain_behind t r (before + 1) now commits)
     (link_of t r (before + 1 + length commits + 1) commit
-    (row_after shape t r commit.entries (row_after_commits shape t r commits now))))
-    ∙ ap (λ n. (link_of t r (before + 1) first now ++ chain_behind shape t r (before + 1) now commits)
-    ++ link_of t r (n + 1) commit (row_after shape t r commit.entries (row_after_commits shape t r commits now))) same
+    (bytes_after t r commit.entries (bytes_after_commits t r commits now))))
+    ∙ ap (λ n. (link_of t r (before + 1) first now ++ chain_behind t r (before + 1) now commits)
+    ++ link_of t r (n + 1) commit (bytes_after t r commit.entries (bytes_after_commits t r commits now))) same
 
 -- the version of the last link is the last commit that wrote the row
-pub chain-newest : (shape : Shape) (t r before : ℕ) (was : Option (List Value)) (commits : List Commit) (last : ℕ)
-    → newest_from last (chain_behind shape t r before was commits) ≡ cond (last_where (writes t r) before commits == 0) last
+pub chain-newest : (t r before : ℕ) (was : Option (List ℕ)) (commits : List Commit) (last : ℕ)
+    → newest_from last (chain_behind t r before was commits) ≡ cond (last_where (writes t r) before commits == 0) last
     (last_where (writes t r) before commits)
-chain-newest shape t r before was [] last = refl
-chain-newest shape t r before was (commit ∷ commits) last =
-    by (writes t r commit) (chain-newest shape t r (before + 1) (row_after shape t r commit.entries was) commits)
+chain-newest t r before was [] last = refl
+chain-newest t r before was (commit ∷ commits) last =
+    by (writes t r commit) (chain-newest t r (before + 1) (bytes_after t r commit.entries was) commits)
   where
     by : (b : Bool) → ((last : ℕ) → newest_from last
-        (chain_behind shape t r (before + 1) (row_after shape t r commit.entries was) commits) ≡ cond
+        (chain_behind t r (before + 1) (bytes_after t r commit.entries was) commits) ≡ cond
         (last_where (writes t r) (before + 1) commits == 0) last (last_where (writes t r) (before + 1) commits))
-        → newest_from last (cond b (record { version = before + 1; values = row_after shape t r commit.entries was } ∷ []) []
-        ++ chain_behind shape t r (before + 1) (row_after shape t r commit.entries was) commits)
+        → newest_from last (cond b (record { version = before + 1; bytes = bytes_after t r commit.entries was } ∷ []) []
+        ++ chain_behind t r (before + 1) (bytes_after t r commit.entries was) commits)
         ≡ cond
         (cond (last_where (writes t r) (before + 1) commits == 0) (cond b (before + 1) 0) (last_where (writes t r) (before + 1) commits)
         == 0)
@@ -74,184 +72,184 @@ newest-le t r before (commit ∷ commits) = by (writes t r commit) (newest-le t 
     by true h = grind (arith, nat_tests)
     by false h = grind (arith, nat_tests)
 
--- the values of the last link are the row's after all commits
-pub chain-latest : (shape : Shape) (t r before : ℕ) (was : Option (List Value)) (commits : List Commit)
-    → latest_from was (chain_behind shape t r before was commits) ≡ row_after_commits shape t r commits was
-chain-latest shape t r before was [] = refl
-chain-latest shape t r before was (commit ∷ commits) =
-    by (writes t r commit) refl (chain-latest shape t r (before + 1) (row_after shape t r commit.entries was) commits)
+-- the bytes of the last link are the row's after all commits
+pub chain-latest : (t r before : ℕ) (was : Option (List ℕ)) (commits : List Commit)
+    → latest_from was (chain_behind t r before was commits) ≡ bytes_after_commits t r commits was
+chain-latest t r before was [] = refl
+chain-latest t r before was (commit ∷ commits) =
+    by (writes t r commit) refl (chain-latest t r (before + 1) (bytes_after t r commit.entries was) commits)
   where
     by : (b : Bool) → writes t r commit ≡ b
-        → latest_from (row_after shape t r commit.entries was)
-        (chain_behind shape t r (before + 1) (row_after shape t r commit.entries was) commits) ≡ row_after_commits shape t r commits
-        (row_after shape t r commit.entries was)
-        → latest_from was (cond b (record { version = before + 1; values = row_after shape t r commit.entries was } ∷ []) []
-        ++ chain_behind shape t r (before + 1) (row_after shape t r commit.entries was) commits)
-        ≡ row_after_commits shape t r commits (row_after shape t r commit.entries was)
+        → latest_from (bytes_after t r commit.entries was)
+        (chain_behind t r (before + 1) (bytes_after t r commit.entries was) commits) ≡ bytes_after_commits t r commits
+        (bytes_after t r commit.entries was)
+        → latest_from was (cond b (record { version = before + 1; bytes = bytes_after t r commit.entries was } ∷ []) []
+        ++ chain_behind t r (before + 1) (bytes_after t r commit.entries was) commits)
+        ≡ bytes_after_commits t r commits (bytes_after t r commit.entries was)
     by true e rest = rest
     by false e rest =
-        let same = row_after-unnamed shape t r commit.entries was e in
-        ap (λ last. latest_from last (chain_behind shape t r (before + 1) (row_after shape t r commit.entries was) commits)) (sym same)
+        let same = bytes_after-unnamed t r commit.entries was e in
+        ap (λ last. latest_from last (chain_behind t r (before + 1) (bytes_after t r commit.entries was) commits)) (sym same)
         ∙ rest
 
 -- the versions of the links are later than the commits before the list
-chain-above : (shape : Shape) (t r before : ℕ) (was : Option (List Value)) (commits : List Commit) (i : ℕ) (d : Link)
-    → i < length (chain_behind shape t r before was commits)
-    → before < (get_or (chain_behind shape t r before was commits) i d).version
-chain-above shape t r before was [] i d h = absurd (omega arith)
-chain-above shape t r before was (commit ∷ commits) i d h =
-    by (writes t r commit) i (chain-above shape t r (before + 1) (row_after shape t r commit.entries was) commits) h
+chain-above : (t r before : ℕ) (was : Option (List ℕ)) (commits : List Commit) (i : ℕ) (d : Link)
+    → i < length (chain_behind t r before was commits)
+    → before < (get_or (chain_behind t r before was commits) i d).version
+chain-above t r before was [] i d h = absurd (omega arith)
+chain-above t r before was (commit ∷ commits) i d h =
+    by (writes t r commit) i (chain-above t r (before + 1) (bytes_after t r commit.entries was) commits) h
   where
     by : (b : Bool) (i : ℕ)
-        → ((i : ℕ) (d : Link) → i < length (chain_behind shape t r (before + 1) (row_after shape t r commit.entries was) commits)
-        → before + 1 < (get_or (chain_behind shape t r (before + 1) (row_after shape t r commit.entries was) commits) i d).version)
-        → i < length (link_if b (before + 1) (row_after shape t r commit.entries was)
-        ++ chain_behind shape t r (before + 1) (row_after shape t r commit.entries was) commits)
-        → before < (get_or (link_if b (before + 1) (row_after shape t r commit.entries was)
-        ++ chain_behind shape t r (before + 1) (row_after shape t r commit.entries was) commits) i d).version
+        → ((i : ℕ) (d : Link) → i < length (chain_behind t r (before + 1) (bytes_after t r commit.entries was) commits)
+        → before + 1 < (get_or (chain_behind t r (before + 1) (bytes_after t r commit.entries was) commits) i d).version)
+        → i < length (link_if b (before + 1) (bytes_after t r commit.entries was)
+        ++ chain_behind t r (before + 1) (bytes_after t r commit.entries was) commits)
+        → before < (get_or (link_if b (before + 1) (bytes_after t r commit.entries was)
+        ++ chain_behind t r (before + 1) (bytes_after t r commit.entries was) commits) i d).version
     by true zero rest h = omega arith
     by true (suc i) rest h = omega (arith, rest i d (omega arith))
     by false i rest h = omega (arith, rest i d h)
 
 -- they do not fall
-chain-ascends : (shape : Shape) (t r before : ℕ) (was : Option (List Value)) (commits : List Commit)
-    → IsNonDecreasingBy (λ (link : Link). link.version) (chain_behind shape t r before was commits)
-chain-ascends shape t r before was [] i j d h k = absurd (omega arith)
-chain-ascends shape t r before was (commit ∷ commits) i j d h k =
-    by (writes t r commit) i j (chain-above shape t r (before + 1) (row_after shape t r commit.entries was) commits)
-    (chain-ascends shape t r (before + 1) (row_after shape t r commit.entries was) commits) h k
+chain-ascends : (t r before : ℕ) (was : Option (List ℕ)) (commits : List Commit)
+    → IsNonDecreasingBy (λ (link : Link). link.version) (chain_behind t r before was commits)
+chain-ascends t r before was [] i j d h k = absurd (omega arith)
+chain-ascends t r before was (commit ∷ commits) i j d h k =
+    by (writes t r commit) i j (chain-above t r (before + 1) (bytes_after t r commit.entries was) commits)
+    (chain-ascends t r (before + 1) (bytes_after t r commit.entries was) commits) h k
   where
     by : (b : Bool) (i j : ℕ)
-        → ((i : ℕ) (d : Link) → i < length (chain_behind shape t r (before + 1) (row_after shape t r commit.entries was) commits)
-        → before + 1 < (get_or (chain_behind shape t r (before + 1) (row_after shape t r commit.entries was) commits) i d).version)
+        → ((i : ℕ) (d : Link) → i < length (chain_behind t r (before + 1) (bytes_after t r commit.entries was) commits)
+        → before + 1 < (get_or (chain_behind t r (before + 1) (bytes_after t r commit.entries was) commits) i d).version)
         → IsNonDecreasingBy (λ (link : Link). link.version)
-        (chain_behind shape t r (before + 1) (row_after shape t r commit.entries was) commits)
-        → i ≤ j → j < length (link_if b (before + 1) (row_after shape t r commit.entries was)
-        ++ chain_behind shape t r (before + 1) (row_after shape t r commit.entries was) commits)
-        → (get_or (link_if b (before + 1) (row_after shape t r commit.entries was)
-        ++ chain_behind shape t r (before + 1) (row_after shape t r commit.entries was) commits) i d).version
-        ≤ (get_or (link_if b (before + 1) (row_after shape t r commit.entries was)
-        ++ chain_behind shape t r (before + 1) (row_after shape t r commit.entries was) commits) j d).version
+        (chain_behind t r (before + 1) (bytes_after t r commit.entries was) commits)
+        → i ≤ j → j < length (link_if b (before + 1) (bytes_after t r commit.entries was)
+        ++ chain_behind t r (before + 1) (bytes_after t r commit.entries was) commits)
+        → (get_or (link_if b (before + 1) (bytes_after t r commit.entries was)
+        ++ chain_behind t r (before + 1) (bytes_after t r commit.entries was) commits) i d).version
+        ≤ (get_or (link_if b (before + 1) (bytes_after t r commit.entries was)
+        ++ chain_behind t r (before + 1) (bytes_after t r commit.entries was) commits) j d).version
     by true zero zero above rest h k = omega arith
     by true zero (suc j) above rest h k = omega (arith, above j d (omega arith))
     by true (suc i) zero above rest h k = absurd (omega arith)
     by true (suc i) (suc j) above rest h k = rest i j d (omega arith) (omega arith)
     by false i j above rest h k = rest i j d h k
 
-pub chain-sorted : (shape : Shape) (t r : ℕ) (commits : List Commit)
-    → IsNonDecreasingBy (λ (link : Link). link.version) (chain_of shape t r commits)
-chain-sorted shape t r commits = chain-ascends shape t r 0 None commits
+pub chain-sorted : (t r : ℕ) (commits : List Commit)
+    → IsNonDecreasingBy (λ (link : Link). link.version) (chain_of t r commits)
+chain-sorted t r commits = chain-ascends t r 0 None commits
 
 -- before the first commit of the list nothing was linked
-values-none : (version : ℕ) (links : List Link) (was : Option (List Value))
-    → ((i : ℕ) (d : Link) → i < length links → version < (get_or links i d).version) → values_from version was links ≡ was
-values-none version [] was above = refl
-values-none version (link ∷ links) was above =
+bytes-none : (version : ℕ) (links : List Link) (was : Option (List ℕ))
+    → ((i : ℕ) (d : Link) → i < length links → version < (get_or links i d).version) → bytes_from version was links ≡ was
+bytes-none version [] was above = refl
+bytes-none version (link ∷ links) was above =
     let later : nat_le link.version version ≡ false = lt-leb _ _ (above 0 link (omega arith)) in
-    ap (λ b. cond b (values_from version link.values links) was) later
+    ap (λ b. cond b (bytes_from version link.bytes links) was) later
 
--- the values at a version are the row's after the commits up to it
-chain-values : (shape : Shape) (t r before version : ℕ) (was : Option (List Value)) (commits : List Commit)
-    → values_from (before + version) was (chain_behind shape t r before was commits) ≡ row_after_commits shape t r
+-- the bytes at a version are the row's after the commits up to it
+chain-bytes : (t r before version : ℕ) (was : Option (List ℕ)) (commits : List Commit)
+    → bytes_from (before + version) was (chain_behind t r before was commits) ≡ bytes_after_commits t r
     (take version commits) was
-chain-values shape t r before zero was commits =
-    values-none (before + 0) (chain_behind shape t r before was commits) was
-    (λ i d h. omega (arith, chain-above shape t r before was commits i d h))
-chain-values shape t r before (suc version) was [] = refl
-chain-values shape t r before (suc version) was (commit ∷ commits) =
+chain-bytes t r before zero was commits =
+    bytes-none (before + 0) (chain_behind t r before was commits) was
+    (λ i d h. omega (arith, chain-above t r before was commits i d h))
+chain-bytes t r before (suc version) was [] = refl
+chain-bytes t r before (suc version) was (commit ∷ commits) =
     by (writes t r commit) refl (ap
-    (λ n. values_from n (row_after shape t r commit.entries was)
-    (chain_behind shape t r (before + 1) (row_after shape t r commit.entries was) commits)) same
-    ∙ chain-values shape t r (before + 1) version (row_after shape t r commit.entries was) commits)
+    (λ n. bytes_from n (bytes_after t r commit.entries was)
+    (chain_behind t r (before + 1) (bytes_after t r commit.entries was) commits)) same
+    ∙ chain-bytes t r (before + 1) version (bytes_after t r commit.entries was) commits)
   where
     same : before + suc version ≡ before + 1 + version
     same = omega arith
 
     by : (b : Bool) → writes t r commit ≡ b
-        → values_from (before + suc version) (row_after shape t r commit.entries was)
-        (chain_behind shape t r (before + 1) (row_after shape t r commit.entries was) commits) ≡ row_after_commits shape t r
-        (take version commits) (row_after shape t r commit.entries was)
-        → values_from (before + suc version) was
-        (link_if b (before + 1) (row_after shape t r commit.entries was)
-        ++ chain_behind shape t r (before + 1) (row_after shape t r commit.entries was) commits)
-        ≡ row_after_commits shape t r (take version commits) (row_after shape t r commit.entries was)
+        → bytes_from (before + suc version) (bytes_after t r commit.entries was)
+        (chain_behind t r (before + 1) (bytes_after t r commit.entries was) commits) ≡ bytes_after_commits t r
+        (take version commits) (bytes_after t r commit.entries was)
+        → bytes_from (before + suc version) was
+        (link_if b (before + 1) (bytes_after t r commit.entries was)
+        ++ chain_behind t r (before + 1) (bytes_after t r commit.entries was) commits)
+        ≡ bytes_after_commits t r (take version commits) (bytes_after t r commit.entries was)
     by true e rest =
         let early : nat_le (before + 1) (before + suc version) ≡ true = le-leb _ _ (omega arith) in
-        ap (λ b. cond b (values_from (before + suc version) (row_after shape t r commit.entries was)
-        (chain_behind shape t r (before + 1) (row_after shape t r commit.entries was) commits)) was) early ∙ rest
+        ap (λ b. cond b (bytes_from (before + suc version) (bytes_after t r commit.entries was)
+        (chain_behind t r (before + 1) (bytes_after t r commit.entries was) commits)) was) early ∙ rest
     by false e rest =
-        let same_row = row_after-unnamed shape t r commit.entries was e in
-        ap (λ last. values_from (before + suc version) last
-        (chain_behind shape t r (before + 1) (row_after shape t r commit.entries was) commits)) (sym same_row) ∙ rest
+        let same_row = bytes_after-unnamed t r commit.entries was e in
+        ap (λ last. bytes_from (before + suc version) last
+        (chain_behind t r (before + 1) (bytes_after t r commit.entries was) commits)) (sym same_row) ∙ rest
 
-pub chain-at : (shape : Shape) (t r version : ℕ) (commits : List Commit)
-    → values_at version (chain_of shape t r commits) ≡ row_after_commits shape t r (take version commits) None
-chain-at shape t r version commits =
-    ap (λ n. values_at n (chain_of shape t r commits)) (sym (zero-add version)) ∙ chain-values shape t r 0 version None commits
+pub chain-at : (t r version : ℕ) (commits : List Commit)
+    → bytes_at version (chain_of t r commits) ≡ bytes_after_commits t r (take version commits) None
+chain-at t r version commits =
+    ap (λ n. bytes_at n (chain_of t r commits)) (sym (zero-add version)) ∙ chain-bytes t r 0 version None commits
 
-pub chain-newest_of : (shape : Shape) (t r : ℕ) (commits : List Commit) → newest_in (chain_of shape t r commits) ≡ newest_of t r commits
-chain-newest_of shape t r commits = chain-newest shape t r 0 None commits 0 ∙ alike (newest_of t r commits)
+pub chain-newest_of : (t r : ℕ) (commits : List Commit) → newest_in (chain_of t r commits) ≡ newest_of t r commits
+chain-newest_of t r commits = chain-newest t r 0 None commits 0 ∙ alike (newest_of t r commits)
   where
     alike : (n : ℕ) → cond (n == 0) 0 n ≡ n
     alike n = grind (arith, nat_tests)
 
 -- the chain of a row once one more commit has these entries
-and_entries-chain : (shape : Shape) (t r : ℕ) (commits : List Commit) (entries : List Entry)
-    → chain_of shape t r (and_entries commits entries)
-    ≡ chain_of shape t r commits ++ link_if (list_any (is_of t r) entries) (length commits + 1)
-    (row_after shape t r entries (row_after_commits shape t r commits None))
-and_entries-chain shape t r commits entries =
-    chain-push shape t r 0 None commits (record { worker = 0; entries = entries })
-    ∙ ap (λ n. chain_of shape t r commits
-    ++ link_if (list_any (is_of t r) entries) (n + 1) (row_after shape t r entries (row_after_commits shape t r commits None)))
+and_entries-chain : (t r : ℕ) (commits : List Commit) (entries : List Entry)
+    → chain_of t r (and_entries commits entries)
+    ≡ chain_of t r commits ++ link_if (list_any (is_of t r) entries) (length commits + 1)
+    (bytes_after t r entries (bytes_after_commits t r commits None))
+and_entries-chain t r commits entries =
+    chain-push t r 0 None commits (record { worker = 0; entries = entries })
+    ∙ ap (λ n. chain_of t r commits
+    ++ link_if (list_any (is_of t r) entries) (n + 1) (bytes_after t r entries (bytes_after_commits t r commits None)))
     (zero-add (length commits))
 
 -- which worker commits is nothing to the chains
-pub and_entries-commit : (shape : Shape) (t r : ℕ) (commits : List Commit) (commit : Commit)
-    → chain_of shape t r (commits ++ commit ∷ []) ≡ chain_of shape t r (and_entries commits commit.entries)
-and_entries-commit shape t r commits commit =
-    chain-push shape t r 0 None commits commit ∙ sym (chain-push shape t r 0 None commits (record { worker = 0; entries = commit.entries }))
+pub and_entries-commit : (t r : ℕ) (commits : List Commit) (commit : Commit)
+    → chain_of t r (commits ++ commit ∷ []) ≡ chain_of t r (and_entries commits commit.entries)
+and_entries-commit t r commits commit =
+    chain-push t r 0 None commits commit ∙ sym (chain-push t r 0 None commits (record { worker = 0; entries = commit.entries }))
 
 -- a commit without entries links nothing, and neither do entries of other rows
-pub and_entries-other : (shape : Shape) (t r : ℕ) (commits : List Commit) (entries : List Entry) → list_any (is_of t r) entries ≡ false
-    → chain_of shape t r (and_entries commits entries) ≡ chain_of shape t r commits
-and_entries-other shape t r commits entries h =
-    and_entries-chain shape t r commits entries
-    ∙ ap (λ b. chain_of shape t r commits
-    ++ link_if b (length commits + 1) (row_after shape t r entries (row_after_commits shape t r commits None))) h
-    ∙ append-nil (chain_of shape t r commits)
+pub and_entries-other : (t r : ℕ) (commits : List Commit) (entries : List Entry) → list_any (is_of t r) entries ≡ false
+    → chain_of t r (and_entries commits entries) ≡ chain_of t r commits
+and_entries-other t r commits entries h =
+    and_entries-chain t r commits entries
+    ∙ ap (λ b. chain_of t r commits
+    ++ link_if b (length commits + 1) (bytes_after t r entries (bytes_after_commits t r commits None))) h
+    ∙ append-nil (chain_of t r commits)
 
 -- the chain of a row is as it was once the link of the next commit is cut off, where there is one
-pub cut-chain : (shape : Shape) (t r : ℕ) (commits : List Commit)
-    → cut_at (length commits + 1) (chain_of shape t r commits) ≡ chain_of shape t r commits
-cut-chain shape t r commits =
-    let newest = chain-newest_of shape t r commits in
+pub cut-chain : (t r : ℕ) (commits : List Commit)
+    → cut_at (length commits + 1) (chain_of t r commits) ≡ chain_of t r commits
+cut-chain t r commits =
+    let newest = chain-newest_of t r commits in
     let below = newest-le t r 0 commits in
-    let other : (newest_in (chain_of shape t r commits) == length commits + 1) ≡ false = ne_eqb _ _ (λ e. omega arith) in
-    ap (λ b. cond b (take (length (chain_of shape t r commits) - 1) (chain_of shape t r commits)) (chain_of shape t r commits)) other
+    let other : (newest_in (chain_of t r commits) == length commits + 1) ≡ false = ne_eqb _ _ (λ e. omega arith) in
+    ap (λ b. cond b (take (length (chain_of t r commits) - 1) (chain_of t r commits)) (chain_of t r commits)) other
 
-cut-push : (links : List Link) (number : ℕ) (values : Option (List Value))
-    → cut_at number (links ++ record { version = number; values = values } ∷ []) ≡ links
-cut-push links number values =
-    let link : Link = record { version = number; values = values } in
+cut-push : (links : List Link) (number : ℕ) (bytes : Option (List ℕ))
+    → cut_at number (links ++ record { version = number; bytes = bytes } ∷ []) ≡ links
+cut-push links number bytes =
+    let link : Link = record { version = number; bytes = bytes } in
     let same : (newest_in (links ++ link ∷ []) == number) ≡ true = eq-eqb _ _ (newest-push links link 0) in
     let count : length (links ++ link ∷ []) - 1 ≡ length links = omega (arith, length-append links (link ∷ [])) in
     ap (λ b. cond b (take (length (links ++ link ∷ []) - 1) (links ++ link ∷ [])) (links ++ link ∷ [])) same
     ∙ ap (λ n. take n (links ++ link ∷ [])) count
     ∙ take-append_seam links (link ∷ [])
 
-pub cut-and_entries : (shape : Shape) (t r : ℕ) (commits : List Commit) (entries : List Entry)
-    → cut_at (length commits + 1) (chain_of shape t r (and_entries commits entries)) ≡ chain_of shape t r commits
-cut-and_entries shape t r commits entries =
-    ap (cut_at (length commits + 1)) (and_entries-chain shape t r commits entries)
+pub cut-and_entries : (t r : ℕ) (commits : List Commit) (entries : List Entry)
+    → cut_at (length commits + 1) (chain_of t r (and_entries commits entries)) ≡ chain_of t r commits
+cut-and_entries t r commits entries =
+    ap (cut_at (length commits + 1)) (and_entries-chain t r commits entries)
     ∙ by (list_any (is_of t r) entries)
   where
     by : (b : Bool) → cut_at (length commits + 1)
-        (chain_of shape t r commits ++ link_if b (length commits + 1)
-        (row_after shape t r entries (row_after_commits shape t r commits None))) ≡ chain_of shape t r commits
+        (chain_of t r commits ++ link_if b (length commits + 1)
+        (bytes_after t r entries (bytes_after_commits t r commits None))) ≡ chain_of t r commits
     by true =
-        cut-push (chain_of shape t r commits) (length commits + 1) (row_after shape t r entries (row_after_commits shape t r commits None))
-    by false = ap (cut_at (length commits + 1)) (append-nil (chain_of shape t r commits)) ∙ cut-chain shape t r commits
+        cut-push (chain_of t r commits) (length commits + 1) (bytes_after t r entries (bytes_after_commits t r commits None))
+    by false = ap (cut_at (length commits + 1)) (append-nil (chain_of t r commits)) ∙ cut-chain t r commits
 
 any-push : {X : Type 0} (p : X → Bool) (xs : List X) (x : X) → list_any p (xs ++ x ∷ []) ≡ (list_any p xs || p x)
 any-push p xs x = list_any-append p xs (x ∷ []) ∙ ap (λ b. list_any p xs || b) (alone (p x))
@@ -260,57 +258,57 @@ any-push p xs x = list_any-append p xs (x ∷ []) ∙ ap (λ b. list_any p xs ||
     alone true = refl
     alone false = refl
 
--- the row's values after the entries so far are those of the last link
-latest-and_entries : (shape : Shape) (t r : ℕ) (commits : List Commit) (entries : List Entry)
-    → latest_in (chain_of shape t r (and_entries commits entries)) ≡ row_after shape t r entries (row_after_commits shape t r commits None)
-latest-and_entries shape t r commits entries =
-    chain-latest shape t r 0 None (and_entries commits entries)
-    ∙ row_after_commits-push shape t r commits (record { worker = 0; entries = entries }) None
+-- the row's bytes after the entries so far are those of the last link
+latest-and_entries : (t r : ℕ) (commits : List Commit) (entries : List Entry)
+    → latest_in (chain_of t r (and_entries commits entries)) ≡ bytes_after t r entries (bytes_after_commits t r commits None)
+latest-and_entries t r commits entries =
+    chain-latest t r 0 None (and_entries commits entries)
+    ∙ bytes_after_commits-push t r commits (record { worker = 0; entries = entries }) None
 
 -- what an entry of the row, or of another, makes of its link
-entry-linked : (shape : Shape) (t r : ℕ) (commits : List Commit) (entries : List Entry) (entry : Entry) (named here : Bool)
+entry-linked : (t r : ℕ) (commits : List Commit) (entries : List Entry) (entry : Entry) (named here : Bool)
     → list_any (is_of t r) entries ≡ named
-    → chain_of shape t r commits ++ link_if (named || here) (length commits + 1)
-    (cond here (row_after_one (kinds_in shape t) entry (row_after shape t r entries (row_after_commits shape t r commits None)))
-    (row_after shape t r entries (row_after_commits shape t r commits None)))
-    ≡ cond here (linked (kinds_in shape t) (length commits + 1) entry (chain_of shape t r (and_entries commits entries)))
-    (chain_of shape t r (and_entries commits entries))
-entry-linked shape t r commits entries entry named true e =
-    ap (λ b. chain_of shape t r commits
+    → chain_of t r commits ++ link_if (named || here) (length commits + 1)
+    (cond here (bytes_after_one entry (bytes_after t r entries (bytes_after_commits t r commits None)))
+    (bytes_after t r entries (bytes_after_commits t r commits None)))
+    ≡ cond here (linked (length commits + 1) entry (chain_of t r (and_entries commits entries)))
+    (chain_of t r (and_entries commits entries))
+entry-linked t r commits entries entry named true e =
+    ap (λ b. chain_of t r commits
     ++ link_if b (length commits + 1)
-    (row_after_one (kinds_in shape t) entry (row_after shape t r entries (row_after_commits shape t r commits None)))) (surely named)
-    ∙ ap (λ values. chain_of shape t r commits
-    ++ record { version = length commits + 1; values = row_after_one (kinds_in shape t) entry values } ∷ [])
-    (sym (latest-and_entries shape t r commits entries))
+    (bytes_after_one entry (bytes_after t r entries (bytes_after_commits t r commits None)))) (surely named)
+    ∙ ap (λ bytes. chain_of t r commits
+    ++ record { version = length commits + 1; bytes = bytes_after_one entry bytes } ∷ [])
+    (sym (latest-and_entries t r commits entries))
     ∙ ap (λ links. links ++ record {
       version = length commits + 1;
-      values = row_after_one (kinds_in shape t) entry (latest_in (chain_of shape t r (and_entries commits entries)));
+      bytes = bytes_after_one entry (latest_in (chain_of t r (and_entries commits entries)));
     } ∷ [])
-    (sym (cut-and_entries shape t r commits entries))
+    (sym (cut-and_entries t r commits entries))
   where
     surely : (b : Bool) → (b || true) ≡ true
     surely true = refl
     surely false = refl
-entry-linked shape t r commits entries entry named false e =
-    ap (λ b. chain_of shape t r commits
-    ++ link_if b (length commits + 1) (row_after shape t r entries (row_after_commits shape t r commits None))) (alone named ∙ sym e)
-    ∙ sym (and_entries-chain shape t r commits entries)
+entry-linked t r commits entries entry named false e =
+    ap (λ b. chain_of t r commits
+    ++ link_if b (length commits + 1) (bytes_after t r entries (bytes_after_commits t r commits None))) (alone named ∙ sym e)
+    ∙ sym (and_entries-chain t r commits entries)
   where
     alone : (b : Bool) → (b || false) ≡ b
     alone true = refl
     alone false = refl
 
 -- one more entry of that commit
-pub and_entries-push : (shape : Shape) (t r : ℕ) (commits : List Commit) (entries : List Entry) (entry : Entry)
-    → chain_of shape t r (and_entries commits (entries ++ entry ∷ []))
-    ≡ cond (is_of t r entry) (linked (kinds_in shape t) (length commits + 1) entry (chain_of shape t r (and_entries commits entries)))
-    (chain_of shape t r (and_entries commits entries))
-and_entries-push shape t r commits entries entry =
+pub and_entries-push : (t r : ℕ) (commits : List Commit) (entries : List Entry) (entry : Entry)
+    → chain_of t r (and_entries commits (entries ++ entry ∷ []))
+    ≡ cond (is_of t r entry) (linked (length commits + 1) entry (chain_of t r (and_entries commits entries)))
+    (chain_of t r (and_entries commits entries))
+and_entries-push t r commits entries entry =
     let number = length commits + 1 in
-    let was = row_after_commits shape t r commits None in
-    and_entries-chain shape t r commits (entries ++ entry ∷ [])
-    ∙ ap (λ b. chain_of shape t r commits ++ link_if b number (row_after shape t r (entries ++ entry ∷ []) was))
+    let was = bytes_after_commits t r commits None in
+    and_entries-chain t r commits (entries ++ entry ∷ [])
+    ∙ ap (λ b. chain_of t r commits ++ link_if b number (bytes_after t r (entries ++ entry ∷ []) was))
     (any-push (is_of t r) entries entry)
-    ∙ ap (λ values. chain_of shape t r commits ++ link_if (list_any (is_of t r) entries || is_of t r entry) number values)
-    (row_after-push shape t r entries entry was)
-    ∙ entry-linked shape t r commits entries entry (list_any (is_of t r) entries) (is_of t r entry) refl
+    ∙ ap (λ bytes. chain_of t r commits ++ link_if (list_any (is_of t r) entries || is_of t r entry) number bytes)
+    (bytes_after-push t r entries entry was)
+    ∙ entry-linked t r commits entries entry (list_any (is_of t r) entries) (is_of t r entry) refl

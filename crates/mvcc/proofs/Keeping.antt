@@ -1,27 +1,27 @@
--- The chains of all tables are kept: with each entry that is linked, and where a commit is refused half way.
-use Rattle.std.proofs.Common.{◌≡◌, ℕ, suc, zero, ◌+◌, ◌<◌, Bool, true, false, cond, List, [], ◌∷◌, ◌++◌, length, get_or, take, replicate}
-use Rattle.std.proofs.Common.{Option, None, Some, Result, Ok, Err, refl, sym, ap, subst, ◌∙◌, arith}
-use Rattle.std.specs.List.{list_any, All}
-use Rattle.std.specs.Option.{is_some, option_map}
+-- The chains of all rows are kept: with each entry that is linked, and where a commit is refused half way.
+use Rattle.std.proofs.Common.{◌≡◌, ℕ, suc, zero, ◌+◌, ◌<◌, Bool, true, false, cond, List, [], ◌∷◌, ◌++◌, length, get_or, take, slice_get}
+use Rattle.std.proofs.Common.{Option, None, Some, Result, Ok, Err, refl, sym, ap, subst, ◌∙◌}
+use Rattle.std.specs.List.{list_any}
+use Rattle.std.specs.Option.{is_some, option_map, option_and_then}
 use Rattle.std.specs.List.Sorted.{IsNonDecreasingBy}
 use Rattle.std.specs.Result.{OnErr, is_ok}
 use Rattle.std.proofs.lemmas.Bool.{or_parts, or_from}
-use Rattle.std.proofs.lemmas.List.{take_more, length-set, length-replicate}
-use Rattle.std.proofs.Math.Seq.{take-append_seam}
+use Rattle.std.proofs.lemmas.List.{take_more}
 use Rattle.rows.specs.declared.commit.Commit.{Commit}
 use Rattle.rows.specs.declared.entry.Entry.{Entry}
-use Rattle.rows.specs.Shape.{Shape, kinds_in}
-use Rattle.rows.specs.Entries.{table_of, fitting}
-use Rattle.rows.specs.Tables.{Tables, shape_in, opening, rows_of, row_at, change_of, changes_of}
-use Rattle.rows.specs.Commits.{commits_of, tables_after, is_of}
-use Rattle.rows.proofs.Presence.{fitting-within, change_of-parts, and_then-parts}
-use Rattle.rows.proofs.TableLaws.{from_is_ok, commits_of-push, entry-kinds}
-use Rattle.rows.proofs.RowLaws.{row-at}
+use Rattle.rows.specs.declared.kind.Kind.{Kind}
+use Rattle.rows.specs.Shape.{Shape, kinds_in, row_width}
+use Rattle.rows.specs.Values.{values_of}
+use Rattle.rows.specs.Tables.{rows_of, row_at, changes_of}
+use Rattle.rows.specs.Commits.{tables_after, is_of}
+use Rattle.rows.proofs.TableLaws.{commits_of-push}
 use Rattle.mvcc.specs.declared.link.Link.{Link}
 use Rattle.mvcc.specs.Newest.{newest_of}
-use Rattle.mvcc.specs.Chains.{Chains, chain_of, newest_in, values_at, cut_at, linked, links_at, tables_linked, tables_cut, tables_cut_all}
+use Rattle.mvcc.specs.Values.{value_in}
+use Rattle.mvcc.specs.RowBytes.{AreWide}
+use Rattle.mvcc.specs.Chains.{Chains, chain_of, newest_in, bytes_at, cut_at, linked, links_at, cut_all, Turns}
 use Rattle.mvcc.specs.Chains.{and_entries, AreChains, AreChainsCut, AreVersions}
-use Rattle.mvcc.proofs.Links.{links_at-linked, links_at-cut}
+use Rattle.mvcc.proofs.RowBytes.{IsTold, version-told}
 use Rattle.mvcc.proofs.Histories.{chain-at, chain-sorted, chain-newest_of, cut-chain, cut-and_entries, and_entries-other, and_entries-push}
 use Rattle.mvcc.proofs.Histories.{and_entries-commit}
 
@@ -30,44 +30,20 @@ pub on_err : {T E P : Type 0} (r : Result T E) → P → OnErr r P
 on_err (Ok x) p = tt
 on_err (Err e) p = p
 
--- each entry of a commit that is defined fits
-pub all_fit : (shape : Shape) (tables : Tables) (entries : List Entry) → shape_in tables ≡ shape → is_ok (changes_of tables entries) ≡ true
-    → All (λ entry. is_ok (fitting shape entry) ≡ true) entries
-all_fit shape tables [] same h k d below = absurd (omega arith)
-all_fit shape tables (entry ∷ entries) same h zero d below =
-    let all = from_is_ok _ h in
-    let parts = and_then-parts _ (change_of tables entry) all.0 all.1 in
-    ap (λ shape. is_ok (fitting shape entry)) (sym same) ∙ (change_of-parts tables parts.0 entry parts.1).0
-all_fit shape tables (entry ∷ entries) same h (suc k) d below =
-    let all = from_is_ok _ h in
-    let parts = and_then-parts _ (change_of tables entry) all.0 all.1 in
-    all_fit shape parts.0 entries (entry-kinds tables parts.0 entry parts.1 ∙ same) (ap is_ok parts.2) k d (omega arith)
-
--- tables without chains are those of no commits
-pub kept-none : (shape : Shape) (count : ℕ) → AreChains shape [] (replicate count [])
-kept-none shape zero t r = refl
-kept-none shape (suc count) zero r = refl
-kept-none shape (suc count) (suc t) r = kept-none shape count t r
-
 -- the next commit without entries
-pub kept-begun : (shape : Shape) (commits : List Commit) (tables : List Chains) → AreChains shape commits tables
-    → AreChains shape (and_entries commits []) tables
-kept-begun shape commits tables kept t r = kept t r ∙ sym (and_entries-other shape t r commits [] refl)
+pub kept-begun : (commits : List Commit) (chains : Chains) → AreChains commits chains → AreChains (and_entries commits []) chains
+kept-begun commits chains kept t r = kept t r ∙ sym (and_entries-other t r commits [] refl)
 
 -- one entry more
-pub kept-linked : (shape : Shape) (commits : List Commit) (tables : List Chains) (entries : List Entry) (i : ℕ) (entry : Entry)
-    → length tables ≡ length shape
-    → i < length entries → entry ≡ get_or entries i entry → is_ok (fitting shape entry) ≡ true
-    → AreChains shape (and_entries commits (take i entries)) tables
-    → AreChains shape (and_entries commits (take (i + 1) entries)) (tables_linked shape (length commits + 1) tables entry)
-kept-linked shape commits tables entries i entry counted h e fits kept t r =
-    let within : table_of entry < length tables = omega (arith, fitting-within shape entry fits) in
+pub kept-linked : (commits : List Commit) (before after : Chains) (entries : List Entry) (i : ℕ) (entry : Entry)
+    → i < length entries → entry ≡ get_or entries i entry → Turns entry (linked (length commits + 1) entry) before after
+    → AreChains (and_entries commits (take i entries)) before → AreChains (and_entries commits (take (i + 1) entries)) after
+kept-linked commits before after entries i entry h e turns kept t r =
     let more : take (i + 1) entries ≡ take i entries ++ entry ∷ [] =
     take_more entries i entry h ∙ ap (λ x. take i entries ++ x ∷ []) (sym e) in
-    links_at-linked shape (length commits + 1) tables entry t r within
-    ∙ ap (λ links. cond (is_of t r entry) (linked (kinds_in shape t) (length commits + 1) entry links) links) (kept t r)
-    ∙ sym (ap (λ entries. chain_of shape t r (and_entries commits entries)) more
-    ∙ and_entries-push shape t r commits (take i entries) entry)
+    turns t r
+    ∙ ap (λ links. cond (is_of t r entry) (linked (length commits + 1) entry links) links) (kept t r)
+    ∙ sym (ap (λ entries. chain_of t r (and_entries commits entries)) more ∙ and_entries-push t r commits (take i entries) entry)
 
 -- the first of entries of other rows are of other rows
 any-take : {X : Type 0} (p : X → Bool) (i : ℕ) (xs : List X) → list_any p xs ≡ false → list_any p (take i xs) ≡ false
@@ -79,79 +55,106 @@ any-take p (suc i) (x ∷ xs) h =
     or_from (p x) (list_any p (take i xs)) parts.0 (any-take p i xs parts.1)
 
 -- what a refusal half way leaves
-pub cut-part : (shape : Shape) (commits : List Commit) (tables : List Chains) (entries : List Entry) (i : ℕ)
-    → AreChains shape (and_entries commits (take i entries)) tables → AreChainsCut shape commits entries tables
-cut-part shape commits tables entries i kept = record {
-  cut = λ t r. ap (cut_at (length commits + 1)) (kept t r) ∙ cut-and_entries shape t r commits (take i entries);
-  whole = λ t r h. kept t r ∙ and_entries-other shape t r commits (take i entries) (any-take (is_of t r) i entries h);
+pub cut-part : (commits : List Commit) (chains : Chains) (entries : List Entry) (i : ℕ)
+    → AreChains (and_entries commits (take i entries)) chains → AreChainsCut commits entries chains
+cut-part commits chains entries i kept = record {
+  cut = λ t r. ap (cut_at (length commits + 1)) (kept t r) ∙ cut-and_entries t r commits (take i entries);
+  whole = λ t r h. kept t r ∙ and_entries-other t r commits (take i entries) (any-take (is_of t r) i entries h);
 }
 
--- the chains are those of the commits again, once each row was cut
-pub kept-cut : (shape : Shape) (commits : List Commit) (tables : List Chains) (entries : List Entry) → length tables ≡ length shape
-    → All (λ entry. is_ok (fitting shape entry) ≡ true) entries
-    → AreChainsCut shape commits entries tables → AreChains shape commits (tables_cut_all (length commits + 1) tables entries)
-kept-cut shape commits tables [] counted fit left = λ t r. left.whole t r refl
-kept-cut shape commits tables (entry ∷ entries) counted fit left =
-    let number = length commits + 1 in
-    let within : table_of entry < length tables = omega (arith, fitting-within shape entry (fit 0 entry (omega arith))) in
-    let same = links_at-cut number tables entry in
-    kept-cut shape commits (tables_cut number tables entry) entries (length-set tables (table_of entry) _ ∙ counted)
-    (λ k d below. fit (suc k) d (omega arith))
-    (record {
-      cut = λ t r. ap (cut_at number) (same t r within) ∙ cut-twice t r (is_of t r entry);
-      whole = λ t r h. same t r within ∙ cut-here t r (is_of t r entry) (λ e. or_from (is_of t r entry) (list_any (is_of t r) entries) e h);
-    })
+-- a chain is that of the commits again, once it was cut for each entry of its row
+cut-again : (commits : List Commit) (t r : ℕ) (entries : List Entry) (links : List Link)
+    → cut_at (length commits + 1) links ≡ chain_of t r commits
+    → (list_any (is_of t r) entries ≡ false → links ≡ chain_of t r commits)
+    → cut_all (length commits + 1) t r entries links ≡ chain_of t r commits
+cut-again commits t r [] links cut whole = whole refl
+cut-again commits t r (entry ∷ entries) links cut whole = by (is_of t r entry) refl (cut-again commits t r entries)
   where
-    cut-twice : (t r : ℕ) (here : Bool)
-        → cut_at (length commits + 1) (cond here (cut_at (length commits + 1) (links_at tables t r)) (links_at tables t r))
-        ≡ chain_of shape t r commits
-    cut-twice t r true = ap (cut_at (length commits + 1)) (left.cut t r) ∙ cut-chain shape t r commits
-    cut-twice t r false = left.cut t r
+    by : (here : Bool) → is_of t r entry ≡ here
+        → ((links : List Link) → cut_at (length commits + 1) links ≡ chain_of t r commits
+        → (list_any (is_of t r) entries ≡ false → links ≡ chain_of t r commits)
+        → cut_all (length commits + 1) t r entries links ≡ chain_of t r commits)
+        → cut_all (length commits + 1) t r entries (cond here (cut_at (length commits + 1) links) links) ≡ chain_of t r commits
+    by true e next = next (cut_at (length commits + 1) links) (ap (cut_at (length commits + 1)) cut ∙ cut-chain t r commits) (λ none. cut)
+    by false e next = next links cut (λ none. whole (or_from (is_of t r entry) (list_any (is_of t r) entries) e none))
 
-    cut-here : (t r : ℕ) (here : Bool) → (here ≡ false → list_any (is_of t r) (entry ∷ entries) ≡ false)
-        → cond here (cut_at (length commits + 1) (links_at tables t r)) (links_at tables t r) ≡ chain_of shape t r commits
-    cut-here t r true apart = left.cut t r
-    cut-here t r false apart = left.whole t r (apart refl)
+pub kept-cut : (commits : List Commit) (before after : Chains) (entries : List Entry) → AreChainsCut commits entries before
+    → ((t r : ℕ) → links_at after t r ≡ cut_all (length commits + 1) t r entries (links_at before t r)) → AreChains commits after
+kept-cut commits before after entries left cut t r =
+    cut t r ∙ cut-again commits t r entries (links_at before t r) (left.cut t r) (left.whole t r)
 
 -- what the chains tell
-pub sorted-at : (shape : Shape) (commits : List Commit) (tables : List Chains) (t r : ℕ) → AreChains shape commits tables
-    → IsNonDecreasingBy (λ (link : Link). link.version) (links_at tables t r)
-sorted-at shape commits tables t r kept =
-    subst (IsNonDecreasingBy (λ (link : Link). link.version)) (sym (kept t r)) (chain-sorted shape t r commits)
+pub sorted-at : (commits : List Commit) (chains : Chains) (t r : ℕ) → AreChains commits chains
+    → IsNonDecreasingBy (λ (link : Link). link.version) (links_at chains t r)
+sorted-at commits chains t r kept =
+    subst (IsNonDecreasingBy (λ (link : Link). link.version)) (sym (kept t r)) (chain-sorted t r commits)
 
-pub newest-at : (shape : Shape) (commits : List Commit) (tables : List Chains) (t r : ℕ) → AreChains shape commits tables
-    → newest_in (links_at tables t r) ≡ newest_of t r commits
-newest-at shape commits tables t r kept = ap newest_in (kept t r) ∙ chain-newest_of shape t r commits
+pub newest-at : (commits : List Commit) (chains : Chains) (t r : ℕ) → AreChains commits chains
+    → newest_in (links_at chains t r) ≡ newest_of t r commits
+newest-at commits chains t r kept = ap newest_in (kept t r) ∙ chain-newest_of t r commits
 
-pub row-kept : (shape : Shape) (commits : List Commit) (tables : List Chains) (version t r : ℕ)
-    → is_ok (commits_of (opening shape) commits) ≡ true → AreChains shape commits tables
-    → values_at version (links_at tables t r) ≡ row_at (rows_of (tables_after shape commits version) t) r
-row-kept shape commits tables version t r legal kept =
-    ap (values_at version) (kept t r) ∙ chain-at shape t r version commits ∙ sym (row-at shape commits version t r legal)
+-- a row at a version has the values of its chain's bytes, which are as wide as its columns
+pub row-kept : (shape : Shape) (commits : List Commit) (chains : Chains) (version t r : ℕ) → AreVersions shape commits chains
+    → IsTold shape t r (row_at (rows_of (tables_after shape commits version) t) r) (bytes_at version (links_at chains t r))
+row-kept shape commits chains version t r versions =
+    subst (IsTold shape t r (row_at (rows_of (tables_after shape commits version) t) r))
+    (sym (ap (bytes_at version) (versions.kept t r) ∙ chain-at t r version commits))
+    (version-told shape t r commits version versions.legal)
+
+-- the value of a column at a version: that in its chain's bytes, which are as wide as its row
+module _ (shape : Shape) (commits : List Commit) (chains : Chains) (version t r column : ℕ)
+    (versions : AreVersions shape commits chains) where
+  -- the bytes of the row's chain
+  abbrev bytes : Option (List ℕ)
+  bytes = bytes_at version (links_at chains t r)
+
+  value-columns : (kinds : List Kind) → kinds_in shape t ≡ kinds
+      → value_in (tables_after shape commits version) t r column
+      ≡ option_and_then (λ values. slice_get values column) (option_map (values_of kinds) bytes)
+  value-columns kinds columns =
+      let kept = row-kept shape commits chains version t r versions in
+      ap (option_and_then (λ values. slice_get values column))
+      (kept.told ∙ ap (λ kinds. option_map (values_of kinds) bytes) columns)
+
+  -- no such table, and no such row
+  pub value-unknown : slice_get shape t ≡ None → value_in (tables_after shape commits version) t r column ≡ None
+  value-unknown none =
+      let columns : kinds_in shape t ≡ [] = rw none refl in
+      value-columns [] columns ∙ by bytes
+    where
+      by : (found : Option (List ℕ)) → option_and_then (λ values. slice_get values column) (option_map (values_of []) found) ≡ None
+      by None = refl
+      by (Some found) = refl
+
+  pub value-absent : None ≡ bytes → value_in (tables_after shape commits version) t r column ≡ None
+  value-absent none =
+      value-columns (kinds_in shape t) refl
+      ∙ ap (λ found. option_and_then (λ values. slice_get values column) (option_map (values_of (kinds_in shape t)) found)) (sym none)
+
+  -- a row that is there
+  pub value-there : (kinds : List Kind) (found : List ℕ) → Some kinds ≡ slice_get shape t → Some found ≡ bytes
+      → value_in (tables_after shape commits version) t r column ≡ slice_get (values_of kinds found) column
+  value-there kinds found of_table there =
+      let columns : kinds_in shape t ≡ kinds = rw (← of_table) refl in
+      value-columns kinds columns
+      ∙ ap (λ found. option_and_then (λ values. slice_get values column) (option_map (values_of kinds) found)) (sym there)
+
+  pub wide-there : (kinds : List Kind) (found : List ℕ) → Some kinds ≡ slice_get shape t → Some found ≡ bytes
+      → length found ≡ row_width kinds
+  wide-there kinds found of_table there =
+      let kept = row-kept shape commits chains version t r versions in
+      let columns : kinds_in shape t ≡ kinds = rw (← of_table) refl in
+      subst (AreWide kinds) (sym there) (subst (λ kinds. AreWide kinds bytes) columns kept.wide)
 
 -- with one more commit
-pub versions-push : (shape : Shape) (commits : List Commit) (before after : List Chains) (commit : Commit)
+pub versions-push : (shape : Shape) (commits : List Commit) (before after : Chains) (commit : Commit)
     → AreVersions shape commits before → is_ok (changes_of (tables_after shape commits (length commits)) commit.entries) ≡ true
-    → length after ≡ length before → AreChains shape (and_entries commits commit.entries) after
-    → AreVersions shape (commits ++ commit ∷ []) after
-versions-push shape commits before after commit versions defined counted kept = record {
+    → AreChains (and_entries commits commit.entries) after → AreVersions shape (commits ++ commit ∷ []) after
+versions-push shape commits before after commit versions defined kept = record {
   legal = commits_of-push shape commits commit versions.legal defined;
-  counted = counted ∙ versions.counted;
-  kept = λ t r. kept t r ∙ sym (and_entries-commit shape t r commits commit);
-}
-
--- before the first commit
-pub versions-none : (shape : Shape) (tables : List Chains) → tables ≡ replicate (length shape) [] → AreVersions shape [] tables
-versions-none shape tables e = record {
-  legal = refl;
-  counted = ap length e ∙ length-replicate (length shape) [];
-  kept = subst (AreChains shape []) (sym e) (kept-none shape (length shape));
+  kept = λ t r. kept t r ∙ sym (and_entries-commit t r commits commit);
 }
 
 pub is_some-map : {X Y : Type 0} (f : X → Y) (o : Option X) → is_some (option_map f o) ≡ is_some o
 is_some-map f None = refl
 is_some-map f (Some x) = refl
-
--- a slice that was lent and comes back
-pub take_put : {X : Type 0} (xs ys : List X) (n : ℕ) → length xs ≡ n → take n (xs ++ ys) ≡ xs
-take_put xs ys n e = ap (λ n. take n (xs ++ ys)) (sym e) ∙ take-append_seam xs ys

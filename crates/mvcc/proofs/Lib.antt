@@ -1,3 +1,4 @@
+pub mod RowBytes
 pub mod Links
 pub mod Histories
 pub mod Newest

@@ -1,6 +1,7 @@
 pub mod History
 pub mod Values
 pub mod Newest
+pub mod RowBytes
 pub mod Chains
 pub mod Draft
 pub mod Transactions

@@ -105,7 +105,7 @@ fn patched_cell(
 
 /// The value of a column, in the bytes of a row with columns of these kinds; `None` where there
 /// is no such column.
-fn value_in_row(kinds: &[Kind], bytes: &[u8], column: usize) -> Option<Value>
+pub fn value_in_row(kinds: &[Kind], bytes: &[u8], column: usize) -> Option<Value>
     requires few { length kinds.now ≤ COLUMNS_MAX }
     requires good { list_all is_good kinds.now ≡ true }
     requires wide { row_width kinds.now ≤ length bytes.now }

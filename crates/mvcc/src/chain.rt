@@ -1,19 +1,17 @@
 //! The versions that wrote one row.
 
-ghost use Rattle.std.specs.Prelude.{◌≡◌, ◌≤◌, [], length, take, true, OnOk, OnErr, vec_len, vec_capacity};
-ghost use Rattle.std.specs.List.{list_all};
+ghost use Rattle.std.specs.Prelude.{◌≡◌, ◌≤◌, [], length, take, OnOk, OnErr, vec_len, vec_capacity};
 ghost use Rattle.std.specs.List.Sorted.{IsNonDecreasingBy};
 ghost use Rattle.std.specs.Option.{option_map};
-ghost use Rattle.rows.specs.Shape.{is_good};
-ghost use Rattle.mvcc.specs.Chains.{newest_in, latest_in, values_at, cut_at, linked, IsWide};
+ghost use Rattle.mvcc.specs.Chains.{newest_in, latest_in, bytes_at, cut_at, linked};
 
+use crate::bytes_after::bytes_after_one;
 use crate::link::Link;
-use crate::row_after::row_after_one;
-use rows::{Entry, Kind, Row};
+use rows::{ByteList, Entry};
 use std::alloc::{AllocError, Global};
 use std::marker::Model;
 
-/// The versions that wrote one row, in order, each with the row's values after it.
+/// The versions that wrote one row, in order, each with the row's bytes after it.
 #[derive(Debug, Drop)]
 pub struct Chain {
     links: Vec<Link>,
@@ -45,27 +43,27 @@ impl Chain {
         newest_of(self.links.as_slice())
     }
 
-    /// The row's values after the last link; `None` where it is not there.
-    pub fn latest(&self) -> Option<&Row>
-        ensures { option_map (λ r. r.now) result ≡ latest_in self.now }
+    /// The row's bytes after the last link; `None` where it is not there.
+    pub fn latest(&self) -> Option<&ByteList>
+        ensures { option_map (λ b. b.now) result ≡ latest_in self.now }
     {
         match self.links.last() {
             None => None,
-            Some(link) => link.values.as_ref(),
+            Some(link) => link.bytes.as_ref(),
         }
     }
 
-    /// The row's values at a version; `None` where it is not there. The versions of the links do
+    /// The row's bytes at a version; `None` where it is not there. The versions of the links do
     /// not fall.
-    pub fn values_at(&self, version: u64) -> Option<&Row>
+    pub fn bytes_at(&self, version: u64) -> Option<&ByteList>
         requires { IsNonDecreasingBy (λ link. link.version) self.now }
-        ensures { option_map (λ r. r.now) result ≡ values_at version self.now }
+        ensures { option_map (λ b. b.now) result ≡ bytes_at version self.now }
     {
         let end = end_of(self.links.as_slice(), version);
         if end == 0 {
             return None;
         }
-        self.links[end - 1].values.as_ref()
+        self.links[end - 1].bytes.as_ref()
     }
 
     /// Takes the last link off, where it is of this number.
@@ -77,24 +75,16 @@ impl Chain {
 
     /// Links what an entry of the commit of this number makes of the row. Fails for want of
     /// memory alone, and then nothing has changed.
-    pub fn link(
-        &mut self,
-        alloc: Global,
-        kinds: &[Kind],
-        number: u64,
-        entry: &Entry,
-    ) -> Result<(), AllocError>
-        requires good { list_all is_good kinds.now ≡ true }
-        requires wide { IsWide kinds.now entry.now }
-        ensures ok { OnOk result (self.new ≡ linked kinds.now number entry.now self.old) }
+    pub fn link(&mut self, alloc: Global, number: u64, entry: &Entry) -> Result<(), AllocError>
+        ensures ok { OnOk result (self.new ≡ linked number entry.now self.old) }
         ensures err { OnErr result (self.new ≡ self.old) }
     {
-        let values = row_after_one(alloc, kinds, entry, self.latest())?;
+        let bytes = bytes_after_one(alloc, entry, self.latest())?;
         self.links.reserve(1)?;
         cut_links(&mut self.links, number);
         self.links.push_reserved(Link {
             version: number,
-            values,
+            bytes,
         });
         Ok(())
     }
@@ -114,7 +104,7 @@ fn newest_of(links: &[Link]) -> u64
 fn end_of(links: &[Link], version: u64) -> usize
     requires { IsNonDecreasingBy (λ link. link.version) links.now }
     ensures within { result ≤ length links.now }
-    ensures before { values_at version links.now ≡ latest_in (take result links.now) }
+    ensures before { bytes_at version links.now ≡ latest_in (take result links.now) }
 {
     links.partition_point(|link| link.version <= version)
 }

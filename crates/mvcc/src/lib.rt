@@ -2,7 +2,7 @@
 //!
 //! `Versions` is the list of commits. Version `n` is the rows after the first `n` of them, and
 //! each row's values at each version are found by a look-up and a halving: for each row a chain
-//! is kept of the versions that wrote it.
+//! is kept of the versions that wrote it, with the row's bytes after each.
 //!
 //! A `Transaction` reads one version, and sees its rows changed by its own entries in the order of
 //! its calls. An index has, for each row that it writes, those of its entries that tell of it.
@@ -13,14 +13,13 @@
 //! It stands on `rows` alone.
 #![tactic(auto)]
 
+mod bytes_after;
 mod cells;
 mod chain;
-mod chain_map;
 mod chains;
 mod faults;
 mod link;
 mod own_rows;
-mod row_after;
 mod transaction;
 mod values;
 mod versions;

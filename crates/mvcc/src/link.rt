@@ -1,9 +1,9 @@
-use rows::Row;
+use rows::ByteList;
 
-/// What a commit that wrote a row left of it: the commit's number, and the row's values after it,
+/// What a commit that wrote a row left of it: the commit's number, and the row's bytes after it,
 /// `None` where it left the row deleted.
 #[derive(Debug, Drop)]
 pub struct Link {
     pub version: u64,
-    pub values: Option<Row>,
+    pub bytes: Option<ByteList>,
 }

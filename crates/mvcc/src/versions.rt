@@ -10,9 +10,9 @@ ghost use Rattle.mvcc.specs.History.{defined_at, tables_at};
 ghost use Rattle.mvcc.specs.Newest.{newest_of};
 ghost use Rattle.mvcc.specs.Values.{value_in};
 
-use crate::chain_map::ChainMap;
-use crate::chains::{link_commit, newest_at, no_chains, values_at};
-use rows::{Commit, Entry, RowId, Schema, Value};
+use crate::cells::value_in_row;
+use crate::chains::Chains;
+use rows::{Commit, Entry, EntryList, RowId, Schema, Value};
 use std::alloc::{AllocError, Global};
 use std::marker::Model;
 
@@ -25,8 +25,7 @@ pub struct Versions {
     alloc: Global,
     schema: Schema,
     commits: Vec<Commit>,
-    /// For each table the chains of its rows.
-    chains: Vec<ChainMap>,
+    chains: Chains,
 }
 
 impl Model for Versions {
@@ -38,7 +37,7 @@ impl Model for Versions {
 
     ghost view = { λ v. record { schema = v.schema; commits = v.commits.items } };
 
-    ghost invariant = { λ v. AreVersions (shape_of v.schema) v.commits.items v.chains.items };
+    ghost invariant = { λ v. AreVersions (shape_of v.schema) v.commits.items v.chains };
 }
 
 impl Versions {
@@ -50,7 +49,7 @@ impl Versions {
             alloc,
             schema: schema.clone()?,
             commits: Vec::new(alloc),
-            chains: no_chains(alloc, schema.len())?,
+            chains: Chains::new(alloc),
         })
     }
 
@@ -101,22 +100,22 @@ impl Versions {
         self.commits.as_slice().get(index as usize)
     }
 
-    /// Adds a commit at the end. Fails for want of memory alone, and then nothing has changed.
-    pub fn absorb(&mut self, commit: &Commit) -> Result<(), AllocError>
-        requires { defined_at self.old (length self.old.commits) commit.now.entries ≡ true }
-        ensures ok { OnOk result (self.new ≡ record self.old { commits = self.old.commits ++ commit.now ∷ [] }) }
+    /// Adds a commit of a worker at the end, with a copy of these entries. Fails for want of memory
+    /// alone, and then nothing has changed.
+    pub fn absorb(&mut self, worker: u8, entries: &[Entry]) -> Result<(), AllocError>
+        requires { defined_at self.old (length self.old.commits) entries.now ≡ true }
+        ensures ok { OnOk result
+            (self.new ≡ record self.old { commits = self.old.commits ++ record { worker = worker; entries = entries.now } ∷ [] }) }
         ensures err { OnErr result (self.new ≡ self.old) }
     {
         self.commits.reserve(1)?;
-        let copy = copy_of(commit)?;
-        link_commit(
-            self.alloc,
-            &self.schema,
-            self.commits.as_slice(),
-            &mut self.chains,
-            commit.entries.as_slice(),
-        )?;
-        self.commits.push_reserved(copy);
+        let commit = Commit {
+            worker,
+            entries: copied(self.alloc, entries)?,
+        };
+        self.chains
+            .link_commit(self.alloc, self.commits.as_slice(), entries)?;
+        self.commits.push_reserved(commit);
         Ok(())
     }
 
@@ -125,7 +124,7 @@ impl Versions {
         requires { version ≤ length self.now.commits }
         ensures { result ≡ is_row_at (tables_at self.now version) table row.0 }
     {
-        values_at(self.chains.as_slice(), version, table, row).is_some()
+        self.chains.bytes_at(version, table, row).is_some()
     }
 
     /// The value of a column of a row at that version; `None` where the row is not there, or has
@@ -134,15 +133,16 @@ impl Versions {
         requires { version ≤ length self.now.commits }
         ensures { result ≡ value_in (tables_at self.now version) table row.0 column }
     {
-        let values = values_at(self.chains.as_slice(), version, table, row)?;
-        column_of(values.as_slice(), column)
+        let kinds = self.schema.kinds(table as usize)?;
+        let bytes = self.chains.bytes_at(version, table, row)?;
+        value_in_row(kinds, bytes.as_slice(), column)
     }
 
     /// The number of the last commit with an entry of that row, 0 where there is none.
     pub fn newest(&self, table: u8, row: RowId) -> u64
         ensures { result ≡ newest_of table row.0 self.now.commits }
     {
-        newest_at(self.chains.as_slice(), table, row)
+        self.chains.newest(table, row)
     }
 
     /// The number of the last commit that touches a row of these entries, 0 where none does.
@@ -165,16 +165,20 @@ impl Versions {
     }
 }
 
-/// A second commit with the same worker and entries. Fails for want of memory alone.
-fn copy_of(commit: &Commit) -> Result<Commit, AllocError>
-    ensures { IfOk result (λ copy. copy ≡ commit.now) }
+/// The same entries once more. Fails for want of memory alone.
+fn copied(alloc: Global, entries: &[Entry]) -> Result<EntryList, AllocError>
+    ensures { IfOk result (λ copy. copy ≡ entries.now) }
 {
-    commit.clone()
+    let mut copy = EntryList::new(alloc);
+    for entry in entries {
+        copy.push(copy_of(entry)?)?;
+    }
+    Ok(copy)
 }
 
-/// The value of a column of a row; `None` where there is no such column.
-fn column_of(values: &[Value], column: usize) -> Option<Value>
-    ensures { result ≡ slice_get values.now column }
+/// The same entry once more. Fails for want of memory alone.
+fn copy_of(entry: &Entry) -> Result<Entry, AllocError>
+    ensures { IfOk result (λ copy. copy ≡ entry.now) }
 {
-    values.get(column).copied()
+    entry.clone()
 }

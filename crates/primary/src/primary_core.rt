@@ -22,7 +22,7 @@ use crate::sending::{counts, frame_packet};
 use crate::stream_numbers::StreamNumbers;
 use crate::ticket::Ticket;
 use mvcc::{Transaction, Versions};
-use rows::{Commit, Entry, EntryList, Schema};
+use rows::{Commit, Entry, Schema};
 use std::alloc::{AllocError, Global};
 use std::marker::Model;
 use wire::{Datagram, Out, Packet, To, read};
@@ -134,7 +134,6 @@ impl PrimaryCore {
             Err(fault) => return Err((transaction, fault)),
         };
         let kept = keep(
-            self.alloc,
             &mut self.versions,
             &mut self.streams,
             worker,
@@ -236,7 +235,6 @@ impl PrimaryCore {
 /// is taken before anything changes: fails for want of memory alone, and then no commit has been
 /// added.
 fn keep(
-    alloc: Global,
     versions: &mut Versions,
     streams: &mut StreamNumbers,
     worker: u8,
@@ -252,33 +250,11 @@ fn keep(
         (versions.new ≡ record versions.old { commits = versions.old.commits ++ record { worker = worker; entries = entries.now } ∷ [] }) }
     ensures err { OnErr result (versions.new ≡ versions.old) }
 {
-    let commit = Commit {
-        worker,
-        entries: copied(alloc, entries)?,
-    };
     streams.reserve(worker)?;
     let number = versions.len() + 1;
-    versions.absorb(&commit)?;
+    versions.absorb(worker, entries)?;
     streams.add(worker, number);
     Ok(())
-}
-
-/// The same entries once more. Fails for want of memory alone.
-fn copied(alloc: Global, entries: &[Entry]) -> Result<EntryList, AllocError>
-    ensures { IfOk result (λ copy. copy ≡ entries.now) }
-{
-    let mut copy = EntryList::new(alloc);
-    for entry in entries {
-        copy.push(copy_of(entry)?)?;
-    }
-    Ok(copy)
-}
-
-/// The same entry once more. Fails for want of memory alone.
-fn copy_of(entry: &Entry) -> Result<Entry, AllocError>
-    ensures { IfOk result (λ copy. copy ≡ entry.now) }
-{
-    entry.clone()
 }
 
 /// Appends the records of commits that stand behind `before` others. Fails for want of memory

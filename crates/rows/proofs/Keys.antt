@@ -1,6 +1,6 @@
 -- What a map of rows finds, and what it finds once one row's entry was replaced.
-use Rattle.std.proofs.Common.{◌≡◌, ℕ, Bool, cond, ◌&&◌, ◌==◌, List, [], ◌∷◌, Some, refl, sym, ap, ◌∙◌, arith}
-use Rattle.std.specs.Map.{lookup}
+use Rattle.std.proofs.Common.{◌≡◌, ℕ, Bool, true, false, cond, ◌&&◌, ◌==◌, List, [], ◌∷◌, Some, refl, sym, ap, ◌∙◌, arith}
+use Rattle.std.specs.Map.{lookup, set_value}
 use Rattle.std.specs.BTreeMap.{is_at}
 use Rattle.std.specs.Ordering.{nat_cmp, ordering_then}
 use Rattle.std.specs.declared.cmp.Ordering.{Ordering}
@@ -26,6 +26,35 @@ same_key table row t r = grind (arith, nat_tests)
 pub lookup-key : {X : Type 0} (es : List ((ℕ × ℕ) × X)) (table row : ℕ)
     → lookup (is_at (key_cmp (table, row))) es ≡ lookup (is_key_of table row) es
 lookup-key es table row = lookup-alike (is_at (key_cmp (table, row))) (is_key_of table row) es (λ key. is_key-cmp table row key)
+
+-- what it finds once the entry of a row that is there was changed
+set-key : {X : Type 0} (es : List ((ℕ × ℕ) × X)) (table row t r : ℕ) (x was : X)
+    → lookup (is_at (key_cmp (table, row))) es ≡ Some was
+    → lookup (is_at (key_cmp (t, r))) (set_value (is_at (key_cmp (table, row))) es x) ≡ cond (is_at (key_cmp (table, row)) (t, r)) (Some x)
+    (lookup (is_at (key_cmp (t, r))) es)
+set-key [] table row t r x was h = cc
+set-key (e ∷ es) table row t r x was h = by (is_at (key_cmp (table, row)) e.0) refl (set-key es table row t r x was) h
+  where
+    by : (here : Bool) → is_at (key_cmp (table, row)) e.0 ≡ here
+        → (lookup (is_at (key_cmp (table, row))) es ≡ Some was
+        → lookup (is_at (key_cmp (t, r))) (set_value (is_at (key_cmp (table, row))) es x) ≡ cond (is_at (key_cmp (table, row)) (t, r))
+        (Some x) (lookup (is_at (key_cmp (t, r))) es))
+        → cond here (Some e.1) (lookup (is_at (key_cmp (table, row))) es) ≡ Some was
+        → lookup (is_at (key_cmp (t, r))) (cond here ((e.0, x) ∷ es) (e ∷ set_value (is_at (key_cmp (table, row))) es x))
+        ≡ cond (is_at (key_cmp (table, row)) (t, r)) (Some x) (cond (is_at (key_cmp (t, r)) e.0) (Some e.1)
+        (lookup (is_at (key_cmp (t, r))) es))
+    by true f next h = grind (arith, nat_tests)
+    by false f next h = let rest = next h in grind (arith, nat_tests)
+
+pub lookup-set : {X : Type 0} (es : List ((ℕ × ℕ) × X)) (table row : ℕ) (x was : X)
+    → lookup (is_at (key_cmp (table, row))) es ≡ Some was
+    → (t r : ℕ) → lookup (is_key_of t r) (set_value (is_at (key_cmp (table, row))) es x) ≡ cond ((table == t) && (row == r)) (Some x)
+    (lookup (is_key_of t r) es)
+lookup-set es table row x was h t r =
+    sym (lookup-key (set_value (is_at (key_cmp (table, row))) es x) t r)
+    ∙ set-key es table row t r x was h
+    ∙ ap (λ here. cond here (Some x) (lookup (is_at (key_cmp (t, r))) es)) (same_key table row t r)
+    ∙ ap (cond ((table == t) && (row == r)) (Some x)) (lookup-key es t r)
 
 -- what it finds of a row, and of any other, once one row's entry was put into it
 pub lookup-put : {X : Type 0} (es after : List ((ℕ × ℕ) × X)) (table row : ℕ) (x : X)

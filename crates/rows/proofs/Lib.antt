@@ -7,5 +7,6 @@ pub mod RowLaws
 pub mod Columns
 pub mod ValueKinds
 pub mod Keys
+pub mod Fronts
 pub mod Bytes
 pub mod EntryReading

@@ -108,7 +108,7 @@ pub fn absorb(versions: &mut Versions, commit: &Commit) -> Result<(), Fail> {
     if !are_defined(versions, commit.entries.as_slice()) {
         return Err("not defined".into());
     }
-    versions.absorb(commit)?;
+    versions.absorb(commit.worker, commit.entries.as_slice())?;
     Ok(())
 }
 

@@ -210,7 +210,8 @@ fn is_absorbed(versions: &mut Versions, commit: &Commit) -> Result<bool, Fail> {
     if !are_defined(versions, commit.entries.as_slice()) {
         return Err("not defined".into());
     }
-    Ok(versions.absorb(commit).is_ok())
+    let absorbed = versions.absorb(commit.worker, commit.entries.as_slice());
+    Ok(absorbed.is_ok())
 }
 
 /// Whichever request for memory is refused: a commit that was refused for memory has changed

@@ -1,35 +1,42 @@
--- The values of the row's chain at the version are those of the row there.
-use Rattle.std.proofs.Common.{List, sym, ap, subst, ◌∙◌}
-use Rattle.std.specs.List.{slice_get}
-use Rattle.std.specs.List.Sorted.{IsNonDecreasingBy}
-use Rattle.std.specs.Option.{option_and_then}
+-- The value of the column in the bytes of the row's chain at the version is that of the row there.
+use Rattle.std.proofs.Common.{length, slice_get, sym, ap, ◌∙◌, arith}
 use Rattle.rows.specs.Shape.{shape_of}
-use Rattle.mvcc.specs.declared.link.Link.{Link}
-use Rattle.mvcc.specs.Chains.{Chains, values_at, links_at}
-use Rattle.mvcc.proofs.Keeping.{sorted-at, row-kept}
+use Rattle.rows.specs.Values.{values_of}
+use Rattle.mvcc.proofs.Keeping.{sorted-at, value-unknown, value-absent, value-there, wide-there}
 use Rattle.mvcc.proofs.versions.Versions.value_at.Goals as goal
 
-pub values_at-requires : goal.values_at-requires
-values_at-requires c =
+pub bytes_at-requires : goal.bytes_at-requires
+bytes_at-requires c =
     let inside = c.self.inside in
-    subst (λ (tables : List Chains). IsNonDecreasingBy (λ (link : Link). link.version) (links_at tables c.args.table c.args.row.0))
-    (sym c.as_slice.ensures.value)
-    (sorted-at (shape_of inside.schema) inside.commits.items inside.chains.items c.args.table c.args.row.0 c.self.invariant.kept)
+    sorted-at inside.commits.items inside.chains c.args.table c.args.row.0 c.self.invariant.kept
 
-pub returns-in_err-values : goal.returns-in_err-values
-returns-in_err-values c =
+pub returns-in_err-kinds : goal.returns-in_err-kinds
+returns-in_err-kinds c =
     let inside = c.self.inside in
-    let found = ap (λ tables. values_at c.args.version (links_at tables c.args.table c.args.row.0)) c.as_slice.ensures.value
-    ∙ row-kept (shape_of inside.schema) inside.commits.items inside.chains.items c.args.version c.args.table c.args.row.0
-    c.self.invariant.legal c.self.invariant.kept in
     rw (← c.self.view_is) (c.from_residual.ensures
-    ∙ ap (option_and_then (λ values. slice_get values c.args.column)) (c.in_err-values.ensures ∙ found))
+    ∙ sym (value-unknown (shape_of inside.schema) inside.commits.items inside.chains c.args.version c.args.table c.args.row.0
+    c.args.column c.self.invariant (sym c.in_err-kinds.ensures.value)))
+
+pub returns-in_err-bytes : goal.returns-in_err-bytes
+returns-in_err-bytes c =
+    let inside = c.self.inside in
+    rw (← c.self.view_is) (c.from_residual-in_err-bytes.ensures
+    ∙ sym (value-absent (shape_of inside.schema) inside.commits.items inside.chains c.args.version c.args.table c.args.row.0
+    c.args.column c.self.invariant c.in_err-bytes.ensures))
+
+pub value_in_row-requires-clause-wide : goal.value_in_row-requires-clause-wide
+value_in_row-requires-clause-wide c =
+    let inside = c.self.inside in
+    let wide =
+    wide-there (shape_of inside.schema) inside.commits.items inside.chains c.args.version c.args.table c.args.row.0 c.args.column
+    c.self.invariant c.in_ok-kinds.kinds.now c.in_ok-bytes.bytes.now c.in_ok-kinds.ensures.value c.in_ok-bytes.ensures in
+    omega (arith, wide, ap length c.as_slice.ensures)
 
 pub returns : goal.returns
 returns c =
     let inside = c.self.inside in
-    let found = ap (λ tables. values_at c.args.version (links_at tables c.args.table c.args.row.0)) c.as_slice.ensures.value
-    ∙ row-kept (shape_of inside.schema) inside.commits.items inside.chains.items c.args.version c.args.table c.args.row.0
-    c.self.invariant.legal c.self.invariant.kept in
-    rw (← c.self.view_is) (c.column_of.ensures ∙ ap (λ values. slice_get values c.args.column) c.as_slice-2.ensures
-    ∙ ap (option_and_then (λ values. slice_get values c.args.column)) (c.in_ok-values.ensures ∙ found))
+    let kinds = c.in_ok-kinds.kinds.now in
+    rw (← c.self.view_is) (c.value_in_row.ensures
+    ∙ ap (λ bytes. slice_get (values_of kinds bytes) c.args.column) c.as_slice.ensures
+    ∙ sym (value-there (shape_of inside.schema) inside.commits.items inside.chains c.args.version c.args.table c.args.row.0
+    c.args.column c.self.invariant kinds c.in_ok-bytes.bytes.now c.in_ok-kinds.ensures.value c.in_ok-bytes.ensures))

@@ -1,8 +1,7 @@
 -- The chains are those of the commits, and one more of the entries so far.
 use Rattle.std.proofs.Common.{take}
-use Rattle.rows.specs.Shape.{shape_of}
 use Rattle.mvcc.specs.Chains.{and_entries, AreChains}
-use Rattle.mvcc.proofs.chains.link_entries.Given as goal
+use Rattle.mvcc.proofs.chains.Chains.link_entries.Given as goal
 
 abbrev pub invariant-loop-entry : goal.invariant-loop-entry
-invariant-loop-entry l = AreChains (shape_of l.schema) (and_entries l.commits (take l.entry-index l.entries)) l.tables
+invariant-loop-entry l = AreChains (and_entries l.commits (take l.entry-index l.entries)) l.self

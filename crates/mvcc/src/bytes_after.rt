@@ -1,0 +1,63 @@
+//! What an entry makes of a row's bytes.
+
+ghost use Rattle.std.specs.Prelude.{◌≡◌, IfOk};
+ghost use Rattle.std.specs.Option.{option_map};
+ghost use Rattle.mvcc.specs.RowBytes.{inserted_bytes, patched_bytes, bytes_after_one};
+
+use rows::{ByteList, Entry};
+use std::alloc::{AllocError, Global};
+
+/// The bytes of a row after an entry of it, where these were its bytes before. Fails for want of
+/// memory alone.
+pub fn bytes_after_one(
+    alloc: Global,
+    entry: &Entry,
+    was: Option<&ByteList>,
+) -> Result<Option<ByteList>, AllocError>
+    ensures { IfOk result (λ row. row ≡ bytes_after_one entry.now (option_map (λ b. b.now) was.entry)) }
+{
+    match entry {
+        Entry::Insert { bytes, .. } => inserted_bytes(bytes, was),
+        Entry::Patch { offset, bytes, .. } => match was {
+            None => Ok(None),
+            Some(row) => {
+                let row = patched_bytes(alloc, *offset, bytes.as_slice(), row.as_slice())?;
+                Ok(Some(row))
+            }
+        },
+        Entry::Delete { .. } => Ok(None),
+    }
+}
+
+/// The bytes of a row after an insert of these: they, where it was not there.
+fn inserted_bytes(bytes: &ByteList, was: Option<&ByteList>) -> Result<Option<ByteList>, AllocError>
+    ensures { IfOk result (λ row. row ≡ inserted_bytes bytes.now (option_map (λ b. b.now) was.entry)) }
+{
+    match was {
+        None => Ok(Some(bytes.clone()?)),
+        Some(row) => Ok(Some(row.clone()?)),
+    }
+}
+
+/// The bytes of a row once others were put at an offset among them; where they do not end within
+/// the row, nothing is put.
+fn patched_bytes(
+    alloc: Global,
+    offset: u16,
+    bytes: &[u8],
+    row: &[u8],
+) -> Result<ByteList, AllocError>
+    ensures { IfOk result (λ after. after ≡ patched_bytes offset bytes.now row.now) }
+{
+    let mut after = Vec::with_capacity(alloc, row.len())?;
+    let offset = offset as usize;
+    let end = offset + bytes.len();
+    if end <= row.len() {
+        after.extend_from_slice(&row[..offset])?;
+        after.extend_from_slice(bytes)?;
+        after.extend_from_slice(&row[end..])?;
+    } else {
+        after.extend_from_slice(row)?;
+    }
+    Ok(ByteList::from_vec(after))
+}
