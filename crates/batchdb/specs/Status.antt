@@ -1,7 +1,7 @@
 -- The exit status of the program.
 use Rattle.std.specs.Prelude.{ℕ}
-use Rattle.world.specs.declared.script_running.RunFault.{RunFault}
-use Rattle.world.specs.declared.script_running.RunFault.TheVariants.{Read, Script, Write, Memory}
+use Rattle.world.specs.declared.faults.RunFault.{RunFault}
+use Rattle.world.specs.declared.faults.RunFault.TheVariants.{Read, Script, Write, Memory}
 
 -- of a script that was not run to its end: 2 where it does not read, else 1
 abbrev pub fault_status : RunFault → ℕ

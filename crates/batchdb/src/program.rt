@@ -13,7 +13,7 @@ use world::{Echo, RunFault, run_script};
 /// The work was done.
 const DONE: u8 = 0;
 
-/// A read, a write or want of memory.
+/// A read, a write or being out of memory.
 const FAILED: u8 = 1;
 
 /// Words or a script that do not read.
@@ -108,7 +108,7 @@ fn tell<W: Write, E: Write>(alloc: Global, answer: Error, writer: &mut W, errors
     DONE
 }
 
-/// What words are answered with, as text; `None` for want of memory, then or now.
+/// What words are answered with, as text; `None` when out of memory, then or now.
 fn text_of(alloc: Global, answer: &Error) -> Option<String> {
     match answer.kind() {
         ErrorKind::OutOfMemory => None,

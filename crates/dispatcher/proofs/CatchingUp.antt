@@ -13,7 +13,7 @@ use Rattle.rows.specs.Commits.{commits_of, tables_after, IsLegal}
 use Rattle.dispatcher.specs.Feeding.{IsFetchedFrom, IsFedFrom}
 use Rattle.dispatcher.specs.Known.{first_missing}
 use Rattle.dispatcher.specs.Listing.{frames_at, commits_in}
-use Rattle.dispatcher.specs.Replica.{Replica, Batch, Fetched}
+use Rattle.dispatcher.specs.State.{Replica, Batch, Fetched}
 use Rattle.dispatcher.specs.Steps.{known, caught_up, lacks_frame, unless_lacking, ready_of}
 use Rattle.dispatcher.proofs.Seqs.{is_known-below}
 use Rattle.dispatcher.proofs.Streams.{count-is}

@@ -4,10 +4,10 @@ use Rattle.std.specs.List.{list_all}
 use Rattle.std.specs.Ordering.{nat_cmp}
 use Rattle.std.specs.BTreeMap.{insert_entry}
 use Rattle.rows.specs.Entries.{fitting}
-use Rattle.wire.specs.declared.frame.Frame.{Frame}
+use Rattle.update_log.specs.declared.frame.Frame.{Frame}
 use Rattle.dispatcher.specs.declared.outcome.Got.TheVariants.{Ignored, Repeat, Ahead, Stored}
 use Rattle.dispatcher.specs.Known.{is_known, is_ahead}
-use Rattle.dispatcher.specs.Replica.{Replica}
+use Rattle.dispatcher.specs.State.{Replica}
 use Rattle.dispatcher.specs.Steps.{known, frame_comes}
 
 module _ (r : Replica) (frame : Frame) (there : nat_lt frame.worker r.workers ≡ true) where

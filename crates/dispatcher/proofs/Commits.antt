@@ -9,7 +9,7 @@ use Rattle.std.proofs.lemmas.Bool.{both_ways}
 use Rattle.std.proofs.lemmas.Option.{none-some, same_Some}
 use Rattle.rows.specs.declared.commit.Commit.{Commit}
 use Rattle.rows.specs.declared.entry.Entry.{Entry}
-use Rattle.wire.specs.declared.frame.Frame.{Frame}
+use Rattle.update_log.specs.declared.frame.Frame.{Frame}
 use Rattle.dispatcher.specs.Known.{first_missing}
 use Rattle.dispatcher.specs.Listing.{frames_at, commits_in}
 use Rattle.dispatcher.proofs.Seqs.{is_known-lookup, is_known-below}

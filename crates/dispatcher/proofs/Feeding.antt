@@ -15,8 +15,8 @@ use Rattle.rows.specs.Entries.{fitting}
 use Rattle.rows.specs.Commits.{tables_after}
 use Rattle.wire.specs.declared.datagram.Datagram.{Datagram}
 use Rattle.wire.specs.declared.datagram.Datagram.TheVariants as datagrams
-use Rattle.wire.specs.declared.fault.WireFault.{WireFault}
-use Rattle.wire.specs.declared.frame.Frame.{Frame}
+use Rattle.wire.specs.declared.faults.WireFault.{WireFault}
+use Rattle.update_log.specs.declared.frame.Frame.{Frame}
 use Rattle.wire.specs.declared.out.Out.{Out}
 use Rattle.wire.specs.Reading.{reading}
 use Rattle.wire.specs.Streams.{stream_of, frame_count}
@@ -27,12 +27,12 @@ use Rattle.dispatcher.specs.declared.faults.AskFault.TheVariants as asks
 use Rattle.dispatcher.specs.declared.faults.OpenFault.{OpenFault}
 use Rattle.dispatcher.specs.declared.faults.OpenFault.TheVariants as opens
 use Rattle.dispatcher.specs.declared.plan.Plan.{Plan}
-use Rattle.dispatcher.specs.declared.plan.PlanFault.{PlanFault}
+use Rattle.dispatcher.specs.declared.faults.PlanFault.{PlanFault}
 use Rattle.dispatcher.specs.Feeding.{IsFetchedFrom, IsFedFrom, Tells, FreshIsFed, CommitsKeepFed, BytesKeepFed, OpenKeepsFed, AskKeepsFed}
 use Rattle.dispatcher.specs.Feeding.{VersionTellsTables}
 use Rattle.dispatcher.specs.Known.{is_known, is_ahead}
 use Rattle.dispatcher.specs.Plans.{checked}
-use Rattle.dispatcher.specs.Replica.{Replica, Batch, Fetched}
+use Rattle.dispatcher.specs.State.{Replica, Batch, Fetched}
 use Rattle.dispatcher.specs.Steps.{asked_by, ask_for, with_batch, known, frame_comes, own_head_comes, datagram_comes, broken_of}
 use Rattle.dispatcher.proofs.CatchingUp.{CanAnswer, caught, count-fetched}
 use Rattle.dispatcher.proofs.Lists.{All-map}

@@ -1,20 +1,26 @@
 -- What catching up comes to, by the commits that the frames hold.
-use Rattle.std.proofs.Common.{◌≡◌, ℕ, ◌+◌, ◌-◌, true, false, ◌==◌, List, [], ◌∷◌, length, Option, None, Some, Result, Ok, Err}
+use Rattle.std.proofs.Common.{◌≡◌, ℕ, ◌<◌, ◌+◌, ◌-◌, true, false, ◌==◌, List, [], ◌∷◌, length, Option, None, Some, Result, Ok, Err}
 use Rattle.std.proofs.Common.{IsErr, IsOkAnd, refl, sym, ap, ◌∙◌, arith}
 use Rattle.std.specs.Option.{option_map, option_and_then}
 use Rattle.std.specs.Result.{result_ok}
-use Rattle.std.proofs.lemmas.Bool.{cond-true, cond-false}
+use Rattle.std.proofs.lemmas.Bool.{cond-true, cond-false, eqb-true}
 use Rattle.rows.specs.declared.commit.Commit.{Commit}
 use Rattle.rows.specs.Tables.{Tables, Refusal}
 use Rattle.rows.specs.Commits.{commits_of}
-use Rattle.dispatcher.specs.declared.catch_up_fault.CatchUpFault.{CatchUpFault}
-use Rattle.dispatcher.specs.declared.catch_up_fault.CatchUpFault.TheVariants.{Inconsistent, Memory, Broken}
+use Rattle.dispatcher.specs.declared.faults.CatchUpFault.{CatchUpFault}
+use Rattle.dispatcher.specs.declared.faults.CatchUpFault.TheVariants.{Inconsistent, Memory, Broken}
+use Rattle.store.specs.Faults.{have_entries}
 use Rattle.dispatcher.specs.Listing.{frames_at, commits_in}
-use Rattle.dispatcher.specs.Replica.{Replica, Fetched}
+use Rattle.dispatcher.specs.State.{Replica, Fetched}
 use Rattle.dispatcher.specs.Steps.{ready_of, with_commits, caught_up}
 use Rattle.dispatcher.specs.Inner.Parts.{CatchesUp, Applies}
 use Rattle.dispatcher.proofs.CatchingUp.{ready-parts}
 use Rattle.dispatcher.proofs.Commits.{frames_at-length, commits_in-length}
+
+-- commits with an entry are not none
+some-commits : (commits : List Commit) → have_entries commits ≡ true → 0 < length commits
+some-commits [] h = absurd (let none : false ≡ true = h in cc)
+some-commits (commit ∷ commits) h = omega arith
 
 module _ (r : Replica) (version count : ℕ) (is_ready : ready_of r ≡ Some (record { version = version; counts = count ∷ [] })) where
   -- what was fetched
@@ -75,8 +81,11 @@ module _ (r : Replica) (version count : ℕ) (is_ready : ready_of r ≡ Some (re
       refused (Ok tables) h = absurd (cc)
       refused (Err refusal) h = cc
 
+      above : 0 < length commits → r.version < version
+      above some = omega (arith, some, many commits is, eqb-true (r.version + (count - r.applied)) version reached)
+
       by : (result : Result (Unit {0}) CatchUpFault) → Applies r commits version count result new → CatchesUp r fetched result new
       by (Ok done) h = listed ∙ ok (commits_of r.tables commits) h
       by (Err Inconsistent) h = (listed ∙ refused (commits_of r.tables commits) h.0, h.1)
       by (Err Memory) h = absurd h
-      by (Err Broken) h = h
+      by (Err Broken) h = (h.0, above (some-commits commits h.1))

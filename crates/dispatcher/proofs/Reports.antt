@@ -11,7 +11,7 @@ use Rattle.dispatcher.specs.declared.outcome.Run.TheVariants as runs
 use Rattle.dispatcher.specs.declared.plan.Plan.{Plan}
 use Rattle.dispatcher.specs.Feeding.{IsFedFrom, RunKeepsFed, RunIsConsistent, AnswerIsReport, ReadyIsAnswered}
 use Rattle.dispatcher.specs.Known.{first_missing}
-use Rattle.dispatcher.specs.Replica.{Replica, Batch, Fetched}
+use Rattle.dispatcher.specs.State.{Replica, Batch, Fetched}
 use Rattle.dispatcher.specs.Report.{report_of}
 use Rattle.dispatcher.specs.Steps.{known, caught_up, finished, lacks_frame, ran, ran_by, want_for, WantsMemory}
 use Rattle.dispatcher.proofs.CatchingUp.{CanAnswer, ready-parts, caught, catches-up}

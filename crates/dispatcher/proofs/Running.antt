@@ -12,7 +12,7 @@ use Rattle.dispatcher.specs.declared.plan.Plan.{Plan}
 use Rattle.dispatcher.specs.declared.outcome.Run.{Run}
 use Rattle.dispatcher.specs.declared.outcome.Run.TheVariants as runs
 use Rattle.dispatcher.specs.Known.{first_missing}
-use Rattle.dispatcher.specs.Replica.{Replica, Batch, Fetched}
+use Rattle.dispatcher.specs.State.{Replica, Batch, Fetched}
 use Rattle.dispatcher.specs.Steps.{known, unless_lacking, ready_of, ran, ran_by, lacks_frame, commits_above, with_commits}
 use Rattle.dispatcher.specs.Steps.{caught_up, finished, MayRun}
 use Rattle.dispatcher.specs.Inner.Parts.{answered_by}
@@ -56,7 +56,7 @@ module _ (r : Replica) (plans : List Plan) (fetched : Fetched) (whole : r.broken
       let batch = same_batch r after fetched (commits_above r fetched) caught ∙ there in
       inl (ran-ready ∙ ap (finished r plans) caught ∙ ap (answered_by after) (sym batch) ∙ answered)
 
-  -- the batch is answered on the tables that have caught up, or stays for want of memory
+  -- the batch is answered on the tables that have caught up, or stays when out of memory
   pub run_answers : (old after new : Replica) (answer : Run) (items : List ℕ) → r ≡ old → items ≡ fetched.counts
       → caught_up old (record { version = fetched.version; counts = slice_index items 0 ∷ [] }) ≡ Some after
       → ((answer ≡ runs.Memory) × (new ≡ after)) ⊎ (answered_by after after.batch ≡ (answer, new)) → MayRun old answer new

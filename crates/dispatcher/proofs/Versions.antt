@@ -13,7 +13,7 @@ use Rattle.rows.specs.declared.commit.Commit.{Commit}
 use Rattle.rows.specs.Shape.{Shape}
 use Rattle.rows.specs.Tables.{Tables, Refusal, opening, changes_of, and_then}
 use Rattle.rows.specs.Commits.{commits_of, tables_after, IsCommit}
-use Rattle.wire.specs.declared.frame.Frame.{Frame}
+use Rattle.update_log.specs.declared.frame.Frame.{Frame}
 use Rattle.wire.specs.Streams.{stream_of}
 use Rattle.dispatcher.specs.Known.{is_known}
 use Rattle.dispatcher.specs.Listing.{frames_at, commits_in}

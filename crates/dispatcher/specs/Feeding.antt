@@ -7,7 +7,7 @@ use Rattle.rows.specs.Shape.{Shape}
 use Rattle.rows.specs.Commits.{IsLegal, tables_after}
 use Rattle.wire.specs.declared.datagram.Datagram.{Datagram}
 use Rattle.wire.specs.declared.datagram.Datagram.TheVariants as datagrams
-use Rattle.wire.specs.declared.fault.WireFault.{WireFault}
+use Rattle.wire.specs.declared.faults.WireFault.{WireFault}
 use Rattle.wire.specs.declared.out.Out.{Out}
 use Rattle.wire.specs.Reading.{reading}
 use Rattle.wire.specs.Streams.{stream_of, frame_count}
@@ -15,7 +15,7 @@ use Rattle.dispatcher.specs.declared.outcome.Run.{Run}
 use Rattle.dispatcher.specs.declared.outcome.Run.TheVariants as runs
 use Rattle.dispatcher.specs.declared.plan.Plan.{Plan}
 use Rattle.dispatcher.specs.Known.{is_known}
-use Rattle.dispatcher.specs.Replica.{Replica, Batch, Fetched}
+use Rattle.dispatcher.specs.State.{Replica, Batch, Fetched}
 use Rattle.dispatcher.specs.Report.{report_of}
 use Rattle.dispatcher.specs.Steps.{started, known, received, opened, asked, ready_of, ran, MayRun}
 

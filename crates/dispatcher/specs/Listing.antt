@@ -5,7 +5,7 @@ use Rattle.std.specs.Ordering.{nat_cmp}
 use Rattle.std.specs.Map.{lookup}
 use Rattle.std.specs.BTreeMap.{is_at}
 use Rattle.rows.specs.declared.commit.Commit.{Commit}
-use Rattle.wire.specs.declared.frame.Frame.{Frame}
+use Rattle.update_log.specs.declared.frame.Frame.{Frame}
 
 -- the kept frames of the seqs from `first` on, this many seqs
 abbrev pub frames_at : List (ℕ × Frame) → ℕ → ℕ → List Frame

@@ -1,8 +1,8 @@
 -- Queries: whether a plan fits, and its plain answer on tables.
 use Rattle.std.specs.Prelude.{ℕ, List, [], ◌∷◌, length, Result, Ok, Err, nat_lt, if◌then◌else◌}
 use Rattle.dispatcher.specs.declared.plan.Plan.{Plan}
-use Rattle.dispatcher.specs.declared.plan.PlanFault.{PlanFault}
-use Rattle.dispatcher.specs.declared.plan.PlanFault.TheVariants.{NoTable}
+use Rattle.dispatcher.specs.declared.faults.PlanFault.{PlanFault}
+use Rattle.dispatcher.specs.declared.faults.PlanFault.TheVariants.{NoTable}
 use Rattle.rows.specs.Shape.{Shape}
 use Rattle.rows.specs.Tables.{Tables, rows_of}
 

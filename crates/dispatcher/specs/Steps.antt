@@ -1,5 +1,5 @@
 -- One step of a replica: what each call answers, and what it leaves.
-use Rattle.std.specs.Prelude.{◌≡◌, ℕ, ◌+◌, ◌-◌, List, [], ◌∷◌, ◌++◌, length, Bool, true, false, Option, None, Some, Result, Ok, Err}
+use Rattle.std.specs.Prelude.{◌≡◌, ℕ, ◌<◌, ◌+◌, ◌-◌, List, [], ◌∷◌, ◌++◌, length, Bool, true, false, Option, None, Some, Result, Ok, Err}
 use Rattle.std.specs.Prelude.{◌==◌, ◌||◌, ◌&&◌, not, nat_lt, nat_le, if◌then◌else◌, is_ok, slice_index, ◌⊎◌}
 use Rattle.std.specs.List.{list_all}
 use Rattle.std.specs.Option.{option_map, option_and_then}
@@ -14,8 +14,8 @@ use Rattle.rows.specs.Entries.{fitting}
 use Rattle.rows.specs.Tables.{opening}
 use Rattle.wire.specs.declared.datagram.Datagram.{Datagram}
 use Rattle.wire.specs.declared.datagram.Datagram.TheVariants as datagrams
-use Rattle.wire.specs.declared.fault.WireFault.{WireFault}
-use Rattle.wire.specs.declared.frame.Frame.{Frame}
+use Rattle.wire.specs.declared.faults.WireFault.{WireFault}
+use Rattle.update_log.specs.declared.frame.Frame.{Frame}
 use Rattle.wire.specs.declared.out.Out.{Out}
 use Rattle.wire.specs.declared.out.To.TheVariants.{Primary}
 use Rattle.wire.specs.Spelling.{spelling}
@@ -25,7 +25,7 @@ use Rattle.dispatcher.specs.declared.faults.AskFault.TheVariants as asks
 use Rattle.dispatcher.specs.declared.faults.OpenFault.{OpenFault}
 use Rattle.dispatcher.specs.declared.faults.OpenFault.TheVariants as opens
 use Rattle.dispatcher.specs.declared.plan.Plan.{Plan}
-use Rattle.dispatcher.specs.declared.plan.PlanFault.{PlanFault}
+use Rattle.dispatcher.specs.declared.faults.PlanFault.{PlanFault}
 use Rattle.dispatcher.specs.declared.outcome.Got.{Got}
 use Rattle.dispatcher.specs.declared.outcome.Got.TheVariants as got
 use Rattle.dispatcher.specs.declared.outcome.Run.{Run}
@@ -33,7 +33,7 @@ use Rattle.dispatcher.specs.declared.outcome.Run.TheVariants as runs
 use Rattle.dispatcher.specs.Known.{known_of, is_known, is_ahead, first_missing}
 use Rattle.dispatcher.specs.Plans.{checked}
 use Rattle.dispatcher.specs.Listing.{frames_at, commits_in}
-use Rattle.dispatcher.specs.Replica.{Replica, Batch, Fetched}
+use Rattle.dispatcher.specs.State.{Replica, Batch, Fetched}
 use Rattle.dispatcher.specs.Report.{report_of}
 
 -- a replica fresh from its start
@@ -128,7 +128,7 @@ datagram_comes r (Ok (datagrams.Head replica boot request version counts)) =
 datagram_comes r (Ok (datagrams.Ask replica boot request)) = (got.Ignored, r)
 datagram_comes r (Ok (datagrams.Want replica worker from)) = (got.Ignored, r)
 
--- bytes that come: what the replica answers, and the replica after them. Want of memory aside.
+-- bytes that come: what the replica answers, and the replica after them. Being out of memory aside.
 abbrev pub received : Replica → List ℕ → Got × Replica
 received r bytes = if r.broken then (got.Broken, r) else datagram_comes r (reading bytes)
 
@@ -173,7 +173,7 @@ ran_by r (Some batch) = on batch.fetched
         then (runs.Waiting 0 (first_missing (known r)) (want_for r.number 0 (first_missing (known r))), r)
         else finished r batch.plans (caught_up r fetched)
 
--- running the batch: what the replica answers, and the replica after it. Want of memory aside.
+-- running the batch: what the replica answers, and the replica after it. Being out of memory aside.
 abbrev pub ran : Replica → Run × Replica
 ran r = if r.broken then (runs.Broken, r) else ran_by r r.batch
 
@@ -190,12 +190,13 @@ ready broken known fetched = if broken then None else unless_lacking known fetch
 abbrev pub ready_of : Replica → Option Fetched
 ready_of r = ready r.broken (known r) (option_and_then (λ batch. batch.fetched) r.batch)
 
--- what a run may answer and leave for want of memory, where a version was fetched and no frame is missing: `Memory`,
--- the tables at the old version or at the one that was fetched; or `Broken`
+-- what a run may answer and leave when out of memory, where a version was fetched and no frame is missing: `Memory`,
+-- the tables at the old version or at the one that was fetched; or `Broken`, only where there was a commit to apply
 abbrev pub WantsMemory : Replica → Run → Replica → Type 0
 WantsMemory old answer new =
     (fetched : Fetched) × (ready_of old ≡ Some fetched)
-    × (((answer ≡ runs.Memory) × ((new ≡ old) ⊎ (caught_up old fetched ≡ Some new))) ⊎ ((answer ≡ runs.Broken) × (new ≡ broken_of old)))
+    × (((answer ≡ runs.Memory) × ((new ≡ old) ⊎ (caught_up old fetched ≡ Some new))) ⊎
+    ((answer ≡ runs.Broken) × (new ≡ broken_of old) × (old.version < fetched.version)))
 
 -- what a run may answer and leave
 abbrev pub MayRun : Replica → Run → Replica → Type 0

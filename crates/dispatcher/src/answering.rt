@@ -10,7 +10,7 @@ use std::alloc::{AllocError, Global};
 use store::Store;
 
 /// The report on these plans, answered on the tables of a store, which are those of this version.
-/// Fails for want of memory alone.
+/// Fails only when out of memory.
 pub fn report<S: Store>(
     alloc: Global,
     version: u64,

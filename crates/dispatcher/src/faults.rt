@@ -1,5 +1,12 @@
-use crate::plan::PlanFault;
 use thiserror::Error;
+
+/// Why a plan does not fit a schema.
+#[derive(Clone, Copy, Debug, PartialEq, Eq, Error)]
+pub enum PlanFault {
+    /// The schema has no table of that number.
+    #[error("no such table")]
+    NoTable,
+}
 
 /// Why a query is not taken: the first that stands, in the order `Broken`, `BatchFull`,
 /// `BadPlan`, `Memory`.
@@ -28,5 +35,16 @@ pub enum AskFault {
     Empty,
     /// The replica is broken; it has to be started again.
     #[error("the replica is broken")]
+    Broken,
+}
+
+/// Why a replica did not catch up with the version that was fetched.
+#[derive(Clone, Copy, Debug, PartialEq, Eq)]
+pub enum CatchUpFault {
+    /// The frames are not those of one list of commits; the replica is broken.
+    Inconsistent,
+    /// Memory was wanted before the first change; nothing has changed.
+    Memory,
+    /// The store did not make all changes; the replica is broken.
     Broken,
 }

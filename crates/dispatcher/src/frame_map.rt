@@ -11,7 +11,7 @@ use rows::limits::FRAME_WINDOW;
 use std::alloc::{AllocError, Global};
 use std::collections::BTreeMap;
 use std::marker::Model;
-use wire::Frame;
+use update_log::Frame;
 
 /// The known frames of one worker. Contracts see them in rising seq.
 #[derive(Debug, Drop)]
@@ -26,7 +26,7 @@ pub struct FrameMap {
 impl Model for FrameMap {
     ghost use Rattle.std.specs.Prelude.{◌≡◌, List, ℕ};
     ghost use Rattle.dispatcher.specs.Known.{known_of, first_missing};
-    ghost use Rattle.wire.specs.declared.frame.Frame.{Frame};
+    ghost use Rattle.update_log.specs.declared.frame.Frame.{Frame};
 
     ghost Value = { List (ℕ × Frame) };
 
@@ -75,7 +75,7 @@ impl FrameMap {
         seq == u64::MAX || seq.saturating_sub(self.first_missing()) >= FRAME_WINDOW
     }
 
-    /// Adds a frame at its seq. Fails for want of memory alone, and then nothing has changed.
+    /// Adds a frame at its seq. Fails only when out of memory, and then nothing has changed.
     pub fn insert(&mut self, seq: u64, frame: Frame) -> Result<(), AllocError>
         ensures ok { OnOk result (self.new ≡ insert_entry nat_cmp self.old seq frame) }
         ensures err { OnErr result (self.new ≡ self.old) }

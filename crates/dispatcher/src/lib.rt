@@ -8,14 +8,13 @@
 //! plain answer of a query (`Plans.antt`), the text of a report (`Report.antt`), and when all that
 //! a replica knows is of one list of commits (`Feeding.antt`). `Inner` only helps proofs.
 //!
-//! Promised: each call is exact, want of memory aside. `fed_replicas_stay_fed` says that a replica
+//! Promised: each call is exact, out of memory aside. `fed_replicas_stay_fed` says that a replica
 //! to which only what is true of a legal list of commits comes reports on rows of that list.
 //! It stands on `rows`, `wire` and `store`. For now a replica has one worker's stream.
 #![tactic(auto)]
 
 mod answering;
 mod batch;
-mod catch_up_fault;
 mod faults;
 mod frame_map;
 mod laws;
@@ -25,8 +24,8 @@ mod plan;
 mod replica_core;
 mod sending;
 
-pub use faults::{AskFault, OpenFault};
+pub use faults::{AskFault, OpenFault, PlanFault};
 pub use laws::fed_replicas_stay_fed;
 pub use outcome::{Got, Run};
-pub use plan::{Plan, PlanFault};
+pub use plan::Plan;
 pub use replica_core::ReplicaCore;

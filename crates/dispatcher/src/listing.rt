@@ -10,8 +10,8 @@ use rows::{Commit, EntryList};
 use std::alloc::{AllocError, Global};
 
 /// The commits of the frames of the seqs from `first` to before `end`, of which none is missing;
-/// `None` where one of them does not hold the whole of the next commit behind `version`. Fails for
-/// want of memory alone.
+/// `None` where one of them does not hold the whole of the next commit behind `version`. Fails only
+/// when out of memory.
 pub fn commits_at(
     alloc: Global,
     frames: &FrameMap,
@@ -42,7 +42,7 @@ pub fn commits_at(
     Ok(Some(commits))
 }
 
-/// A copy of entries. Fails for want of memory alone.
+/// A copy of entries. Fails only when out of memory.
 fn copy_of(entries: &EntryList) -> Result<EntryList, AllocError>
     ensures { IfOk result (λ copy. copy ≡ entries.now) }
 {

@@ -14,7 +14,7 @@ pub enum Got {
     Head(u64),
     /// Anything else; nothing changed.
     Ignored,
-    /// Want of memory; nothing changed.
+    /// Out of memory; nothing changed.
     Memory,
     /// The replica is broken; nothing changed.
     Broken,
@@ -35,6 +35,6 @@ pub enum Run {
     Inconsistent,
     /// The replica is broken.
     Broken,
-    /// Want of memory; the batch stands and may be run again.
+    /// Out of memory; the batch stands and may be run again.
     Memory,
 }

@@ -1,21 +1,13 @@
 //! Plans of queries.
 
+use crate::faults::PlanFault;
 use rows::Schema;
-use thiserror::Error;
 
 /// A query over one table, which counts its rows.
 #[derive(Clone, Copy, Debug, PartialEq, Eq)]
 pub struct Plan {
     /// The number of the table, from 0.
     pub table: u8,
-}
-
-/// Why a plan does not fit a schema.
-#[derive(Clone, Copy, Debug, PartialEq, Eq, Error)]
-pub enum PlanFault {
-    /// The schema has no table of that number.
-    #[error("no such table")]
-    NoTable,
 }
 
 impl Plan {

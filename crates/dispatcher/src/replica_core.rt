@@ -3,15 +3,15 @@
 ghost use Rattle.std.specs.Prelude.{◌≡◌, ◌<◌, ◌≤◌, ◌^◌, ◌+◌, ◌-◌, ◌==◌, ◌∷◌, [], Some, true, false, Ok, Err, IfOk, IfErr, IsOk, ◌⊎◌};
 ghost use Rattle.rows.specs.Shape.{shape_of};
 ghost use Rattle.rows.specs.Tables.{opening};
-ghost use Rattle.dispatcher.specs.Replica.{Replica};
+ghost use Rattle.dispatcher.specs.State.{Replica};
 ghost use Rattle.dispatcher.specs.Steps.{started, opened, asked, received, frame_comes, own_head_comes, ready_of};
 ghost use Rattle.dispatcher.specs.Steps.{MayRun};
 ghost use Rattle.dispatcher.specs.Inner.Parts.{TakesFrame, CatchesUp, Applies, answered_by};
+ghost use Rattle.rows.specs.Limits.{replicas_max};
 
 use crate::answering::report;
 use crate::batch::{Batch, Fetched};
-use crate::catch_up_fault::CatchUpFault;
-use crate::faults::{AskFault, OpenFault};
+use crate::faults::{AskFault, CatchUpFault, OpenFault};
 use crate::frame_map::FrameMap;
 use crate::listing::commits_at;
 use crate::outcome::{Got, Run};
@@ -22,7 +22,8 @@ use rows::{Commit, Schema};
 use std::alloc::{AllocError, Global};
 use std::marker::{Model, Sync};
 use store::{ApplyFault, ApplyStore};
-use wire::{Counts, Datagram, Frame, LentEntries, Out, read};
+use update_log::Frame;
+use wire::{Counts, Datagram, LentEntries, Out, read};
 
 /// A replica of one primary, on a store of its own.
 ///
@@ -46,11 +47,11 @@ pub struct ReplicaCore<S: ApplyStore + Sync> {
 }
 
 impl<S: ApplyStore + Sync> Model for ReplicaCore<S> {
-    ghost use Rattle.dispatcher.specs.Replica.{Replica};
+    ghost use Rattle.dispatcher.specs.State.{Replica};
 
     ghost Value = { Replica };
 
-    ghost use Rattle.dispatcher.specs.Inner.Core.{replica_of, IsCore};
+    ghost use Rattle.dispatcher.specs.Inner.Invariant.{replica_of, IsCore};
 
     ghost view = { replica_of S.tables };
 
@@ -59,7 +60,7 @@ impl<S: ApplyStore + Sync> Model for ReplicaCore<S> {
 
 impl<S: ApplyStore + Sync> ReplicaCore<S> {
     /// A replica without frames or queries, at version 0, for one worker, on a whole store whose
-    /// tables are those of the schema and have no rows. Fails for want of memory alone; the store
+    /// tables are those of the schema and have no rows. Fails only when out of memory; the store
     /// is dropped then.
     pub fn start(
         alloc: Global,
@@ -74,7 +75,7 @@ impl<S: ApplyStore + Sync> ReplicaCore<S> {
         requires whole { S.is_whole store ≡ true }
         requires tables { S.tables store ≡ opening (shape_of schema.now) }
         requires workers { workers ≡ 1 }
-        requires number { number < 16 }
+        requires number { number < replicas_max }
         ensures { IfOk result (λ replica. replica ≡ started (shape_of schema.now) workers number boot) }
     {
         Ok(ReplicaCore {

@@ -2,12 +2,13 @@
 
 ghost use Rattle.std.specs.Prelude.{◌≡◌, ◌<◌};
 ghost use Rattle.dispatcher.specs.Steps.{ask_for, want_for};
+ghost use Rattle.rows.specs.Limits.{replicas_max, workers_max};
 
 use wire::{Datagram, Out, Packet, To};
 
 /// The Ask of a request, on its way to the primary.
 pub fn ask_out(replica: u8, boot: u64, request: u64) -> Out
-    requires { replica < 16 }
+    requires { replica < replicas_max }
     ensures { result ≡ ask_for replica boot request }
 {
     Out {
@@ -22,8 +23,8 @@ pub fn ask_out(replica: u8, boot: u64, request: u64) -> Out
 
 /// The Want of a worker's frames from a seq on, on its way to the primary.
 pub fn want_out(replica: u8, worker: u8, from: u64) -> Out
-    requires replica { replica < 16 }
-    requires worker { worker < 16 }
+    requires replica { replica < replicas_max }
+    requires worker { worker < workers_max }
     ensures { result ≡ want_for replica worker from }
 {
     Out {

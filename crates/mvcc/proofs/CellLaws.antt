@@ -13,13 +13,13 @@ use Rattle.rows.specs.Shape.{Shape, row_width, column_at}
 use Rattle.rows.specs.Values.{value_of}
 use Rattle.rows.specs.Tables.{patched_row}
 use Rattle.rows.specs.Commits.{is_of}
-use Rattle.rows.specs.RowAfter.{row_after_fit, inserted_row}
-use Rattle.mvcc.specs.Cells.{cell_of, inserted_cell, patched_cell, cell_after_one, cell_after_entry, cell_after}
-use Rattle.mvcc.specs.OwnRows.{picked}
+use Rattle.rows.specs.Inner.RowAfter.{row_after_fit, inserted_row}
+use Rattle.mvcc.specs.Inner.Cells.{cell_of, inserted_cell, patched_cell, cell_after_one, cell_after_entry, cell_after}
+use Rattle.mvcc.specs.Inner.OwnRows.{picked}
 use Rattle.mvcc.proofs.Effects.{effect, step, step-is}
 use Rattle.mvcc.proofs.OwnRows.{before, picked-cons}
 
--- a place of a list where one was replaced
+-- an index of a list where one was replaced
 slice_get-set_same : {X : Type 0} (xs : List X) (i : ℕ) (x : X) → slice_get (slice_set xs i x) i ≡ option_map (λ was. x) (slice_get xs i)
 slice_get-set_same [] i x = refl
 slice_get-set_same (first ∷ xs) zero x = refl
@@ -46,7 +46,7 @@ patched kinds offset bytes column values = by (column_at kinds offset (length by
     by : (found : Option (ℕ × Kind)) → column_at kinds offset (length bytes) ≡ found
         → slice_get (patched_row kinds offset bytes values) column ≡ patched_cell kinds offset bytes column (slice_get values column)
     by None e = rw e refl
-    by (Some place) e = rw e (slice_get-set values place.0 column (value_of place.1 bytes))
+    by (Some found) e = rw e (slice_get-set values found.0 column (value_of found.1 bytes))
 
 effect-cell : (kinds : List Kind) (column : ℕ) (entry : Entry) (was : Option (List Value))
     → cell_of column (effect (Some kinds) entry was) ≡ cell_after_one kinds column entry (cell_of column was)
@@ -78,21 +78,21 @@ cell-row shape kinds table row column (entry ∷ entries) was h =
     by true = effect-cell kinds column entry was
     by false = refl
 
--- what the entries at places make of a column, one place on: where there is an entry, and where there is none
-pub cell_after-some : (kinds : List Kind) (table row column : ℕ) (entries : List Entry) (places : List ℕ) (i : ℕ) (entry : Entry)
-    (cell : Option (Option Value)) → i < length places → slice_get entries (get_or places i 0) ≡ Some entry
-    → cell_after kinds table row column (picked entries (drop i places)) cell ≡ cell_after kinds table row column
-    (picked entries (drop (i + 1) places)) (cell_after_entry kinds table row column entry cell)
-cell_after-some kinds table row column entries places i entry cell h e =
+-- what the entries at indices make of a column, one on: where there is an entry, and where there is none
+pub cell_after-some : (kinds : List Kind) (table row column : ℕ) (entries : List Entry) (indices : List ℕ) (i : ℕ) (entry : Entry)
+    (cell : Option (Option Value)) → i < length indices → slice_get entries (get_or indices i 0) ≡ Some entry
+    → cell_after kinds table row column (picked entries (drop i indices)) cell ≡ cell_after kinds table row column
+    (picked entries (drop (i + 1) indices)) (cell_after_entry kinds table row column entry cell)
+cell_after-some kinds table row column entries indices i entry cell h e =
     ap (λ own. cell_after kinds table row column own cell)
-    (ap (picked entries) (drop_more places i 0 h) ∙ picked-cons entries (get_or places i 0) (drop (i + 1) places)
-    ∙ ap (λ found. before found (picked entries (drop (i + 1) places))) e)
+    (ap (picked entries) (drop_more indices i 0 h) ∙ picked-cons entries (get_or indices i 0) (drop (i + 1) indices)
+    ∙ ap (λ found. before found (picked entries (drop (i + 1) indices))) e)
 
-pub cell_after-none : (kinds : List Kind) (table row column : ℕ) (entries : List Entry) (places : List ℕ) (i : ℕ)
-    (cell : Option (Option Value)) → i < length places → slice_get entries (get_or places i 0) ≡ None
-    → cell_after kinds table row column (picked entries (drop i places)) cell ≡ cell_after kinds table row column
-    (picked entries (drop (i + 1) places)) cell
-cell_after-none kinds table row column entries places i cell h e =
+pub cell_after-none : (kinds : List Kind) (table row column : ℕ) (entries : List Entry) (indices : List ℕ) (i : ℕ)
+    (cell : Option (Option Value)) → i < length indices → slice_get entries (get_or indices i 0) ≡ None
+    → cell_after kinds table row column (picked entries (drop i indices)) cell ≡ cell_after kinds table row column
+    (picked entries (drop (i + 1) indices)) cell
+cell_after-none kinds table row column entries indices i cell h e =
     ap (λ own. cell_after kinds table row column own cell)
-    (ap (picked entries) (drop_more places i 0 h) ∙ picked-cons entries (get_or places i 0) (drop (i + 1) places)
-    ∙ ap (λ found. before found (picked entries (drop (i + 1) places))) e)
+    (ap (picked entries) (drop_more indices i 0 h) ∙ picked-cons entries (get_or indices i 0) (drop (i + 1) indices)
+    ∙ ap (λ found. before found (picked entries (drop (i + 1) indices))) e)

@@ -9,7 +9,7 @@ use Rattle.std.proofs.lemmas.List.{set-set, set_comm}
 use Rattle.std.proofs.lemmas.Option.{same_Some}
 use Rattle.rows.specs.declared.entry.Entry.{Entry}
 use Rattle.rows.specs.declared.entry.Entry.TheVariants.{Insert, Patch, Delete}
-use Rattle.rows.specs.declared.fitting.EntryFault.{EntryFault}
+use Rattle.rows.specs.declared.faults.EntryFault.{EntryFault}
 use Rattle.rows.specs.declared.kind.Kind.{Kind}
 use Rattle.rows.specs.declared.row_id.RowId.{RowId}
 use Rattle.rows.specs.declared.value.Value.{Value}
@@ -18,9 +18,9 @@ use Rattle.rows.specs.Values.{value_of}
 use Rattle.rows.specs.Entries.{table_of, row_of, fitting}
 use Rattle.rows.specs.Tables.{patched_row}
 use Rattle.rows.specs.Commits.{is_of}
-use Rattle.rows.specs.RowAfter.{inserted_row, row_after_one, row_after_entry, row_after_fit}
+use Rattle.rows.specs.Inner.RowAfter.{inserted_row, row_after_one, row_after_entry, row_after_fit}
 use Rattle.rows.proofs.RowLaws.{row_after_fit-push}
-use Rattle.mvcc.specs.OwnRows.{supersedes}
+use Rattle.mvcc.specs.Inner.OwnRows.{supersedes}
 
 -- what an entry of a row makes of it, in a table with columns of these kinds, or in none
 abbrev pub effect : Option (List Kind) → Entry → Option (List Value) → Option (List Value)
@@ -43,7 +43,7 @@ alike : {X : Type 0} (b : Bool) (x : X) → cond b x x ≡ x
 alike true x = refl
 alike false x = refl
 
--- bytes at a place of no column change nothing
+-- bytes that are no column's change nothing
 patched-none : (kinds : List Kind) (offset : ℕ) (bytes : List ℕ) (was : Option (List Value)) → column_at kinds offset (length bytes) ≡ None
     → option_map (patched_row kinds offset bytes) was ≡ was
 patched-none kinds offset bytes None e = refl
@@ -60,7 +60,7 @@ fits-patch kinds offset bytes fault was = by (column_at kinds offset (length byt
     by None e =
         ap (λ found. cond (is_ok {T = Unit {0}} {E = EntryFault} (cond (is_some found) (Ok tt) (Err fault)))
         (option_map (patched_row kinds offset bytes) was) was) e ∙ sym (patched-none kinds offset bytes was e)
-    by (Some place) e =
+    by (Some column) e =
         ap (λ found. cond (is_ok {T = Unit {0}} {E = EntryFault} (cond (is_some found) (Ok tt) (Err fault)))
         (option_map (patched_row kinds offset bytes) was) was) e
 
@@ -116,7 +116,7 @@ unlisted shape table row (entry ∷ entries) was h =
 -- bytes at a column of a row
 abbrev put_at : Option (ℕ × Kind) → List ℕ → List Value → List Value
 put_at None bytes values = values
-put_at (Some place) bytes values = slice_set values place.0 (value_of place.1 bytes)
+put_at (Some column) bytes values = slice_set values column.0 (value_of column.1 bytes)
 
 patched-is : (kinds : List Kind) (offset : ℕ) (bytes : List ℕ) (values : List Value)
     → patched_row kinds offset bytes values ≡ put_at (column_at kinds offset (length bytes)) bytes values
@@ -125,29 +125,29 @@ patched-is kinds offset bytes values = by (column_at kinds offset (length bytes)
     by : (found : Option (ℕ × Kind)) → column_at kinds offset (length bytes) ≡ found
         → patched_row kinds offset bytes values ≡ put_at (column_at kinds offset (length bytes)) bytes values
     by None e = rw e refl
-    by (Some place) e = rw e refl
+    by (Some column) e = rw e refl
 
 -- of two values for one column the later one stays
-put_at-twice : (place : Option (ℕ × Kind)) (bytes earlier : List ℕ) (values : List Value)
-    → put_at place bytes (put_at place earlier values) ≡ put_at place bytes values
+put_at-twice : (column : Option (ℕ × Kind)) (bytes earlier : List ℕ) (values : List Value)
+    → put_at column bytes (put_at column earlier values) ≡ put_at column bytes values
 put_at-twice None bytes earlier values = refl
-put_at-twice (Some place) bytes earlier values = set-set values place.0 (value_of place.1 earlier) (value_of place.1 bytes)
+put_at-twice (Some column) bytes earlier values = set-set values column.0 (value_of column.1 earlier) (value_of column.1 bytes)
 
 -- rows that are the same but for a column stay so when another value comes
-put_at-keeps : (place other : Option (ℕ × Kind)) (bytes between : List ℕ) (values values' : List Value)
-    → put_at place bytes values ≡ put_at place bytes values'
-    → put_at place bytes (put_at other between values) ≡ put_at place bytes (put_at other between values')
+put_at-keeps : (column other : Option (ℕ × Kind)) (bytes between : List ℕ) (values values' : List Value)
+    → put_at column bytes values ≡ put_at column bytes values'
+    → put_at column bytes (put_at other between values) ≡ put_at column bytes (put_at other between values')
 put_at-keeps None other bytes between values values' h = ap (put_at other between) h
-put_at-keeps (Some place) None bytes between values values' h = h
-put_at-keeps (Some place) (Some other) bytes between values values' h =
-    let last = value_of place.1 bytes in
+put_at-keeps (Some column) None bytes between values values' h = h
+put_at-keeps (Some column) (Some other) bytes between values values' h =
+    let last = value_of column.1 bytes in
     let first = value_of other.1 between in
-    elim (cases_eq other.0 place.0) [
+    elim (cases_eq other.0 column.0) [
       | inl same ↦
-          rw same (set-set values place.0 first last ∙ h ∙ sym (set-set values' place.0 first last))
+          rw same (set-set values column.0 first last ∙ h ∙ sym (set-set values' column.0 first last))
       | inr apart ↦
-          set_comm values other.0 place.0 first last apart ∙ ap (λ row. slice_set row other.0 first) h
-          ∙ sym (set_comm values' other.0 place.0 first last apart)
+          set_comm values other.0 column.0 first last apart ∙ ap (λ row. slice_set row other.0 first) h
+          ∙ sym (set_comm values' other.0 column.0 first last apart)
     ]
 
 -- an entry leaves nothing of one that it supersedes
@@ -163,7 +163,7 @@ absorbs (Some kinds) (Patch table row offset bytes) (Patch table' row' offset' b
     rw (eqb-true offset offset' parts.0, eqb-true (length bytes) (length bytes') parts.1) refl in
     ap Some (patched-is kinds offset bytes (patched_row kinds offset' bytes' values)
     ∙ ap (put_at (column_at kinds offset (length bytes)) bytes)
-    (patched-is kinds offset' bytes' values ∙ ap (λ place. put_at place bytes' values) same)
+    (patched-is kinds offset' bytes' values ∙ ap (λ column. put_at column bytes' values) same)
     ∙ put_at-twice (column_at kinds offset (length bytes)) bytes bytes' values
     ∙ sym (patched-is kinds offset bytes values))
 absorbs (Some kinds) (Patch table row offset bytes) (Delete table' row') was h = cc
@@ -192,13 +192,13 @@ patch-keeps kinds table row offset bytes (Patch table' row' offset' bytes') None
 patch-keeps kinds table row offset bytes (Patch table' row' offset' bytes') None (Some values) h = cc
 patch-keeps kinds table row offset bytes (Patch table' row' offset' bytes') (Some values) None h = cc
 patch-keeps kinds table row offset bytes (Patch table' row' offset' bytes') (Some values) (Some values') h =
-    let place = column_at kinds offset (length bytes) in
+    let column = column_at kinds offset (length bytes) in
     let other = column_at kinds offset' (length bytes') in
     let same = sym (patched-is kinds offset bytes values) ∙ same_Some _ _ h ∙ patched-is kinds offset bytes values' in
     let as_put =
     λ (vs : List Value). patched-is kinds offset bytes (patched_row kinds offset' bytes' vs)
-    ∙ ap (put_at place bytes) (patched-is kinds offset' bytes' vs) in
-    ap Some (as_put values ∙ put_at-keeps place other bytes bytes' values values' same ∙ sym (as_put values'))
+    ∙ ap (put_at column bytes) (patched-is kinds offset' bytes' vs) in
+    ap Some (as_put values ∙ put_at-keeps column other bytes bytes' values values' same ∙ sym (as_put values'))
 patch-keeps kinds table row offset bytes (Delete table' row') was was' h = refl
 
 none-keeps : (entry : Entry) → Keeps None entry

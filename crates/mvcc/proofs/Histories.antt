@@ -12,12 +12,12 @@ use Rattle.std.proofs.lemmas.Bool.Decides.{nat_tests}
 use Rattle.rows.specs.declared.commit.Commit.{Commit}
 use Rattle.rows.specs.declared.entry.Entry.{Entry}
 use Rattle.rows.specs.Commits.{is_of, last_where}
-use Rattle.mvcc.specs.RowBytes.{bytes_after_one, bytes_after, bytes_after_commits}
+use Rattle.mvcc.specs.Inner.RowBytes.{bytes_after_one, bytes_after, bytes_after_commits}
 use Rattle.mvcc.proofs.RowBytes.{bytes_after-push, bytes_after_commits-push, bytes_after-unnamed}
 use Rattle.mvcc.specs.declared.link.Link.{Link}
 use Rattle.mvcc.specs.Newest.{writes, newest_of}
-use Rattle.mvcc.specs.Chains.{link_of, chain_behind, chain_of, newest_from, newest_in, latest_from, latest_in, bytes_from, bytes_at}
-use Rattle.mvcc.specs.Chains.{cut_at, linked, and_entries}
+use Rattle.mvcc.specs.Inner.Chains.{link_of, chain_behind, chain_of, newest_from, newest_in, latest_from, latest_in, bytes_from, bytes_at}
+use Rattle.mvcc.specs.Inner.Chains.{cut_at, linked, and_entries}
 use Rattle.mvcc.proofs.Links.{newest-push}
 
 -- a link, where there is one

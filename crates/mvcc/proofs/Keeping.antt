@@ -18,9 +18,9 @@ use Rattle.rows.proofs.TableLaws.{commits_of-push}
 use Rattle.mvcc.specs.declared.link.Link.{Link}
 use Rattle.mvcc.specs.Newest.{newest_of}
 use Rattle.mvcc.specs.Values.{value_in}
-use Rattle.mvcc.specs.RowBytes.{AreWide}
-use Rattle.mvcc.specs.Chains.{Chains, chain_of, newest_in, bytes_at, cut_at, linked, links_at, cut_all, Turns}
-use Rattle.mvcc.specs.Chains.{and_entries, AreChains, AreChainsCut, AreVersions}
+use Rattle.mvcc.specs.Inner.RowBytes.{AreWide}
+use Rattle.mvcc.specs.Inner.Chains.{Chains, chain_of, newest_in, bytes_at, cut_at, linked, links_at, cut_all, Turns}
+use Rattle.mvcc.specs.Inner.Chains.{and_entries, AreChains, AreChainsCut, AreVersions}
 use Rattle.mvcc.proofs.RowBytes.{IsTold, version-told}
 use Rattle.mvcc.proofs.Histories.{chain-at, chain-sorted, chain-newest_of, cut-chain, cut-and_entries, and_entries-other, and_entries-push}
 use Rattle.mvcc.proofs.Histories.{and_entries-commit}

@@ -12,7 +12,7 @@ use Rattle.rows.specs.Commits.{is_of}
 use Rattle.rows.specs.Keys.{is_key_of}
 use Rattle.rows.proofs.Keys.{key_cmp, lookup-key, lookup-set, lookup-put}
 use Rattle.mvcc.specs.declared.link.Link.{Link}
-use Rattle.mvcc.specs.Chains.{Chains, newest_from, latest_from, bytes_from, cut_at, links_found, links_at, Turns}
+use Rattle.mvcc.specs.Inner.Chains.{Chains, newest_from, latest_from, bytes_from, cut_at, links_found, links_at, Turns}
 
 -- what is told of the last link
 pub newest-last : (links : List Link) (link : Link) (last : ℕ) → slice_get links (length links - 1) ≡ Some link
@@ -38,7 +38,7 @@ pub newest-push : (links : List Link) (link : Link) (last : ℕ) → newest_from
 newest-push [] link last = refl
 newest-push (first ∷ links) link last = newest-push links link first.version
 
--- the bytes at a version are those of the last link before the place where the later versions begin
+-- the bytes at a version are those of the last link before where the later versions begin
 pub bytes-partition : (version : ℕ) (links : List Link) (end : ℕ) (was : Option (List ℕ)) → end ≤ length links
     → IsPartitionPoint (λ (y : Link). nat_le y.version version ≡ true) (λ y. nat_le y.version version ≡ false) links end
     → bytes_from version was links ≡ latest_from was (take end links)

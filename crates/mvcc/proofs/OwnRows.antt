@@ -11,43 +11,43 @@ use Rattle.rows.specs.Shape.{Shape}
 use Rattle.rows.specs.Entries.{table_of, row_of}
 use Rattle.rows.specs.Commits.{is_of}
 use Rattle.rows.specs.Keys.{is_key_of}
-use Rattle.rows.specs.RowAfter.{row_after_fit}
+use Rattle.rows.specs.Inner.RowAfter.{row_after_fit}
 use Rattle.rows.proofs.RowLaws.{row_after_fit-push}
-use Rattle.mvcc.specs.OwnRows.{Index, places_at, picked, supersedes, is_superseded, kept_places, IsIndexOf}
+use Rattle.mvcc.specs.Inner.OwnRows.{RowIndices, indices_at, picked, supersedes, is_superseded, kept_indices, IsIndexOf}
 use Rattle.mvcc.proofs.Effects.{step, superseded, other_row}
 
 abbrev or_none : Option (List ℕ) → List ℕ
 or_none None = []
-or_none (Some places) = places
+or_none (Some indices) = indices
 
-places-get : (index : Index) (table row : ℕ) → places_at index table row ≡ or_none (lookup (is_key_of table row) index)
-places-get index table row = by (lookup (is_key_of table row) index) refl
+indices-get : (rows : RowIndices) (table row : ℕ) → indices_at rows table row ≡ or_none (lookup (is_key_of table row) rows)
+indices-get rows table row = by (lookup (is_key_of table row) rows) refl
   where
-    by : (found : Option (List ℕ)) → lookup (is_key_of table row) index ≡ found
-        → places_at index table row ≡ or_none (lookup (is_key_of table row) index)
+    by : (found : Option (List ℕ)) → lookup (is_key_of table row) rows ≡ found
+        → indices_at rows table row ≡ or_none (lookup (is_key_of table row) rows)
     by None e = rw e refl
-    by (Some places) e = rw e refl
+    by (Some indices) e = rw e refl
 
--- the places of a row once those of one row were replaced in the map
-pub places-put : (index after : Index) (table row : ℕ) (places : List ℕ)
-    → ((t r : ℕ) → lookup (is_key_of t r) after ≡ cond ((table == t) && (row == r)) (Some places) (lookup (is_key_of t r) index))
-    → (t r : ℕ) → places_at after t r ≡ cond ((table == t) && (row == r)) places (places_at index t r)
-places-put index after table row places h t r =
-    places-get after t r
+-- the indices of a row once those of one row were replaced in the map
+pub indices-put : (rows after : RowIndices) (table row : ℕ) (indices : List ℕ)
+    → ((t r : ℕ) → lookup (is_key_of t r) after ≡ cond ((table == t) && (row == r)) (Some indices) (lookup (is_key_of t r) rows))
+    → (t r : ℕ) → indices_at after t r ≡ cond ((table == t) && (row == r)) indices (indices_at rows t r)
+indices-put rows after table row indices h t r =
+    indices-get after t r
     ∙ ap or_none (h t r)
-    ∙ by ((table == t) && (row == r)) (lookup (is_key_of t r) index)
-    ∙ ap (cond ((table == t) && (row == r)) places) (sym (places-get index t r))
+    ∙ by ((table == t) && (row == r)) (lookup (is_key_of t r) rows)
+    ∙ ap (cond ((table == t) && (row == r)) indices) (sym (indices-get rows t r))
   where
-    by : (here : Bool) (found : Option (List ℕ)) → or_none (cond here (Some places) found) ≡ cond here places (or_none found)
+    by : (here : Bool) (found : Option (List ℕ)) → or_none (cond here (Some indices) found) ≡ cond here indices (or_none found)
     by true found = refl
     by false found = refl
 
 -- an entry of a longer list, and the last one
-slice_get-push : (entries : List Entry) (entry : Entry) (place : ℕ) → place < length entries
-    → slice_get (entries ++ entry ∷ []) place ≡ slice_get entries place
-slice_get-push [] entry place h = absurd (omega arith)
+slice_get-push : (entries : List Entry) (entry : Entry) (index : ℕ) → index < length entries
+    → slice_get (entries ++ entry ∷ []) index ≡ slice_get entries index
+slice_get-push [] entry index h = absurd (omega arith)
 slice_get-push (first ∷ entries) entry zero h = refl
-slice_get-push (first ∷ entries) entry (suc place) h = slice_get-push entries entry place (omega arith)
+slice_get-push (first ∷ entries) entry (suc index) h = slice_get-push entries entry index (omega arith)
 
 slice_get-last : (entries : List Entry) (entry : Entry) → slice_get (entries ++ entry ∷ []) (length entries) ≡ Some entry
 slice_get-last [] entry = refl
@@ -58,12 +58,12 @@ abbrev pub before : Option Entry → List Entry → List Entry
 before None others = others
 before (Some entry) others = entry ∷ others
 
-pub picked-cons : (entries : List Entry) (place : ℕ) (places : List ℕ)
-    → picked entries (place ∷ places) ≡ before (slice_get entries place) (picked entries places)
-picked-cons entries place places = by (slice_get entries place) refl
+pub picked-cons : (entries : List Entry) (index : ℕ) (indices : List ℕ)
+    → picked entries (index ∷ indices) ≡ before (slice_get entries index) (picked entries indices)
+picked-cons entries index indices = by (slice_get entries index) refl
   where
-    by : (found : Option Entry) → slice_get entries place ≡ found
-        → picked entries (place ∷ places) ≡ before (slice_get entries place) (picked entries places)
+    by : (found : Option Entry) → slice_get entries index ≡ found
+        → picked entries (index ∷ indices) ≡ before (slice_get entries index) (picked entries indices)
     by None e = rw e refl
     by (Some entry) e = rw e refl
 
@@ -71,117 +71,118 @@ before-append : (found : Option Entry) (others more : List Entry) → before fou
 before-append None others more = refl
 before-append (Some entry) others more = refl
 
--- the entries at places of a longer list
-picked-longer : (entries : List Entry) (entry : Entry) (places : List ℕ) → AllByRecursion (λ place. place < length entries) places
-    → picked (entries ++ entry ∷ []) places ≡ picked entries places
+-- the entries at indices of a longer list
+picked-longer : (entries : List Entry) (entry : Entry) (indices : List ℕ) → AllByRecursion (λ index. index < length entries) indices
+    → picked (entries ++ entry ∷ []) indices ≡ picked entries indices
 picked-longer entries entry [] h = refl
-picked-longer entries entry (place ∷ places) h =
-    picked-cons (entries ++ entry ∷ []) place places
-    ∙ ap (λ found. before found (picked (entries ++ entry ∷ []) places)) (slice_get-push entries entry place h.0)
-    ∙ ap (before (slice_get entries place)) (picked-longer entries entry places h.1)
-    ∙ sym (picked-cons entries place places)
+picked-longer entries entry (index ∷ indices) h =
+    picked-cons (entries ++ entry ∷ []) index indices
+    ∙ ap (λ found. before found (picked (entries ++ entry ∷ []) indices)) (slice_get-push entries entry index h.0)
+    ∙ ap (before (slice_get entries index)) (picked-longer entries entry indices h.1)
+    ∙ sym (picked-cons entries index indices)
 
--- those at the same places and the last
-picked-push : (entries : List Entry) (entry : Entry) (places : List ℕ) → AllByRecursion (λ place. place < length entries) places
-    → picked (entries ++ entry ∷ []) (places ++ length entries ∷ []) ≡ picked entries places ++ entry ∷ []
+-- those at the same indices and the last
+picked-push : (entries : List Entry) (entry : Entry) (indices : List ℕ) → AllByRecursion (λ index. index < length entries) indices
+    → picked (entries ++ entry ∷ []) (indices ++ length entries ∷ []) ≡ picked entries indices ++ entry ∷ []
 picked-push entries entry [] h =
     picked-cons (entries ++ entry ∷ []) (length entries) [] ∙ ap (λ found. before found []) (slice_get-last entries entry)
-picked-push entries entry (place ∷ places) h =
-    picked-cons (entries ++ entry ∷ []) place (places ++ length entries ∷ [])
-    ∙ ap (λ found. before found (picked (entries ++ entry ∷ []) (places ++ length entries ∷ []))) (slice_get-push entries entry place h.0)
-    ∙ ap (before (slice_get entries place)) (picked-push entries entry places h.1)
-    ∙ before-append (slice_get entries place) (picked entries places) (entry ∷ [])
-    ∙ ap (λ others. others ++ entry ∷ []) (sym (picked-cons entries place places))
+picked-push entries entry (index ∷ indices) h =
+    picked-cons (entries ++ entry ∷ []) index (indices ++ length entries ∷ [])
+    ∙ ap (λ found. before found (picked (entries ++ entry ∷ []) (indices ++ length entries ∷ []))) (slice_get-push entries entry index h.0)
+    ∙ ap (before (slice_get entries index)) (picked-push entries entry indices h.1)
+    ∙ before-append (slice_get entries index) (picked entries indices) (entry ∷ [])
+    ∙ ap (λ others. others ++ entry ∷ []) (sym (picked-cons entries index indices))
 
--- those at the places that are kept
-picked-kept : (entries : List Entry) (entry : Entry) (places : List ℕ)
-    → picked entries (kept_places entries entry places) ≡ filter (λ earlier. not (supersedes entry earlier)) (picked entries places)
+-- those at the indices that are kept
+picked-kept : (entries : List Entry) (entry : Entry) (indices : List ℕ)
+    → picked entries (kept_indices entries entry indices) ≡ filter (λ earlier. not (supersedes entry earlier)) (picked entries indices)
 picked-kept entries entry [] = refl
-picked-kept entries entry (place ∷ places) = by (picked-kept entries entry places) (slice_get entries place) refl
+picked-kept entries entry (index ∷ indices) = by (picked-kept entries entry indices) (slice_get entries index) refl
   where
-    over : (earlier : Entry) → slice_get entries place ≡ Some earlier
-        → picked entries (kept_places entries entry places) ≡ filter (λ earlier. not (supersedes entry earlier)) (picked entries places)
+    over : (earlier : Entry) → slice_get entries index ≡ Some earlier
+        → picked entries (kept_indices entries entry indices) ≡ filter (λ earlier. not (supersedes entry earlier)) (picked entries indices)
         → (gone : Bool)
-        → picked entries (cond (not gone) (place ∷ kept_places entries entry places) (kept_places entries entry places)) ≡ cond (not gone)
-        (earlier ∷ filter (λ earlier. not (supersedes entry earlier)) (picked entries places))
-        (filter (λ earlier. not (supersedes entry earlier)) (picked entries places))
+        → picked entries (cond (not gone) (index ∷ kept_indices entries entry indices) (kept_indices entries entry indices))
+        ≡ cond (not gone)
+        (earlier ∷ filter (λ earlier. not (supersedes entry earlier)) (picked entries indices))
+        (filter (λ earlier. not (supersedes entry earlier)) (picked entries indices))
     over earlier e others true = others
     over earlier e others false =
-        picked-cons entries place (kept_places entries entry places)
-        ∙ ap (λ found. before found (picked entries (kept_places entries entry places))) e ∙ ap (λ others. earlier ∷ others) others
+        picked-cons entries index (kept_indices entries entry indices)
+        ∙ ap (λ found. before found (picked entries (kept_indices entries entry indices))) e ∙ ap (λ others. earlier ∷ others) others
 
-    none-over : slice_get entries place ≡ None → is_superseded entries entry place ≡ false
+    none-over : slice_get entries index ≡ None → is_superseded entries entry index ≡ false
     none-over e = rw e refl
 
-    some-over : (earlier : Entry) → slice_get entries place ≡ Some earlier → is_superseded entries entry place ≡ supersedes entry earlier
+    some-over : (earlier : Entry) → slice_get entries index ≡ Some earlier → is_superseded entries entry index ≡ supersedes entry earlier
     some-over earlier e = rw e refl
 
-    by : picked entries (kept_places entries entry places) ≡ filter (λ earlier. not (supersedes entry earlier)) (picked entries places)
-        → (found : Option Entry) → slice_get entries place ≡ found
-        → picked entries (kept_places entries entry (place ∷ places)) ≡ filter (λ earlier. not (supersedes entry earlier))
-        (picked entries (place ∷ places))
+    by : picked entries (kept_indices entries entry indices) ≡ filter (λ earlier. not (supersedes entry earlier)) (picked entries indices)
+        → (found : Option Entry) → slice_get entries index ≡ found
+        → picked entries (kept_indices entries entry (index ∷ indices)) ≡ filter (λ earlier. not (supersedes entry earlier))
+        (picked entries (index ∷ indices))
     by others None e =
-        ap (λ gone. picked entries (cond (not gone) (place ∷ kept_places entries entry places) (kept_places entries entry places)))
+        ap (λ gone. picked entries (cond (not gone) (index ∷ kept_indices entries entry indices) (kept_indices entries entry indices)))
         (none-over e)
-        ∙ picked-cons entries place (kept_places entries entry places)
-        ∙ ap (λ found. before found (picked entries (kept_places entries entry places))) e
+        ∙ picked-cons entries index (kept_indices entries entry indices)
+        ∙ ap (λ found. before found (picked entries (kept_indices entries entry indices))) e
         ∙ others
         ∙ sym (ap (filter (λ earlier. not (supersedes entry earlier)))
-        (picked-cons entries place places ∙ ap (λ found. before found (picked entries places)) e))
+        (picked-cons entries index indices ∙ ap (λ found. before found (picked entries indices)) e))
     by others (Some earlier) e =
-        ap (λ gone. picked entries (cond (not gone) (place ∷ kept_places entries entry places) (kept_places entries entry places)))
+        ap (λ gone. picked entries (cond (not gone) (index ∷ kept_indices entries entry indices) (kept_indices entries entry indices)))
         (some-over earlier e)
         ∙ over earlier e others (supersedes entry earlier)
         ∙ sym (ap (filter (λ earlier. not (supersedes entry earlier)))
-        (picked-cons entries place places ∙ ap (λ found. before found (picked entries places)) e))
+        (picked-cons entries index indices ∙ ap (λ found. before found (picked entries indices)) e))
 
--- places that are kept are within the list, and within a longer one
-within-kept : (P : ℕ → Type 0) (test : ℕ → Bool) (places : List ℕ) → AllByRecursion P places → AllByRecursion P (filter test places)
+-- indices that are kept are within the list, and within a longer one
+within-kept : (P : ℕ → Type 0) (test : ℕ → Bool) (indices : List ℕ) → AllByRecursion P indices → AllByRecursion P (filter test indices)
 within-kept P test [] h = tt
-within-kept P test (place ∷ places) h = by (within-kept P test places h.1) (test place)
+within-kept P test (index ∷ indices) h = by (within-kept P test indices h.1) (test index)
   where
-    by : AllByRecursion P (filter test places) → (here : Bool)
-        → AllByRecursion P (cond here (place ∷ filter test places) (filter test places))
+    by : AllByRecursion P (filter test indices) → (here : Bool)
+        → AllByRecursion P (cond here (index ∷ filter test indices) (filter test indices))
     by others true = (h.0, others)
     by others false = others
 
-within-longer : (count : ℕ) (places : List ℕ) → AllByRecursion (λ place. place < count) places
-    → AllByRecursion (λ place. place < count + 1) places
+within-longer : (count : ℕ) (indices : List ℕ) → AllByRecursion (λ index. index < count) indices
+    → AllByRecursion (λ index. index < count + 1) indices
 within-longer count [] h = tt
-within-longer count (place ∷ places) h = (omega (arith, h.0), within-longer count places h.1)
+within-longer count (index ∷ indices) h = (omega (arith, h.0), within-longer count indices h.1)
 
-within-push : (count : ℕ) (places : List ℕ) → AllByRecursion (λ place. place < count) places
-    → AllByRecursion (λ place. place < count + 1) (places ++ count ∷ [])
+within-push : (count : ℕ) (indices : List ℕ) → AllByRecursion (λ index. index < count) indices
+    → AllByRecursion (λ index. index < count + 1) (indices ++ count ∷ [])
 within-push count [] h = (omega arith, tt)
-within-push count (place ∷ places) h = (omega (arith, h.0), within-push count places h.1)
+within-push count (index ∷ indices) h = (omega (arith, h.0), within-push count indices h.1)
 
--- an index of the entries so far is one of those with one more behind them, once that entry's row has its new places
-pub IsIndexOf-push : (entries : List Entry) (index after : Index) (entry : Entry) → IsIndexOf entries index
-    → ((table row : ℕ) → places_at after table row ≡ cond (is_of table row entry)
-    (kept_places entries entry (places_at index (table_of entry) (row_of entry)) ++ length entries ∷ []) (places_at index table row))
+-- an index of the entries so far is one of those with one more behind them, once that entry's row has its new indices
+pub IsIndexOf-push : (entries : List Entry) (rows after : RowIndices) (entry : Entry) → IsIndexOf entries rows
+    → ((table row : ℕ) → indices_at after table row ≡ cond (is_of table row entry)
+    (kept_indices entries entry (indices_at rows (table_of entry) (row_of entry)) ++ length entries ∷ []) (indices_at rows table row))
     → IsIndexOf (entries ++ entry ∷ []) after
-IsIndexOf-push entries index after entry is put = record {
+IsIndexOf-push entries rows after entry is put = record {
   within = λ table row. rw (length_push entries entry, put table row) (within table row (is_of table row entry) refl);
   told = λ table row shape was. rw (put table row) (told table row shape was (is_of table row entry) refl);
 }
   where
     within : (table row : ℕ) (here : Bool) → is_of table row entry ≡ here
-        → AllByRecursion (λ place. place < length entries + 1)
-        (cond here (kept_places entries entry (places_at index (table_of entry) (row_of entry)) ++ length entries ∷ [])
-        (places_at index table row))
+        → AllByRecursion (λ index. index < length entries + 1)
+        (cond here (kept_indices entries entry (indices_at rows (table_of entry) (row_of entry)) ++ length entries ∷ [])
+        (indices_at rows table row))
     within table row true e =
-        within-push (length entries) _ (within-kept _ _ (places_at index (table_of entry) (row_of entry))
+        within-push (length entries) _ (within-kept _ _ (indices_at rows (table_of entry) (row_of entry))
         (is.within (table_of entry) (row_of entry)))
-    within table row false e = within-longer (length entries) (places_at index table row) (is.within table row)
+    within table row false e = within-longer (length entries) (indices_at rows table row) (is.within table row)
 
     told : (table row : ℕ) (shape : Shape) (was : Option (List Value)) (here : Bool) → is_of table row entry ≡ here
         → row_after_fit shape table row
         (picked (entries ++ entry ∷ [])
-        (cond here (kept_places entries entry (places_at index (table_of entry) (row_of entry)) ++ length entries ∷ [])
-        (places_at index table row))) was ≡ row_after_fit shape table row (entries ++ entry ∷ []) was
+        (cond here (kept_indices entries entry (indices_at rows (table_of entry) (row_of entry)) ++ length entries ∷ [])
+        (indices_at rows table row))) was ≡ row_after_fit shape table row (entries ++ entry ∷ []) was
     told table row shape was true e =
-        let old = places_at index (table_of entry) (row_of entry) in
-        let kept = kept_places entries entry old in
+        let old = indices_at rows (table_of entry) (row_of entry) in
+        let kept = kept_indices entries entry old in
         let at : (table ≡ table_of entry) × (row ≡ row_of entry) = (
           sym (eqb-true _ _ (and_parts (table_of entry == table) (row_of entry == row) e).0),
           sym (eqb-true _ _ (and_parts (table_of entry == table) (row_of entry == row) e).1),
@@ -190,14 +191,14 @@ IsIndexOf-push entries index after entry is put = record {
         rw (at.0, at.1) (is.told (table_of entry) (row_of entry) shape was) in
         ap (λ entries. row_after_fit shape table row entries was)
         (picked-push entries entry kept
-        (within-kept (λ place. place < length entries) _ old (is.within (table_of entry) (row_of entry)))
+        (within-kept (λ index. index < length entries) _ old (is.within (table_of entry) (row_of entry)))
         ∙ ap (λ entries. entries ++ entry ∷ []) (picked-kept entries entry old))
         ∙ superseded shape table row entry (picked entries old) was e
         ∙ ap (step shape table row entry) before_it
         ∙ sym (row_after_fit-push shape table row entries entry was)
     told table row shape was false e =
         ap (λ entries. row_after_fit shape table row entries was)
-        (picked-longer entries entry (places_at index table row) (is.within table row))
+        (picked-longer entries entry (indices_at rows table row) (is.within table row))
         ∙ is.told table row shape was
         ∙ sym (other_row shape table row entry (row_after_fit shape table row entries was) e)
         ∙ sym (row_after_fit-push shape table row entries entry was)

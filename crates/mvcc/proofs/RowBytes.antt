@@ -16,17 +16,17 @@ use Rattle.rows.specs.declared.kind.Kind.{Kind}
 use Rattle.rows.specs.declared.value.Value.{Value}
 use Rattle.rows.specs.Shape.{Shape, width_of, row_width, kinds_in, column_from, column_at}
 use Rattle.rows.specs.Values.{value_of, values_of}
-use Rattle.rows.specs.declared.fitting.EntryFault.TheVariants.{WrongSize, NotAColumn}
+use Rattle.rows.specs.declared.faults.EntryFault.TheVariants.{WrongSize, NotAColumn}
 use Rattle.rows.specs.Entries.{sized, placed, fitting}
 use Rattle.rows.specs.Tables.{Tables, opening, shape_in, rows_of, row_at, patched_row, change_of, changes_of}
 use Rattle.rows.specs.Commits.{commits_of, tables_after, is_of}
-use Rattle.rows.specs.RowAfter.{row_after_one, row_after_entry, row_after, row_after_commits}
+use Rattle.rows.specs.Inner.RowAfter.{row_after_one, row_after_entry, row_after, row_after_commits}
 use Rattle.rows.proofs.Presence.{change_of-parts, and_then-parts, shape_in-opening}
 use Rattle.rows.proofs.TableLaws.{from_is_ok, commits_of-split, entry-kinds, entries-kinds}
 use Rattle.rows.proofs.RowLaws.{row-at}
 use Rattle.rows.proofs.Fronts.{value-same}
-use Rattle.mvcc.specs.RowBytes.{patched_bytes, bytes_after_one, bytes_after_entry, bytes_after, bytes_after_commits}
-use Rattle.mvcc.specs.RowBytes.{AreWide}
+use Rattle.mvcc.specs.Inner.RowBytes.{patched_bytes, bytes_after_one, bytes_after_entry, bytes_after, bytes_after_commits}
+use Rattle.mvcc.specs.Inner.RowBytes.{AreWide}
 
 -- one more entry at the end, or one more commit
 pub bytes_after-push : (table row : ℕ) (entries : List Entry) (entry : Entry) (was : Option (List ℕ))
@@ -51,7 +51,7 @@ bytes_after-unnamed table row (entry ∷ entries) was h =
     ap (λ here. bytes_after table row entries (cond here (bytes_after_one entry was) was)) parts.0
     ∙ bytes_after-unnamed table row entries was parts.1
 
--- bytes with others at a place
+-- bytes with others from an offset on
 abbrev put_at : ℕ → List ℕ → List ℕ → List ℕ
 put_at offset bytes row = take offset row ++ bytes ++ drop (offset + length bytes) row
 
@@ -81,7 +81,7 @@ put-later bytes row n m h =
           ∙ ap (λ back. take m (drop n row) ++ bytes ++ back) (ap (λ k. drop k row) (sym end) ∙ sym (drop-drop (m + length bytes) n row)),
     )
 
--- a value of a column's bytes in its place, the column being told behind `before` others
+-- a value where its column's bytes stand, the column being told behind `before` others
 abbrev IsPut : ℕ → List Kind → ℕ → ℕ → Kind → List ℕ → List ℕ → Type 0
 IsPut before columns offset column kind bytes row =
     (before ≤ column) × (offset + length bytes ≤ row_width columns)
@@ -134,7 +134,7 @@ put-values before (first ∷ columns) offset column kind bytes row e wide =
     by true short f s next e =
         let parts = and_parts (offset == 0) (length bytes == width_of first) f in
         let same : ◌≡◌ {A = ℕ × Kind} (before, first) (column, kind) = cc in
-        here (ap (λ (place : ℕ × Kind). place.0) same) (ap (λ (place : ℕ × Kind). place.1) same) (eqb-true offset 0 parts.0)
+        here (ap (λ (column : ℕ × Kind). column.0) same) (ap (λ (column : ℕ × Kind). column.1) same) (eqb-true offset 0 parts.0)
         (eqb-true (length bytes) (width_of first) parts.1)
     by false true f s next e = absurd cc
     by false false f s next e =

@@ -15,6 +15,6 @@ pub record History : Type 0 where
 abbrev pub tables_at : History → ℕ → Tables
 tables_at versions version = tables_after (shape_of versions.schema) versions.commits version
 
--- whether each of these entries is defined in its place on the rows at that version
+-- whether each of these entries is defined where it stands on the rows at that version
 abbrev pub defined_at : History → ℕ → List Entry → Bool
 defined_at versions version entries = is_ok (changes_of (tables_at versions version) entries)

@@ -1,9 +1,6 @@
 pub mod History
 pub mod Values
 pub mod Newest
-pub mod RowBytes
-pub mod Chains
 pub mod Draft
 pub mod Transactions
-pub mod OwnRows
-pub mod Cells
+pub mod Inner

@@ -2,13 +2,13 @@
 
 ghost use Rattle.std.specs.Prelude.{◌≡◌, IfOk};
 ghost use Rattle.std.specs.Option.{option_map};
-ghost use Rattle.mvcc.specs.RowBytes.{inserted_bytes, patched_bytes, bytes_after_one};
+ghost use Rattle.mvcc.specs.Inner.RowBytes.{inserted_bytes, patched_bytes, bytes_after_one};
 
 use rows::{ByteList, Entry};
 use std::alloc::{AllocError, Global};
 
-/// The bytes of a row after an entry of it, where these were its bytes before. Fails for want of
-/// memory alone.
+/// The bytes of a row after an entry of it, where these were its bytes before. Fails only when out of
+/// memory.
 pub fn bytes_after_one(
     alloc: Global,
     entry: &Entry,

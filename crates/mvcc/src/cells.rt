@@ -7,12 +7,12 @@ ghost use Rattle.std.specs.List.{list_all};
 ghost use Rattle.rows.specs.declared.limits.TheConstants.{COLUMNS_MAX};
 ghost use Rattle.rows.specs.Shape.{row_width, is_good};
 ghost use Rattle.rows.specs.Values.{values_of};
-ghost use Rattle.mvcc.specs.OwnRows.{picked};
-ghost use Rattle.mvcc.specs.Cells.{inserted_cell, patched_cell, cell_after_one, cell_after_entry, cell_after};
+ghost use Rattle.mvcc.specs.Inner.OwnRows.{picked};
+ghost use Rattle.mvcc.specs.Inner.Cells.{inserted_cell, patched_cell, cell_after_one, cell_after_entry, cell_after};
 
 use rows::{Entry, Kind, RowId, Value, column_at, first_value, width_of_row};
 
-/// What the entries at these places make of a column of a row, in a table with columns of these
+/// What the entries at these indices make of a column of a row, in a table with columns of these
 /// kinds. Takes no memory.
 pub fn cell_after(
     kinds: &[Kind],
@@ -20,16 +20,16 @@ pub fn cell_after(
     row: RowId,
     column: usize,
     entries: &[Entry],
-    places: &[usize],
+    indices: &[usize],
     was: Option<Option<Value>>,
 ) -> Option<Option<Value>>
     requires few { length kinds.now ≤ COLUMNS_MAX }
     requires good { list_all is_good kinds.now ≡ true }
-    ensures { result ≡ cell_after kinds.now table row.0 column (picked entries.now places.now) was }
+    ensures { result ≡ cell_after kinds.now table row.0 column (picked entries.now indices.now) was }
 {
     let mut cell = was;
-    for place in places {
-        if let Some(entry) = entries.get(*place) {
+    for index in indices {
+        if let Some(entry) = entries.get(*index) {
             cell = cell_after_entry(kinds, table, row, column, entry, cell);
         }
     }
@@ -80,7 +80,7 @@ fn inserted_cell(
     Some(value_in_row(kinds, bytes, column))
 }
 
-/// What bytes at a place of a row make of a column of it.
+/// What a patch of these bytes from an offset of a row on makes of a column of it.
 fn patched_cell(
     kinds: &[Kind],
     offset: u16,
@@ -92,8 +92,8 @@ fn patched_cell(
     ensures { result ≡ patched_cell kinds.now offset bytes.now column value }
 {
     match column_at(kinds, offset as usize, bytes.len()) {
-        Some((place, kind)) => {
-            if place == column && value.is_some() {
+        Some((found, kind)) => {
+            if found == column && value.is_some() {
                 Some(first_value(kind, bytes))
             } else {
                 value

@@ -3,7 +3,7 @@
 ghost use Rattle.std.specs.Prelude.{◌≡◌, ◌≤◌, [], length, take, OnOk, OnErr, vec_len, vec_capacity};
 ghost use Rattle.std.specs.List.Sorted.{IsNonDecreasingBy};
 ghost use Rattle.std.specs.Option.{option_map};
-ghost use Rattle.mvcc.specs.Chains.{newest_in, latest_in, bytes_at, cut_at, linked};
+ghost use Rattle.mvcc.specs.Inner.Chains.{newest_in, latest_in, bytes_at, cut_at, linked};
 
 use crate::bytes_after::bytes_after_one;
 use crate::link::Link;
@@ -73,8 +73,8 @@ impl Chain {
         cut_links(&mut self.links, number);
     }
 
-    /// Links what an entry of the commit of this number makes of the row. Fails for want of
-    /// memory alone, and then nothing has changed.
+    /// Links what an entry of the commit of this number makes of the row. Fails only when out of
+    /// memory, and then nothing has changed.
     pub fn link(&mut self, alloc: Global, number: u64, entry: &Entry) -> Result<(), AllocError>
         ensures ok { OnOk result (self.new ≡ linked number entry.now self.old) }
         ensures err { OnErr result (self.new ≡ self.old) }

@@ -3,7 +3,8 @@
 ghost use Rattle.std.specs.Prelude.{◌≡◌, ℕ, [], OnOk, OnErr};
 ghost use Rattle.std.specs.List.Sorted.{IsNonDecreasingBy};
 ghost use Rattle.std.specs.Option.{option_map};
-ghost use Rattle.mvcc.specs.Chains.{newest_in, bytes_at, linked, cut_at, links_at, cut_all, and_entries, Turns, AreChains, AreChainsCut};
+ghost use Rattle.mvcc.specs.Inner.Chains.{newest_in, bytes_at, linked, cut_at, links_at, cut_all, and_entries, Turns};
+ghost use Rattle.mvcc.specs.Inner.Chains.{AreChains, AreChainsCut};
 
 use crate::chain::Chain;
 use rows::{ByteList, Commit, Entry, RowId};
@@ -18,7 +19,7 @@ pub struct Chains {
 }
 
 impl Model for Chains {
-    ghost use Rattle.mvcc.specs.Chains.{Chains as ChainsOf};
+    ghost use Rattle.mvcc.specs.Inner.Chains.{Chains as ChainsOf};
 
     ghost Value = { ChainsOf };
 
@@ -56,7 +57,7 @@ impl Chains {
         }
     }
 
-    /// Links the entries of the next commit, all of them or none. Fails for want of memory alone,
+    /// Links the entries of the next commit, all of them or none. Fails only when out of memory,
     /// and then the chains are those of the commits before it.
     pub fn link_commit(
         &mut self,
@@ -94,8 +95,8 @@ impl Chains {
         Ok(())
     }
 
-    /// Links what an entry of the commit of this number makes of its row. Fails for want of memory
-    /// alone, and then nothing has changed.
+    /// Links what an entry of the commit of this number makes of its row. Fails only when out of
+    /// memory, and then nothing has changed.
     fn link(&mut self, alloc: Global, number: u64, entry: &Entry) -> Result<(), AllocError>
         ensures ok { OnOk result (Turns entry.now (linked number entry.now) self.old self.new) }
         ensures err { OnErr result (self.new ≡ self.old) }

@@ -1,20 +1,20 @@
 //! Which of a transaction's entries tell of each row that it writes.
 
 ghost use Rattle.std.specs.Prelude.{◌≡◌, ℕ, [], ◌∷◌, ◌++◌, ◌==◌, ◌&&◌, length, IfOk, OnOk, OnErr, if◌then◌else◌};
-ghost use Rattle.mvcc.specs.OwnRows.{places_at, is_patch_of, supersedes, is_superseded, kept_places};
+ghost use Rattle.mvcc.specs.Inner.OwnRows.{indices_at, is_patch_of, supersedes, is_superseded, kept_indices};
 
 use rows::{Entry, RowId};
 use std::alloc::{AllocError, Global};
 use std::collections::BTreeMap;
 use std::marker::Model;
 
-/// Places in a list of entries, which contracts see as a list.
+/// Indices of a list of entries, which contracts see as a list.
 #[derive(Debug, Drop)]
-pub struct Places {
+pub struct Indices {
     items: Vec<usize>,
 }
 
-impl Model for Places {
+impl Model for Indices {
     ghost use Rattle.std.specs.Prelude.{List, ℕ};
 
     ghost Value = { List ℕ };
@@ -22,8 +22,8 @@ impl Model for Places {
     ghost view = { λ p. p.items.items };
 }
 
-impl Places {
-    /// The places, lent.
+impl Indices {
+    /// The indices, lent.
     pub fn as_slice(&self) -> &[usize]
         ensures { result.now ≡ self.now }
     {
@@ -31,18 +31,18 @@ impl Places {
     }
 }
 
-/// For each row the places, in a list of entries, of those that tell of it.
+/// For each row the indices, in a list of entries, of those that tell of it.
 ///
-/// Contracts see the list of rows and places.
+/// Contracts see the list of rows and indices.
 #[derive(Debug, Drop)]
 pub struct OwnRows {
-    rows: BTreeMap<(u8, u64), Places>,
+    rows: BTreeMap<(u8, u64), Indices>,
 }
 
 impl Model for OwnRows {
-    ghost use Rattle.mvcc.specs.OwnRows.{Index};
+    ghost use Rattle.mvcc.specs.Inner.OwnRows.{RowIndices};
 
-    ghost Value = { Index };
+    ghost Value = { RowIndices };
 
     ghost view = { λ o. o.rows.entries };
 }
@@ -57,61 +57,61 @@ impl OwnRows {
         }
     }
 
-    /// The places of a row, lent. Takes no memory.
-    pub fn places(&self, table: u8, row: RowId) -> &[usize]
-        ensures { result.now ≡ places_at self.now table row.0 }
+    /// The indices of a row, lent. Takes no memory.
+    pub fn indices(&self, table: u8, row: RowId) -> &[usize]
+        ensures { result.now ≡ indices_at self.now table row.0 }
     {
         match self.rows.get(&(table, row.0)) {
-            Some(places) => places.as_slice(),
+            Some(indices) => indices.as_slice(),
             None => &[],
         }
     }
 
-    /// Gives a row these places in place of those that it had. Fails for want of memory alone,
+    /// Gives a row these indices instead of those that it had. Fails only when out of memory,
     /// and then nothing has changed.
-    pub fn put(&mut self, table: u8, row: RowId, places: Places) -> Result<(), AllocError>
+    pub fn put(&mut self, table: u8, row: RowId, indices: Indices) -> Result<(), AllocError>
         ensures ok { OnOk result ((t r : ℕ)
-            → places_at self.new t r ≡ (if (table == t) && (row.0 == r) then places else places_at self.old t r)) }
+            → indices_at self.new t r ≡ (if (table == t) && (row.0 == r) then indices else indices_at self.old t r)) }
         ensures err { OnErr result (self.new ≡ self.old) }
     {
-        self.rows.insert((table, row.0), places)?;
+        self.rows.insert((table, row.0), indices)?;
         Ok(())
     }
 }
 
-/// The places of a row's entries once one more entry of it goes behind `entries`: those places
-/// without the ones of entries of which it leaves nothing, and its own. Fails for want of memory
-/// alone.
-pub fn places_with(
+/// The indices of a row's entries once one more entry of it goes behind `entries`: those indices
+/// without the ones of entries of which it leaves nothing, and its own. Fails only when out of
+/// memory.
+pub fn indices_with(
     alloc: Global,
     entries: &[Entry],
-    places: &[usize],
+    indices: &[usize],
     entry: &Entry,
-) -> Result<Places, AllocError>
-    ensures { IfOk result (λ after. after ≡ kept_places entries.now entry.now places.now ++ length entries.now ∷ []) }
+) -> Result<Indices, AllocError>
+    ensures { IfOk result (λ after. after ≡ kept_indices entries.now entry.now indices.now ++ length entries.now ∷ []) }
 {
     let mut items = Vec::new(alloc);
-    for place in places {
-        if !is_superseded(entries, entry, *place) {
-            items.push(*place)?;
+    for index in indices {
+        if !is_superseded(entries, entry, *index) {
+            items.push(*index)?;
         }
     }
     items.push(entries.len())?;
-    Ok(Places { items })
+    Ok(Indices { items })
 }
 
-/// Whether the entry leaves nothing of the one at that place.
-fn is_superseded(entries: &[Entry], entry: &Entry, place: usize) -> bool
-    ensures { result ≡ is_superseded entries.now entry.now place }
+/// Whether the entry leaves nothing of the one at that index.
+fn is_superseded(entries: &[Entry], entry: &Entry, index: usize) -> bool
+    ensures { result ≡ is_superseded entries.now entry.now index }
 {
-    match entries.get(place) {
+    match entries.get(index) {
         Some(earlier) => supersedes(entry, earlier),
         None => false,
     }
 }
 
 /// Whether an entry leaves nothing of an earlier one of its row: a delete of any, a patch of a
-/// patch of the same place.
+/// patch of the same bytes.
 fn supersedes(entry: &Entry, earlier: &Entry) -> bool
     ensures { result ≡ supersedes entry.now earlier.now }
 {
@@ -122,12 +122,12 @@ fn supersedes(entry: &Entry, earlier: &Entry) -> bool
     }
 }
 
-/// Whether the entry is a patch of this place.
-fn is_patch_of(entry: &Entry, place: u16, size: usize) -> bool
-    ensures { result ≡ is_patch_of entry.now place size }
+/// Whether the entry is a patch of the bytes from `start` on, this many.
+fn is_patch_of(entry: &Entry, start: u16, size: usize) -> bool
+    ensures { result ≡ is_patch_of entry.now start size }
 {
     match entry {
-        Entry::Patch { offset, bytes, .. } => place == *offset && size == bytes.len(),
+        Entry::Patch { offset, bytes, .. } => start == *offset && size == bytes.len(),
         Entry::Insert { .. } | Entry::Delete { .. } => false,
     }
 }

@@ -10,13 +10,13 @@ ghost use Rattle.rows.specs.Values.{bytes_of, value_bytes};
 ghost use Rattle.rows.specs.Tables.{rows_of, row_at};
 ghost use Rattle.mvcc.specs.History.{tables_at};
 ghost use Rattle.mvcc.specs.Draft.{Draft};
-ghost use Rattle.mvcc.specs.Cells.{cell_of};
+ghost use Rattle.mvcc.specs.Inner.Cells.{cell_of};
 ghost use Rattle.mvcc.specs.Transactions.{insert_answer, set_answer, delete_answer, get_answer, match_column, column_kind, column_offset};
 ghost use Rattle.mvcc.specs.Transactions.{seen_by, seen_shape, sees};
 
 use crate::cells::cell_after;
 use crate::faults::TxFault;
-use crate::own_rows::{OwnRows, places_with};
+use crate::own_rows::{OwnRows, indices_with};
 use crate::values::{is_value_of, matches_table};
 use crate::versions::Versions;
 use rows::{Entry, EntryList, Kind, RowId, Schema, Value, row_bytes, width_of_row};
@@ -29,7 +29,7 @@ pub const TRANSACTION_ENTRIES_MAX: usize = 2;
 /// A transaction: the version that it reads, and its entries in the order of its calls.
 ///
 /// It sees the rows at its snapshot, changed by its own entries. A look at a row costs a look-up,
-/// however many entries there are: an index has the places of those that tell of the row.
+/// however many entries there are: `OwnRows` has the indices of those that tell of the row.
 #[derive(Debug, Drop)]
 pub struct Transaction {
     alloc: Global,
@@ -41,7 +41,7 @@ pub struct Transaction {
 impl Model for Transaction {
     ghost use Rattle.std.specs.Prelude.{◌≤◌, length};
     ghost use Rattle.mvcc.specs.Draft.{Draft};
-    ghost use Rattle.mvcc.specs.OwnRows.{IsIndexOf};
+    ghost use Rattle.mvcc.specs.Inner.OwnRows.{IsIndexOf};
     ghost use Rattle.mvcc.specs.declared.transaction.TheConstants.{TRANSACTION_ENTRIES_MAX};
 
     ghost Value = { Draft };
@@ -278,13 +278,13 @@ impl Transaction {
             None => was,
             Some(kinds) => {
                 let entries = self.entries.as_slice();
-                let places = self.rows.places(table, row);
-                cell_after(kinds, table, row, column, entries, places, was)
+                let indices = self.rows.indices(table, row);
+                cell_after(kinds, table, row, column, entries, indices, was)
             }
         }
     }
 
-    /// Adds an insert at the end. Fails for want of memory alone, and then nothing has changed.
+    /// Adds an insert at the end. Fails only when out of memory, and then nothing has changed.
     fn add_insert(&mut self, table: u8, row: RowId, values: &[Value]) -> Result<(), AllocError>
         requires { length self.old.entries < TRANSACTION_ENTRIES_MAX }
         ensures ok { OnOk result
@@ -295,7 +295,7 @@ impl Transaction {
         self.add(Entry::Insert { table, row, bytes })
     }
 
-    /// Adds a patch at the end. Fails for want of memory alone, and then nothing has changed.
+    /// Adds a patch at the end. Fails only when out of memory, and then nothing has changed.
     fn add_patch(
         &mut self,
         table: u8,
@@ -317,7 +317,7 @@ impl Transaction {
         })
     }
 
-    /// Adds an entry at the end. Fails for want of memory alone, and then nothing has changed.
+    /// Adds an entry at the end. Fails only when out of memory, and then nothing has changed.
     fn add(&mut self, entry: Entry) -> Result<(), AllocError>
         requires { length self.old.entries < TRANSACTION_ENTRIES_MAX }
         ensures ok { OnOk result (self.new ≡ record self.old { entries = self.old.entries ++ entry ∷ [] }) }
@@ -325,10 +325,10 @@ impl Transaction {
     {
         let table = entry.table();
         let row = entry.row();
-        let earlier = self.rows.places(table, row);
-        let places = places_with(self.alloc, self.entries.as_slice(), earlier, &entry)?;
+        let earlier = self.rows.indices(table, row);
+        let indices = indices_with(self.alloc, self.entries.as_slice(), earlier, &entry)?;
         self.entries.reserve(1)?;
-        self.rows.put(table, row, places)?;
+        self.rows.put(table, row, indices)?;
         self.entries.push_reserved(entry);
         Ok(())
     }

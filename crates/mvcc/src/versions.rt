@@ -19,7 +19,7 @@ use std::marker::Model;
 /// The versions of a database: version `n` is the rows after the first `n` commits.
 ///
 /// Contracts see the schema and the list of commits. Each commit's entries are
-/// defined in their place.
+/// defined where they stand.
 #[derive(Debug, Drop)]
 pub struct Versions {
     alloc: Global,
@@ -31,7 +31,7 @@ pub struct Versions {
 impl Model for Versions {
     ghost use Rattle.rows.specs.Shape.{shape_of};
     ghost use Rattle.mvcc.specs.History.{History};
-    ghost use Rattle.mvcc.specs.Chains.{AreVersions};
+    ghost use Rattle.mvcc.specs.Inner.Chains.{AreVersions};
 
     ghost Value = { History };
 
@@ -41,7 +41,7 @@ impl Model for Versions {
 }
 
 impl Versions {
-    /// The versions of a database without commits. Fails for want of memory alone.
+    /// The versions of a database without commits. Fails only when out of memory.
     pub fn new(alloc: Global, schema: &Schema) -> Result<Versions, AllocError>
         ensures { IfOk result (λ versions. versions ≡ record { schema = schema.now; commits = [] }) }
     {
@@ -53,7 +53,7 @@ impl Versions {
         })
     }
 
-    /// Each entry of the commits is defined in its place, in all of them and in the first of them
+    /// Each entry of the commits is defined where it stands, in all of them and in the first of them
     /// up to any version. It does nothing: its contract is the law.
     pub fn keeps_defined(&self)
         ensures all { IsOk (commits_of (opening (shape_of self.now.schema)) self.now.commits) }
@@ -100,8 +100,8 @@ impl Versions {
         self.commits.as_slice().get(index as usize)
     }
 
-    /// Adds a commit of a worker at the end, with a copy of these entries. Fails for want of memory
-    /// alone, and then nothing has changed.
+    /// Adds a commit of a worker at the end, with a copy of these entries. Fails only when out of
+    /// memory, and then nothing has changed.
     pub fn absorb(&mut self, worker: u8, entries: &[Entry]) -> Result<(), AllocError>
         requires { defined_at self.old (length self.old.commits) entries.now ≡ true }
         ensures ok { OnOk result
@@ -165,7 +165,7 @@ impl Versions {
     }
 }
 
-/// The same entries once more. Fails for want of memory alone.
+/// The same entries once more. Fails only when out of memory.
 fn copied(alloc: Global, entries: &[Entry]) -> Result<EntryList, AllocError>
     ensures { IfOk result (λ copy. copy ≡ entries.now) }
 {
@@ -176,7 +176,7 @@ fn copied(alloc: Global, entries: &[Entry]) -> Result<EntryList, AllocError>
     Ok(copy)
 }
 
-/// The same entry once more. Fails for want of memory alone.
+/// The same entry once more. Fails only when out of memory.
 fn copy_of(entry: &Entry) -> Result<Entry, AllocError>
     ensures { IfOk result (λ copy. copy ≡ entry.now) }
 {

@@ -11,7 +11,7 @@ use Rattle.rows.specs.Presence.{stands_for, is_there_after}
 use Rattle.rows.specs.Spelling.{HasSpelling}
 use Rattle.rows.proofs.TableLaws.{defined_behind, defined_before}
 use Rattle.mvcc.specs.History.{History, tables_at, defined_at}
-use Rattle.primary.specs.RowsTold.{Told, there_in, IsToldAfter}
+use Rattle.primary.specs.Inner.RowsTold.{Told, there_in, IsToldAfter}
 
 -- an entry is defined behind others where it fits, and its row stands as it needs it after those
 pub defined_at_push : (versions : History) (version : ℕ) (before : List Entry) (entry : Entry) → defined_at versions version before ≡ true

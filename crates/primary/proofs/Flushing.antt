@@ -6,7 +6,7 @@ use Rattle.rows.specs.declared.commit.Commit.{Commit}
 use Rattle.rows.specs.Shape.{Shape}
 use Rattle.mvcc.specs.History.{History}
 use Rattle.primary.specs.Journal.{header, records_from, journal_text}
-use Rattle.primary.specs.Primary.{primary_of, flushed}
+use Rattle.primary.specs.Steps.{primary_of, flushed}
 use Rattle.primary.proofs.Text.{records_from_append}
 
 -- the text with the records of the commits that are moved

@@ -11,12 +11,12 @@ use Rattle.std.proofs.lemmas.List.{append_assoc, append-nil, take_all}
 use Rattle.std.proofs.Math.ListN.{length-set}
 use Rattle.std.proofs.lemmas.Option.{slice_get-get_or, slice_get-map, slice_get_within, get_or_from_slice_get}
 use Rattle.rows.specs.declared.commit.Commit.{Commit}
-use Rattle.wire.specs.declared.frame.Frame.{Frame}
+use Rattle.update_log.specs.declared.frame.Frame.{Frame}
 use Rattle.wire.specs.declared.datagram.Datagram.TheVariants as datagrams
 use Rattle.wire.specs.Spelling.{spelling, frame_spelling}
 use Rattle.wire.specs.Streams.{stream_from, stream_of, frames_of, frame_count}
-use Rattle.primary.specs.StreamNumbers.{Numbers, AreStreams, numbers_of, numbers_at, room_at}
-use Rattle.primary.specs.Kept.{IsKept}
+use Rattle.primary.specs.Inner.StreamNumbers.{Numbers, AreStreams, numbers_of, numbers_at, room_at}
+use Rattle.primary.specs.Inner.Kept.{IsKept}
 use Rattle.primary.specs.Sending.{counts_of}
 use Rattle.primary.proofs.Streams.{kept_at}
 
@@ -124,9 +124,9 @@ frame_count-from numbers commits worker version end e h p =
     let same : numbers ≡ numbers_from worker 0 commits = e ∙ numbers-stream worker 0 0 commits in
     let rises : IsNonDecreasingBy (λ n. n) numbers = subst (IsNonDecreasingBy (λ n. n)) (sym same) (numbers-rise worker 0 commits) in
     let few : end ≤ length (numbers_from worker 0 commits) = rw same at h in
-    let place : IsPartitionPoint (λ n. nat_le n version ≡ true) (λ n. nat_le n version ≡ false) (numbers_from worker 0 commits) end =
+    let parted : IsPartitionPoint (λ n. nat_le n version ≡ true) (λ n. nat_le n version ≡ false) (numbers_from worker 0 commits) end =
     subst (λ ns. IsPartitionPoint (λ n. nat_le n version ≡ true) (λ n. nat_le n version ≡ false) ns end) same (p rises) in
-    count-at worker 0 0 version version end commits (omega arith) few place
+    count-at worker 0 0 version version end commits (omega arith) few parted
 
 -- the frame of the commit of a number, of this seq, where the commit is among the first `v` behind `before` others
 abbrev pub frame_found : ℕ → ℕ → ℕ → List Commit → Option ℕ → Option Frame
@@ -182,8 +182,8 @@ frame-at worker before first (suc v) i (commit ∷ commits) =
     one true zero rest =
         let within : nat_le (before + 1) (before + suc v) ≡ true = le-leb (before + 1) (before + suc v) (omega arith) in
         let index : before + 1 - (before + 1) ≡ 0 = omega arith in
-        let place : first + 0 ≡ first = omega arith in
-        rw (within, index, place) refl
+        let start : first + 0 ≡ first = omega arith in
+        rw (within, index, start) refl
     one true (suc i) rest = rest (first + 1) i ∙ later i (first + 1 + i) (first + suc i) (omega arith)
     one false i rest = rest (first + 0) i ∙ later i (first + 0 + i) (first + i) (omega arith)
 
@@ -281,10 +281,10 @@ packet-at : (commits : List Commit) (durable worker seq : ℕ) (found : Option �
     → option_map frame_spelling (slice_get (stream_of (take durable commits) worker) seq) ≡ option_map frame_spelling
     (frame_found 0 durable seq commits found)
 packet-at commits durable worker seq found e =
-    let place : 0 + seq ≡ seq = omega arith in
+    let start : 0 + seq ≡ seq = omega arith in
     ap (option_map frame_spelling)
     (frame-at worker 0 0 durable seq commits ∙ ap (frame_found 0 durable (0 + seq) commits) (number-found commits worker seq found e)
-    ∙ ap (λ i. frame_found 0 durable i commits found) place)
+    ∙ ap (λ i. frame_found 0 durable i commits found) start)
 
 pub packet-none : (commits : List Commit) (durable worker seq : ℕ)
     → None ≡ option_map (λ frame. frame.commit) (slice_get (stream_of commits worker) seq)

@@ -8,9 +8,10 @@ use Rattle.rows.specs.declared.commit.Commit.{Commit}
 use Rattle.rows.specs.declared.entry.Entry.{Entry}
 use Rattle.rows.specs.declared.entry.Entry.TheVariants.{Insert, Patch, Delete}
 use Rattle.rows.specs.Spelling.{HasSpelling, entry_spelling}
-use Rattle.wire.specs.Spelling.{IsFrame, AreCounts}
+use Rattle.update_log.specs.Frames.{IsFrame}
+use Rattle.wire.specs.Spelling.{AreCounts}
 use Rattle.wire.specs.Streams.{stream_from, frames_of, frame_count}
-use Rattle.primary.specs.Kept.{IsKept}
+use Rattle.primary.specs.Inner.Kept.{IsKept}
 use Rattle.primary.specs.Sending.{counts_of}
 
 -- as many frames as commits of the worker
@@ -63,7 +64,7 @@ kept_is_framed commit seq number kept s some n = record {
   few = few_fit commit.entries kept.few kept.spelled;
 }
 
--- what holds of each commit holds of the one at a place
+-- what holds of each commit holds of the one at an index
 pub kept_at : (commits : List Commit) (i : ℕ) (commit : Commit) → AllByRecursion IsKept commits → i < length commits
     → commit ≡ get_or commits i commit → IsKept commit
 kept_at [] i commit h l e = absurd (omega arith)

@@ -9,7 +9,7 @@ use Rattle.rows.specs.Tables.{is_row_at}
 use Rattle.rows.specs.Presence.{left_by, is_there_after_one, is_there_after}
 use Rattle.rows.proofs.TableLaws.{is_there_after-more}
 use Rattle.mvcc.specs.History.{History, tables_at}
-use Rattle.primary.specs.RowsTold.{Told, told_of, there_in, IsToldAfter}
+use Rattle.primary.specs.Inner.RowsTold.{Told, told_of, there_in, IsToldAfter}
 
 -- before the first entry nothing is told
 pub told-none : (versions : History) (version : ℕ) → IsToldAfter versions version [] []

@@ -61,7 +61,7 @@ record_written old front fronted written len number commit entries i same counte
     ∙ append_assoc old front (flat_map entry_spelling commit.entries)
     ∙ ap (λ text. old ++ text) (record_of_parts front len number commit counted' is_front')
 
--- the kinds at a place of the shape
+-- the kinds at an index of the shape
 none_past : {X : Type 0} (xs : List X) (i : ℕ) → slice_get xs i ≡ None → length xs ≤ i
 none_past [] i h = omega arith
 none_past (x ∷ xs) zero h = cc
@@ -78,6 +78,6 @@ header_more workers shape table kinds h =
     (ap (λ k. take table shape ++ k ∷ []) (sym (get_or_from_slice_get shape table kinds kinds h))
     ∙ sym (take_more shape table kinds within))
 
--- there is no place without kinds before the end
+-- there is no index without kinds before the end
 pub no_gap : (schema : List (List ℕ × List Kind)) (table : ℕ) → table < length schema → None ≡ slice_get (shape_of schema) table → ⊥
 no_gap schema table within none = omega (arith, none_past (shape_of schema) table (sym none), length-map schema (λ t. t.1))

@@ -1,9 +1,6 @@
 pub mod State
-pub mod Primary
-pub mod Kept
+pub mod Steps
 pub mod Journal
-pub mod RowsTold
-pub mod StreamNumbers
 pub mod Sending
-pub mod Core
 pub mod Worked
+pub mod Inner

@@ -20,7 +20,7 @@ pub enum CommitFault {
     #[error("out of memory")]
     Memory,
     /// It is not of this primary: its snapshot is above what is durable, or an entry is not
-    /// defined in its place on the rows at the snapshot.
+    /// defined where it stands on the rows at the snapshot.
     #[error("not a transaction of this primary")]
     Foreign,
 }

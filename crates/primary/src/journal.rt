@@ -6,14 +6,16 @@ ghost use Rattle.byteorder.specs.Endian.{big_bytes};
 ghost use Rattle.rows.specs.Shape.{shape_of};
 ghost use Rattle.rows.specs.Spelling.{HasSpelling, entry_spelling};
 ghost use Rattle.primary.specs.Journal.{header, table_header, kind_code, record_of, records_from};
-ghost use Rattle.primary.specs.Kept.{IsKept};
+ghost use Rattle.primary.specs.Inner.Kept.{IsKept};
+ghost use Rattle.rows.specs.Limits.{columns_max};
 
 use byteorder::{BigEndian, ByteOrder};
 use mvcc::TRANSACTION_ENTRIES_MAX;
+use rows::limits::ROW_WIDTH_MAX;
 use rows::{Commit, Entry, Kind, Schema, entry_len, write_entry};
 use std::alloc::{AllocError, Global};
 
-/// The header of a journal. Fails for want of memory alone.
+/// The header of a journal. Fails only when out of memory.
 pub fn header_bytes(alloc: Global, workers: u8, schema: &Schema) -> Result<Vec<u8>, AllocError>
     ensures { IfOk result (λ bytes. bytes.items ≡ header workers (shape_of schema.now)) }
 {
@@ -42,7 +44,7 @@ fn table_count(schema: &Schema) -> u8
 
 /// Adds a table's part of the header: how many columns, and a byte for each.
 fn push_table(bytes: &mut Vec<u8>, kinds: &[Kind]) -> Result<(), AllocError>
-    requires { length kinds.now ≤ 16 }
+    requires { length kinds.now ≤ columns_max }
     ensures { OnOk result (bytes.new.items ≡ bytes.old.items ++ table_header kinds.now) }
 {
     bytes.push(kinds.len() as u8)?;
@@ -62,7 +64,7 @@ fn kind_code(kind: Kind) -> u8
     }
 }
 
-/// The records of commits that stand behind `before` others. Fails for want of memory alone.
+/// The records of commits that stand behind `before` others. Fails only when out of memory.
 pub fn records(alloc: Global, before: u64, commits: &[Commit]) -> Result<Vec<u8>, AllocError>
     requires kept { AllByRecursion IsKept commits.now }
     requires numbered { before + length commits.now < 2 ^ 64 }
@@ -131,5 +133,5 @@ fn push_entry(bytes: &mut Vec<u8>, entry: &Entry) -> Result<(), AllocError>
     bytes.extend_from_slice(&buffer[..len])
 }
 
-/// Bytes that an entry takes, at most.
-const ENTRY_LEN_MAX: usize = 524;
+/// Bytes that an entry takes, at most: those before an insert's data, and the widest data.
+const ENTRY_LEN_MAX: usize = 12 + ROW_WIDTH_MAX;

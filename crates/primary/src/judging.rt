@@ -10,8 +10,8 @@ ghost use Rattle.rows.specs.Presence.{stands_for, is_there_after};
 ghost use Rattle.rows.specs.Shape.{shape_of};
 ghost use Rattle.rows.specs.Spelling.{HasSpelling};
 ghost use Rattle.mvcc.specs.History.{defined_at, tables_at};
-ghost use Rattle.primary.specs.Primary.{commit_answer, primary_of};
-ghost use Rattle.primary.specs.RowsTold.{there_in};
+ghost use Rattle.primary.specs.Steps.{commit_answer, primary_of};
+ghost use Rattle.primary.specs.Inner.RowsTold.{there_in};
 
 use crate::faults::CommitFault;
 use crate::rows_told::RowsTold;
@@ -72,7 +72,7 @@ fn conflict(versions: &Versions, snapshot: u64, entries: &[Entry]) -> Option<u64
     if last > snapshot { Some(last) } else { None }
 }
 
-/// Whether each of the entries is defined in its place on the rows at that version. A look-up or
+/// Whether each of the entries is defined where it stands on the rows at that version. A look-up or
 /// two an entry, while there is memory to note the rows that the entries before it wrote.
 fn are_defined(alloc: Global, versions: &Versions, version: u64, entries: &[Entry]) -> bool
     requires { version ≤ length versions.now.commits }

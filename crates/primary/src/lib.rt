@@ -5,9 +5,9 @@
 //! is checked against the newest commit of each row that it writes, durable or pending, and goes
 //! to the end of the pending list; a flush moves pending commits to the durable list, and only
 //! what is durable is shown, pushed or counted. No call but a flush goes over a list of commits,
-//! and a flush over those that it moves alone. `specs/` says what each call answers and leaves
-//! (`Primary.antt`), which commits a worker's stream is of (`StreamNumbers.antt`), and the journal's text
-//! (`Journal.antt`).
+//! and a flush over those that it moves alone. `specs/` says what a commit and a flush answer and
+//! leave (`Steps.antt`), what is sent (`Sending.antt`), and the journal's text (`Journal.antt`).
+//! What only helps proofs stands in `specs/Inner`.
 //!
 //! It stands on `rows`, on `mvcc` for versions and transactions, and on `wire`.
 #![tactic(auto)]

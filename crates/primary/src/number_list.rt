@@ -15,7 +15,7 @@ pub struct NumberList {
 
 impl Model for NumberList {
     ghost use Rattle.std.specs.Prelude.{◌-◌, vec_len, vec_capacity};
-    ghost use Rattle.primary.specs.StreamNumbers.{Numbers};
+    ghost use Rattle.primary.specs.Inner.StreamNumbers.{Numbers};
 
     ghost Value = { Numbers };
 
@@ -39,7 +39,7 @@ impl NumberList {
         self.numbers.as_slice()
     }
 
-    /// Makes room for one more number. Fails for want of memory alone.
+    /// Makes room for one more number. Fails only when out of memory.
     pub fn reserve(&mut self) -> Result<(), AllocError>
         ensures same { self.new.numbers ≡ self.old.numbers }
         ensures room { OnOk result (0 < self.new.room) }

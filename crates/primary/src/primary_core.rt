@@ -7,13 +7,14 @@ ghost use Rattle.rows.specs.Faults.{IsFaultOf};
 ghost use Rattle.rows.specs.Shape.{shape_of};
 ghost use Rattle.rows.specs.Commits.{IsLegal};
 ghost use Rattle.mvcc.specs.History.{defined_at};
-ghost use Rattle.primary.specs.StreamNumbers.{AreStreams};
+ghost use Rattle.primary.specs.Inner.StreamNumbers.{AreStreams};
 ghost use Rattle.primary.specs.State.{Primary};
-ghost use Rattle.primary.specs.Primary.{started, commit_answer, committed, flushed};
+ghost use Rattle.primary.specs.Steps.{started, commit_answer, committed, flushed};
 ghost use Rattle.primary.specs.Sending.{pushed, head_for, answers};
 ghost use Rattle.wire.specs.Spelling.{IsAsk, spelling};
-ghost use Rattle.primary.specs.Kept.{IsKept};
+ghost use Rattle.primary.specs.Inner.Kept.{IsKept};
 ghost use Rattle.primary.specs.Journal.{records_from};
+ghost use Rattle.rows.specs.Limits.{workers_max};
 
 use crate::faults::{CommitFault, FlushFault};
 use crate::journal::{header_bytes, records};
@@ -44,8 +45,8 @@ pub struct PrimaryCore {
 
 impl Model for PrimaryCore {
     ghost use Rattle.primary.specs.State.{Primary};
-    ghost use Rattle.primary.specs.Primary.{primary_of};
-    ghost use Rattle.primary.specs.Core.{IsCore};
+    ghost use Rattle.primary.specs.Steps.{primary_of};
+    ghost use Rattle.primary.specs.Inner.Invariant.{IsCore};
 
     ghost Value = { Primary };
 
@@ -55,11 +56,11 @@ impl Model for PrimaryCore {
 }
 
 impl PrimaryCore {
-    /// A primary without commits, for a schema and 1 to 16 workers. Fails for want of memory
-    /// alone.
+    /// A primary without commits, for a schema and 1 to 16 workers. Fails only when out of
+    /// memory.
     pub fn start(alloc: Global, schema: &Schema, workers: u8) -> Result<PrimaryCore, AllocError>
         requires some { 0 < workers }
-        requires few { workers ≤ 16 }
+        requires few { workers ≤ workers_max }
         ensures { IfOk result (λ primary. primary ≡ started schema.now workers) }
     {
         Ok(PrimaryCore {
@@ -108,7 +109,7 @@ impl PrimaryCore {
     ///
     /// Fails with the first of these, hands the transaction back and leaves the primary as it
     /// was: `Failed`; `ReadOnly`, no entries; `Foreign`, its snapshot is above what is durable or
-    /// an entry is not defined in its place on the rows at the snapshot; `Conflict` with the
+    /// an entry is not defined where it stands on the rows at the snapshot; `Conflict` with the
     /// number of the last commit after its snapshot, durable or pending, that touches one of its
     /// rows; `NumbersUsedUp`; `Memory`.
     pub fn commit(
@@ -187,7 +188,7 @@ impl PrimaryCore {
     }
 
     /// What the primary sends for bytes that came: to an Ask, one Head with what is durable and
-    /// each worker's frame count at it; to anything else nothing. Fails for want of memory alone,
+    /// each worker's frame count at it; to anything else nothing. Fails only when out of memory,
     /// and only where something is to be sent.
     pub fn on_bytes(&self, bytes: &[u8]) -> Result<Vec<Out>, AllocError>
         ensures ok { IfOk result (λ outs. outs.items ≡ answers self.now bytes.now) }
@@ -232,7 +233,7 @@ impl PrimaryCore {
 }
 
 /// Adds the next commit, of these entries, to the versions and to its worker's numbers. All memory
-/// is taken before anything changes: fails for want of memory alone, and then no commit has been
+/// is taken before anything changes: fails only when out of memory, and then no commit has been
 /// added.
 fn keep(
     versions: &mut Versions,
@@ -257,8 +258,8 @@ fn keep(
     Ok(())
 }
 
-/// Appends the records of commits that stand behind `before` others. Fails for want of memory
-/// alone, and only where there is a commit; then nothing has changed.
+/// Appends the records of commits that stand behind `before` others. Fails only when out of
+/// memory, and only where there is a commit; then nothing has changed.
 fn append(
     alloc: Global,
     journal: &mut Vec<u8>,

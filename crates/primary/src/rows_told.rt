@@ -1,7 +1,7 @@
 //! Which rows are there after entries.
 
 ghost use Rattle.std.specs.Prelude.{◌≡◌, ℕ, [], ◌==◌, ◌&&◌, Some, OnOk, if◌then◌else◌};
-ghost use Rattle.primary.specs.RowsTold.{told_of};
+ghost use Rattle.primary.specs.Inner.RowsTold.{told_of};
 
 use rows::RowId;
 use std::alloc::{AllocError, Global};
@@ -16,7 +16,7 @@ pub struct RowsTold {
 }
 
 impl Model for RowsTold {
-    ghost use Rattle.primary.specs.RowsTold.{Told};
+    ghost use Rattle.primary.specs.Inner.RowsTold.{Told};
 
     ghost Value = { Told };
 
@@ -40,7 +40,7 @@ impl RowsTold {
         self.rows.get(&(table, row.0)).copied()
     }
 
-    /// Tells whether the row is there. Fails for want of memory alone.
+    /// Tells whether the row is there. Fails only when out of memory.
     pub fn tell(&mut self, table: u8, row: RowId, there: bool) -> Result<(), AllocError>
         ensures { OnOk result ((t r : ℕ)
             → told_of self.new t r ≡ (if (table == t) && (row.0 == r) then Some there else told_of self.old t r)) }

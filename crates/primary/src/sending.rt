@@ -6,9 +6,10 @@ ghost use Rattle.std.specs.List.{AllByRecursion};
 ghost use Rattle.rows.specs.declared.commit.Commit.{Commit};
 ghost use Rattle.wire.specs.Spelling.{frame_spelling};
 ghost use Rattle.wire.specs.Streams.{stream_of};
-ghost use Rattle.primary.specs.Kept.{IsKept};
-ghost use Rattle.primary.specs.StreamNumbers.{AreStreams};
+ghost use Rattle.primary.specs.Inner.Kept.{IsKept};
+ghost use Rattle.primary.specs.Inner.StreamNumbers.{AreStreams};
 ghost use Rattle.primary.specs.Sending.{counts_of};
+ghost use Rattle.rows.specs.Limits.{workers_max};
 
 use crate::stream_numbers::StreamNumbers;
 use mvcc::Versions;
@@ -38,7 +39,7 @@ pub fn frame_packet(
 
 /// How many frames of the first `version` commits each of this many workers has.
 pub fn counts(streams: &StreamNumbers, version: u64, workers: u8) -> Counts
-    requires few { workers ≤ 16 }
+    requires few { workers ≤ workers_max }
     requires there { workers ≤ length streams.now }
     ensures { (commits : List Commit) → AreStreams streams.now commits → result ≡ counts_of commits version workers }
 {

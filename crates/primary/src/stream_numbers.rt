@@ -4,7 +4,7 @@ ghost use Rattle.std.specs.Prelude.{◌≡◌, ◌+◌, ◌<◌, ◌∷◌, [], 
 ghost use Rattle.std.specs.Option.{option_map};
 ghost use Rattle.rows.specs.declared.commit.Commit.{Commit};
 ghost use Rattle.wire.specs.Streams.{stream_of, frame_count};
-ghost use Rattle.primary.specs.StreamNumbers.{AreStreams, numbers_at, room_at};
+ghost use Rattle.primary.specs.Inner.StreamNumbers.{AreStreams, numbers_at, room_at};
 
 use crate::number_list::NumberList;
 use std::alloc::{AllocError, Global};
@@ -19,7 +19,7 @@ pub struct StreamNumbers {
 
 impl Model for StreamNumbers {
     ghost use Rattle.std.specs.Prelude.{List};
-    ghost use Rattle.primary.specs.StreamNumbers.{Numbers};
+    ghost use Rattle.primary.specs.Inner.StreamNumbers.{Numbers};
 
     ghost Value = { List Numbers };
 
@@ -27,7 +27,7 @@ impl Model for StreamNumbers {
 }
 
 impl StreamNumbers {
-    /// The numbers of no commits, for this many workers. Fails for want of memory alone.
+    /// The numbers of no commits, for this many workers. Fails only when out of memory.
     pub fn start(alloc: Global, workers: u8) -> Result<StreamNumbers, AllocError>
         ensures all { IfOk result (λ streams. length streams ≡ workers) }
         ensures none { IfOk result (λ streams. AreStreams streams []) }
@@ -59,7 +59,7 @@ impl StreamNumbers {
         numbers.partition_point(|number| *number <= version) as u64
     }
 
-    /// Makes room for one more commit of the worker. Fails for want of memory alone; the numbers
+    /// Makes room for one more commit of the worker. Fails only when out of memory; the numbers
     /// stay what they were.
     pub fn reserve(&mut self, worker: u8) -> Result<(), AllocError>
         requires { worker < length self.old }

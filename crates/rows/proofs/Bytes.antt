@@ -35,7 +35,7 @@ front_2 bytes long fits =
     be_bytes_2 (take 2 bytes) (big_number 2 bytes) (omega (arith, length-take 2 bytes)) (AreBytes-take 2 bytes fits)
     (sym (big_from-take 0 2 2 bytes (omega arith)) ∙ number_2 (take 2 bytes))
 
--- a number at place k, and what stands behind it
+-- a number at offset k, and what stands behind it
 pub cut_8 : (k : ℕ) (bytes : List ℕ) → k + 8 ≤ length bytes → AreBytes bytes
     → big_bytes 8 (big_number 8 (drop k bytes)) ++ drop (k + 8) bytes ≡ drop k bytes
 cut_8 k bytes long fits =
@@ -48,7 +48,7 @@ cut_2 k bytes long fits =
     ap (λ (t : List ℕ). t ++ drop (k + 2) bytes) (front_2 (drop k bytes) (omega (arith, length-drop k bytes)) (AreBytes-drop k bytes fits))
     ∙ ap (λ (t : List ℕ). take 2 (drop k bytes) ++ t) (sym (drop-drop 2 k bytes)) ∙ take-append-drop 2 (drop k bytes)
 
--- a byte at place k, and what stands behind it
+-- a byte at offset k, and what stands behind it
 pub cut_1 : (k : ℕ) (bytes : List ℕ) → k + 1 ≤ length bytes → get_or bytes k 0 ∷ drop (k + 1) bytes ≡ drop k bytes
 cut_1 k bytes long = sym (drop_more bytes k 0 (omega arith))
 

@@ -1,4 +1,4 @@
--- The column that has just a patch's place: its kind is one of the table's, as wide as the patch.
+-- The column whose bytes a patch has exactly: its kind is one of the table's, as wide as the patch.
 use Rattle.std.proofs.Common.{◌≡◌, ℕ, ◌+◌, ◌-◌, true, List, [], ◌∷◌, Some, arith}
 use Rattle.std.specs.List.{list_all}
 use Rattle.std.proofs.lemmas.Bool.{and_parts}

@@ -23,7 +23,7 @@ use Rattle.rows.specs.Tables.{is_row_at, with_row, with_patch, without_row}
 use Rattle.rows.specs.Tables.{patched_row, with_rows, is_fit, change_where, change_of, changes_of, applied}
 use Rattle.rows.specs.Commits.{commits_of, tables_after, is_of}
 use Rattle.rows.specs.Presence.{stands_for}
-use Rattle.rows.specs.RowAfter.{inserted_row, row_after_one, row_after_entry, row_after, row_after_commits, row_after_fit}
+use Rattle.rows.specs.Inner.RowAfter.{inserted_row, row_after_one, row_after_entry, row_after, row_after_commits, row_after_fit}
 use Rattle.rows.proofs.Presence.{rows_of-set_same, rows_of-set_other, renewed, shape_in-with_rows, shape_in-opening}
 use Rattle.rows.proofs.Presence.{fit-within, made, refusal_of}
 use Rattle.rows.proofs.Presence.{stands, step, change_of-is, change_of-parts, and_then-parts, named, written}

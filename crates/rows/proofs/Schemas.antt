@@ -18,10 +18,10 @@ use Rattle.indexmap.specs.IndexMap.{IndexMap, insert_entry}
 use Rattle.indexmap.proofs.CallerLemmas.{insert_entry-new}
 use Rattle.rows.specs.declared.kind.Kind.{Kind}
 use Rattle.rows.specs.declared.kind.Kind.TheVariants.{Int, Octets}
-use Rattle.rows.specs.declared.schema_fault.SchemaFault.TheVariants.{Empty, TooManyTables}
+use Rattle.rows.specs.declared.faults.SchemaFault.TheVariants.{Empty, TooManyTables}
 use Rattle.rows.specs.declared.limits.TheConstants.{TABLES_MAX}
 use Rattle.rows.specs.Shape.{shape_of, width_of, row_width, is_good, column_from, AreColumns, AreTables}
-use Rattle.rows.specs.Shown.{shown}
+use Rattle.rows.specs.Inner.Shown.{shown}
 use Rattle.rows.specs.SchemaFaults.{schema_fault, table_fault, tables_fault}
 
 -- a test that names a fault was not passed
@@ -103,7 +103,7 @@ length-le-row_width (kind ∷ kinds) h =
 
 pub ruleset row_width_lemmas = (length-le-row_width)
 
--- a column's place is 1 to 64 bytes, and within the row
+-- a column has 1 to 64 bytes, and they stand within the row
 pub column_from-within : (before : ℕ) (kinds : List Kind) (offset size : ℕ) → list_all is_good kinds ≡ true
     → is_some (column_from before kinds offset size) ≡ true
     → (0 < size) × (size ≤ 64) × (offset + size ≤ row_width kinds)
@@ -142,7 +142,7 @@ pub list_any-map : {X Y : Type 0} (test : Y → Bool) (f : X → Y) (xs : List X
 list_any-map test f [] = refl
 list_any-map test f (x ∷ xs) = ap (λ b. test (f x) || b) (list_any-map test f xs)
 
--- the kinds of the table at a place of the map
+-- the kinds of the table at an index of the map
 pub kinds_at : (entries : List (String Global × List Kind)) (i : ℕ) (name : String Global) (kinds : List Kind)
     → Some (name, kinds) ≡ slice_get entries i → Some kinds ≡ slice_get (shape_of (map shown entries)) i
 kinds_at entries i name kinds e =
@@ -172,7 +172,7 @@ shown-insert_entry tables name kinds h =
     (absent tables.entries name (new_name (map shown tables.entries) (string_bytes name, kinds) h)))
     ∙ map-append shown tables.entries ((name, kinds) ∷ [])
 
--- the first place that passes, in what a function gives
+-- the first index that passes, in what a function gives
 position_or_len-map : {X Y : Type 0} (test : Y → Bool) (f : X → Y) (xs : List X)
     → position_or_len test (map f xs) ≡ position_or_len (λ x. test (f x)) xs
 position_or_len-map test f [] = refl
@@ -181,7 +181,7 @@ position_or_len-map test f (x ∷ xs) = ap (λ n. cond (not (test (f x))) (1 + n
 position-map : {X Y : Type 0} (test : Y → Bool) (f : X → Y) (xs : List X) → position test (map f xs) ≡ position (λ x. test (f x)) xs
 position-map test f xs = rw (position_or_len-map test f xs, length-map xs f)
 
--- a name has the same place among the map's keys and among its tables
+-- a name has the same number among the map's keys and among its tables
 pub place_of_name : (name : List ℕ) (entries : List (String Global × List Kind))
     → position (λ key. bytes_eq name (string_bytes key)) (keys_of entries) ≡ position (λ table. bytes_eq name table.0) (map shown entries)
 place_of_name name entries =

@@ -13,14 +13,14 @@ use Rattle.rows.specs.declared.entry.Entry.TheVariants.{Insert, Patch, Delete}
 use Rattle.rows.specs.declared.kind.Kind.{Kind}
 use Rattle.rows.specs.declared.kind.Kind.TheVariants as kinds
 use Rattle.rows.specs.declared.value.Value.{Value}
-use Rattle.rows.specs.declared.fitting.EntryFault.TheVariants.{WrongSize}
+use Rattle.rows.specs.declared.faults.EntryFault.TheVariants.{WrongSize}
 use Rattle.rows.specs.Shape.{Shape, width_of, row_width, kinds_in, column_from, column_at}
 use Rattle.rows.specs.Values.{value_of, values_of, is_of_kind, are_of_kinds}
 use Rattle.rows.specs.Entries.{table_of, row_of, sized, fitting}
 use Rattle.rows.specs.Tables.{Tables, Refusal, opening, shape_in, RowsAreOfKinds, patched_row, change_of, changes_of}
 use Rattle.rows.specs.Commits.{commits_of, tables_after, is_of}
 use Rattle.rows.specs.Laws.{EntryKeepsRows, CommitsKeepRows, VersionsAreOfKinds}
-use Rattle.rows.specs.RowAfter.{row_after_one, row_after_entry}
+use Rattle.rows.specs.Inner.RowAfter.{row_after_one, row_after_entry}
 use Rattle.rows.proofs.Presence.{change_of-parts, and_then-parts}
 use Rattle.rows.proofs.RowLaws.{row_in, opening-none, Leaves-change}
 
@@ -38,7 +38,7 @@ values_of-kinds (kind ∷ columns) bytes h =
     and_from _ _ (value_of-kind kind bytes (omega (arith, whole)))
     (values_of-kinds columns (drop (width_of kind) bytes) (omega (arith, whole, length-drop (width_of kind) bytes)))
 
--- a value of a column's kind in its place, the column being told behind `before` others
+-- a value of a column's kind where it stands, the column being told behind `before` others
 put-kinds : (before : ℕ) (columns : List Kind) (offset size column : ℕ) (kind : Kind) (values : List Value) (bytes : List ℕ)
     → column_from before columns offset size ≡ Some (column, kind) → size ≤ length bytes → are_of_kinds values columns ≡ true
     → (before ≤ column) × (are_of_kinds (slice_set values (column - before) (value_of kind bytes)) columns ≡ true)

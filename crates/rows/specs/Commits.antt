@@ -19,7 +19,7 @@ pub record IsCommit (workers : ℕ) (commit : Commit) : Type 0 where
   pub some : 0 < length commit.entries
   pub few : length commit.entries ≤ commit_entries_max
 
--- a list of commits that a primary may have: each is a commit, and each entry is defined in its place
+-- a list of commits that a primary may have: each is a commit, and each entry is defined where it stands
 pub record IsLegal (shape : Shape) (workers : ℕ) (commits : List Commit) : Type 0 where
   pub each : AllByRecursion (IsCommit workers) commits
   pub defined : IsOk (commits_of (opening shape) commits)

@@ -2,8 +2,8 @@
 use Rattle.std.specs.Prelude.{ℕ, List, length, Option, None, Some, Result, Ok, Err, ◌==◌, if◌then◌else◌, slice_get, is_some}
 use Rattle.rows.specs.declared.entry.Entry.{Entry}
 use Rattle.rows.specs.declared.entry.Entry.TheVariants.{Insert, Patch, Delete}
-use Rattle.rows.specs.declared.fitting.EntryFault.{EntryFault}
-use Rattle.rows.specs.declared.fitting.EntryFault.TheVariants.{NoTable, WrongSize, NotAColumn}
+use Rattle.rows.specs.declared.faults.EntryFault.{EntryFault}
+use Rattle.rows.specs.declared.faults.EntryFault.TheVariants.{NoTable, WrongSize, NotAColumn}
 use Rattle.rows.specs.declared.kind.Kind.{Kind}
 use Rattle.rows.specs.Shape.{Shape, row_width, column_at}
 
@@ -24,7 +24,7 @@ abbrev pub sized : Option (List Kind) → ℕ → Result (Unit {0}) EntryFault
 sized None size = Err NoTable
 sized (Some kinds) size = if size == row_width kinds then Ok tt else Err WrongSize
 
--- whether a patch has just the place of one of the table's columns
+-- whether a patch has exactly the bytes of one of the table's columns
 abbrev pub placed : Option (List Kind) → ℕ → ℕ → Result (Unit {0}) EntryFault
 placed None offset size = Err NoTable
 placed (Some kinds) offset size = if is_some (column_at kinds offset size) then Ok tt else Err NotAColumn

@@ -2,7 +2,6 @@ pub mod Limits
 pub mod Faults
 pub mod Shape
 pub mod SchemaFaults
-pub mod Padded
 pub mod Values
 pub mod Entries
 pub mod Tables
@@ -10,7 +9,6 @@ pub mod Commits
 pub mod Keys
 pub mod Laws
 pub mod Presence
-pub mod RowAfter
 pub mod Spelling
 pub mod Reading
-pub mod Shown
+pub mod Inner

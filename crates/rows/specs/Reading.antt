@@ -7,7 +7,7 @@ use Rattle.rows.specs.declared.entry.Entry.TheVariants.{Insert, Patch, Delete}
 use Rattle.rows.specs.declared.entry_ref.EntryRef.{EntryRef}
 use Rattle.rows.specs.declared.entry_ref.EntryRef.TheVariants as lent
 use Rattle.rows.specs.Limits.{tables_max, row_width_max, octets_max}
-use Rattle.rows.specs.Spelling.{HasSpelling, entry_spelling}
+use Rattle.rows.specs.Spelling.{HasSpelling, entry_spelling, insert_code, patch_code, delete_code}
 
 -- the entry that is lent
 abbrev pub entry_of : EntryRef → Entry
@@ -46,11 +46,11 @@ patch_at table row rest =
 
 -- an entry behind its row, by what it begins with
 abbrev pub entry_behind : ℕ → ℕ → ℕ → List ℕ → Option (Entry × ℕ)
-entry_behind op table row rest =
+entry_behind code table row rest =
     if not (nat_lt table tables_max) then None else
-    if op == 1 then insert_at table row rest else
-    if op == 2 then patch_at table row rest else
-    if op == 3 then Some (Delete table (record { 0 = row }), 10) else None
+    if code == insert_code then insert_at table row rest else
+    if code == patch_code then patch_at table row rest else
+    if code == delete_code then Some (Delete table (record { 0 = row }), 10) else None
 
 -- the entry at the front of the bytes, and how many it takes; none where no entry is spelled there
 abbrev pub entry_at : List ℕ → Option (Entry × ℕ)

@@ -1,11 +1,11 @@
--- The first fault of a list of tables that is to be a schema, want of memory aside.
+-- The first fault of a list of tables that is to be a schema, out of memory aside.
 use Rattle.std.specs.Prelude.{ℕ, List, [], ◌∷◌, ◌++◌, length, Option, None, Some, nat_lt, ◌==◌, not, if◌then◌else◌}
 use Rattle.std.specs.List.{list_any, list_all}
 use Rattle.std.specs.Option.{option_or}
 use Rattle.std.specs.Str.{bytes_eq}
 use Rattle.rows.specs.declared.kind.Kind.{Kind}
-use Rattle.rows.specs.declared.schema_fault.SchemaFault.{SchemaFault}
-use Rattle.rows.specs.declared.schema_fault.SchemaFault.TheVariants.{TooManyTables, TooManyColumns, RowTooWide, BadWidth, NameTwice, Empty}
+use Rattle.rows.specs.declared.faults.SchemaFault.{SchemaFault}
+use Rattle.rows.specs.declared.faults.SchemaFault.TheVariants.{TooManyTables, TooManyColumns, RowTooWide, BadWidth, NameTwice, Empty}
 use Rattle.rows.specs.Limits.{tables_max, columns_max, row_width_max}
 use Rattle.rows.specs.Shape.{row_width, is_good}
 

@@ -2,12 +2,17 @@
 use Rattle.std.specs.Prelude.{◌≡◌, ℕ, ◌<◌, ◌≤◌, ◌+◌, ◌-◌, List, [], ◌∷◌, length, map, Bool, true, Option, None, Some, nat_lt, ◌==◌, ◌&&◌}
 use Rattle.std.specs.Prelude.{not, if◌then◌else◌, slice_get}
 use Rattle.std.specs.List.{sum_by, list_all, AllByRecursion}
+use Rattle.std.specs.Borrow.{Bor}
 use Rattle.rows.specs.declared.kind.Kind.{Kind}
 use Rattle.rows.specs.declared.kind.Kind.TheVariants.{Int, Octets}
 use Rattle.rows.specs.Limits.{tables_max, columns_max, row_width_max, octets_max}
 
 abbrev pub Shape : Type 0
 Shape = List (List Kind)
+
+-- a schema's table that is handed in: its name's bytes, and its columns' kinds
+abbrev pub given : Bor (List ℕ) × Bor (List Kind) → List ℕ × List Kind
+given table = (table.0.now, table.1.now)
 
 -- a schema without its names
 abbrev pub shape_of : List (List ℕ × List Kind) → Shape
@@ -36,14 +41,14 @@ abbrev pub row_width : List Kind → ℕ
 row_width kinds = sum_by width_of kinds
 
 -- the column of these, which stand behind `before` others, that begins at this offset from the first of them and has
--- this size: its number and its kind; none where no column has just that place
+-- this size: its number and its kind; none where these are not exactly one column's bytes
 abbrev pub column_from : ℕ → List Kind → ℕ → ℕ → Option (ℕ × Kind)
 column_from before [] offset size = None
 column_from before (kind ∷ kinds) offset size =
     if offset == 0 && size == width_of kind then Some (before, kind) else
     if nat_lt offset (width_of kind) then None else column_from (before + 1) kinds (offset - width_of kind) size
 
--- the column at a place among a row's bytes
+-- the column whose bytes stand at an offset of a row
 abbrev pub column_at : List Kind → ℕ → ℕ → Option (ℕ × Kind)
 column_at kinds offset size = column_from 0 kinds offset size
 

@@ -5,16 +5,27 @@ use Rattle.rows.specs.declared.entry.Entry.{Entry}
 use Rattle.rows.specs.declared.entry.Entry.TheVariants.{Insert, Patch, Delete}
 use Rattle.rows.specs.Limits.{tables_max, row_width_max, octets_max}
 
+-- which entry a spelling is of: its first byte
+abbrev pub insert_code : ℕ
+insert_code = 1
+
+abbrev pub patch_code : ℕ
+patch_code = 2
+
+abbrev pub delete_code : ℕ
+delete_code = 3
+
 -- what every entry begins with: which it is in one byte, the table in one, and the row in eight
 abbrev pub entry_front : ℕ → ℕ → ℕ → List ℕ
-entry_front op table row = (op ∷ table ∷ []) ++ big_bytes 8 row
+entry_front code table row = (code ∷ table ∷ []) ++ big_bytes 8 row
 
--- an insert: 01, and behind the row the size in two bytes, and the data. A patch: 02, and behind the row the offset
--- in two bytes, the size in two, and the data. A delete: 03, and nothing behind the row.
+-- an insert: behind the row the size in two bytes, and the data. A patch: behind the row the offset in two bytes, the
+-- size in two, and the data. A delete: nothing behind the row.
 abbrev pub entry_spelling : Entry → List ℕ
-entry_spelling (Insert table row bytes) = entry_front 1 table row.0 ++ big_bytes 2 (length bytes) ++ bytes
-entry_spelling (Patch table row offset bytes) = entry_front 2 table row.0 ++ big_bytes 2 offset ++ big_bytes 2 (length bytes) ++ bytes
-entry_spelling (Delete table row) = entry_front 3 table row.0
+entry_spelling (Insert table row bytes) = entry_front insert_code table row.0 ++ big_bytes 2 (length bytes) ++ bytes
+entry_spelling (Patch table row offset bytes) =
+    entry_front patch_code table row.0 ++ big_bytes 2 offset ++ big_bytes 2 (length bytes) ++ bytes
+entry_spelling (Delete table row) = entry_front delete_code table row.0
 
 -- these numbers are bytes
 abbrev pub AreBytes : List ℕ → Type 0

@@ -72,7 +72,7 @@ RowsAreOfKinds tables =
 abbrev pub with_row : Rows → ℕ → List Value → Rows
 with_row rows row values = insert_entry nat_cmp rows row values
 
--- a row's values with these bytes at one column's place
+-- a row's values with these bytes as one column's
 abbrev pub patched_row : List Kind → ℕ → List ℕ → List Value → List Value
 patched_row kinds offset bytes values = put (column_at kinds offset (length bytes))
   where
@@ -80,7 +80,7 @@ patched_row kinds offset bytes values = put (column_at kinds offset (length byte
     put None = values
     put (Some column) = slice_set values column.0 (value_of column.1 bytes)
 
--- these rows, with these bytes at one column's place of one of them
+-- these rows, with these bytes as one column's of one of them
 abbrev pub with_patch : List Kind → Rows → ℕ → ℕ → List ℕ → Rows
 with_patch kinds rows row offset bytes = put (row_at rows row)
   where
@@ -109,7 +109,7 @@ with_rows tables table rows = slice_set tables table (record { kinds = kinds_of 
 abbrev pub inserted : Tables → ℕ → ℕ → List ℕ → Tables
 inserted tables table row bytes = with_rows tables table (with_row (rows_of tables table) row (values_of (kinds_of tables table) bytes))
 
--- the tables with these bytes at one column's place of that row
+-- the tables with these bytes as one column's of that row
 abbrev pub patched : Tables → ℕ → ℕ → ℕ → List ℕ → Tables
 patched tables table row offset bytes =
     with_rows tables table (with_patch (kinds_of tables table) (rows_of tables table) row offset bytes)
@@ -118,7 +118,7 @@ patched tables table row offset bytes =
 abbrev pub deleted : Tables → ℕ → ℕ → Tables
 deleted tables table row = with_rows tables table (without_row (rows_of tables table) row)
 
--- whether an entry fits in its place: its table is there, and its data has the places of that table's columns
+-- whether an entry fits where it stands: its table is there, and its data are bytes of that table's columns
 abbrev pub is_fit : Tables → Entry → Bool
 is_fit tables entry = is_ok (fitting (shape_in tables) entry)
 

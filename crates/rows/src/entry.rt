@@ -3,6 +3,7 @@
 ghost use Rattle.std.specs.Prelude.{◌≡◌};
 
 use crate::byte_list::ByteList;
+use crate::entry_ref::EntryRef;
 use crate::row_id::RowId;
 
 /// One physical change of one row of one table.
@@ -33,6 +34,35 @@ impl Entry {
     ghost use Rattle.rows.specs.Entries.{table_of, row_of};
     ghost use Rattle.rows.specs.Commits.{is_of};
     ghost use Rattle.rows.specs.Presence.{stands_for, left_by};
+    ghost use Rattle.rows.specs.Reading.{entry_of};
+
+    /// The same entry with its data lent.
+    pub fn lend(&self) -> EntryRef<'_>
+        ensures { entry_of result ≡ self.now }
+    {
+        match self {
+            Entry::Insert { table, row, bytes } => EntryRef::Insert {
+                table: *table,
+                row: *row,
+                bytes: bytes.as_slice(),
+            },
+            Entry::Patch {
+                table,
+                row,
+                offset,
+                bytes,
+            } => EntryRef::Patch {
+                table: *table,
+                row: *row,
+                offset: *offset,
+                bytes: bytes.as_slice(),
+            },
+            Entry::Delete { table, row } => EntryRef::Delete {
+                table: *table,
+                row: *row,
+            },
+        }
+    }
 
     /// The table that the entry is of.
     pub fn table(&self) -> u8

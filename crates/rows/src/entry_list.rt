@@ -41,7 +41,7 @@ impl EntryList {
         EntryList { items }
     }
 
-    /// Adds an entry at the end. Fails for want of memory alone, and then nothing has changed.
+    /// Adds an entry at the end. Fails only when out of memory, and then nothing has changed.
     pub fn push(&mut self, entry: Entry) -> Result<(), AllocError>
         ensures ok { OnOk result (self.new ≡ self.old ++ entry ∷ []) }
         ensures err { OnErr result (self.new ≡ self.old) }

@@ -8,46 +8,24 @@ ghost use Rattle.rows.specs.Reading.{entry_of};
 
 use crate::entry::Entry;
 use crate::entry_ref::EntryRef;
+use crate::faults::EntryFault;
 use crate::row_id::RowId;
 use crate::schema::{Schema, column_at, width_of_row};
-use thiserror::Error;
-
-/// Why an entry does not fit a schema.
-#[derive(Clone, Copy, Debug, PartialEq, Eq, Error)]
-pub enum EntryFault {
-    /// The schema has no table of that number.
-    #[error("no such table")]
-    NoTable,
-    /// An insert's data has not the width of the table's rows.
-    #[error("the data has not the row's width")]
-    WrongSize,
-    /// A patch's offset and size are not exactly one column's place.
-    #[error("the data has not one column's place")]
-    NotAColumn,
-}
 
 /// Whether the entry fits the schema: its table is there, an insert's data has exactly the width
-/// of the table's rows, and a patch's offset and size are exactly the place of one of the table's
-/// columns. Otherwise the first fault, in this order. Takes no memory.
+/// of the table's rows, and a patch's offset and size are exactly those of the bytes of one of the
+/// table's columns. Otherwise the first fault, in this order. Takes no memory.
 pub fn fits(schema: &Schema, entry: &Entry) -> Result<(), EntryFault>
     ensures exact { result ≡ fitting (shape_of schema.now) entry.now }
     ensures spelled { OnOk result (HasSpelling entry.now) }
 {
-    match entry {
-        Entry::Insert { table, row, bytes } => insert_fits(schema, *table, *row, bytes.as_slice()),
-        Entry::Patch {
-            table,
-            row,
-            offset,
-            bytes,
-        } => patch_fits(schema, *table, *row, *offset, bytes.as_slice()),
-        Entry::Delete { table, row } => delete_fits(schema, *table, *row),
-    }
+    fits_lent(schema, entry.lend())
 }
 
 /// Whether a lent entry fits the schema, just as `fits` says it of an entry. Takes no memory.
 pub fn fits_lent(schema: &Schema, lent: EntryRef<'_>) -> Result<(), EntryFault>
-    ensures { result ≡ fitting (shape_of schema.now) (entry_of lent.entry) }
+    ensures exact { result ≡ fitting (shape_of schema.now) (entry_of lent.entry) }
+    ensures spelled { OnOk result (HasSpelling (entry_of lent.entry)) }
 {
     match lent {
         EntryRef::Insert { table, row, bytes } => insert_fits(schema, table, row, bytes),
@@ -80,7 +58,7 @@ fn insert_fits(schema: &Schema, table: u8, row: RowId, bytes: &[u8]) -> Result<(
     }
 }
 
-/// Whether a patch fits: its table is there, and its data has just the place of one column. The
+/// Whether a patch fits: its table is there, and its data is exactly one column's bytes. The
 /// row matters to the contract alone, which says that a patch that fits has a spelling.
 fn patch_fits(
     schema: &Schema,

@@ -22,7 +22,7 @@ impl Model for KindList {
 }
 
 impl KindList {
-    /// A list of these kinds. Fails for want of memory alone.
+    /// A list of these kinds. Fails only when out of memory.
     pub fn from_slice(alloc: Global, kinds: &[Kind]) -> Result<KindList, AllocError>
         ensures { IfOk result (λ list. list ≡ kinds.now) }
     {

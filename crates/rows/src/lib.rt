@@ -11,10 +11,12 @@
 #![tactic(auto)]
 
 mod byte_list;
+mod codes;
 mod commit;
 mod entry;
 mod entry_list;
 mod entry_ref;
+mod faults;
 mod fitting;
 mod kind;
 mod kind_list;
@@ -26,7 +28,6 @@ mod row;
 mod row_id;
 mod row_presence;
 mod schema;
-mod schema_fault;
 mod value;
 mod writing;
 
@@ -35,7 +36,8 @@ pub use commit::Commit;
 pub use entry::Entry;
 pub use entry_list::EntryList;
 pub use entry_ref::EntryRef;
-pub use fitting::{EntryFault, fits, fits_lent};
+pub use faults::{EntryFault, SchemaFault};
+pub use fitting::{fits, fits_lent};
 pub use kind::Kind;
 pub use kind_list::KindList;
 pub use octets::Octets;
@@ -44,6 +46,5 @@ pub use row::{Row, first_value, row_bytes, row_values};
 pub use row_id::RowId;
 pub use row_presence::is_there_after;
 pub use schema::{Schema, column_at, width_of_row};
-pub use schema_fault::SchemaFault;
 pub use value::Value;
 pub use writing::{entry_len, write_entry};

@@ -13,14 +13,14 @@ use std::marker::Model;
 /// Contracts see the list of the bytes, so that two values with the same bytes are equal.
 #[derive(Clone, Copy, Debug)]
 pub struct Octets {
-    buffer: [u8; 64],
+    buffer: [u8; OCTETS_MAX],
     len: usize,
 }
 
 impl Model for Octets {
     ghost use Rattle.std.specs.Prelude.{List, ℕ, length, take};
     ghost use Rattle.std.proofs.Common.{arith, sym, length-take-le};
-    ghost use Rattle.rows.specs.Padded.{padded, IsPadded};
+    ghost use Rattle.rows.specs.Inner.Padded.{padded, IsPadded};
 
     ghost Value = { List ℕ };
 

@@ -6,6 +6,7 @@ ghost use Rattle.rows.specs.declared.entry.Entry.{Entry};
 ghost use Rattle.rows.specs.Reading.{entry_at, insert_at, patch_at, seen, IsSpelledAt};
 ghost use Rattle.rows.specs.Spelling.{HasSpelling, entry_spelling};
 
+use crate::codes::{DELETE_CODE, INSERT_CODE, PATCH_CODE};
 use crate::entry_ref::EntryRef;
 use crate::limits::{OCTETS_MAX, ROW_WIDTH_MAX, TABLES_MAX};
 use crate::row_id::RowId;
@@ -38,9 +39,9 @@ fn front_entry(bytes: &[u8]) -> Option<(EntryRef<'_>, usize)>
         return None;
     }
     match front[0] {
-        1 => read_insert(table, row, rest),
-        2 => read_patch(table, row, rest),
-        3 => Some((EntryRef::Delete { table, row }, 10)),
+        INSERT_CODE => read_insert(table, row, rest),
+        PATCH_CODE => read_patch(table, row, rest),
+        DELETE_CODE => Some((EntryRef::Delete { table, row }, 10)),
         _ => None,
     }
 }

@@ -50,13 +50,13 @@ impl Row {
     pub fn set(&mut self, column: usize, value: Value)
         ensures { self.new ≡ slice_set self.old column value }
     {
-        if let Some(place) = self.items.get_mut(column) {
-            *place = value;
+        if let Some(was) = self.items.get_mut(column) {
+            *was = value;
         }
     }
 
-    /// Puts bytes at one column's place, in a table with columns of these kinds. Where they have
-    /// no column's place nothing changes. Takes no memory.
+    /// Puts one column's bytes, in a table with columns of these kinds. Where they are not
+    /// exactly one column's nothing changes. Takes no memory.
     pub fn patch(&mut self, kinds: &[Kind], offset: u16, bytes: &[u8])
         requires { list_all is_good kinds.now ≡ true }
         ensures { self.new ≡ patched_row kinds.now offset bytes.now self.old }
@@ -68,7 +68,7 @@ impl Row {
 }
 
 /// The bytes of a row with these values: each column's bytes in order, an `Int` as eight bytes,
-/// big-endian, two's complement, `Octets` as they are. Fails for want of memory alone.
+/// big-endian, two's complement, `Octets` as they are. Fails only when out of memory.
 pub fn row_bytes(alloc: Global, values: &[Value]) -> Result<ByteList, AllocError>
     ensures { IfOk result (λ bytes. bytes ≡ bytes_of values.now) }
 {
@@ -82,8 +82,8 @@ pub fn row_bytes(alloc: Global, values: &[Value]) -> Result<ByteList, AllocError
     Ok(ByteList::from_vec(bytes))
 }
 
-/// The values of a row with columns of these kinds, from the row's bytes. Fails for want of
-/// memory alone.
+/// The values of a row with columns of these kinds, from the row's bytes. Fails only when out of
+/// memory.
 pub fn row_values(alloc: Global, kinds: &[Kind], bytes: &[u8]) -> Result<Row, AllocError>
     requires good { list_all is_good kinds.now ≡ true }
     requires wide { row_width kinds.now ≤ length bytes.now }

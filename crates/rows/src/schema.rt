@@ -6,13 +6,13 @@ ghost use Rattle.std.specs.Option.{option_map};
 ghost use Rattle.std.specs.List.{list_any, list_all};
 ghost use Rattle.std.specs.Str.{bytes_eq};
 ghost use Rattle.rows.specs.SchemaFaults.{schema_fault, table_fault, tables_fault};
-ghost use Rattle.rows.specs.Shown.{given, shown};
-ghost use Rattle.rows.specs.Shape.{shape_of, row_width, is_good, column_at, AreColumns, AreTables};
+ghost use Rattle.rows.specs.Inner.Shown.{shown};
+ghost use Rattle.rows.specs.Shape.{given, shape_of, row_width, is_good, column_at, AreColumns, AreTables};
 
+use crate::faults::SchemaFault;
 use crate::kind::Kind;
 use crate::kind_list::KindList;
 use crate::limits::{COLUMNS_MAX, ROW_WIDTH_MAX, TABLES_MAX};
-use crate::schema_fault::SchemaFault;
 use indexmap::IndexMap;
 use std::alloc::{AllocError, Global};
 use std::marker::Model;
@@ -20,7 +20,7 @@ use std::marker::Model;
 /// The tables of a database, in order, each with its name and the kinds of its columns.
 ///
 /// It has 1 to 16 tables with names that differ, each of 1 to 16 columns and at most 512 bytes a
-/// row; a column of `Octets` has 1 to 64 bytes. Tables are named by their place, from 0.
+/// row; a column of `Octets` has 1 to 64 bytes. Tables are named by their number, from 0.
 #[derive(Debug, Drop)]
 pub struct Schema {
     tables: IndexMap<String, KindList>,
@@ -30,7 +30,7 @@ impl Model for Schema {
     ghost use Rattle.std.specs.Prelude.{◌≡◌, List, ℕ, map, None};
     ghost use Rattle.rows.specs.declared.kind.Kind.{Kind};
     ghost use Rattle.rows.specs.SchemaFaults.{schema_fault};
-    ghost use Rattle.rows.specs.Shown.{shown};
+    ghost use Rattle.rows.specs.Inner.Shown.{shown};
 
     ghost Value = { List (List ℕ × List Kind) };
 
@@ -107,7 +107,7 @@ impl Clone for Schema {
 
     ghost is_clone = { λ schema copy. copy ≡ schema };
 
-    /// A second schema with the same tables. Fails for want of memory alone.
+    /// A second schema with the same tables. Fails only when out of memory.
     fn clone(&self) -> Result<Schema, AllocError> {
         let tables = copy_of(&self.tables)?;
         Ok(Schema { tables })
@@ -139,7 +139,7 @@ fn are_good(kinds: &[Kind]) -> bool
 }
 
 /// The column that begins at this offset among a row's bytes and has this size: its number and
-/// its kind. `None` where no column has just that place. Takes no memory.
+/// its kind. `None` where these are not exactly one column's bytes. Takes no memory.
 pub fn column_at(kinds: &[Kind], offset: usize, size: usize) -> Option<(usize, Kind)>
     ensures { result ≡ column_at kinds.now offset size }
 {
@@ -157,7 +157,7 @@ pub fn column_at(kinds: &[Kind], offset: usize, size: usize) -> Option<(usize, K
     None
 }
 
-/// The first fault of tables that are to be a schema, want of memory aside.
+/// The first fault of tables that are to be a schema, out of memory aside.
 fn first_fault(tables: &[(&str, &[Kind])]) -> Option<SchemaFault>
     ensures { result ≡ schema_fault (map given tables.now) }
 {
@@ -209,7 +209,7 @@ fn is_named(tables: &[(&str, &[Kind])], name: &str) -> bool
     tables.iter().any(|table| table.0 == name)
 }
 
-/// The map of these tables, whose names differ. Fails for want of memory alone.
+/// The map of these tables, whose names differ. Fails only when out of memory.
 fn build(
     alloc: Global,
     tables: &[(&str, &[Kind])],
@@ -224,7 +224,7 @@ fn build(
     Ok(made)
 }
 
-/// A second map of the same tables. Fails for want of memory alone.
+/// A second map of the same tables. Fails only when out of memory.
 fn copy_of(tables: &IndexMap<String, KindList>) -> Result<IndexMap<String, KindList>, AllocError>
     requires { tables_fault [] (map shown tables.now.entries) ≡ None }
     ensures { IfOk result (λ made. map shown made.entries ≡ map shown tables.now.entries) }
@@ -237,7 +237,7 @@ fn copy_of(tables: &IndexMap<String, KindList>) -> Result<IndexMap<String, KindL
     Ok(made)
 }
 
-/// Puts a table without a fault behind those of the map. Fails for want of memory alone.
+/// Puts a table without a fault behind those of the map. Fails only when out of memory.
 fn add_table(
     alloc: Global,
     tables: &mut IndexMap<String, KindList>,

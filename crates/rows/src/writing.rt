@@ -2,8 +2,9 @@
 
 ghost use Rattle.std.specs.Prelude.{◌≡◌, ◌+◌, ◌≤◌, ◌++◌, ◌∷◌, [], length, drop};
 ghost use Rattle.byteorder.specs.Endian.{big_bytes};
-ghost use Rattle.rows.specs.Spelling.{entry_front, entry_spelling, HasSpelling};
+ghost use Rattle.rows.specs.Spelling.{insert_code, patch_code, entry_front, entry_spelling, HasSpelling};
 
+use crate::codes::{DELETE_CODE, INSERT_CODE, PATCH_CODE};
 use crate::entry::Entry;
 use crate::limits::{OCTETS_MAX, ROW_WIDTH_MAX};
 use crate::row_id::RowId;
@@ -76,16 +77,16 @@ fn write_delete(table: u8, row: RowId, buffer: &mut [u8]) -> usize
     ensures len { result ≡ 10 }
     ensures written { buffer.new ≡ entry_spelling (Entry.Delete table row) ++ drop result buffer.old }
 {
-    buffer[..10].copy_from_slice(&entry_front(3, table, row));
+    buffer[..10].copy_from_slice(&entry_front(DELETE_CODE, table, row));
     10
 }
 
 /// The ten bytes that every entry begins with: which it is, the table, and the row.
-fn entry_front(op: u8, table: u8, row: RowId) -> [u8; 10]
-    ensures { result ≡ entry_front op table row.0 }
+fn entry_front(code: u8, table: u8, row: RowId) -> [u8; 10]
+    ensures { result ≡ entry_front code table row.0 }
 {
     let mut front = [0; 10];
-    front[0] = op;
+    front[0] = code;
     front[1] = table;
     BigEndian::write_u64(&mut front[2..], row.0);
     front
@@ -93,20 +94,20 @@ fn entry_front(op: u8, table: u8, row: RowId) -> [u8; 10]
 
 /// The twelve bytes before an insert's data.
 fn insert_head(table: u8, row: RowId, size: u16) -> [u8; 12]
-    ensures { result ≡ entry_front 1 table row.0 ++ big_bytes 2 size }
+    ensures { result ≡ entry_front insert_code table row.0 ++ big_bytes 2 size }
 {
     let mut head = [0; 12];
-    head[..10].copy_from_slice(&entry_front(1, table, row));
+    head[..10].copy_from_slice(&entry_front(INSERT_CODE, table, row));
     BigEndian::write_u16(&mut head[10..], size);
     head
 }
 
 /// The fourteen bytes before a patch's data.
 fn patch_head(table: u8, row: RowId, offset: u16, size: u16) -> [u8; 14]
-    ensures { result ≡ entry_front 2 table row.0 ++ big_bytes 2 offset ++ big_bytes 2 size }
+    ensures { result ≡ entry_front patch_code table row.0 ++ big_bytes 2 offset ++ big_bytes 2 size }
 {
     let mut head = [0; 14];
-    head[..10].copy_from_slice(&entry_front(2, table, row));
+    head[..10].copy_from_slice(&entry_front(PATCH_CODE, table, row));
     BigEndian::write_u16(&mut head[10..], offset);
     BigEndian::write_u16(&mut head[12..], size);
     head

@@ -142,7 +142,7 @@ fn entry_of(alloc: Global, change: Change) -> Result<Entry, Fail> {
     }
 }
 
-/// Whether each of the entries is defined in its place on the newest rows.
+/// Whether each of the entries is defined where it stands on the newest rows.
 pub fn are_defined(versions: &Versions, entries: &[Entry]) -> bool
     ensures { OnTrue result (defined_at versions.now (length versions.now.commits) entries.now ≡ true) }
 {

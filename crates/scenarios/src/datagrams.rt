@@ -7,12 +7,13 @@ use crate::worker_datagrams::{ASK, FRAME, HEAD, HEAD_OF_TWO, WANT, changed};
 use rows::{Commit, Entry, RowId};
 use std::alloc::Global;
 use std::test::Fail;
+use update_log::Frame;
 use wire::{
-    Counts, Datagram, Frame, LentEntries, Packet, TooSmall, WireFault, one_spelling, read, write,
+    Counts, Datagram, LentEntries, Packet, TooSmall, WireFault, one_spelling, read, write,
     write_frame,
 };
 
-/// The place and commit of `FRAME` with three entries, all of row 7 of table 0: its insert, a
+/// The seq and commit of `FRAME` with three entries, all of row 7 of table 0: its insert, a
 /// patch of the second column to 6, and a delete.
 const THREE: [u8; 86] = [
     0x42, 0x44, 0x01, 0x01, 0x00, 0x56, 0x00, 0x00, 0x00, 0x00, 0x00, 0x00, 0x00, 0x00, 0x00, 0x00,
@@ -275,7 +276,7 @@ fn spellings_tell_datagrams_apart() {
     one_spelling();
 }
 
-/// A place of the frame, another byte there, and the first fault.
+/// An index of the frame, another byte there, and the first fault.
 const FAULTS: [(usize, u8, WireFault); 8] = [
     (1, 0x45, WireFault::Magic),
     (2, 2, WireFault::Version),
@@ -289,9 +290,9 @@ const FAULTS: [(usize, u8, WireFault); 8] = [
 
 #[test]
 fn the_first_fault_is_named(rt: HostRuntime) {
-    for (place, byte, fault) in &FAULTS {
-        let found = read(&changed(FRAME, *place, *byte)).err();
-        assert_eq!(rt; found, Some(*fault), "{byte} at {place}");
+    for (index, byte, fault) in &FAULTS {
+        let found = read(&changed(FRAME, *index, *byte)).err();
+        assert_eq!(rt; found, Some(*fault), "{byte} at {index}");
     }
     assert_eq!(rt; read(&FRAME[..5]).err(), Some(WireFault::Short));
     assert_eq!(rt; read(&FRAME[..53]).err(), Some(WireFault::Length));

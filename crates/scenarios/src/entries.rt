@@ -43,13 +43,13 @@ const SPELLINGS: [(Wanted<'static>, &[u8], Parts<'static>); 3] = [
     (Wanted::Delete(0, 7), &DELETE, (3, 0, 7, 0, &[])),
 ];
 
-/// The place of the first of these that is not written so, where each fits the bank.
+/// The index of the first of these that is not written so, where each fits the bank.
 fn other_spelling(alloc: Global) -> Result<Option<usize>, Fail> {
     let schema = bank(alloc)?;
-    for (place, (wanted, bytes, _)) in SPELLINGS.iter().enumerate() {
+    for (index, (wanted, bytes, _)) in SPELLINGS.iter().enumerate() {
         let entry = made(alloc, *wanted)?;
         if !is_spelled(&schema, &entry, bytes) {
-            return Ok(Some(place));
+            return Ok(Some(index));
         }
     }
     Ok(None)
@@ -177,11 +177,11 @@ fn fault_of(alloc: Global, wanted: Wanted<'_>) -> Result<Option<EntryFault>, Fai
     Ok(fits(&schema, &entry).err())
 }
 
-/// The place of the first of these that has another fault.
+/// The index of the first of these that has another fault.
 fn other_fault(alloc: Global) -> Result<Option<usize>, Fail> {
-    for (place, (wanted, fault)) in FAULTS.iter().enumerate() {
+    for (index, (wanted, fault)) in FAULTS.iter().enumerate() {
         if fault_of(alloc, *wanted)? != *fault {
-            return Ok(Some(place));
+            return Ok(Some(index));
         }
     }
     Ok(None)

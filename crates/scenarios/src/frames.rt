@@ -23,7 +23,7 @@ const UNFIT: [Line<'static>; 3] = [
     (Step::Get(&PATCH_AND_DELETE), Answer::Got(Got::Ignored)),
 ];
 
-/// The first missing place passes those that are known: a run names it, where more frames are
+/// The first missing seq passes those that are known: a run names it, where more frames are
 /// fetched than came; and the window begins there.
 #[test]
 fn frames_are_kept_within_the_window(rt: HostRuntime) -> Result<(), Fail> {

@@ -14,7 +14,17 @@ mod datagrams;
 #[cfg(test)]
 mod entries;
 #[cfg(test)]
+mod failing_journal;
+#[cfg(test)]
 mod frames;
+#[cfg(test)]
+mod journal_bytes;
+#[cfg(test)]
+mod journal_files;
+#[cfg(test)]
+mod journal_stores;
+#[cfg(test)]
+mod long_journals;
 #[cfg(test)]
 mod primary_steps;
 #[cfg(test)]

@@ -30,7 +30,7 @@ pub enum Step {
     CommitOf(u64, &'static [Change]),
     /// So many commits are made durable.
     Flush(usize),
-    /// The frame of a place of that worker's stream is sent.
+    /// The frame of a seq of that worker's stream is sent.
     Push(u8, u64),
     /// These bytes come.
     Receive(&'static [u8]),
@@ -61,7 +61,7 @@ pub enum Answer {
 /// and how many pending.
 pub type Line = (Step, Answer, u64, usize);
 
-/// The place of the first step that a primary with this many workers and no commits answers
+/// The index of the first step that a primary with this many workers and no commits answers
 /// otherwise. Adds all bytes that are sent.
 pub fn other_answer(
     alloc: Global,
@@ -73,12 +73,12 @@ pub fn other_answer(
         return Err("no such number of workers".into());
     }
     let mut primary = start(alloc, workers)?;
-    for (place, (step, answer, durable, pending)) in story.iter().enumerate() {
+    for (index, (step, answer, durable, pending)) in story.iter().enumerate() {
         if take(alloc, workers, &mut primary, *step, sent)? != *answer
             || primary.durable() != *durable
             || primary.pending() != *pending
         {
-            return Ok(Some(place));
+            return Ok(Some(index));
         }
     }
     Ok(None)
@@ -196,7 +196,7 @@ fn answer_of(outcome: Result<Ticket, (Transaction, CommitFault)>) -> Answer {
     }
 }
 
-/// Sends the frame of that place, where there is one.
+/// Sends the frame of that seq, where there is one.
 fn push(
     workers: u8,
     primary: &PrimaryCore,

@@ -20,11 +20,11 @@ pub enum Step<'a> {
     Ask,
     /// These bytes come.
     Get(&'a [u8]),
-    /// Frame 0 comes as the frame of another place.
+    /// Frame 0 comes as the frame of another seq.
     GetFrameAt(u64),
-    /// Frame 0 comes with another byte at this place of the datagram.
+    /// Frame 0 comes with another byte at this index of the datagram.
     GetFrameWith(usize, u8),
-    /// The Head of its request at version 1 comes with another byte at this place.
+    /// The Head of its request at version 1 comes with another byte at this index.
     GetHeadWith(usize, u8),
     /// The batch is run.
     Run,
@@ -49,7 +49,7 @@ pub enum Answer {
     Got(Got),
     NoBatch,
     WaitingHead,
-    /// The frame of this worker at this place is missing, and a Want of it is on the way.
+    /// The frame of this worker with this seq is missing, and a Want of it is on the way.
     Waiting(u8, u64),
     OtherWant,
     /// The report is the expected one.
@@ -71,7 +71,7 @@ pub fn fresh(alloc: Global, kinds: &[Kind]) -> Result<ReplicaCore<PlainStore>, F
     Ok(ReplicaCore::start(alloc, store, &schema, 1, 0, 1)?)
 }
 
-/// The place of the first step that a fresh replica answers otherwise, and its answer.
+/// The index of the first step that a fresh replica answers otherwise, and its answer.
 pub fn other_answer(
     alloc: Global,
     kinds: &[Kind],
@@ -81,15 +81,15 @@ pub fn other_answer(
     Ok(other_answer_of(&mut replica, story))
 }
 
-/// The place of the first step that it answers otherwise, and its answer.
+/// The index of the first step that it answers otherwise, and its answer.
 pub fn other_answer_of(
     replica: &mut ReplicaCore<PlainStore>,
     story: &[Line<'_>],
 ) -> Option<(usize, Answer)> {
-    for (place, (step, expected)) in story.iter().enumerate() {
+    for (index, (step, expected)) in story.iter().enumerate() {
         let answer = answer_to(replica, *step);
         if answer != *expected {
-            return Some((place, answer));
+            return Some((index, answer));
         }
     }
     None
@@ -102,8 +102,8 @@ fn answer_to(replica: &mut ReplicaCore<PlainStore>, step: Step<'_>) -> Answer {
         Step::Ask => asked(replica),
         Step::Get(bytes) => got(replica, bytes),
         Step::GetFrameAt(seq) => got(replica, &frame_at(seq)),
-        Step::GetFrameWith(place, byte) => got(replica, &changed(FRAME, place, byte)),
-        Step::GetHeadWith(place, byte) => got(replica, &changed(HEAD, place, byte)),
+        Step::GetFrameWith(index, byte) => got(replica, &changed(FRAME, index, byte)),
+        Step::GetHeadWith(index, byte) => got(replica, &changed(HEAD, index, byte)),
         Step::Run => ran(replica, b""),
         Step::Report(text) => ran(replica, text),
         Step::Request => Answer::Number(replica.request()),

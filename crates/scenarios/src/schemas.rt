@@ -83,11 +83,11 @@ fn count_of(alloc: Global, tables: &[(&str, &[Kind])]) -> Result<usize, SchemaFa
     Ok(Schema::new(alloc, tables)?.len())
 }
 
-/// The place of the first of these columns that have another fault.
+/// The index of the first of these columns that have another fault.
 fn other_fault(alloc: Global) -> Option<usize> {
-    for (place, (columns, fault)) in COLUMNS.iter().enumerate() {
+    for (index, (columns, fault)) in COLUMNS.iter().enumerate() {
         if count_of(alloc, &[("a", *columns)]).err() != *fault {
-            return Some(place);
+            return Some(index);
         }
     }
     None
@@ -108,11 +108,11 @@ fn schemas_are_good_or_have_a_fault(rt: HostRuntime) {
     assert_eq!(rt; count_of(alloc, &TABLES), Err(SchemaFault::TooManyTables));
 }
 
-/// Columns that are looked for by their place.
+/// Columns that are looked for by where their bytes stand.
 const KINDS: [Kind; 3] = [Kind::Octets(2), Kind::Int, Kind::Octets(2)];
 
 /// An offset and a size, and which column stands there.
-const PLACES: [(usize, usize, Option<(usize, Kind)>); 7] = [
+const SPANS: [(usize, usize, Option<(usize, Kind)>); 7] = [
     (0, 2, Some((0, Kind::Octets(2)))),
     (2, 8, Some((1, Kind::Int))),
     (10, 2, Some((2, Kind::Octets(2)))),
@@ -134,7 +134,7 @@ const WIDTHS: [(Kind, usize, bool); 5] = [
 
 #[test]
 fn columns_have_their_places_and_widths(rt: HostRuntime) {
-    for (offset, size, column) in &PLACES {
+    for (offset, size, column) in &SPANS {
         assert_eq!(rt; column_at(&KINDS, *offset, *size), *column);
     }
     for (kind, width, is_good) in &WIDTHS {

@@ -121,16 +121,16 @@ const TWO_FAULTS: [(&str, &str); 8] = [
 const PAIRS_64: &str =
     "000102030405060708090a0b0c0d0e0f101112131415161718191a1b1c1d1e1f202122232425262728292a2b2c2d2e2f303132333435363738393a3b3c3d3e3f";
 
-/// The place of the first of these texts of which something else is said, behind those settings.
+/// The index of the first of these texts of which something else is said, behind those settings.
 fn other_refusal(
     alloc: Global,
     settings: &str,
     faults: &[(&str, &str)],
 ) -> Result<Option<usize>, Fail> {
-    for (place, (text, said)) in faults.iter().enumerate() {
+    for (index, (text, said)) in faults.iter().enumerate() {
         let script = format!(in alloc; "{settings}{text}")?;
         if refusal(alloc, script.as_bytes())?.as_str() != *said {
-            return Ok(Some(place));
+            return Ok(Some(index));
         }
     }
     Ok(None)
@@ -145,7 +145,7 @@ fn the_first_faulty_line_and_its_least_fault_are_named(rt: HostRuntime) -> Resul
     Ok(())
 }
 
-/// The place of the first of these words of which something else is said, behind the settings and
+/// The index of the first of these words of which something else is said, behind the settings and
 /// the front of line 4.
 fn other_word(
     alloc: Global,
@@ -153,10 +153,10 @@ fn other_word(
     words: &[&str],
     said: &str,
 ) -> Result<Option<usize>, Fail> {
-    for (place, word) in words.iter().enumerate() {
+    for (index, word) in words.iter().enumerate() {
         let script = format!(in alloc; "{SETTINGS}{front}{word}")?;
         if refusal(alloc, script.as_bytes())?.as_str() != said {
-            return Ok(Some(place));
+            return Ok(Some(index));
         }
     }
     Ok(None)

@@ -37,11 +37,11 @@ fn the_story_answers_as_it_should(rt: HostRuntime) -> Result<(), Fail> {
     expect(&rt, rt.alloc(), SETTINGS, &STORY)
 }
 
-/// The script of the story without the event of that place; all of it, where there is none.
-fn script_without(alloc: Global, place: usize) -> Result<String, Fail> {
+/// The script of the story without the event of that index; all of it, where there is none.
+fn script_without(alloc: Global, index: usize) -> Result<String, Fail> {
     let mut script = String::from_str(alloc, SETTINGS)?;
     for (other, (event, _)) in STORY.iter().enumerate() {
-        if other != place {
+        if other != index {
             script.push_str(event)?;
             script.push_str("\n")?;
         }
@@ -49,8 +49,8 @@ fn script_without(alloc: Global, place: usize) -> Result<String, Fail> {
     Ok(script)
 }
 
-/// The first line of the text that tells of want of memory.
-fn place_of_memory(text: &[u8]) -> Option<usize> {
+/// The first line of the text that tells of out of memory.
+fn index_of_memory(text: &[u8]) -> Option<usize> {
     text.split(|byte| *byte == b'\n')
         .position(|line| line == b"memory".as_slice())
 }
@@ -66,11 +66,11 @@ fn is_answered(text: &[u8]) -> bool {
     lines.next() == Some(b"".as_slice()) && lines.next().is_none()
 }
 
-/// Whether the text is that other text with a line put in at that place.
-fn has_one_more_line(text: &[u8], place: usize, other: &[u8]) -> bool {
+/// Whether the text is that other text with a line put in at that index.
+fn has_one_more_line(text: &[u8], index: usize, other: &[u8]) -> bool {
     let mut others = other.split(|byte| *byte == b'\n');
     for (at, line) in text.split(|byte| *byte == b'\n').enumerate() {
-        if at != place && others.next() != Some(line) {
+        if at != index && others.next() != Some(line) {
             return false;
         }
     }
@@ -80,15 +80,15 @@ fn has_one_more_line(text: &[u8], place: usize, other: &[u8]) -> bool {
 /// Whether a text is what the story answers; or what it answers without one event, with the line
 /// `memory` for that one. One request is refused at the most, so that memory is ample then.
 fn is_allowed(alloc: Global, text: &[u8]) -> Result<bool, Fail> {
-    let Some(place) = place_of_memory(text) else {
+    let Some(index) = index_of_memory(text) else {
         return Ok(is_answered(text));
     };
-    let script = script_without(alloc, place)?;
+    let script = script_without(alloc, index)?;
     let other = printed(alloc, script.as_bytes())?;
-    Ok(has_one_more_line(text, place, other.as_slice()))
+    Ok(has_one_more_line(text, index, other.as_slice()))
 }
 
-/// Whether the story's script ends as it may: for want of memory with nothing written, or with a
+/// Whether the story's script ends as it may: out of memory with nothing written, or with a
 /// text that is allowed.
 fn ends_as_allowed(alloc: Global) -> Result<bool, Fail> {
     let script = script_without(alloc, STORY.len())?;

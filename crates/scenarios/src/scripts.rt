@@ -208,7 +208,7 @@ fn scripts_read_as_their_events(rt: HostRuntime) -> Result<(), Fail> {
             [
                 Event::Push { worker: 0, seq: 3 },
                 Event::Deliver {
-                    place: 2,
+                    index: 2,
                     node: Node::Primary
                 }
             ]
@@ -228,7 +228,7 @@ fn a_run_answers_each_event(rt: HostRuntime) -> Result<(), Fail> {
     let outputs = run(
         rt.alloc(),
         &setup,
-        &[Event::Begin, Event::Show { place: 0 }],
+        &[Event::Begin, Event::Show { index: 0 }],
     )?;
     assert!(rt;
         matches!(

@@ -88,9 +88,9 @@ fn frames_are_sent_to_the_byte(rt: HostRuntime) -> Result<(), Fail> {
 fn each_worker_has_a_stream(rt: HostRuntime) -> Result<(), Fail> {
     let mut sent = Vec::new(rt.alloc());
     assert_eq!(rt; other_answer(rt.alloc(), 2, &TWO_WORKERS, &mut sent)?, None);
-    let names = [6, 14, 22].map(|place| sent.get(place).copied());
+    let names = [6, 14, 22].map(|index| sent.get(index).copied());
     assert_eq!(rt; names, [Some(1), Some(1), Some(3)]);
-    let counts = [85, 93, 101].map(|place| sent.get(place).copied());
+    let counts = [85, 93, 101].map(|index| sent.get(index).copied());
     assert_eq!(rt; counts, [Some(2), Some(1), Some(2)]);
     Ok(())
 }

@@ -34,7 +34,7 @@ enum Answer {
 /// A line of a story: a call, and what it is to answer.
 type Line = (Call, Answer);
 
-/// The place of the first call on a version that answers otherwise; the story's length, where the
+/// The index of the first call on a version that answers otherwise; the story's length, where the
 /// transaction then hands out another number of entries.
 fn other_answer(
     alloc: Global,
@@ -44,9 +44,9 @@ fn other_answer(
     count: usize,
 ) -> Result<Option<usize>, Fail> {
     let mut transaction = Transaction::begin(alloc, version);
-    for (place, (call, expected)) in story.iter().enumerate() {
+    for (index, (call, expected)) in story.iter().enumerate() {
         if make(alloc, versions, &mut transaction, *call)? != *expected {
-            return Ok(Some(place));
+            return Ok(Some(index));
         }
     }
     if transaction.into_entries().len() != count {
@@ -262,12 +262,12 @@ const STORIES: [(u64, &[Line], usize); 12] = [
     (4, &THIRD_ENTRY, 2),
 ];
 
-/// The first of these stories that goes otherwise, and its place.
+/// The first of these stories that goes otherwise, and its index.
 fn other_story(alloc: Global) -> Result<Option<(usize, usize)>, Fail> {
     let versions = history(alloc)?;
     for (number, (version, story, count)) in STORIES.iter().enumerate() {
-        if let Some(place) = other_answer(alloc, &versions, *version, story, *count)? {
-            return Ok(Some((number, place)));
+        if let Some(index) = other_answer(alloc, &versions, *version, story, *count)? {
+            return Ok(Some((number, index)));
         }
     }
     Ok(None)

@@ -41,13 +41,13 @@ enum Found {
 /// A line of a story: a look, and what it is to find.
 type Line = (Look, Found);
 
-/// The place of the first look that finds something else behind that history and more commits.
+/// The index of the first look that finds something else behind that history and more commits.
 fn other_found(alloc: Global, more: &[&[Change]], story: &[Line]) -> Result<Option<usize>, Fail> {
     let mut versions = history(alloc)?;
     absorb_all(alloc, &mut versions, more)?;
-    for (place, (look, expected)) in story.iter().enumerate() {
+    for (index, (look, expected)) in story.iter().enumerate() {
         if look_at(alloc, &versions, *look)? != *expected {
-            return Ok(Some(place));
+            return Ok(Some(index));
         }
     }
     Ok(None)

@@ -66,21 +66,21 @@ pub const WANT: [u8; 16] = [
 ];
 
 /// The bytes with one of them changed.
-pub fn changed<const N: usize>(mut bytes: [u8; N], place: usize, byte: u8) -> [u8; N] {
-    if place < bytes.len() {
-        bytes[place] = byte;
+pub fn changed<const N: usize>(mut bytes: [u8; N], index: usize, byte: u8) -> [u8; N] {
+    if index < bytes.len() {
+        bytes[index] = byte;
     }
     bytes
 }
 
-/// The first frame, at another place of its stream.
+/// The first frame, at another seq of its stream.
 pub fn frame_at(seq: u64) -> [u8; 54] {
     let mut bytes = FRAME;
     bytes[7..15].copy_from_slice(&seq.to_be_bytes());
     bytes
 }
 
-/// The Want of the frames from that place on.
+/// The Want of the frames from that number on.
 pub fn want_from(seq: u64) -> [u8; 16] {
     let mut bytes = WANT;
     bytes[8..16].copy_from_slice(&seq.to_be_bytes());

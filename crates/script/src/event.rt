@@ -54,19 +54,19 @@ pub enum Event {
     Flush {
         count: u32,
     },
-    /// The primary sends the frame at a place of a worker's stream.
+    /// The primary sends the frame of a worker's stream that has this `seq`.
     Push {
         worker: u8,
         seq: u64,
     },
-    /// The network delivers a datagram that was sent, by its place, to a node.
+    /// The network delivers a datagram that was sent, by its index, to a node.
     Deliver {
-        place: u64,
+        index: u64,
         node: Node,
     },
-    /// The datagram at that place is shown.
+    /// The datagram at that index is shown.
     Show {
-        place: u64,
+        index: u64,
     },
     /// A query is opened at a replica.
     Open {

@@ -1,47 +1,69 @@
 //! The lines of events, as a script has them, and the text of a run that shows them.
 
-use crate::event::{Event, Node};
+ghost use Rattle.std.specs.Prelude.{◌≡◌, ◌∷◌, [], ◌++◌, IfOk, OnOk, codes, decimal};
+ghost use Rattle.script.specs.Text.{words_text};
+ghost use Rattle.script.specs.Inner.Words.{word_text};
+ghost use Rattle.script.specs.EventText.{event_text, event_words, plan_words, echoed_text, echoed_one, name_in};
+
+use crate::event::Event;
+use crate::lines::{Word, push_values, push_words};
 use crate::output::Output;
 use crate::output_text::push_output;
-use crate::value_text::{push_numbers, push_value};
 use rows::{RowId, Schema, Value};
 use std::alloc::{AllocError, Global};
 
 /// The text of events and of what they answer: the line of each event behind `> `, and then the
-/// lines of its output. Tables have their names in the schema. Fails for want of memory alone.
+/// lines of its output, as far as both lists go. Tables have their names in the schema. Fails
+/// only when out of memory.
 pub fn echoed_text_of(
     alloc: Global,
     schema: &Schema,
     events: &[Event],
     outputs: &[Output],
-) -> Result<Vec<u8>, AllocError> {
+) -> Result<Vec<u8>, AllocError>
+    ensures { IfOk result (λ text. text.items ≡ echoed_text schema.now events.now outputs.now) }
+{
     let mut text = Vec::new(alloc);
-    for (event, output) in events.iter().zip(outputs.iter()) {
-        text.extend_from_slice(b"> ")?;
-        push_event(alloc, &mut text, schema, event)?;
-        text.push(b'\n')?;
-        push_output(alloc, &mut text, output)?;
+    let len = if events.len() < outputs.len() {
+        events.len()
+    } else {
+        outputs.len()
+    };
+    for index in 0..len {
+        push_echoed(&mut text, schema, &events[index], &outputs[index])?;
     }
     Ok(text)
 }
 
-/// Adds the line of an event, without its end.
-fn push_event(
-    alloc: Global,
+/// Adds the line of an event behind `> `, and the lines of its output.
+fn push_echoed(
     text: &mut Vec<u8>,
     schema: &Schema,
     event: &Event,
-) -> Result<(), AllocError> {
+    output: &Output,
+) -> Result<(), AllocError>
+    ensures { OnOk result (text.new.items ≡ text.old.items ++ echoed_one schema.now event.now output.now) }
+{
+    text.extend_from_slice(b"> ")?;
+    push_event(text, schema, event)?;
+    text.push(b'\n')?;
+    push_output(text, output)
+}
+
+/// Adds the line of an event, without its end.
+fn push_event(text: &mut Vec<u8>, schema: &Schema, event: &Event) -> Result<(), AllocError>
+    ensures { OnOk result (text.new.items ≡ text.old.items ++ event_text schema.now event.now) }
+{
     match event {
-        Event::Begin => push_words(alloc, text, "begin", &[]),
+        Event::Begin => push_words(text, "begin", &[]),
         Event::Insert {
             transaction,
             table,
             row,
             values,
         } => {
-            push_row(alloc, text, schema, "insert", *transaction, *table, *row)?;
-            push_values(alloc, text, values.as_slice())
+            let name = name_of(schema, *table);
+            push_insert(text, name, *transaction, *row, values.as_slice())
         }
         Event::Set {
             transaction,
@@ -49,99 +71,154 @@ fn push_event(
             row,
             column,
             value,
-        } => {
-            push_row(alloc, text, schema, "set", *transaction, *table, *row)?;
-            push_numbers(alloc, text, &[u64::from(*column)])?;
-            push_values(alloc, text, &[*value])
-        }
+        } => push_set(
+            text,
+            name_of(schema, *table),
+            *transaction,
+            *row,
+            *column,
+            value,
+        ),
         Event::Delete {
             transaction,
             table,
             row,
-        } => push_row(alloc, text, schema, "delete", *transaction, *table, *row),
+        } => push_delete(text, name_of(schema, *table), *transaction, *row),
         Event::Get {
             transaction,
             table,
             row,
             column,
-        } => {
-            push_row(alloc, text, schema, "get", *transaction, *table, *row)?;
-            push_numbers(alloc, text, &[u64::from(*column)])
-        }
+        } => push_get(text, name_of(schema, *table), *transaction, *row, *column),
         Event::Commit {
             transaction,
             worker,
-        } => push_words(alloc, text, "commit", &[*transaction, u64::from(*worker)]),
-        Event::Abort { transaction } => push_words(alloc, text, "abort", &[*transaction]),
-        Event::Flush { count } => push_words(alloc, text, "flush", &[u64::from(*count)]),
+        } => push_two(
+            text,
+            "commit",
+            *transaction,
+            Word::Number(u64::from(*worker)),
+        ),
+        Event::Abort { transaction } => push_one(text, "abort", *transaction),
+        Event::Flush { count } => push_one(text, "flush", u64::from(*count)),
         Event::Push { worker, seq } => {
-            push_words(alloc, text, "push", &[u64::from(*worker), *seq])
+            push_two(text, "push", u64::from(*worker), Word::Number(*seq))
         }
-        Event::Deliver { place, node } => {
-            push_words(alloc, text, "deliver", &[*place])?;
-            push_node(alloc, text, *node)
-        }
-        Event::Show { place } => push_words(alloc, text, "show", &[*place]),
-        Event::Open { replica, plan } => {
-            push_words(alloc, text, "open", &[u64::from(*replica)])?;
-            text.extend_from_slice(b" query")?;
-            push_table(text, schema, plan.table)?;
-            text.extend_from_slice(b" get count")
-        }
-        Event::Ask { replica } => push_words(alloc, text, "ask", &[u64::from(*replica)]),
-        Event::Run { replica } => push_words(alloc, text, "run", &[u64::from(*replica)]),
+        Event::Deliver { index, node } => push_two(text, "deliver", *index, Word::Node(*node)),
+        Event::Show { index } => push_one(text, "show", *index),
+        Event::Open { replica, plan } => push_open(text, name_of(schema, plan.table), *replica),
+        Event::Ask { replica } => push_one(text, "ask", u64::from(*replica)),
+        Event::Run { replica } => push_one(text, "run", u64::from(*replica)),
     }
 }
 
-/// Adds a word and numbers behind it.
-fn push_words(
-    alloc: Global,
-    text: &mut Vec<u8>,
-    word: &str,
-    numbers: &[u64],
-) -> Result<(), AllocError> {
-    text.extend_from_slice(word.as_bytes())?;
-    push_numbers(alloc, text, numbers)
+/// The name of a table; `?`, where the schema has no such table.
+fn name_of(schema: &Schema, table: u8) -> &str
+    ensures { result.now ≡ name_in schema.now table }
+{
+    schema.name(table as usize).unwrap_or("?")
 }
 
-/// Adds a word, and the row of a table that a transaction changes or looks at.
-fn push_row(
-    alloc: Global,
+/// Adds a word and a number.
+fn push_one(text: &mut Vec<u8>, word: &str, number: u64) -> Result<(), AllocError>
+    ensures { OnOk result (text.new.items ≡ text.old.items ++ words_text (word.now ∷ decimal number ∷ [])) }
+{
+    push_words(text, word, &[Word::Number(number)])
+}
+
+/// Adds a word, a number and another word.
+fn push_two(text: &mut Vec<u8>, word: &str, number: u64, last: Word) -> Result<(), AllocError>
+    ensures { OnOk result (text.new.items
+        ≡ text.old.items ++ words_text (word.now ∷ decimal number ∷ word_text last.entry ∷ [])) }
+{
+    push_words(text, word, &[Word::Number(number), last])
+}
+
+fn push_insert(
     text: &mut Vec<u8>,
-    schema: &Schema,
-    word: &str,
+    name: &str,
     transaction: u64,
-    table: u8,
     row: RowId,
-) -> Result<(), AllocError> {
-    push_words(alloc, text, word, &[transaction])?;
-    push_table(text, schema, table)?;
-    push_numbers(alloc, text, &[row.0])
+    values: &[Value],
+) -> Result<(), AllocError>
+    ensures { OnOk result (text.new.items
+        ≡ text.old.items ++ words_text (event_words name.now (Event.Insert transaction 0 row values.now))) }
+{
+    let words = [
+        Word::Number(transaction),
+        Word::Text(name),
+        Word::Number(row.0),
+    ];
+    push_words(text, "insert", &words)?;
+    push_values(text, values)
 }
 
-/// Adds the name of a table behind a space; `?`, where the schema has no such table.
-fn push_table(text: &mut Vec<u8>, schema: &Schema, table: u8) -> Result<(), AllocError> {
-    let name = schema.name(table as usize).unwrap_or("?");
-    text.push(b' ')?;
-    text.extend_from_slice(name.as_bytes())
+fn push_set<'x>(
+    text: &mut Vec<u8>,
+    name: &'x str,
+    transaction: u64,
+    row: RowId,
+    column: u8,
+    value: &'x Value,
+) -> Result<(), AllocError>
+    ensures { OnOk result (text.new.items
+        ≡ text.old.items ++ words_text (event_words name.now (Event.Set transaction 0 row column value.now))) }
+{
+    let words = [
+        Word::Number(transaction),
+        Word::Text(name),
+        Word::Number(row.0),
+        Word::Number(u64::from(column)),
+        Word::Value(value),
+    ];
+    push_words(text, "set", &words)
 }
 
-/// Adds values, each behind a space.
-fn push_values(alloc: Global, text: &mut Vec<u8>, values: &[Value]) -> Result<(), AllocError> {
-    for value in values {
-        text.push(b' ')?;
-        push_value(alloc, text, value)?;
-    }
-    Ok(())
+fn push_delete(
+    text: &mut Vec<u8>,
+    name: &str,
+    transaction: u64,
+    row: RowId,
+) -> Result<(), AllocError>
+    ensures { OnOk result (text.new.items
+        ≡ text.old.items ++ words_text (event_words name.now (Event.Delete transaction 0 row))) }
+{
+    let words = [
+        Word::Number(transaction),
+        Word::Text(name),
+        Word::Number(row.0),
+    ];
+    push_words(text, "delete", &words)
 }
 
-/// Adds a node behind a space: `p`, or `r` and a replica's number.
-fn push_node(alloc: Global, text: &mut Vec<u8>, node: Node) -> Result<(), AllocError> {
-    match node {
-        Node::Primary => text.extend_from_slice(b" p"),
-        Node::Replica(number) => {
-            let word = format!(in alloc; " r{number}")?;
-            text.extend_from_slice(word.as_bytes())
-        }
-    }
+fn push_get(
+    text: &mut Vec<u8>,
+    name: &str,
+    transaction: u64,
+    row: RowId,
+    column: u8,
+) -> Result<(), AllocError>
+    ensures { OnOk result (text.new.items
+        ≡ text.old.items ++ words_text (event_words name.now (Event.Get transaction 0 row column))) }
+{
+    let words = [
+        Word::Number(transaction),
+        Word::Text(name),
+        Word::Number(row.0),
+        Word::Number(u64::from(column)),
+    ];
+    push_words(text, "get", &words)
+}
+
+fn push_open(text: &mut Vec<u8>, name: &str, replica: u8) -> Result<(), AllocError>
+    ensures { OnOk result (text.new.items ≡ text.old.items ++ words_text (codes "open" ∷ decimal replica ∷ plan_words name.now)) }
+{
+    let words = [
+        Word::Number(u64::from(replica)),
+        Word::Text("query"),
+        Word::Text(name),
+        Word::Text("get"),
+        Word::Text("count"),
+    ];
+    push_words(text, "open", &words)
 }

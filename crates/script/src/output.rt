@@ -37,9 +37,9 @@ pub enum Output {
     Durable(u64),
     /// These datagrams were sent.
     Sent(SentList),
-    /// The stream has no such place.
+    /// The stream has no frame of that `seq`.
     NoFrame,
-    /// No datagram was sent at that place.
+    /// No datagram was sent at that index.
     NeverSent,
     /// A frame that was not known was kept.
     Stored,
@@ -67,7 +67,7 @@ pub enum Output {
     NoBatch,
     /// The batch has no version yet.
     WaitingHead,
-    /// The worker's frame at place `seq` is missing, and was asked for.
+    /// The worker's frame `seq` is missing, and was asked for.
     Waiting { worker: u8, seq: u64, want: Sent },
     /// The report of a batch, with its ends of lines.
     Report(ByteList),
@@ -75,6 +75,6 @@ pub enum Output {
     Inconsistent,
     /// The replica is broken.
     Broken,
-    /// Want of memory.
+    /// Out of memory.
     Memory,
 }

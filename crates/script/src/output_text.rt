@@ -1,79 +1,111 @@
 //! The lines of outputs.
 
+ghost use Rattle.std.specs.Prelude.{◌≡◌, ◌++◌, IfOk, OnOk};
+ghost use Rattle.std.specs.List.{flat_map};
+ghost use Rattle.script.specs.OutputText.{output_text, outputs_text, sent_text, word_of, numbered, waiting_text, fault_number};
+
+use crate::lines::{Word, push_line};
 use crate::output::Output;
 use crate::sent::Sent;
-use crate::value_text::{push_hex, push_value};
+use crate::value_text::push_hex;
 use dispatcher::PlanFault;
 use std::alloc::{AllocError, Global};
 
 /// The text of outputs, a line for each, but two for a run that waits for a frame and as many as
-/// it has for a report. Fails for want of memory alone.
-pub fn text_of(alloc: Global, outputs: &[Output]) -> Result<Vec<u8>, AllocError> {
+/// it has for a report. Fails only when out of memory.
+pub fn text_of(alloc: Global, outputs: &[Output]) -> Result<Vec<u8>, AllocError>
+    ensures { IfOk result (λ text. text.items ≡ outputs_text outputs.now) }
+{
     let mut text = Vec::new(alloc);
     for output in outputs {
-        push_output(alloc, &mut text, output)?;
+        push_output(&mut text, output)?;
     }
     Ok(text)
 }
 
 /// Adds the lines of an output.
-pub fn push_output(alloc: Global, text: &mut Vec<u8>, output: &Output) -> Result<(), AllocError> {
+pub fn push_output(text: &mut Vec<u8>, output: &Output) -> Result<(), AllocError>
+    ensures { OnOk result (text.new.items ≡ text.old.items ++ output_text output.now) }
+{
     match output {
-        Output::Report(report) => text.extend_from_slice(report.as_slice()),
+        Output::Tx { number, snapshot } => push_tx(text, *number, *snapshot),
+        Output::Value(value) => push_line(text, "value", &[Word::Value(value)]),
+        Output::Ticket(number) => push_numbered(text, "ticket", *number),
+        Output::Conflict(number) => push_numbered(text, "conflict", *number),
+        Output::Durable(count) => push_numbered(text, "durable", *count),
+        Output::Head(version) => push_numbered(text, "head", *version),
+        Output::Opened(count) => push_numbered(text, "opened", *count as u64),
+        Output::BadPlan(fault) => push_numbered(text, "bad plan", fault_number(*fault)),
+        Output::Sent(list) => push_all_sent(text, list.as_slice()),
         Output::Shown(bytes) => {
             push_hex(text, bytes.as_slice())?;
-            text.extend_from_slice(b"\n")
+            text.push(b'\n')?;
+            Ok(())
         }
-        Output::Value(value) => {
-            text.extend_from_slice(b"value ")?;
-            push_value(alloc, text, value)?;
-            text.extend_from_slice(b"\n")
-        }
-        Output::Sent(list) => push_sent(alloc, text, list.as_slice()),
         Output::Waiting { worker, seq, want } => {
-            let line = format!(in alloc; "waiting {worker} {seq}\n")?;
-            text.extend_from_slice(line.as_bytes())?;
-            push_one_sent(alloc, text, want)
+            push_waiting(text, *worker, *seq)?;
+            push_sent(text, want)
         }
-        other => {
-            let line = line_of(alloc, other)?;
-            text.extend_from_slice(line.as_bytes())?;
-            text.extend_from_slice(b"\n")
-        }
+        Output::Report(report) => text.extend_from_slice(report.as_slice()),
+        other => push_line(text, word_of(other), &[]),
     }
 }
 
+/// Adds a line of a word and a number.
+fn push_numbered(text: &mut Vec<u8>, word: &str, number: u64) -> Result<(), AllocError>
+    ensures { OnOk result (text.new.items ≡ text.old.items ++ numbered word.now number) }
+{
+    push_line(text, word, &[Word::Number(number)])
+}
+
+fn push_tx(text: &mut Vec<u8>, number: u64, snapshot: u64) -> Result<(), AllocError>
+    ensures { OnOk result (text.new.items ≡ text.old.items ++ output_text (Output.Tx number snapshot)) }
+{
+    let words = [
+        Word::Number(number),
+        Word::Text("at"),
+        Word::Number(snapshot),
+    ];
+    push_line(text, "tx", &words)
+}
+
+fn push_waiting(text: &mut Vec<u8>, worker: u8, seq: u64) -> Result<(), AllocError>
+    ensures { OnOk result (text.new.items ≡ text.old.items ++ waiting_text worker seq) }
+{
+    let words = [Word::Number(u64::from(worker)), Word::Number(seq)];
+    push_line(text, "waiting", &words)
+}
+
 /// Adds a line for each datagram that was sent.
-fn push_sent(alloc: Global, text: &mut Vec<u8>, list: &[Sent]) -> Result<(), AllocError> {
+fn push_all_sent(text: &mut Vec<u8>, list: &[Sent]) -> Result<(), AllocError>
+    ensures { OnOk result (text.new.items ≡ text.old.items ++ flat_map sent_text list.now) }
+{
     for sent in list {
-        push_one_sent(alloc, text, sent)?;
+        push_sent(text, sent)?;
     }
     Ok(())
 }
 
-fn push_one_sent(alloc: Global, text: &mut Vec<u8>, sent: &Sent) -> Result<(), AllocError> {
-    let place = sent.place;
-    let len = sent.len;
-    let line = format!(in alloc; "sent {place} {len}\n")?;
-    text.extend_from_slice(line.as_bytes())
+fn push_sent(text: &mut Vec<u8>, sent: &Sent) -> Result<(), AllocError>
+    ensures { OnOk result (text.new.items ≡ text.old.items ++ sent_text sent.now) }
+{
+    let words = [Word::Number(sent.index), Word::Number(sent.len as u64)];
+    push_line(text, "sent", &words)
 }
 
-/// The line of an output that has exactly one.
-fn line_of(alloc: Global, output: &Output) -> Result<String, AllocError> {
-    match output {
-        Output::Tx { number, snapshot } => format!(in alloc; "tx {number} at {snapshot}"),
-        Output::Ticket(number) => format!(in alloc; "ticket {number}"),
-        Output::Conflict(number) => format!(in alloc; "conflict {number}"),
-        Output::Durable(count) => format!(in alloc; "durable {count}"),
-        Output::Head(version) => format!(in alloc; "head {version}"),
-        Output::Opened(count) => format!(in alloc; "opened {count}"),
-        Output::BadPlan(PlanFault::NoTable) => String::from_str(alloc, "bad plan 1"),
-        other => String::from_str(alloc, word_of(other)),
+/// The number of a plan's fault.
+fn fault_number(fault: PlanFault) -> u64
+    ensures { result ≡ fault_number fault }
+{
+    match fault {
+        PlanFault::NoTable => 1,
     }
 }
 
-/// The words of an output that has nothing else.
-fn word_of(output: &Output) -> &'static str {
+/// The words of an output that has nothing else; none of one that has.
+fn word_of(output: &Output) -> &'static str
+    ensures { result.now ≡ word_of output.now }
+{
     match output {
         Output::Accepted => "ok",
         Output::Exists => "exists",
@@ -99,6 +131,17 @@ fn word_of(output: &Output) -> &'static str {
         Output::Inconsistent => "inconsistent",
         Output::Broken => "broken",
         Output::Memory => "memory",
-        _ => "",
+        Output::Tx { .. } => "",
+        Output::Value(_) => "",
+        Output::Ticket(_) => "",
+        Output::Conflict(_) => "",
+        Output::Durable(_) => "",
+        Output::Sent(_) => "",
+        Output::Head(_) => "",
+        Output::Shown(_) => "",
+        Output::Opened(_) => "",
+        Output::BadPlan(_) => "",
+        Output::Waiting { .. } => "",
+        Output::Report(_) => "",
     }
 }

@@ -4,10 +4,10 @@ ghost use Rattle.std.specs.Prelude.{ℕ, ◌≡◌, ◌<◌, ◌≤◌, length, 
 ghost use Rattle.std.specs.List.{AllByRecursion};
 ghost use Rattle.script.specs.Settings.{AreOne};
 ghost use Rattle.script.specs.Events.{IsPossible, IsThere, IsValue};
+ghost use Rattle.rows.specs.Limits.{replicas_max};
 
 use crate::event::{Event, Node};
-use crate::line_fault::LineFault;
-use crate::script_fault::{Reason, ScriptFault};
+use crate::faults::{LineFault, Reason, ScriptFault};
 use crate::settings::{Settings, is_table, read_setting};
 use crate::setup::Setup;
 use crate::words::{is_name, number, number_below, small_number, text, value_of, words_of};
@@ -20,7 +20,7 @@ use std::alloc::Global;
 ///
 /// Fails with the first faulty line and why, or with `Memory`.
 pub fn read_script(alloc: Global, script: &[u8]) -> Result<(Setup, Vec<Event>), ScriptFault>
-    ensures { IfOk result (λ read. (read.0.workers ≡ 1) × (read.0.replicas ≤ 16)
+    ensures { IfOk result (λ read. (read.0.workers ≡ 1) × (read.0.replicas ≤ replicas_max)
         × AllByRecursion (IsPossible read.0.workers read.0.replicas) read.1.items) }
 {
     let mut settings = Settings::Nothing;
@@ -215,8 +215,8 @@ fn read_deliver(setup: &Setup, rest: &[&[u8]]) -> Option<Event>
     ensures { IfSome result (IsPossible setup.now.workers setup.now.replicas) }
 {
     match rest {
-        [place, node] => Some(Event::Deliver {
-            place: number(place)?,
+        [index, node] => Some(Event::Deliver {
+            index: number(index)?,
             node: read_node(setup, node)?,
         }),
         _ => None,
@@ -238,8 +238,8 @@ fn read_show(rest: &[&[u8]]) -> Option<Event>
     ensures { (workers replicas : ℕ) → IfSome result (IsPossible workers replicas) }
 {
     match rest {
-        [place] => Some(Event::Show {
-            place: number(place)?,
+        [index] => Some(Event::Show {
+            index: number(index)?,
         }),
         _ => None,
     }

@@ -5,11 +5,11 @@ ghost use Rattle.std.specs.Prelude.{◌≡◌, [], ◌∷◌, ◌++◌, length, 
 use std::alloc::{AllocError, Global};
 use std::marker::Model;
 
-/// A datagram that was sent: its place in the list of all that were ever sent, from 0, and its
+/// A datagram that was sent: its index in the list of all that were ever sent, from 0, and its
 /// length in bytes.
 #[derive(Clone, Copy, Debug, PartialEq, Eq)]
 pub struct Sent {
-    pub place: u64,
+    pub index: u64,
     pub len: usize,
 }
 
@@ -36,7 +36,7 @@ impl SentList {
         SentList { items }
     }
 
-    /// The list of one. Fails for want of memory alone.
+    /// The list of one. Fails only when out of memory.
     pub fn of_one(alloc: Global, sent: Sent) -> Result<SentList, AllocError>
         ensures { IfOk result (λ list. list ≡ sent ∷ []) }
     {

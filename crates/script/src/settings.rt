@@ -1,10 +1,9 @@
 //! Reading the settings of a script, one line after the other.
 
-ghost use Rattle.std.specs.Prelude.{IfOk};
+ghost use Rattle.std.specs.Prelude.{◌≡◌, IfOk};
 ghost use Rattle.script.specs.Settings.{AreOne};
 
-use crate::line_fault::LineFault;
-use crate::script_fault::Reason;
+use crate::faults::{LineFault, Reason};
 use crate::setup::Setup;
 use crate::words::{is_name, kind_of, text};
 use rows::{Kind, Schema, SchemaFault};
@@ -50,11 +49,7 @@ pub fn read_setting(
         }
         (Settings::Ready(setup), [b"table", name, kinds @ ..]) => {
             let table = read_table(alloc, name, kinds)?;
-            Ok(Settings::Ready(Setup {
-                schema: longer_schema(alloc, &setup.schema, &table)?,
-                workers: setup.workers,
-                replicas: setup.replicas,
-            }))
+            Ok(Settings::Ready(with_table(alloc, &setup, &table)?))
         }
         _ => Err(LineFault::Because(Reason::BadSetting)),
     }
@@ -85,6 +80,17 @@ fn read_table(alloc: Global, name: &[u8], kinds: &[&[u8]]) -> Result<Table, Line
     Ok(Table {
         name: String::from_str(alloc, name)?,
         columns,
+    })
+}
+
+/// The setup with a table more.
+fn with_table(alloc: Global, setup: &Setup, table: &Table) -> Result<Setup, LineFault>
+    ensures { IfOk result (λ made. (made.workers ≡ setup.now.workers) × (made.replicas ≡ setup.now.replicas)) }
+{
+    Ok(Setup {
+        schema: longer_schema(alloc, &setup.schema, table)?,
+        workers: setup.workers,
+        replicas: setup.replicas,
     })
 }
 

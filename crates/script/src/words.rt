@@ -23,7 +23,7 @@ pub fn number(word: &[u8]) -> Option<u64> {
     }
 }
 
-/// A decimal number below a limit of at most 256.
+/// A decimal number below a limit.
 pub fn number_below(word: &[u8], limit: u8) -> Option<u8>
     ensures { IfSome result (λ number. number < limit) }
 {
@@ -68,8 +68,8 @@ fn octets_of(digits: &[u8]) -> Option<Octets>
         return None;
     }
     let mut bytes = [0; OCTETS_MAX];
-    for place in 0..len {
-        bytes[place] = hex_digit(digits[2 * place])? * 16 + hex_digit(digits[2 * place + 1])?;
+    for index in 0..len {
+        bytes[index] = hex_digit(digits[2 * index])? * 16 + hex_digit(digits[2 * index + 1])?;
     }
     Octets::from_slice(&bytes[..len])
 }

@@ -8,7 +8,7 @@ use Rattle.std.proofs.lemmas.Bool.{ltb-false, ltb-true}
 use Rattle.std.proofs.lemmas.List.{length-take, length-append, length-drop}
 use Rattle.rows.specs.declared.entry.Entry.{Entry}
 use Rattle.rows.specs.declared.entry.Entry.TheVariants.{Insert, Patch, Delete}
-use Rattle.rows.specs.declared.fitting.EntryFault.{EntryFault}
+use Rattle.rows.specs.declared.faults.EntryFault.{EntryFault}
 use Rattle.rows.specs.declared.row_id.RowId.{RowId}
 use Rattle.rows.specs.declared.kind.Kind.{Kind}
 use Rattle.rows.specs.Shape.{Shape, kinds_in}
@@ -17,8 +17,8 @@ use Rattle.rows.specs.Entries.{fitting, listed}
 use Rattle.rows.specs.Tables.{Rows, Tables, Refusal, Unfit, Exists, Missing, shape_in, rows_of}
 use Rattle.rows.specs.Tables.{is_present, with_row, with_patch, without_row}
 use Rattle.rows.specs.Tables.{with_rows, change_where, change_of}
-use Rattle.store.specs.declared.store_fault.StoreFault.{StoreFault}
-use Rattle.store.specs.declared.store_fault.StoreFault.TheVariants.{Missing as Absent}
+use Rattle.store.specs.declared.faults.StoreFault.{StoreFault}
+use Rattle.store.specs.declared.faults.StoreFault.TheVariants.{Missing as Absent}
 use Rattle.store.specs.Changes.{fault_kind}
 use Rattle.store.specs.Faults.{number_of}
 use Rattle.store.specs.State.{tables_of}

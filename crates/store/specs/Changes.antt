@@ -26,7 +26,7 @@ code_of Missing = 2
 code_of Unfit = 3
 
 -- the kind of the fault with which a change is refused: 5, broken, at a store that is not whole; else the number of
--- the change's own refusal; else 4, want of memory
+-- the change's own refusal; else 4, out of memory
 abbrev pub fault_kind : Bool → Result Tables Refusal → ℕ
 fault_kind false change = 5
 fault_kind true (Err refusal) = code_of refusal

@@ -3,10 +3,10 @@ use Rattle.std.specs.Prelude.{◌≡◌, ℕ, List, length, Bool, true, false, n
 use Rattle.std.specs.List.{list_any}
 use Rattle.rows.specs.declared.commit.Commit.{Commit}
 use Rattle.rows.specs.Tables.{Tables, Refusal}
-use Rattle.store.specs.declared.apply_store.ApplyFault.{ApplyFault}
-use Rattle.store.specs.declared.apply_store.ApplyFault.TheVariants as apply
-use Rattle.store.specs.declared.store_fault.StoreFault.{StoreFault}
-use Rattle.store.specs.declared.store_fault.StoreFault.TheVariants.{Exists, Missing, Unfit, Memory, Broken}
+use Rattle.store.specs.declared.faults.ApplyFault.{ApplyFault}
+use Rattle.store.specs.declared.faults.ApplyFault.TheVariants as apply
+use Rattle.store.specs.declared.faults.StoreFault.{StoreFault}
+use Rattle.store.specs.declared.faults.StoreFault.TheVariants.{Exists, Missing, Unfit, Memory, Broken}
 
 -- whether the commits have an entry
 abbrev pub have_entries : List Commit → Bool

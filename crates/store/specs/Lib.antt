@@ -1,4 +1,4 @@
 pub mod Changes
 pub mod State
 pub mod Faults
-pub mod Inside
+pub mod Inner

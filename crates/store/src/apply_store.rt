@@ -5,22 +5,9 @@ ghost use Rattle.rows.specs.Tables.{shape_in};
 ghost use Rattle.rows.specs.Commits.{commits_of};
 ghost use Rattle.store.specs.Faults.{FailsAs, have_entries};
 
+use crate::faults::ApplyFault;
 use crate::store::Store;
 use rows::Commit;
-use thiserror::Error;
-
-/// Why a list of commits was not applied. The store is not whole from then on.
-#[derive(Clone, Copy, Debug, PartialEq, Eq, Error)]
-pub enum ApplyFault {
-    /// A change is refused: its entry does not fit, or its row stands otherwise than it needs.
-    #[error("a change is refused")]
-    Inconsistent,
-    #[error("out of memory")]
-    Memory,
-    /// The store was not whole before.
-    #[error("the store is broken")]
-    Broken,
-}
 
 /// A store that lists of commits are applied to.
 pub trait ApplyStore: Store {

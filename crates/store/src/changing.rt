@@ -10,13 +10,12 @@ ghost use Rattle.store.specs.Changes.{fault_kind};
 ghost use Rattle.store.specs.Faults.{number_of, FailsAs, have_entries};
 ghost use Rattle.store.specs.State.{tables_of};
 
-use crate::apply_store::ApplyFault;
-use crate::store_fault::StoreFault;
+use crate::faults::{ApplyFault, StoreFault};
 use crate::table_map::TableMap;
 use rows::{Commit, Entry, Kind, Schema, fits, row_values};
 use std::alloc::{AllocError, Global};
 
-/// Tables without rows, this many. Fails for want of memory alone.
+/// Tables without rows, this many. Fails only when out of memory.
 pub fn empty_tables(alloc: Global, count: usize) -> Result<Vec<TableMap>, AllocError>
     ensures { IfOk result (λ tables. tables.items ≡ replicate count []) }
 {

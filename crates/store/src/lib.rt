@@ -15,14 +15,14 @@
 
 mod apply_store;
 mod changing;
+mod faults;
 mod plain_store;
 mod running;
 mod store;
-mod store_fault;
 mod table_map;
 
-pub use apply_store::{ApplyFault, ApplyStore};
+pub use apply_store::ApplyStore;
+pub use faults::{ApplyFault, StoreFault};
 pub use plain_store::PlainStore;
 pub use running::run;
 pub use store::Store;
-pub use store_fault::StoreFault;

@@ -4,10 +4,10 @@ ghost use Rattle.std.specs.Prelude.{◌≡◌, [], true, IfOk, MatchOption};
 ghost use Rattle.rows.specs.Shape.{shape_of};
 ghost use Rattle.rows.specs.Tables.{opening, rows_of};
 
-use crate::apply_store::{ApplyFault, ApplyStore};
+use crate::apply_store::ApplyStore;
 use crate::changing::{apply_commits, change_tables, empty_tables};
+use crate::faults::{ApplyFault, StoreFault};
 use crate::store::Store;
-use crate::store_fault::StoreFault;
 use crate::table_map::TableMap;
 use rows::{Commit, Entry, RowId, Schema, Value, laws};
 use std::alloc::{AllocError, Global};
@@ -30,7 +30,7 @@ impl Model for PlainStore {
 
     ghost Value = { State };
 
-    ghost use Rattle.store.specs.Inside.{state_of, IsStore};
+    ghost use Rattle.store.specs.Inner.Invariant.{state_of, IsStore};
 
     ghost view = { state_of };
 
@@ -38,8 +38,8 @@ impl Model for PlainStore {
 }
 
 impl PlainStore {
-    /// A store for the tables of a schema, each without rows. It is whole. Fails for want of
-    /// memory alone.
+    /// A store for the tables of a schema, each without rows. It is whole. Fails only when out of
+    /// memory.
     pub fn new(alloc: Global, schema: &Schema) -> Result<PlainStore, AllocError>
         ensures { IfOk result (λ store.
             store ≡ record { tables = opening (shape_of schema.now); whole = true }) }

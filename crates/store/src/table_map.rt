@@ -72,7 +72,7 @@ impl TableMap {
         nth_id(&self.rows, i)
     }
 
-    /// Puts a row in. Fails for want of memory alone, and then nothing has changed.
+    /// Puts a row in. Fails only when out of memory, and then nothing has changed.
     pub fn insert(&mut self, row: u64, values: Row) -> Result<(), AllocError>
         ensures ok { OnOk result (self.new ≡ with_row self.old row values) }
         ensures err { OnErr result (self.new ≡ self.old) }

@@ -8,7 +8,7 @@ use Rattle.rows.specs.declared.entry.Entry.{Entry}
 use Rattle.rows.specs.declared.entry.Entry.TheVariants.{Insert, Patch, Delete}
 use Rattle.rows.specs.declared.limits.TheConstants.{DATAGRAM_MAX}
 use Rattle.rows.specs.Spelling.{entry_spelling}
-use Rattle.wire.specs.declared.fault.TooSmall.{TooSmall}
+use Rattle.wire.specs.declared.faults.TooSmall.{TooSmall}
 use Rattle.wire.specs.declared.datagram.Datagram.{Datagram}
 use Rattle.wire.specs.declared.datagram.Datagram.TheVariants.{Frame, Ask, Head, Want}
 use Rattle.wire.specs.Spelling.{spelling, HasSpelling, datagram_front, frame_head, head_head}

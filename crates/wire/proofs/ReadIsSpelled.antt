@@ -11,8 +11,8 @@ use Rattle.rows.specs.declared.limits.TheConstants.{DATAGRAM_MAX}
 use Rattle.rows.specs.Spelling.{AreBytes, entry_spelling}
 use Rattle.rows.specs.Laws.{FoundIsSpelled}
 use Rattle.wire.specs.declared.datagram.Datagram.{Datagram}
-use Rattle.wire.specs.declared.fault.WireFault.{WireFault}
-use Rattle.wire.specs.declared.fault.WireFault.TheVariants.{Short, Magic, Version, Kind, Length, Body}
+use Rattle.wire.specs.declared.faults.WireFault.{WireFault}
+use Rattle.wire.specs.declared.faults.WireFault.TheVariants.{Short, Magic, Version, Kind, Length, Body}
 use Rattle.wire.specs.Spelling.{datagram_of, frame_head, ask_body, head_head, spelling, HasSpelling, flag}
 use Rattle.wire.specs.Reading.{reading, body_at, frame_at, ask_at, head_at, counts_at}
 use Rattle.wire.proofs.Passing.{passed}

@@ -12,7 +12,8 @@ use Rattle.rows.specs.Laws.{SpelledIsFound}
 use Rattle.wire.specs.declared.datagram.Datagram.{Datagram}
 use Rattle.wire.specs.declared.datagram.Datagram.TheVariants.{Frame, Ask, Head, Want}
 use Rattle.wire.specs.Entries.{entries_filling}
-use Rattle.wire.specs.Spelling.{datagram_of, frame_head, ask_body, head_head, IsFrame, IsAsk, spelling, HasSpelling, flag}
+use Rattle.update_log.specs.Frames.{IsFrame}
+use Rattle.wire.specs.Spelling.{datagram_of, frame_head, ask_body, head_head, IsAsk, spelling, HasSpelling, flag}
 use Rattle.wire.specs.Reading.{reading, body_at, IsRead, frame_at, ask_at, head_at, counts_at}
 use Rattle.wire.proofs.Bodies.{frame_at-is, ask_at-is, head_at-is}
 use Rattle.wire.proofs.Filling.{filling-again}

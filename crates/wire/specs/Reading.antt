@@ -6,9 +6,10 @@ use Rattle.byteorder.specs.Endian.{big_number}
 use Rattle.rows.specs.Limits.{datagram_max, workers_max, replicas_max}
 use Rattle.wire.specs.declared.datagram.Datagram.{Datagram}
 use Rattle.wire.specs.declared.datagram.Datagram.TheVariants.{Frame, Ask, Head, Want}
-use Rattle.wire.specs.declared.fault.WireFault.{WireFault}
-use Rattle.wire.specs.declared.fault.WireFault.TheVariants.{Short, Magic, Version, Kind, Length, Body}
+use Rattle.wire.specs.declared.faults.WireFault.{WireFault}
+use Rattle.wire.specs.declared.faults.WireFault.TheVariants.{Short, Magic, Version, Kind, Length, Body}
 use Rattle.wire.specs.Entries.{entries_filling}
+use Rattle.wire.specs.Spelling.{frame_kind, ask_kind, head_kind}
 
 -- a Frame's body: the worker is below 16, the commit's number not 0, the flag 0 or 1, the count not 0, and exactly
 -- that many entries fill the rest
@@ -43,14 +44,15 @@ head_at body =
 
 -- the body of a datagram of this kind
 abbrev pub body_at : ℕ → List ℕ → Option Datagram
-body_at kind body = if kind == 1 then frame_at body else if kind == 2 then ask_at body else head_at body
+body_at kind body = if kind == frame_kind then frame_at body else if kind == ask_kind then ask_at body else head_at body
 
 abbrev pub reading : List ℕ → Result Datagram WireFault
 reading bytes =
     if nat_lt (length bytes) 6 then Err Short else
     if not (big_number 2 bytes == 0x4244) then Err Magic else
     if not (slice_index bytes 2 == 1) then Err Version else
-    if not (slice_index bytes 3 == 1) && not (slice_index bytes 3 == 2) && not (slice_index bytes 3 == 3) then Err Kind else
+    if not (slice_index bytes 3 == frame_kind) && not (slice_index bytes 3 == ask_kind) && not (slice_index bytes 3 == head_kind)
+    then Err Kind else
     if not (big_number 2 (drop 4 bytes) == length bytes) || nat_lt datagram_max (length bytes) then Err Length else
     ok_or (body_at (slice_index bytes 3) (drop 6 bytes)) Body
 

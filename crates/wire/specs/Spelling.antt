@@ -6,11 +6,25 @@ use Rattle.std.specs.Prelude.{ℕ, ◌+◌, ◌^◌, ◌<◌, ◌≤◌, List, [
 use Rattle.std.specs.List.{flat_map, AllByRecursion}
 use Rattle.byteorder.specs.Endian.{big_bytes}
 use Rattle.rows.specs.declared.entry.Entry.{Entry}
-use Rattle.rows.specs.Limits.{datagram_max, workers_max, replicas_max}
-use Rattle.rows.specs.Spelling.{entry_spelling, HasSpelling as EntryHasSpelling}
+use Rattle.rows.specs.Limits.{workers_max, replicas_max}
+use Rattle.rows.specs.Spelling.{entry_spelling}
+use Rattle.update_log.specs.declared.frame.Frame as frames
+use Rattle.update_log.specs.Frames.{IsFrame}
 use Rattle.wire.specs.declared.datagram.Datagram.{Datagram}
 use Rattle.wire.specs.declared.datagram.Datagram.TheVariants.{Frame, Ask, Head, Want}
-use Rattle.wire.specs.declared.frame.Frame as frames
+
+-- the kinds of datagrams: the fourth byte
+abbrev pub frame_kind : ℕ
+frame_kind = 1
+
+abbrev pub ask_kind : ℕ
+ask_kind = 2
+
+abbrev pub head_kind : ℕ
+head_kind = 3
+
+abbrev pub want_kind : ℕ
+want_kind = 4
 
 -- the six bytes that begin a datagram of this kind and total length
 abbrev pub datagram_front : ℕ → ℕ → List ℕ
@@ -24,7 +38,7 @@ abbrev pub flag : Bool → ℕ
 flag false = 0
 flag true = 1
 
--- a Frame's body before its entries: worker, place in its stream, commit number, whether it is the last
+-- a Frame's body before its entries: worker, seq, commit number, whether it is the last
 -- of its commit, how many entries
 abbrev pub frame_head : ℕ → ℕ → ℕ → Bool → ℕ → List ℕ
 frame_head worker seq commit last count =
@@ -39,28 +53,17 @@ abbrev pub head_head : ℕ → ℕ → ℕ → ℕ → ℕ → List ℕ
 head_head replica boot request version workers =
     (replica ∷ []) ++ big_bytes 8 boot ++ big_bytes 8 request ++ big_bytes 8 version ++ (workers ∷ [])
 
--- a Want's body: replica, worker, first place wanted
+-- a Want's body: replica, worker, first seq wanted
 abbrev pub want_body : ℕ → ℕ → ℕ → List ℕ
 want_body replica worker from = (replica ∷ worker ∷ []) ++ big_bytes 8 from
 
 abbrev pub spelling : Datagram → List ℕ
 spelling (Frame worker seq commit last entries) =
-    datagram_of 1 (frame_head worker seq commit last (length entries) ++ flat_map entry_spelling entries)
-spelling (Ask replica boot request) = datagram_of 2 (ask_body replica boot request)
+    datagram_of frame_kind (frame_head worker seq commit last (length entries) ++ flat_map entry_spelling entries)
+spelling (Ask replica boot request) = datagram_of ask_kind (ask_body replica boot request)
 spelling (Head replica boot request version counts) =
-    datagram_of 3 (head_head replica boot request version (length counts) ++ flat_map (big_bytes 8) counts)
-spelling (Want replica worker from) = datagram_of 4 (want_body replica worker from)
-
--- which frames have a spelling: the worker is below 16, the commit's number is not 0, there is an entry, each
--- has a spelling, and all fit into 1200 bytes
-pub record IsFrame (worker seq commit : ℕ) (entries : List Entry) : Type 0 where
-  pub worker_below : worker < workers_max
-  pub seq_below : seq < 2 ^ 64
-  pub commit_numbered : 0 < commit
-  pub commit_below : commit < 2 ^ 64
-  pub some : 0 < length entries
-  pub spelled : AllByRecursion EntryHasSpelling entries
-  pub few : 26 + length (flat_map entry_spelling entries) ≤ datagram_max
+    datagram_of head_kind (head_head replica boot request version (length counts) ++ flat_map (big_bytes 8) counts)
+spelling (Want replica worker from) = datagram_of want_kind (want_body replica worker from)
 
 -- which Asks and Heads have a spelling, their counts aside: the replica is below 16, and the numbers are of 64 bits
 pub record IsAsk (replica boot request : ℕ) : Type 0 where
@@ -74,7 +77,7 @@ pub record AreCounts (counts : List ℕ) : Type 0 where
   pub few : length counts ≤ workers_max
   pub below : AllByRecursion (λ count. count < 2 ^ 64) counts
 
--- which datagrams have a spelling
+-- which datagrams have a spelling: a Frame where it is one, and the others where their numbers are in range
 abbrev pub HasSpelling : Datagram → Type 0
 HasSpelling (Frame worker seq commit last entries) = IsFrame worker seq commit entries
 HasSpelling (Ask replica boot request) = IsAsk replica boot request

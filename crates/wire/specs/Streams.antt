@@ -1,15 +1,14 @@
--- A worker's stream: the frames of its commits, joined in order, their places counted from 0.
+-- A worker's stream where one frame holds each commit: the frames of its commits, joined in order, their seqs counted from 0.
 use Rattle.std.specs.Prelude.{ℕ, ◌+◌, List, [], ◌∷◌, ◌++◌, length, take, true, ◌==◌, if◌then◌else◌}
 use Rattle.rows.specs.declared.commit.Commit.{Commit}
-use Rattle.wire.specs.declared.frame.Frame.{Frame}
+use Rattle.update_log.specs.declared.frame.Frame.{Frame}
 
--- the frames of one commit by its number, the first at this place of its worker's stream. A commit has few
--- enough entries that one frame holds it.
+-- the frames of one commit by its number, the first with this seq. A commit has few enough entries that one frame holds it.
 abbrev pub frames_of : Commit → ℕ → ℕ → List Frame
 frames_of commit number first =
     record { worker = commit.worker; seq = first; commit = number; last = true; entries = commit.entries } ∷ []
 
--- the worker's frames of commits that stand behind `before` others, the first frame at place `first`
+-- the worker's frames of commits that stand behind `before` others, the first frame with the seq `first`
 abbrev pub stream_from : ℕ → ℕ → ℕ → List Commit → List Frame
 stream_from worker before first [] = []
 stream_from worker before first (commit ∷ commits) =

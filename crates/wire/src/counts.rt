@@ -1,6 +1,7 @@
 //! The frame counts of a Head.
 
 ghost use Rattle.std.specs.Prelude.{◌≡◌, ◌<◌, ◌≤◌, ◌∷◌, [], ◌++◌, length};
+ghost use Rattle.rows.specs.Limits.{workers_max};
 
 use arrayvec::ArrayVec;
 use std::marker::Model;
@@ -32,7 +33,7 @@ impl Counts {
 
     /// Adds the next worker's count.
     pub fn push(&mut self, count: u64)
-        requires { length self.old < 16 }
+        requires { length self.old < workers_max }
         ensures { self.new ≡ self.old ++ count ∷ [] }
     {
         self.items.push(count);
@@ -41,7 +42,7 @@ impl Counts {
     /// The counts, lent.
     pub fn as_slice(&self) -> &[u64]
         ensures counts { result.now ≡ self.now }
-        ensures few { length result.now ≤ 16 }
+        ensures few { length result.now ≤ workers_max }
     {
         self.items.as_slice()
     }

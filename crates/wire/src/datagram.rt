@@ -4,7 +4,7 @@ use crate::lent_entries::LentEntries;
 /// A datagram, its entries lent by the bytes that it was read from.
 #[derive(Debug, Drop)]
 pub enum Datagram<'a> {
-    /// From the primary: entries of the commit numbered `commit`, place `seq` of `worker`'s
+    /// From the primary: entries of the commit numbered `commit`, number `seq` of `worker`'s
     /// stream; `last` on the last frame of its commit.
     Frame {
         worker: u8,
@@ -28,7 +28,7 @@ pub enum Datagram<'a> {
         version: u64,
         counts: Counts,
     },
-    /// From a replica: it lacks the worker's frames from that place on.
+    /// From a replica: it lacks the worker's frames from that number on.
     Want {
         replica: u8,
         worker: u8,

@@ -68,7 +68,7 @@ impl<'a> LentEntries<'a> {
         are_fit(schema, self.count, self.bytes)
     }
 
-    /// The entries, owned. Fails for want of memory alone.
+    /// The entries, owned. Fails only when out of memory.
     pub fn to_list(&self, alloc: Global) -> Result<EntryList, AllocError>
         ensures { IfOk result (λ list. list ≡ self.now) }
     {

@@ -3,20 +3,20 @@
 //! Four kinds: a Frame carries entries of one commit from the primary, an Ask asks it for the
 //! newest durable version, a Head answers that, and a Want asks for frames that are missing.
 //! `specs/` has their one spelling (`Spelling.antt`), what bytes read as with the first fault
-//! (`Reading.antt`), the laws of the format (`Laws.antt`), and a worker's stream of frames
-//! (`Streams.antt`).
+//! (`Reading.antt`), the laws of the format (`Laws.antt`), and a worker's stream where each commit
+//! is small enough for one frame (`Streams.antt`).
 //!
 //! Promised: `read` answers what the bytes read as, lending their parts: what is read is spelled
 //! so, and what is spelled so is read, a Want aside. `write` and `write_frame` write the one
 //! spelling or say that the buffer is too small. None of them takes memory. `one_spelling` says
 //! that spellings tell datagrams apart, and that none is the beginning of another.
-//! It stands on `rows` for entries and on `byteorder` for numbers.
+//! It stands on `rows` for entries, on `update_log` for frames and on `byteorder` for numbers.
 #![tactic(auto)]
 
 mod counts;
 mod datagram;
-mod fault;
-mod frame;
+mod faults;
+mod kinds;
 mod laws;
 mod lent_entries;
 mod out;
@@ -26,8 +26,7 @@ mod writing;
 
 pub use counts::Counts;
 pub use datagram::Datagram;
-pub use fault::{TooSmall, WireFault};
-pub use frame::Frame;
+pub use faults::{TooSmall, WireFault};
 pub use laws::one_spelling;
 pub use lent_entries::LentEntries;
 pub use out::{Out, To};

@@ -2,31 +2,33 @@
 
 ghost use Rattle.std.specs.Prelude.{◌≡◌, ◌≤◌, length, true, Ok};
 ghost use Rattle.wire.specs.Reading.{reading, IsRead};
-ghost use Rattle.wire.specs.Spelling.{spelling, HasSpelling, datagram_of_frame, frame_spelling, FrameHasSpelling, IsFrame};
+ghost use Rattle.wire.specs.Spelling.{spelling, HasSpelling, datagram_of_frame, frame_spelling, FrameHasSpelling};
+ghost use Rattle.update_log.specs.Frames.{IsFrame};
 
 use crate::datagram::Datagram;
-use crate::fault::TooSmall;
-use crate::frame::Frame;
+use crate::faults::TooSmall;
 use crate::writing::{write, write_frame, write_frame_of};
 use rows::limits::DATAGRAM_MAX;
 use rows::{Commit, laws};
 use std::marker::Model;
+use update_log::Frame;
 
 /// The bytes of a datagram, at most 1200, kept inline.
 #[derive(Debug, Drop)]
 pub struct Packet {
-    buffer: [u8; 1200],
+    buffer: [u8; DATAGRAM_MAX],
     len: usize,
 }
 
 impl Model for Packet {
     ghost use Rattle.std.specs.Prelude.{List, ℕ, ◌≤◌, take};
+    ghost use Rattle.rows.specs.Limits.{datagram_max};
 
     ghost Value = { List ℕ };
 
     ghost view = { λ p. take p.len p.buffer };
 
-    ghost invariant = { λ p. p.len ≤ 1200 };
+    ghost invariant = { λ p. p.len ≤ datagram_max };
 }
 
 impl Packet {
@@ -59,7 +61,7 @@ impl Packet {
     }
 
     /// The spelling of the one frame that holds a whole commit, by the commit's number and the
-    /// frame's place in its worker's stream. Takes no memory.
+    /// frame's number in its worker's stream. Takes no memory.
     pub fn of_commit(commit: &Commit, number: u64, seq: u64) -> Packet
         requires { IsFrame commit.now.worker seq number commit.now.entries }
         ensures { result ≡ spelling (Datagram.Frame commit.now.worker seq number true commit.now.entries) }

@@ -7,7 +7,8 @@ ghost use Rattle.wire.specs.Spelling.{HasSpelling, spelling};
 
 use crate::counts::Counts;
 use crate::datagram::Datagram;
-use crate::fault::WireFault;
+use crate::faults::WireFault;
+use crate::kinds::{ASK_KIND, FRAME_KIND, HEAD_KIND};
 use crate::lent_entries::LentEntries;
 use byteorder::{BigEndian, ByteOrder};
 use rows::laws;
@@ -50,7 +51,7 @@ fn read_datagram(bytes: &[u8]) -> Result<Datagram<'_>, WireFault>
         return Err(WireFault::Version);
     }
     let kind = head[3];
-    if kind != 1 && kind != 2 && kind != 3 {
+    if kind != FRAME_KIND && kind != ASK_KIND && kind != HEAD_KIND {
         return Err(WireFault::Kind);
     }
     let total = BigEndian::read_u16(&head[4..]) as usize;
@@ -58,8 +59,8 @@ fn read_datagram(bytes: &[u8]) -> Result<Datagram<'_>, WireFault>
         return Err(WireFault::Length);
     }
     let found = match kind {
-        1 => read_frame(body),
-        2 => read_ask(body),
+        FRAME_KIND => read_frame(body),
+        ASK_KIND => read_ask(body),
         _ => read_head(body),
     };
     found.ok_or(WireFault::Body)

@@ -3,16 +3,20 @@
 ghost use Rattle.std.specs.Prelude.{◌≡◌, ◌<◌, ◌≤◌, ◌+◌, ◌*◌, ◌++◌, ◌∷◌, [], ◌↔◌, length, drop, IfOk, OnErr, IsErr};
 ghost use Rattle.rows.specs.Spelling.{HasSpelling as EntryHasSpelling, entry_spelling};
 ghost use Rattle.std.specs.List.{flat_map, AllByRecursion};
-ghost use Rattle.wire.specs.Spelling.{spelling, frame_spelling, HasSpelling, FrameHasSpelling, IsFrame, datagram_front, frame_head};
+ghost use Rattle.wire.specs.Spelling.{spelling, frame_spelling, HasSpelling, FrameHasSpelling, datagram_front, frame_head};
+ghost use Rattle.update_log.specs.Frames.{IsFrame};
+ghost use Rattle.wire.specs.Spelling.{frame_kind, ask_kind, head_kind, want_kind};
 ghost use Rattle.wire.specs.Spelling.{ask_body, head_head, want_body};
+ghost use Rattle.rows.specs.Limits.{workers_max};
 
 use crate::datagram::Datagram;
-use crate::fault::TooSmall;
-use crate::frame::Frame;
+use crate::faults::TooSmall;
+use crate::kinds::{ASK_KIND, FRAME_KIND, HEAD_KIND, WANT_KIND};
 use crate::reading::{MAGIC, VERSION};
 use byteorder::{BigEndian, ByteOrder};
 use rows::limits::DATAGRAM_MAX;
 use rows::{Entry, entry_len, write_entry};
+use update_log::Frame;
 
 /// Writes the spelling of a datagram to the front of the buffer, and answers its length; the
 /// bytes behind it stay. `TooSmall` exactly where the buffer is shorter than the spelling, and
@@ -169,10 +173,10 @@ fn put_two(front: &[u8], back: &[u8], buffer: &mut [u8]) -> Result<usize, TooSma
 
 /// The bytes of a frame before its entries.
 fn frame_front(worker: u8, seq: u64, commit: u64, last: bool, count: u16, total: u16) -> [u8; 26]
-    ensures { result ≡ datagram_front 1 total ++ frame_head worker seq commit last count }
+    ensures { result ≡ datagram_front frame_kind total ++ frame_head worker seq commit last count }
 {
     let mut bytes = [0u8; 26];
-    start(1, total, &mut bytes);
+    start(FRAME_KIND, total, &mut bytes);
     bytes[6] = worker;
     BigEndian::write_u64(&mut bytes[7..], seq);
     BigEndian::write_u64(&mut bytes[15..], commit);
@@ -183,10 +187,10 @@ fn frame_front(worker: u8, seq: u64, commit: u64, last: bool, count: u16, total:
 
 /// The bytes of an Ask.
 fn ask_bytes(replica: u8, boot: u64, request: u64) -> [u8; 23]
-    ensures { result ≡ datagram_front 2 23 ++ ask_body replica boot request }
+    ensures { result ≡ datagram_front ask_kind 23 ++ ask_body replica boot request }
 {
     let mut bytes = [0u8; 23];
-    start(2, 23, &mut bytes);
+    start(ASK_KIND, 23, &mut bytes);
     bytes[6] = replica;
     BigEndian::write_u64(&mut bytes[7..], boot);
     BigEndian::write_u64(&mut bytes[15..], request);
@@ -195,11 +199,11 @@ fn ask_bytes(replica: u8, boot: u64, request: u64) -> [u8; 23]
 
 /// The bytes of a Head before its counts.
 fn head_front(replica: u8, boot: u64, request: u64, version: u64, workers: u8) -> [u8; 32]
-    requires { workers ≤ 16 }
-    ensures { result ≡ datagram_front 3 (32 + 8 * workers) ++ head_head replica boot request version workers }
+    requires { workers ≤ workers_max }
+    ensures { result ≡ datagram_front head_kind (32 + 8 * workers) ++ head_head replica boot request version workers }
 {
     let mut bytes = [0u8; 32];
-    start(3, 32 + 8 * u16::from(workers), &mut bytes);
+    start(HEAD_KIND, 32 + 8 * u16::from(workers), &mut bytes);
     bytes[6] = replica;
     BigEndian::write_u64(&mut bytes[7..], boot);
     BigEndian::write_u64(&mut bytes[15..], request);
@@ -210,10 +214,10 @@ fn head_front(replica: u8, boot: u64, request: u64, version: u64, workers: u8) -
 
 /// The bytes of a Want.
 fn want_bytes(replica: u8, worker: u8, from: u64) -> [u8; 16]
-    ensures { result ≡ datagram_front 4 16 ++ want_body replica worker from }
+    ensures { result ≡ datagram_front want_kind 16 ++ want_body replica worker from }
 {
     let mut bytes = [0u8; 16];
-    start(4, 16, &mut bytes);
+    start(WANT_KIND, 16, &mut bytes);
     bytes[6] = replica;
     bytes[7] = worker;
     BigEndian::write_u64(&mut bytes[8..], from);

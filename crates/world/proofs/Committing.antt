@@ -12,8 +12,8 @@ use Rattle.rows.specs.Shape.{Shape}
 use Rattle.rows.specs.Commits.{IsLegal, last_touching}
 use Rattle.wire.specs.declared.datagram.Datagram.{Datagram}
 use Rattle.wire.specs.declared.datagram.Datagram.TheVariants as datagrams
-use Rattle.wire.specs.declared.fault.WireFault.{WireFault}
-use Rattle.wire.specs.declared.frame.Frame.{Frame}
+use Rattle.wire.specs.declared.faults.WireFault.{WireFault}
+use Rattle.update_log.specs.declared.frame.Frame.{Frame}
 use Rattle.wire.specs.Reading.{reading}
 use Rattle.wire.specs.Spelling.{spelling, frame_spelling, IsAsk}
 use Rattle.wire.specs.Streams.{stream_of, frame_count}
@@ -21,16 +21,16 @@ use Rattle.mvcc.specs.declared.faults.TxFault.{TxFault}
 use Rattle.primary.specs.declared.faults.CommitFault.{CommitFault}
 use Rattle.primary.specs.declared.faults.CommitFault.TheVariants as faults
 use Rattle.mvcc.specs.Draft.{Draft}
-use Rattle.primary.specs.Primary.{commit_answer, committed, flushed, is_foreign, next_number}
+use Rattle.primary.specs.Steps.{commit_answer, committed, flushed, is_foreign, next_number}
 use Rattle.primary.specs.Sending.{answers, answers_to, head_for, counts_of}
 use Rattle.primary.specs.State.{Primary}
-use Rattle.dispatcher.specs.Replica.{Replica}
+use Rattle.dispatcher.specs.State.{Replica}
 use Rattle.dispatcher.proofs.Streams.{count-is, frame-commit}
 use Rattle.script.specs.declared.event.Node.TheVariants as nodes
 use Rattle.script.specs.declared.output.Output.{Output}
 use Rattle.world.specs.Outputs.{of_look, packets_of}
 use Rattle.world.specs.Parts.{Parts}
-use Rattle.world.specs.World.{World, open_draft, change_happens, commit_happens, abort_happens, on_draft, push_happens, deliver_happens}
+use Rattle.world.specs.Steps.{World, open_draft, change_happens, commit_happens, abort_happens, on_draft, push_happens, deliver_happens}
 use Rattle.world.proofs.Lists.{get-set, get-append, get-one, All-get, All-left, All-append}
 use Rattle.world.specs.Inner.Sound.{Sound, IsSoundPrimary, IsSmall, IsSmallDraft, Means}
 use Rattle.world.proofs.Datagrams.{frame-read, head-read}

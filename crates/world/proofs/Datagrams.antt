@@ -16,9 +16,9 @@ use Rattle.rows.specs.declared.limits.TheConstants.{DATAGRAM_MAX, REPLICAS_MAX, 
 use Rattle.rows.specs.Spelling.{entry_spelling, HasSpelling as EntryHasSpelling}
 use Rattle.wire.specs.declared.datagram.Datagram.{Datagram}
 use Rattle.wire.specs.declared.datagram.Datagram.TheVariants as datagrams
-use Rattle.wire.specs.declared.fault.WireFault.{WireFault}
-use Rattle.wire.specs.declared.fault.WireFault.TheVariants.{Short, Magic, Version, Kind, Length, Body}
-use Rattle.wire.specs.declared.frame.Frame.{Frame}
+use Rattle.wire.specs.declared.faults.WireFault.{WireFault}
+use Rattle.wire.specs.declared.faults.WireFault.TheVariants.{Short, Magic, Version, Kind, Length, Body}
+use Rattle.update_log.specs.declared.frame.Frame.{Frame}
 use Rattle.wire.specs.Entries.{entries_filling}
 use Rattle.wire.specs.Reading.{reading, body_at, counts_at}
 use Rattle.wire.specs.Spelling.{datagram_of, spelling, frame_spelling, IsAsk}

@@ -6,7 +6,7 @@ use Rattle.wire.specs.declared.out.Out.{Out}
 use Rattle.primary.specs.Sending.{answers}
 use Rattle.dispatcher.specs.declared.outcome.Got.{Got}
 use Rattle.dispatcher.specs.declared.outcome.Got.TheVariants as gots
-use Rattle.dispatcher.specs.Replica.{Replica}
+use Rattle.dispatcher.specs.State.{Replica}
 use Rattle.dispatcher.specs.Steps.{received}
 use Rattle.script.specs.declared.event.Event.TheVariants.{Deliver}
 use Rattle.script.specs.declared.event.Node.TheVariants as nodes
@@ -16,8 +16,8 @@ use Rattle.script.specs.declared.sent.Sent.{Sent}
 use Rattle.world.specs.Outputs.{of_got, of_answers, packets_of, sent_from}
 use Rattle.world.specs.Parts.{Parts}
 use Rattle.world.specs.Standing.{world_of}
-use Rattle.world.specs.World.{delivered, deliver_happens}
-use Rattle.world.specs.Inner.Steps.{HappensBeside, MayStep, with_replica, got_by, to_replica, come_by}
+use Rattle.world.specs.Steps.{delivered, deliver_happens}
+use Rattle.world.specs.Inner.CoreSteps.{HappensBeside, MayStep, with_replica, got_by, to_replica, come_by}
 use Rattle.world.proofs.Moving.{beside, replica_same}
 
 module _ (p old : Parts) (seen : p ≡ old) (index : ℕ) where

@@ -8,12 +8,12 @@ use Rattle.rows.specs.declared.commit.Commit.{Commit}
 use Rattle.rows.specs.declared.limits.TheConstants.{REPLICAS_MAX}
 use Rattle.wire.specs.declared.datagram.Datagram.{Datagram}
 use Rattle.wire.specs.declared.datagram.Datagram.TheVariants as datagrams
-use Rattle.wire.specs.declared.fault.WireFault.{WireFault}
+use Rattle.wire.specs.declared.faults.WireFault.{WireFault}
 use Rattle.wire.specs.Reading.{reading}
 use Rattle.mvcc.specs.Draft.{Draft}
-use Rattle.primary.specs.Primary.{committed, flushed}
+use Rattle.primary.specs.Steps.{committed, flushed}
 use Rattle.script.specs.declared.setup.Setup.{Setup}
-use Rattle.world.specs.World.{World, Member, Batch, fresh, fresh_from, opening_world, with_member}
+use Rattle.world.specs.Steps.{World, Member, Batch, fresh, fresh_from, opening_world, with_member}
 use Rattle.world.specs.Inner.Fresh.{IsFreshBatch, IsFreshMember, IsFreshHead, IsFreshReading, Fresh}
 use Rattle.world.proofs.Lists.{get-set, get-append, All-get}
 

@@ -13,23 +13,23 @@ use Rattle.rows.specs.Shape.{Shape, shape_of}
 use Rattle.rows.specs.Entries.{fitting}
 use Rattle.wire.specs.declared.datagram.Datagram.{Datagram}
 use Rattle.wire.specs.declared.datagram.Datagram.TheVariants as datagrams
-use Rattle.wire.specs.declared.fault.WireFault.{WireFault}
-use Rattle.wire.specs.declared.frame.Frame.{Frame}
+use Rattle.wire.specs.declared.faults.WireFault.{WireFault}
+use Rattle.update_log.specs.declared.frame.Frame.{Frame}
 use Rattle.wire.specs.declared.out.Out.{Out}
 use Rattle.wire.specs.Reading.{reading}
 use Rattle.wire.specs.Spelling.{frame_spelling}
 use Rattle.primary.specs.Sending.{counts_of, answers, answers_to}
 use Rattle.dispatcher.specs.declared.plan.Plan.{Plan}
 use Rattle.dispatcher.specs.Known.{is_known, is_ahead}
-use Rattle.dispatcher.specs.Replica.{Fetched}
+use Rattle.dispatcher.specs.State.{Fetched}
 use Rattle.script.specs.declared.event.Event.{Event}
 use Rattle.script.specs.declared.event.Node.{Node}
 use Rattle.script.specs.declared.event.Node.TheVariants as nodes
 use Rattle.script.specs.declared.output.Output.{Output}
 use Rattle.script.specs.declared.output.Output.TheVariants as outputs
 use Rattle.world.specs.Outputs.{of_answers, packets_of}
-use Rattle.world.specs.World.{World, Member, Batch, send, push_happens, head_happens, datagram_happens, on_member, member_output}
-use Rattle.world.specs.World.{deliver_happens, shown}
+use Rattle.world.specs.Steps.{World, Member, Batch, send, push_happens, head_happens, datagram_happens, on_member, member_output}
+use Rattle.world.specs.Steps.{deliver_happens, shown}
 use Rattle.world.proofs.Datagrams.{frame-reads, head-reads}
 use Rattle.world.specs.Inner.Fresh.{IsFreshBatch, IsFreshMember, IsFreshHead, IsFreshReading, Fresh}
 use Rattle.world.proofs.Fresh.{Fresh-sent, Follows, alike, Fresh-member}

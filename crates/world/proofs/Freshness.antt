@@ -8,20 +8,20 @@ use Rattle.rows.specs.Shape.{shape_of}
 use Rattle.wire.specs.Reading.{reading}
 use Rattle.wire.specs.Streams.{stream_of}
 use Rattle.dispatcher.specs.declared.plan.Plan.{Plan}
-use Rattle.dispatcher.specs.declared.plan.PlanFault.{PlanFault}
+use Rattle.dispatcher.specs.declared.faults.PlanFault.{PlanFault}
 use Rattle.mvcc.specs.Transactions.{insert_answer, set_answer, delete_answer, get_answer}
 use Rattle.dispatcher.specs.Known.{first_missing}
 use Rattle.dispatcher.specs.Plans.{checked}
 use Rattle.dispatcher.specs.Report.{report_of}
 use Rattle.dispatcher.specs.Steps.{lacks_frame}
 use Rattle.rows.specs.Commits.{tables_after}
-use Rattle.dispatcher.specs.Replica.{Fetched}
+use Rattle.dispatcher.specs.State.{Fetched}
 use Rattle.script.specs.declared.event.Event.{Event}
 use Rattle.script.specs.declared.event.Event.TheVariants as events
 use Rattle.script.specs.declared.output.Output.{Output}
 use Rattle.script.specs.declared.output.Output.TheVariants as outputs
-use Rattle.world.specs.World.{World, Member, Batch, open_draft, happens, with_member, send, on_member, open_happens, ask_happens, new_batch}
-use Rattle.world.specs.World.{ask_bytes, run_happens, wait_happens, want_bytes}
+use Rattle.world.specs.Steps.{World, Member, Batch, open_draft, happens, with_member, send, on_member, open_happens, ask_happens, new_batch}
+use Rattle.world.specs.Steps.{ask_bytes, run_happens, wait_happens, want_bytes}
 use Rattle.world.specs.Allowed.{RunIsCut, RunIsCutAt, MayHappen}
 use Rattle.world.proofs.Lists.{get-set_same}
 use Rattle.world.proofs.Datagrams.{ask-read, ask-kept}

@@ -17,7 +17,7 @@ use Rattle.rows.specs.Tables.{changes_of}
 use Rattle.rows.specs.Commits.{tables_after, last_touching}
 use Rattle.wire.specs.declared.datagram.Datagram.{Datagram}
 use Rattle.wire.specs.declared.datagram.Datagram.TheVariants as datagrams
-use Rattle.wire.specs.declared.fault.WireFault.{WireFault}
+use Rattle.wire.specs.declared.faults.WireFault.{WireFault}
 use Rattle.wire.specs.declared.out.Out.{Out}
 use Rattle.wire.specs.Reading.{reading}
 use Rattle.mvcc.specs.declared.faults.TxFault.{TxFault}
@@ -26,16 +26,16 @@ use Rattle.primary.specs.declared.faults.CommitFault.{CommitFault}
 use Rattle.primary.specs.declared.faults.CommitFault.TheVariants as faults
 use Rattle.mvcc.specs.Draft.{Draft}
 use Rattle.mvcc.specs.Transactions.{insert_answer, set_answer, delete_answer, get_answer}
-use Rattle.primary.specs.Primary.{commit_answer, committed, flushed, is_foreign, next_number}
+use Rattle.primary.specs.Steps.{commit_answer, committed, flushed, is_foreign, next_number}
 use Rattle.primary.specs.Sending.{pushed, answers}
 use Rattle.primary.specs.State.{Primary}
 use Rattle.dispatcher.specs.declared.plan.Plan.{Plan}
-use Rattle.dispatcher.specs.declared.plan.PlanFault.{PlanFault}
+use Rattle.dispatcher.specs.declared.faults.PlanFault.{PlanFault}
 use Rattle.dispatcher.specs.Known.{is_known, is_ahead, first_missing}
 use Rattle.dispatcher.specs.Plans.{checked}
 use Rattle.dispatcher.specs.Report.{report_of}
 use Rattle.dispatcher.specs.Steps.{lacks_frame}
-use Rattle.dispatcher.specs.Replica.{Fetched}
+use Rattle.dispatcher.specs.State.{Fetched}
 use Rattle.dispatcher.proofs.Versions.{tables-stay}
 use Rattle.script.specs.declared.event.Event.{Event}
 use Rattle.script.specs.declared.event.Event.TheVariants as events
@@ -46,10 +46,10 @@ use Rattle.script.specs.declared.output.Output.TheVariants as outputs
 use Rattle.script.specs.declared.setup.Setup.{Setup}
 use Rattle.world.specs.Outputs.{of_change, of_look, of_commit, of_answers}
 use Rattle.world.specs.Theorem.{IsBeginning, IsFaultless}
-use Rattle.world.specs.World.{World, Member, Batch, open_draft, happens, opening_world, with_member, send, on_draft, change_happens}
-use Rattle.world.specs.World.{commit_happens, abort_happens, push_happens, head_happens, datagram_happens, on_member, member_output}
-use Rattle.world.specs.World.{deliver_happens, shown, open_happens, ask_happens, new_batch, ask_bytes, run_happens}
-use Rattle.world.specs.World.{wait_happens, want_bytes}
+use Rattle.world.specs.Steps.{World, Member, Batch, open_draft, happens, opening_world, with_member, send, on_draft, change_happens}
+use Rattle.world.specs.Steps.{commit_happens, abort_happens, push_happens, head_happens, datagram_happens, on_member, member_output}
+use Rattle.world.specs.Steps.{deliver_happens, shown, open_happens, ask_happens, new_batch, ask_bytes, run_happens}
+use Rattle.world.specs.Steps.{wait_happens, want_bytes}
 use Rattle.world.specs.Inner.Honest.{IsBegun, IsHonest}
 use Rattle.world.specs.Allowed.{RunIsCut, RunIsCutAt, MayHappen}
 use Rattle.world.proofs.Lists.{get-set, get-append, get-one}

@@ -8,19 +8,19 @@ use Rattle.rows.specs.Shape.{Shape}
 use Rattle.rows.specs.Commits.{IsCommit, IsLegal}
 use Rattle.wire.specs.declared.datagram.Datagram.{Datagram}
 use Rattle.wire.specs.declared.datagram.Datagram.TheVariants as datagrams
-use Rattle.wire.specs.declared.fault.WireFault.{WireFault}
+use Rattle.wire.specs.declared.faults.WireFault.{WireFault}
 use Rattle.wire.specs.Reading.{reading}
 use Rattle.mvcc.specs.Draft.{Draft}
-use Rattle.primary.specs.Primary.{flushed}
+use Rattle.primary.specs.Steps.{flushed}
 use Rattle.dispatcher.specs.Feeding.{IsFedFrom}
-use Rattle.dispatcher.specs.Replica.{Replica}
+use Rattle.dispatcher.specs.State.{Replica}
 use Rattle.dispatcher.proofs.Feeding.{commits-feed, tells-stay}
 use Rattle.dispatcher.proofs.Lists.{All-map}
 use Rattle.dispatcher.proofs.Versions.{legal-left}
 use Rattle.script.specs.declared.output.Output.{Output}
 use Rattle.world.specs.Parts.{Parts}
-use Rattle.world.specs.Inner.Steps.{with_replica, with_sent}
-use Rattle.world.specs.World.{World}
+use Rattle.world.specs.Inner.CoreSteps.{with_replica, with_sent}
+use Rattle.world.specs.Steps.{World}
 use Rattle.world.proofs.Lists.{get-set, get-append, get-one, set-same, All-left}
 use Rattle.world.specs.Inner.Sound.{Sound, IsSoundPrimary, IsSmall, IsSmallDraft, IsFed, IsAnswer, IsOfRequests, Means, awaits}
 use Rattle.world.specs.Standing.{world_of}

@@ -1,29 +1,29 @@
 -- What the calls of the cores answer and leave is what an event may.
 use Rattle.std.proofs.Common.{◌≡◌, ℕ, ◌⊎◌, inl, inr, List, Option, None, Some, Result, Ok, Err, IsOk, slice_get, slice_set, refl, ap, sym}
-use Rattle.std.proofs.Common.{subst, ◌∙◌}
+use Rattle.std.proofs.Common.{subst, ◌∙◌, OnOk, IfErr}
 use Rattle.std.proofs.lemmas.List.{set-set}
 use Rattle.rows.specs.declared.value.Value.{Value}
 use Rattle.mvcc.specs.declared.faults.TxFault.{TxFault}
 use Rattle.mvcc.specs.declared.faults.TxFault.TheVariants as changes
 use Rattle.mvcc.specs.Draft.{Draft}
 use Rattle.primary.specs.declared.faults.CommitFault.{CommitFault}
-use Rattle.primary.specs.Primary.{commit_answer, committed}
+use Rattle.primary.specs.Steps.{commit_answer, committed}
 use Rattle.primary.specs.State.{Primary}
 use Rattle.dispatcher.specs.declared.faults.AskFault.{AskFault}
 use Rattle.dispatcher.specs.declared.faults.OpenFault.{OpenFault}
 use Rattle.dispatcher.specs.declared.faults.OpenFault.TheVariants as opens
 use Rattle.dispatcher.specs.declared.plan.Plan.{Plan}
-use Rattle.dispatcher.specs.Replica.{Replica}
+use Rattle.dispatcher.specs.State.{Replica}
 use Rattle.dispatcher.specs.Steps.{opened, asked}
 use Rattle.script.specs.declared.event.Event.{Event}
 use Rattle.script.specs.declared.event.Event.TheVariants as events
 use Rattle.script.specs.declared.output.Output.{Output}
 use Rattle.script.specs.declared.output.Output.TheVariants as outputs
-use Rattle.world.specs.Outputs.{of_change, of_commit, of_look, of_open, of_ask}
+use Rattle.world.specs.Outputs.{of_change, of_changed, of_commit, of_look, of_open, of_ask}
 use Rattle.world.specs.Parts.{Parts}
 use Rattle.world.specs.Standing.{world_of}
-use Rattle.world.specs.World.{World, open_draft, happens, on_draft, change_happens, commit_happens, abort_happens}
-use Rattle.world.specs.Inner.Steps.{HappensBeside, MayStep, with_replica, opening_query, open_by, asking, ask_by}
+use Rattle.world.specs.Steps.{World, open_draft, happens, on_draft, change_happens, commit_happens, abort_happens}
+use Rattle.world.specs.Inner.CoreSteps.{HappensBeside, MayStep, with_replica, opening_query, open_by, asking, ask_by}
 use Rattle.world.proofs.Slots.{set_same, slot_same}
 
 -- ---- beside the replicas
@@ -71,7 +71,7 @@ module _ (p old : Parts) (seen : p ≡ old) (number : ℕ) where
         → HappensBeside old event outputs.NoTx (with_slots p left)
     change_nothing left at is = by_slot None outputs.NoTx left at (ap (λ x. (outputs.NoTx, world_of x)) (put_same p number None left at is))
 
-    pub changed : (draft after : Draft) (left : List (Option Draft)) → open_draft p.transactions number ≡ Some draft
+    changed : (draft after : Draft) (left : List (Option Draft)) → open_draft p.transactions number ≡ Some draft
         → left ≡ slice_set (slice_set p.transactions number None) number (Some after) → change draft ≡ Ok after
         → HappensBeside old event outputs.Accepted (with_slots p left)
     changed draft after left at is ok =
@@ -80,7 +80,7 @@ module _ (p old : Parts) (seen : p ≡ old) (number : ℕ) where
         ∙ ap (λ (slots : List (Option Draft)). (outputs.Accepted, world_of (with_slots p slots)))
         (sym (is ∙ set-set p.transactions number None (Some after))))
 
-    pub change_refused : (draft after : Draft) (fault : TxFault) (left : List (Option Draft)) (told : Result Draft TxFault)
+    change_refused : (draft after : Draft) (fault : TxFault) (left : List (Option Draft)) (told : Result Draft TxFault)
         → open_draft p.transactions number ≡ Some draft
         → left ≡ slice_set (slice_set p.transactions number None) number (Some after) → after ≡ draft → change draft ≡ told
         → ((fault ≡ changes.Memory) × IsOk told) ⊎ (told ≡ Err fault)
@@ -94,6 +94,15 @@ module _ (p old : Parts) (seen : p ≡ old) (number : ℕ) where
           | inr refused ↦ by_slot (Some draft) (of_change fault) left at
               (ap (change_happens (world_of p) number) (tells ∙ refused) ∙ ap (λ x. (of_change fault, world_of x)) stays)
         ]
+
+    pub answered : (draft after : Draft) (left : List (Option Draft)) (told : Result Draft TxFault) (result : Result (Unit {0}) TxFault)
+        → open_draft p.transactions number ≡ Some draft
+        → left ≡ slice_set (slice_set p.transactions number None) number (Some after) → change draft ≡ told → OnOk result (told ≡ Ok after)
+        → IfErr result (λ fault. (after ≡ draft) × (((fault ≡ changes.Memory) × IsOk told) ⊎ (told ≡ Err fault)))
+        → HappensBeside old event (of_changed result) (with_slots p left)
+    answered draft after left told (Ok done) at is tells ok refused = changed draft after left at is (tells ∙ ok)
+    answered draft after left told (Err fault) at is tells ok refused =
+        change_refused draft after fault left told at is refused.0 tells refused.1
 
   -- a look at a column
   look_done : (event : Event) (look : Draft → Result Value TxFault)

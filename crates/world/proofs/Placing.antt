@@ -8,7 +8,7 @@ use Rattle.std.proofs.lemmas.Bool.{false≢true, and_parts, eqb-true, eq-eqb, le
 use Rattle.std.proofs.lemmas.Bool.Decides.{nat_tests}
 use Rattle.std.proofs.lemmas.List.Sums.{sum_by-cons}
 use Rattle.std.proofs.lemmas.Option.{none-some, same_Some}
-use Rattle.rows.specs.declared.fitting.EntryFault.TheVariants.{NotAColumn}
+use Rattle.rows.specs.declared.faults.EntryFault.TheVariants.{NotAColumn}
 use Rattle.rows.specs.declared.entry.Entry.TheVariants.{Patch}
 use Rattle.rows.specs.declared.kind.Kind.{Kind}
 use Rattle.rows.specs.declared.kind.Kind.TheVariants.{Int as IntKind, Octets as OctetsKind}

@@ -13,20 +13,20 @@ use Rattle.wire.specs.declared.datagram.Datagram.TheVariants as datagrams
 use Rattle.wire.specs.Reading.{reading}
 use Rattle.wire.specs.Spelling.{spelling}
 use Rattle.dispatcher.specs.declared.plan.Plan.{Plan}
-use Rattle.dispatcher.specs.declared.plan.PlanFault.TheVariants.{NoTable}
+use Rattle.dispatcher.specs.declared.faults.PlanFault.TheVariants.{NoTable}
 use Rattle.dispatcher.specs.declared.faults.OpenFault.{OpenFault}
 use Rattle.dispatcher.specs.declared.faults.OpenFault.TheVariants as opens
 use Rattle.dispatcher.specs.declared.faults.AskFault.TheVariants as asks
 use Rattle.dispatcher.specs.Plans.{checked}
 use Rattle.dispatcher.specs.Feeding.{IsFedFrom}
-use Rattle.dispatcher.specs.Replica.{Replica, Batch as ReplicaBatch, Fetched}
+use Rattle.dispatcher.specs.State.{Replica, Batch as ReplicaBatch, Fetched}
 use Rattle.dispatcher.specs.Steps.{opened, asked, asked_by, ask_for, with_batch}
 use Rattle.dispatcher.proofs.Feeding.{plan-fed, batch-fed}
 use Rattle.script.specs.declared.output.Output.{Output}
 use Rattle.script.specs.declared.output.Output.TheVariants as outputs
 use Rattle.world.specs.Parts.{Parts}
-use Rattle.world.specs.Inner.Steps.{with_replica, with_sent, open_by, opening_query, ask_by, asking, sent_one}
-use Rattle.world.specs.World.{World, Member, open_happens, ask_happens, new_batch, send, ask_bytes, with_member, on_member}
+use Rattle.world.specs.Inner.CoreSteps.{with_replica, with_sent, open_by, opening_query, ask_by, asking, sent_one}
+use Rattle.world.specs.Steps.{World, Member, open_happens, ask_happens, new_batch, send, ask_bytes, with_member, on_member}
 use Rattle.world.proofs.Lists.{set-same, get-set_same}
 use Rattle.world.specs.Inner.Sound.{Sound, IsFed, Means}
 use Rattle.world.proofs.Datagrams.{ask-read, ask-kept}

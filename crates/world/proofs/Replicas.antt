@@ -15,8 +15,8 @@ use Rattle.rows.specs.Shape.{Shape, shape_of}
 use Rattle.rows.specs.Entries.{fitting}
 use Rattle.wire.specs.declared.datagram.Datagram.{Datagram}
 use Rattle.wire.specs.declared.datagram.Datagram.TheVariants as datagrams
-use Rattle.wire.specs.declared.fault.WireFault.{WireFault}
-use Rattle.wire.specs.declared.frame.Frame.{Frame}
+use Rattle.wire.specs.declared.faults.WireFault.{WireFault}
+use Rattle.update_log.specs.declared.frame.Frame.{Frame}
 use Rattle.wire.specs.Reading.{reading}
 use Rattle.wire.specs.Streams.{frame_count}
 use Rattle.dispatcher.specs.declared.outcome.Got.{Got}
@@ -24,7 +24,7 @@ use Rattle.dispatcher.specs.declared.outcome.Got.TheVariants as got
 use Rattle.dispatcher.specs.declared.plan.Plan.{Plan}
 use Rattle.dispatcher.specs.Known.{is_known, is_ahead}
 use Rattle.dispatcher.specs.Feeding.{IsFedFrom}
-use Rattle.dispatcher.specs.Replica.{Replica, Batch as ReplicaBatch, Fetched}
+use Rattle.dispatcher.specs.State.{Replica, Batch as ReplicaBatch, Fetched}
 use Rattle.dispatcher.specs.Steps.{frame_comes, own_head_comes, datagram_comes, known}
 use Rattle.dispatcher.proofs.CatchingUp.{applied-version}
 use Rattle.dispatcher.proofs.Feeding.{datagram-feeds}
@@ -34,8 +34,8 @@ use Rattle.script.specs.declared.output.Output.{Output}
 use Rattle.script.specs.declared.output.Output.TheVariants as outputs
 use Rattle.world.specs.Outputs.{of_got}
 use Rattle.world.specs.Parts.{Parts}
-use Rattle.world.specs.Inner.Steps.{with_replica, got_by, to_replica}
-use Rattle.world.specs.World.{World, Member, frame_happens, head_happens, datagram_happens, member_output, on_member}
+use Rattle.world.specs.Inner.CoreSteps.{with_replica, got_by, to_replica}
+use Rattle.world.specs.Steps.{World, Member, frame_happens, head_happens, datagram_happens, member_output, on_member}
 use Rattle.world.specs.Inner.Sound.{Sound, IsFed, Means, awaits}
 use Rattle.world.specs.Standing.{world_of, member_of, batch_of}
 use Rattle.world.proofs.Worlds.{member-changes}

@@ -14,7 +14,7 @@ use Rattle.script.specs.declared.output.Output.{Output}
 use Rattle.script.specs.declared.output.Output.TheVariants as outputs
 use Rattle.script.specs.declared.setup.Setup.{Setup}
 use Rattle.world.specs.Parts.{Parts, parts_started}
-use Rattle.world.specs.World.{World, opening_world}
+use Rattle.world.specs.Steps.{World, opening_world}
 use Rattle.world.specs.Allowed.{MayHappen, RunsBy, Runs, Allowed}
 use Rattle.world.specs.Standing.{world_of, AreFed, TablesAgree}
 use Rattle.world.specs.Theorem.{ReportsItsBatch, IsBeginning, IsFaultless, IsStep, IsCoreStep, OfEachRun, HasExactReports}

@@ -9,21 +9,21 @@ use Rattle.rows.specs.Entries.{fitting}
 use Rattle.rows.specs.Shape.{Shape, shape_of}
 use Rattle.wire.specs.declared.datagram.Datagram.{Datagram}
 use Rattle.wire.specs.declared.datagram.Datagram.TheVariants as datagrams
-use Rattle.wire.specs.declared.fault.WireFault.{WireFault}
+use Rattle.wire.specs.declared.faults.WireFault.{WireFault}
 use Rattle.wire.specs.Reading.{reading}
 use Rattle.mvcc.specs.declared.faults.TxFault.{TxFault}
 use Rattle.mvcc.specs.Draft.{Draft}
 use Rattle.primary.specs.declared.faults.CommitFault.{CommitFault}
-use Rattle.primary.specs.Primary.{commit_answer, flushed}
+use Rattle.primary.specs.Steps.{commit_answer, flushed}
 use Rattle.primary.specs.Sending.{pushed, answers}
 use Rattle.dispatcher.specs.declared.plan.Plan.{Plan}
-use Rattle.dispatcher.specs.declared.plan.PlanFault.{PlanFault}
+use Rattle.dispatcher.specs.declared.faults.PlanFault.{PlanFault}
 use Rattle.dispatcher.specs.Known.{is_known, is_ahead, first_missing}
 use Rattle.dispatcher.specs.Plans.{checked}
 use Rattle.dispatcher.specs.Report.{report_of}
 use Rattle.dispatcher.specs.Steps.{lacks_frame}
 use Rattle.rows.specs.Commits.{tables_after}
-use Rattle.dispatcher.specs.Replica.{Replica, Fetched}
+use Rattle.dispatcher.specs.State.{Replica, Fetched}
 use Rattle.script.specs.declared.event.Event.{Event}
 use Rattle.script.specs.declared.event.Event.TheVariants as events
 use Rattle.script.specs.declared.event.Node.{Node}
@@ -33,14 +33,14 @@ use Rattle.script.specs.declared.output.Output.TheVariants as outputs
 use Rattle.script.specs.declared.setup.Setup.{Setup}
 use Rattle.world.specs.Outputs.{packets_of}
 use Rattle.world.specs.Parts.{Parts}
-use Rattle.world.specs.World.{World, Member, Batch, fresh_from, opening_world, open_draft, happens, with_member, on_draft}
-use Rattle.world.specs.World.{change_happens, commit_happens, push_happens, head_happens, datagram_happens, on_member}
-use Rattle.world.specs.World.{deliver_happens, open_happens, ask_happens, new_batch, ask_bytes, run_happens}
-use Rattle.world.specs.World.{want_bytes}
+use Rattle.world.specs.Steps.{World, Member, Batch, fresh_from, opening_world, open_draft, happens, with_member, on_draft}
+use Rattle.world.specs.Steps.{change_happens, commit_happens, push_happens, head_happens, datagram_happens, on_member}
+use Rattle.world.specs.Steps.{deliver_happens, open_happens, ask_happens, new_batch, ask_bytes, run_happens}
+use Rattle.world.specs.Steps.{want_bytes}
 use Rattle.world.specs.Allowed.{RunIsCut, MayHappen}
 use Rattle.world.specs.Standing.{world_of, members_of}
 use Rattle.world.specs.Inner.Sound.{IsSmallDraft}
-use Rattle.world.specs.Inner.Kept.{IsReady, IsRequested, IsKept}
+use Rattle.world.specs.Inner.Invariant.{IsReady, IsRequested, IsKept}
 use Rattle.world.proofs.Slots.{all_at, all_set, all_weaker}
 
 pub record Counts (old : World) (answer : Output × World) : Type 0 where
@@ -177,7 +177,7 @@ module _ (w : World) where
   asking i m None here = by (length m.waiting == 0)
     where
       by : (empty : Bool) → Counts w (cond empty (outputs.Empty, w) (
-        outputs.Sent (record { place = length w.sent; len = length (ask_bytes m (m.request + 1)) } ∷ []),
+        outputs.Sent (record { index = length w.sent; len = length (ask_bytes m (m.request + 1)) } ∷ []),
         record (with_member w (new_batch w m)) { sent = w.sent ++ ask_bytes m (m.request + 1) ∷ [] },
       ))
       by true = unchanged _
@@ -194,7 +194,7 @@ module _ (w : World) where
     where
       on : (lacks : Bool) (fetched : Fetched) → Counts w (cond lacks (
         outputs.Waiting 0 (first_missing m.known)
-            (record { place = length w.sent; len = length (want_bytes m 0 (first_missing m.known)) }),
+            (record { index = length w.sent; len = length (want_bytes m 0 (first_missing m.known)) }),
         record w { sent = w.sent ++ want_bytes m 0 (first_missing m.known) ∷ [] },
       ) (
         outputs.Report (report_of (tables_after (shape_of w.primary.schema) w.primary.durable fetched.version) fetched.version batch.plans),

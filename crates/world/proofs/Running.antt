@@ -1,6 +1,6 @@
 -- Running a batch does at a replica of sound parts what it does at its member, also where it is cut short.
 use Rattle.std.proofs.Common.{◌≡◌, ℕ, Bool, true, false, cond, List, length, Option, Some, None, refl, sym, ap, subst, ◌∙◌, ◌⊎◌, inl}
-use Rattle.std.proofs.Common.{inr, arith}
+use Rattle.std.proofs.Common.{inr, arith, ◌<◌}
 use Rattle.std.specs.List.{slice_get, slice_index}
 use Rattle.std.specs.Option.{option_map, option_and_then, is_none}
 use Rattle.std.proofs.lemmas.Bool.{false≢true, true≢false, ltb-false}
@@ -16,7 +16,7 @@ use Rattle.dispatcher.specs.declared.outcome.Run.TheVariants as runs
 use Rattle.dispatcher.specs.declared.plan.Plan.{Plan}
 use Rattle.dispatcher.specs.Feeding.{IsFedFrom}
 use Rattle.dispatcher.specs.Known.{first_missing}
-use Rattle.dispatcher.specs.Replica.{Replica, Batch as ReplicaBatch, Fetched}
+use Rattle.dispatcher.specs.State.{Replica, Batch as ReplicaBatch, Fetched}
 use Rattle.dispatcher.specs.Report.{report_of}
 use Rattle.dispatcher.specs.Steps.{known, broken_of, caught_up, finished, lacks_frame, ran_by, ready, ready_of, want_for, WantsMemory}
 use Rattle.dispatcher.proofs.CatchingUp.{CanAnswer, ready-parts, caught, catches-up}
@@ -24,9 +24,9 @@ use Rattle.dispatcher.proofs.Feeding.{broken-fed, caught-fed, finished-fed}
 use Rattle.script.specs.declared.output.Output.{Output}
 use Rattle.script.specs.declared.output.Output.TheVariants as outputs
 use Rattle.world.specs.Parts.{Parts}
-use Rattle.world.specs.Inner.Steps.{with_replica, with_sent, run_output, run_by, RunIsCut}
-use Rattle.world.specs.World.{World, Member, run_happens, wait_happens, want_bytes, with_member, on_member, Batch}
-use Rattle.world.specs.Allowed.{ready_member, RunIsCut as MemberIsCut}
+use Rattle.world.specs.Inner.CoreSteps.{with_replica, with_sent, run_output, run_by, CallIsCut}
+use Rattle.world.specs.Steps.{World, Member, run_happens, wait_happens, want_bytes, with_member, on_member, Batch}
+use Rattle.world.specs.Allowed.{ready_member, RunIsCut}
 use Rattle.world.proofs.Lists.{set-same}
 use Rattle.world.specs.Inner.Sound.{Sound, Means, awaits_by}
 use Rattle.world.specs.Standing.{world_of, member_of, batch_of}
@@ -83,7 +83,7 @@ module _ (shape : Shape) (p : Parts) (i : ℕ) (r : Replica) (sound : Sound shap
       (run_output p i (runs.Waiting 0 seq (want_for r.number 0 seq), r))
   run-waits seq =
       let bytes = spelling (datagrams.Want r.number 0 seq) in
-      let output = outputs.Waiting 0 seq (record { place = length p.sent; len = length bytes }) in
+      let output = outputs.Waiting 0 seq (record { index = length p.sent; len = length bytes }) in
       let same : with_sent p bytes ≡ with_sent (with_replica p i r) bytes =
       ap (λ (replicas : List Replica). with_sent (record p { replicas = replicas }) bytes) (sym (set-same p.replicas i r here)) in
       let means : Means p.primary.durable p.replicas (reading bytes) = record { tells = tt; requests = tt } in
@@ -174,7 +174,7 @@ ready-same at r = ap (λ (o : Option Fetched). ready r.broken (known r) o) (batc
 
 -- what a cut run is in the world
 abbrev pub Cuts : World → Option Member → Output → World → Type 0
-Cuts w found output new = ((output ≡ outputs.Memory) × (new ≡ w)) ⊎ MemberIsCut w found output new
+Cuts w found output new = ((output ≡ outputs.Memory) × (new ≡ w)) ⊎ RunIsCut w found output new
 
 -- a cut run, and sound parts after it
 abbrev Ends : Shape → Parts → Member → Output × Parts → Type 0
@@ -198,11 +198,11 @@ module _ (shape : Shape) (p : Parts) (i : ℕ) (r : Replica) (sound : Sound shap
       )
 
   cut-broken : (queries : ReplicaBatch) (fetched : Fetched) → ready_member (member_of (slice_index p.asked_at i) r) ≡ Some fetched
-      → CanAnswer r queries fetched
+      → CanAnswer r queries fetched → r.version < fetched.version
       → Ends shape p (member_of (slice_index p.asked_at i) r) (outputs.Broken, with_replica p i (broken_of r))
-  cut-broken queries fetched is_ready can =
+  cut-broken queries fetched is_ready can below =
       let fed = sound.fed i r here in (
-        inr (fetched, is_ready, inr (refl, sym (member-changes p i (broken_of r) fed.number_is))),
+        inr (fetched, is_ready, inr (refl, sym (member-changes p i (broken_of r) fed.number_is), below)),
         Sound-replica shape p i r (broken_of r) sound here
             (broken-goes shape p.primary.durable r queries fetched fed.feeding can),
       )
@@ -224,11 +224,11 @@ module _ (shape : Shape) (p : Parts) (i : ℕ) (r : Replica) (sound : Sound shap
         ])
         | inr broken ↦ subst (λ (a : Run). Ends shape p m (run_output p i (a, after))) (sym broken.0)
             (subst (λ (s : Replica). Ends shape p m (run_output p i (runs.Broken, s))) (sym broken.1)
-            (cut-broken parts.0 fetched is_ready parts.1))
+            (cut-broken parts.0 fetched is_ready parts.1 broken.2))
       ]
 
 pub run-cut : (shape : Shape) (p : Parts) (i : ℕ) (found : Option Replica) (output : Output) (new : Parts) → Sound shape p
-    → slice_get p.replicas i ≡ found → RunIsCut p i found output new
+    → slice_get p.replicas i ≡ found → CallIsCut p i found output new
     → Cuts (world_of p) (option_map (member_of (slice_index p.asked_at i)) found) output (world_of new) × Sound shape new
 run-cut shape p i None output new sound here cut = absurd cut
 run-cut shape p i (Some r) output new sound here cut =

@@ -8,13 +8,13 @@ use Rattle.mvcc.specs.declared.faults.TxFault.TheVariants as changes
 use Rattle.primary.specs.declared.faults.CommitFault.{CommitFault}
 use Rattle.primary.specs.declared.faults.CommitFault.TheVariants as faults
 use Rattle.mvcc.specs.Draft.{Draft}
-use Rattle.primary.specs.Primary.{commit_answer, flushed}
+use Rattle.primary.specs.Steps.{commit_answer, flushed}
 use Rattle.script.specs.declared.event.Event.{Event}
 use Rattle.script.specs.declared.output.Output.{Output}
 use Rattle.script.specs.declared.output.Output.TheVariants as outputs
 use Rattle.world.specs.Outputs.{of_change, of_look, of_commit}
 use Rattle.world.specs.Theorem.{ReportsItsBatch}
-use Rattle.world.specs.World.{World, on_draft, change_happens, commit_happens, abort_happens}
+use Rattle.world.specs.Steps.{World, on_draft, change_happens, commit_happens, abort_happens}
 use Rattle.world.specs.Inner.Fresh.{Fresh}
 use Rattle.world.proofs.Fresh.{Fresh-drafts, Fresh-committed, Fresh-flushed}
 use Rattle.world.proofs.Committing.{commit-taken}

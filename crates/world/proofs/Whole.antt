@@ -8,7 +8,7 @@ use Rattle.rows.specs.declared.limits.TheConstants.{REPLICAS_MAX}
 use Rattle.rows.specs.Shape.{Shape, AreTables, shape_of}
 use Rattle.rows.specs.Commits.{IsLegal}
 use Rattle.wire.specs.Streams.{stream_of}
-use Rattle.dispatcher.specs.Replica.{Replica}
+use Rattle.dispatcher.specs.State.{Replica}
 use Rattle.dispatcher.specs.Steps.{started}
 use Rattle.dispatcher.specs.Feeding.{IsFedFrom}
 use Rattle.dispatcher.proofs.Feeding.{fresh-fed}
@@ -19,16 +19,16 @@ use Rattle.script.specs.declared.event.Node.TheVariants as nodes
 use Rattle.script.specs.declared.output.Output.{Output}
 use Rattle.script.specs.declared.setup.Setup.{Setup}
 use Rattle.world.specs.Parts.{Parts, parts_started, replicas_from, zeros}
-use Rattle.world.specs.Inner.Steps.{HappensBeside, MayAnswer, MayStep, come_by, open_by, ask_by, run_by}
+use Rattle.world.specs.Inner.CoreSteps.{HappensBeside, MayAnswer, MayStep, come_by, open_by, ask_by, run_by}
 use Rattle.script.specs.Events.{IsPossible}
 use Rattle.world.specs.Theorem.{IsStep}
-use Rattle.world.specs.World.{World, Member, open_draft, happens, on_member, deliver_happens}
+use Rattle.world.specs.Steps.{World, Member, open_draft, happens, on_member, deliver_happens}
 use Rattle.world.specs.Allowed.{MayHappen, RunIsCutAt}
 use Rattle.world.specs.Inner.Sound.{Sound, IsFed}
 use Rattle.world.specs.Standing.{world_of, member_of, members_of, AreFed}
 use Rattle.world.specs.Inner.Honest.{IsHonest}
 use Rattle.world.specs.Inner.Fresh.{Fresh}
-use Rattle.world.specs.Inner.Kept.{IsRequested, IsKept}
+use Rattle.world.specs.Inner.Invariant.{IsRequested, IsKept}
 use Rattle.world.proofs.Worlds.{beside_of, members-get, world-started}
 use Rattle.world.proofs.Moves.{Follows}
 use Rattle.world.proofs.Fresh.{opening-fresh}

@@ -2,15 +2,15 @@
 use Rattle.std.proofs.Common.{◌≡◌, ℕ, zero, suc, List, [], ◌∷◌, length, refl, sym, ap, ◌∙◌, arith}
 use Rattle.std.specs.List.{slice_get, slice_set, slice_index}
 use Rattle.std.specs.Option.{option_map}
-use Rattle.dispatcher.specs.Replica.{Replica}
+use Rattle.dispatcher.specs.State.{Replica}
 use Rattle.dispatcher.specs.Steps.{started}
 use Rattle.rows.specs.Shape.{Shape, shape_of}
 use Rattle.script.specs.declared.setup.Setup.{Setup}
 use Rattle.script.specs.declared.output.Output.{Output}
 use Rattle.world.specs.Parts.{Parts, replicas_from, zeros, parts_started}
-use Rattle.world.specs.Inner.Steps.{with_replica}
+use Rattle.world.specs.Inner.CoreSteps.{with_replica}
 use Rattle.world.specs.Standing.{member_of, members_of, world_of}
-use Rattle.world.specs.World.{World, Member, fresh_from, opening_world, with_member}
+use Rattle.world.specs.Steps.{World, Member, fresh_from, opening_world, with_member}
 
 -- what a step of the parts is in the world
 abbrev pub seen : Output × Parts → Output × World

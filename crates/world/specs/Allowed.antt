@@ -1,27 +1,27 @@
--- Which outputs are allowed for a list of events, want of memory included.
-use Rattle.std.specs.Prelude.{◌≡◌, List, [], ◌∷◌, true, Option, None, Some, slice_get, ◌⊎◌}
+-- Which outputs are allowed for a list of events, out of memory included.
+use Rattle.std.specs.Prelude.{◌≡◌, ◌<◌, List, [], ◌∷◌, true, Option, None, Some, slice_get, ◌⊎◌}
 use Rattle.std.specs.Option.{option_and_then}
-use Rattle.dispatcher.specs.Replica.{Fetched}
+use Rattle.dispatcher.specs.State.{Fetched}
 use Rattle.dispatcher.specs.Steps.{ready}
 use Rattle.script.specs.declared.event.Event.{Event}
 use Rattle.script.specs.declared.event.Event.TheVariants as events
 use Rattle.script.specs.declared.output.Output.{Output}
 use Rattle.script.specs.declared.output.Output.TheVariants as outputs
 use Rattle.script.specs.declared.setup.Setup.{Setup}
-use Rattle.world.specs.World.{World, Member, Batch, opening_world, happens, with_member}
+use Rattle.world.specs.Steps.{World, Member, Batch, opening_world, happens, with_member}
 
 -- what was fetched for the batch of a replica of which no frame is missing
 abbrev pub ready_member : Member → Option Fetched
 ready_member m = ready m.broken m.known (option_and_then (λ (batch : Batch). batch.fetched) m.batch)
 
 -- a run that lacks memory at a replica that has fetched a version and lacks no frame: it stands at the old version or
--- at the fetched one and may run again, or it is broken
+-- at the fetched one and may run again; or it is broken, where there was a commit to apply
 abbrev pub RunIsCut : World → Option Member → Output → World → Type 0
 RunIsCut old None output new = ⊥
 RunIsCut old (Some m) output new =
     (fetched : Fetched) × (ready_member m ≡ Some fetched)
     × (((output ≡ outputs.Memory) × (new ≡ with_member old (record m { version = fetched.version })))
-    ⊎ ((output ≡ outputs.Broken) × (new ≡ with_member old (record m { broken = true }))))
+    ⊎ ((output ≡ outputs.Broken) × (new ≡ with_member old (record m { broken = true })) × (m.version < fetched.version)))
 
 abbrev pub RunIsCutAt : World → Event → Output → World → Type 0
 RunIsCutAt old (events.Run replica) output new = RunIsCut old (slice_get old.members replica) output new

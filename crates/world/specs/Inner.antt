@@ -1,6 +1,6 @@
 -- Only for proofs: what the calls of the parts are, and what every world keeps. No public clause rests on these.
-pub mod Steps
+pub mod CoreSteps
 pub mod Sound
 pub mod Honest
 pub mod Fresh
-pub mod Kept
+pub mod Invariant

@@ -1,5 +1,5 @@
 pub mod Outputs
-pub mod World
+pub mod Steps
 pub mod Allowed
 pub mod Worked
 pub mod Parts

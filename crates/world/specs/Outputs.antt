@@ -24,6 +24,11 @@ of_change changes.Unfit = outputs.Unfit
 of_change changes.TooManyEntries = outputs.TooManyEntries
 of_change changes.Memory = outputs.Memory
 
+-- a call that changes a transaction
+abbrev pub of_changed : Result (Unit {0}) TxFault → Output
+of_changed (Ok done) = outputs.Accepted
+of_changed (Err fault) = of_change fault
+
 -- a look at a column
 abbrev pub of_look : Result Value TxFault → Output
 of_look (Ok value) = outputs.Value value
@@ -64,7 +69,7 @@ of_got got.Broken = outputs.Broken
 -- the indices and lengths of datagrams that are sent one after the other, from this index on
 abbrev pub sent_from : ℕ → List Out → List Sent
 sent_from index [] = []
-sent_from index (out ∷ outs) = record { place = index; len = length out.packet } ∷ sent_from (index + 1) outs
+sent_from index (out ∷ outs) = record { index = index; len = length out.packet } ∷ sent_from (index + 1) outs
 
 -- the datagrams' bytes
 abbrev pub packets_of : List Out → List (List ℕ)

@@ -3,8 +3,8 @@ use Rattle.std.specs.Prelude.{ℕ, zero, suc, List, [], ◌∷◌, Option}
 use Rattle.rows.specs.Shape.{Shape, shape_of}
 use Rattle.mvcc.specs.Draft.{Draft}
 use Rattle.primary.specs.State.{Primary}
-use Rattle.primary.specs.Primary.{started as primary_started}
-use Rattle.dispatcher.specs.Replica.{Replica}
+use Rattle.primary.specs.Steps.{started as primary_started}
+use Rattle.dispatcher.specs.State.{Replica}
 use Rattle.dispatcher.specs.Steps.{started as replica_started}
 use Rattle.script.specs.declared.setup.Setup.{Setup}
 

@@ -4,11 +4,11 @@ use Rattle.std.specs.Prelude.{◌≡◌, ℕ, List, [], ◌∷◌, false, Some, 
 use Rattle.std.specs.List.{AllByRecursion}
 use Rattle.std.specs.Option.{option_map}
 use Rattle.rows.specs.Shape.{shape_of}
-use Rattle.dispatcher.specs.Replica.{Replica, Batch as ReplicaBatch}
+use Rattle.dispatcher.specs.State.{Replica, Batch as ReplicaBatch}
 use Rattle.dispatcher.specs.Steps.{known}
 use Rattle.dispatcher.specs.Feeding.{IsFedFrom}
 use Rattle.world.specs.Parts.{Parts}
-use Rattle.world.specs.World.{World, Member, Batch}
+use Rattle.world.specs.Steps.{World, Member, Batch}
 
 -- a replica's batch, as the world has it
 abbrev pub batch_of : ℕ → ReplicaBatch → Batch

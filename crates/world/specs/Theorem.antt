@@ -5,7 +5,7 @@ use Rattle.rows.specs.declared.commit.Commit.{Commit}
 use Rattle.rows.specs.Limits.{replicas_max}
 use Rattle.rows.specs.Shape.{shape_of}
 use Rattle.rows.specs.Commits.{IsLegal, tables_after}
-use Rattle.dispatcher.specs.Replica.{Fetched}
+use Rattle.dispatcher.specs.State.{Fetched}
 use Rattle.dispatcher.specs.Report.{report_of}
 use Rattle.script.specs.declared.event.Event.{Event}
 use Rattle.script.specs.declared.event.Event.TheVariants as events
@@ -13,7 +13,7 @@ use Rattle.script.specs.declared.output.Output.{Output}
 use Rattle.script.specs.declared.output.Output.TheVariants as outputs
 use Rattle.script.specs.declared.setup.Setup.{Setup}
 use Rattle.world.specs.Parts.{Parts, parts_started}
-use Rattle.world.specs.World.{World, Member, Batch, opening_world}
+use Rattle.world.specs.Steps.{World, Member, Batch, opening_world}
 use Rattle.world.specs.Allowed.{MayHappen, RunsBy, Runs}
 use Rattle.world.specs.Standing.{world_of, AreFed, TablesAgree}
 

@@ -11,7 +11,7 @@ use Rattle.script.specs.declared.event.Event.TheVariants.{Ask, Run}
 use Rattle.script.specs.declared.event.Node.TheVariants.{Primary, Replica}
 use Rattle.script.specs.declared.output.Output.{Output}
 use Rattle.script.specs.declared.output.Output.TheVariants as outputs
-use Rattle.world.specs.World.{World, opening_world}
+use Rattle.world.specs.Steps.{World, opening_world}
 
 -- the world of the scripts: one worker, one replica, `table acct int int`
 abbrev pub worked_world : World
@@ -24,7 +24,7 @@ commit_and_push =
 
 abbrev pub commit_and_push_outputs : List Output
 commit_and_push_outputs =
-    outputs.Tx 0 0 ∷ outputs.Accepted ∷ outputs.Ticket 1 ∷ outputs.Durable 1 ∷ outputs.Sent (record { place = 0; len = 54 } ∷ []) ∷ []
+    outputs.Tx 0 0 ∷ outputs.Accepted ∷ outputs.Ticket 1 ∷ outputs.Durable 1 ∷ outputs.Sent (record { index = 0; len = 54 } ∷ []) ∷ []
 
 -- a count is opened, and the newest durable version asked for and fetched
 abbrev pub open_and_fetch : List Event
@@ -32,7 +32,7 @@ open_and_fetch = Open 0 (record { table = 0 }) ∷ Ask 0 ∷ Deliver 1 Primary �
 
 abbrev pub open_and_fetch_outputs : List Output
 open_and_fetch_outputs =
-    outputs.Opened 1 ∷ outputs.Sent (record { place = 1; len = 23 } ∷ []) ∷ outputs.Sent (record { place = 2; len = 40 } ∷ [])
+    outputs.Opened 1 ∷ outputs.Sent (record { index = 1; len = 23 } ∷ []) ∷ outputs.Sent (record { index = 2; len = 40 } ∷ [])
     ∷ outputs.Head 1 ∷ []
 
 abbrev pub report : List ℕ
@@ -59,7 +59,7 @@ lost_frame = commit_and_push ++ open_and_fetch ++ Run 0 ∷ Deliver 0 (Replica 0
 abbrev pub lost_frame_outputs : List Output
 lost_frame_outputs =
     commit_and_push_outputs ++ open_and_fetch_outputs
-    ++ outputs.Waiting 0 0 (record { place = 3; len = 16 }) ∷ outputs.Stored ∷ outputs.Report report ∷ []
+    ++ outputs.Waiting 0 0 (record { index = 3; len = 16 }) ∷ outputs.Stored ∷ outputs.Report report ∷ []
 
 abbrev pub account : RowId
 account = record { 0 = 7 }

@@ -4,6 +4,7 @@ ghost use Rattle.std.specs.Prelude.{◌≡◌, ◌≤◌, ◌++◌, IfOk};
 ghost use Rattle.rows.specs.Shape.{shape_of};
 ghost use Rattle.rows.specs.Commits.{IsLegal};
 ghost use Rattle.world.specs.Parts.{Parts, parts_started};
+ghost use Rattle.rows.specs.Limits.{replicas_max};
 
 use dispatcher::ReplicaCore;
 use mvcc::Transaction;
@@ -42,11 +43,11 @@ impl Model for Cores {
 }
 
 impl Cores {
-    /// A primary without commits, and replicas without frames, each with boot 1. Fails for want
-    /// of memory alone.
+    /// A primary without commits, and replicas without frames, each with boot 1. Fails only when out
+    /// of memory.
     pub fn start(alloc: Global, setup: &Setup) -> Result<Cores, AllocError>
         requires workers { setup.now.workers ≡ 1 }
-        requires replicas { setup.now.replicas ≤ 16 }
+        requires replicas { setup.now.replicas ≤ replicas_max }
         ensures { IfOk result (λ cores. cores ≡ parts_started setup.now) }
     {
         let schema = &setup.schema;

@@ -6,7 +6,7 @@
 //! contract is the main theorem; `run_script` does so with the events of a script. Losses, repeats
 //! and delays of the network, and whatever else may go wrong, are events.
 //!
-//! `specs/` says what may happen: the world as its users see it (`World.antt`) and which outputs
+//! `specs/` says what may happen: the world as its users see it (`Steps.antt`) and which outputs
 //! are allowed in it (`Allowed.antt`), the cores as parts and the world that they make
 //! (`Parts.antt`, `Standing.antt`), and what a step and a run are (`Theorem.antt`). What only helps
 //! proofs stands in `specs/Inner`.
@@ -16,6 +16,7 @@
 #![tactic(auto)]
 
 mod cores;
+mod faults;
 mod naming;
 mod script_running;
 mod simulator;
@@ -25,8 +26,9 @@ mod transacting;
 mod worked;
 mod world;
 
+pub use faults::RunFault;
 pub use script::{Event, Node, Output, Reason, ScriptFault, Sent, SentList, Setup, read_script};
-pub use script_running::{Echo, RunFault, run_script};
+pub use script_running::{Echo, run_script};
 pub use simulator::run;
 pub use theorem::{allowed_runs_are_exact, runs_keep_promises};
 pub use worked::worked_scripts;

@@ -1,7 +1,7 @@
 //! What the refusals of the cores are called among the outputs.
 
 ghost use Rattle.std.specs.Prelude.{◌≡◌};
-ghost use Rattle.world.specs.Outputs.{of_change, of_look, of_commit, of_open, of_ask, of_got};
+ghost use Rattle.world.specs.Outputs.{of_change, of_changed, of_look, of_commit, of_open, of_ask, of_got};
 
 use dispatcher::{AskFault, Got, OpenFault};
 use mvcc::TxFault;
@@ -9,8 +9,18 @@ use primary::CommitFault;
 use rows::Value;
 use script::Output;
 
+/// A call that changes a transaction.
+pub fn change_output(changed: Result<(), TxFault>) -> Output
+    ensures { result ≡ of_changed changed }
+{
+    match changed {
+        Ok(()) => Output::Accepted,
+        Err(fault) => refused_output(fault),
+    }
+}
+
 /// A refused call of a transaction.
-pub fn change_output(fault: TxFault) -> Output
+fn refused_output(fault: TxFault) -> Output
     ensures { result ≡ of_change fault }
 {
     match fault {
@@ -28,7 +38,7 @@ pub fn look_output(looked: Result<Value, TxFault>) -> Output
 {
     match looked {
         Ok(value) => Output::Value(value),
-        Err(fault) => change_output(fault),
+        Err(fault) => refused_output(fault),
     }
 }
 

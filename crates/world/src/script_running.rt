@@ -1,27 +1,10 @@
 //! A script from a reader to a writer.
 
+use crate::faults::RunFault;
 use crate::simulator::run;
-use script::{Reason, ScriptFault, echoed_text_of, read_script, text_of};
+use script::{ScriptFault, echoed_text_of, read_script, text_of};
 use std::alloc::{AllocError, Global};
 use std::io::{ErrorKind, Read, Write};
-use thiserror::Error;
-
-/// Why a script was not run to its end.
-#[derive(Clone, Copy, Debug, PartialEq, Eq, Error)]
-pub enum RunFault {
-    /// The reader failed; nothing was written.
-    #[error("the script could not be read")]
-    Read,
-    /// The script does not read, at that line; nothing was written.
-    #[error("line {line}: {reason}")]
-    Script { line: u64, reason: Reason },
-    /// The writer failed; a beginning of the text was written.
-    #[error("the output could not be written")]
-    Write,
-    /// Want of memory; nothing was written.
-    #[error("out of memory")]
-    Memory,
-}
 
 /// What stands before the lines that an event answers.
 #[derive(Clone, Copy, Debug, PartialEq, Eq)]

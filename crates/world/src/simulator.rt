@@ -4,6 +4,7 @@ ghost use Rattle.std.specs.Prelude.{◌≡◌, ◌≤◌, IfOk};
 ghost use Rattle.std.specs.List.{AllByRecursion};
 ghost use Rattle.script.specs.Events.{IsPossible};
 ghost use Rattle.world.specs.Theorem.{IsRun};
+ghost use Rattle.rows.specs.Limits.{replicas_max};
 
 use crate::world::World;
 use script::{Event, Output, Setup};
@@ -11,7 +12,7 @@ use std::alloc::{AllocError, Global};
 
 /// What each of the events answers, in order, from a primary without commits and replicas without
 /// frames on: the main theorem. The workers and replicas that an event names are the setup's, and
-/// for now there is one worker. Fails for want of memory alone, where the world cannot be made or
+/// for now there is one worker. Fails only when out of memory, where the world cannot be made or
 /// the outputs cannot be kept.
 ///
 /// The outputs are those of one run, by one legal list of commits: at each of its steps what is
@@ -21,7 +22,7 @@ use std::alloc::{AllocError, Global};
 /// follows.
 pub fn run(alloc: Global, setup: &Setup, events: &[Event]) -> Result<Vec<Output>, AllocError>
     requires workers { setup.now.workers ≡ 1 }
-    requires replicas { setup.now.replicas ≤ 16 }
+    requires replicas { setup.now.replicas ≤ replicas_max }
     requires possible { AllByRecursion (IsPossible setup.now.workers setup.now.replicas) events.now }
     ensures { IfOk result (λ outputs. IsRun setup.now events.now outputs.items) }
 {

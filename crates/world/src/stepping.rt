@@ -3,9 +3,9 @@
 
 ghost use Rattle.std.specs.Prelude.{◌≡◌, ◌<◌, ◌++◌, ◌⊎◌, length, IfOk, OnErr};
 ghost use Rattle.world.specs.Outputs.{sent_from, packets_of};
-ghost use Rattle.world.specs.Inner.Kept.{IsReady};
+ghost use Rattle.world.specs.Inner.Invariant.{IsReady};
 ghost use Rattle.script.specs.Events.{IsPossible, IsThere};
-ghost use Rattle.world.specs.Inner.Steps.{HappensBeside, MayStep, sent_one, with_sent};
+ghost use Rattle.world.specs.Inner.CoreSteps.{HappensBeside, MayStep, sent_one, with_sent};
 
 use crate::cores::Cores;
 use crate::naming::{ask_output, got_output, open_output};
@@ -56,8 +56,8 @@ impl Cores {
             Event::Abort { transaction } => self.abort(*transaction),
             Event::Flush { count } => self.flush(*count),
             Event::Push { worker, seq } => self.push(*worker, *seq),
-            Event::Deliver { place, node } => self.deliver(*place, *node),
-            Event::Show { place } => self.show(*place),
+            Event::Deliver { index, node } => self.deliver(*index, *node),
+            Event::Show { index } => self.show(*index),
             Event::Open { replica, plan } => self.open(*replica, *plan),
             Event::Ask { replica } => self.ask(*replica),
             Event::Run { replica } => self.run(*replica),
@@ -84,13 +84,13 @@ impl Cores {
         }
     }
 
-    /// Sends a datagram; for want of memory nothing is sent.
+    /// Sends a datagram; when out of memory nothing is sent.
     fn send(&mut self, packet: Packet) -> Output
         ensures { ((result ≡ sent_one self.old packet) × (self.new ≡ with_sent self.old packet))
             ⊎ ((result ≡ Output.Memory) × (self.new ≡ self.old)) }
     {
         let sent = Sent {
-            place: self.sent.len() as u64,
+            index: self.sent.len() as u64,
             len: packet.bytes().len(),
         };
         let Ok(list) = SentList::of_one(self.alloc, sent) else {
@@ -115,10 +115,10 @@ impl Cores {
     fn deliver_to_primary(&mut self, index: u64) -> Output
         ensures { HappensBeside self.old (Event.Deliver index Node.Primary) result self.new }
     {
-        if index >= self.sent.len() as u64 {
+        let Some(packet) = self.sent.get(index as usize) else {
             return Output::NeverSent;
-        }
-        let Ok(outs) = self.primary.on_bytes(self.sent[index as usize].bytes()) else {
+        };
+        let Ok(outs) = self.primary.on_bytes(packet.bytes()) else {
             return Output::Memory;
         };
         if outs.is_empty() {
@@ -134,21 +134,20 @@ impl Cores {
         requires { number < length self.old.replicas }
         ensures { MayStep self.old (Event.Deliver index (Node.Replica number)) result self.new }
     {
-        if index >= self.sent.len() as u64 {
+        let Some(packet) = self.sent.get(index as usize) else {
             return Output::NeverSent;
-        }
-        let bytes = self.sent[index as usize].bytes();
+        };
         let replica = &mut self.replicas[number as usize];
-        got_output(replica.on_bytes(bytes))
+        got_output(replica.on_bytes(packet.bytes()))
     }
 
     fn show(&self, index: u64) -> Output
         ensures { HappensBeside self.now (Event.Show index) result self.now }
     {
-        if index >= self.sent.len() as u64 {
+        let Some(packet) = self.sent.get(index as usize) else {
             return Output::NeverSent;
-        }
-        match Vec::from_slice(self.alloc, self.sent[index as usize].bytes()) {
+        };
+        match Vec::from_slice(self.alloc, packet.bytes()) {
             Ok(bytes) => Output::Shown(ByteList::from_vec(bytes)),
             Err(_) => Output::Memory,
         }
@@ -185,7 +184,7 @@ impl Cores {
                     self.asked_at[number as usize] = durable;
                 }
                 list.push_reserved(Sent {
-                    place: self.sent.len() as u64,
+                    index: self.sent.len() as u64,
                     len: out.packet.bytes().len(),
                 });
                 self.sent.push_reserved(out.packet);
@@ -210,7 +209,7 @@ impl Cores {
             Run::WaitingHead => Output::WaitingHead,
             Run::Waiting { worker, seq, want } => {
                 let sent = Sent {
-                    place: self.sent.len() as u64,
+                    index: self.sent.len() as u64,
                     len: want.packet.bytes().len(),
                 };
                 self.sent.push_reserved(want.packet);
@@ -228,8 +227,8 @@ impl Cores {
     }
 }
 
-/// Sends datagrams one after the other, and answers where they are found. Fails for want of
-/// memory alone, and then nothing is sent.
+/// Sends datagrams one after the other, and answers where they are found. Fails only when out of
+/// memory, and then nothing is sent.
 fn send_all(alloc: Global, sent: &mut Vec<Packet>, outs: Vec<Out>) -> Result<SentList, AllocError>
     ensures ok { IfOk result (λ list. (list ≡ sent_from (length sent.old.items) outs.items)
         × (sent.new.items ≡ sent.old.items ++ packets_of outs.items)) }
@@ -248,7 +247,7 @@ fn sent_behind(alloc: Global, sent: &[Packet], outs: &[Out]) -> Result<Vec<Sent>
     let mut list = Vec::new(alloc);
     for (index, out) in outs.iter().enumerate() {
         list.push(Sent {
-            place: (sent.len() + index) as u64,
+            index: (sent.len() + index) as u64,
             len: out.packet.bytes().len(),
         })?;
     }

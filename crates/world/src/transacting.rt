@@ -3,9 +3,9 @@
 ghost use Rattle.std.specs.Prelude.{◌≡◌, ◌<◌, None, Some, IfSome, slice_set, vec_len};
 ghost use Rattle.std.specs.Option.{option_map};
 ghost use Rattle.script.specs.declared.event.Event.{Event};
-ghost use Rattle.world.specs.Inner.Kept.{IsReady};
-ghost use Rattle.world.specs.Inner.Steps.{HappensBeside};
-ghost use Rattle.world.specs.World.{open_draft};
+ghost use Rattle.world.specs.Inner.Invariant.{IsReady};
+ghost use Rattle.world.specs.Inner.CoreSteps.{HappensBeside};
+ghost use Rattle.world.specs.Steps.{open_draft};
 
 use crate::cores::Cores;
 use crate::naming::{change_output, commit_output, look_output};
@@ -39,10 +39,7 @@ impl Cores {
         let values = values.as_slice();
         let inserted = transaction.insert(self.primary.versions(), table, row, values);
         put_back(&mut self.transactions, number, transaction);
-        match inserted {
-            Ok(()) => Output::Accepted,
-            Err(fault) => change_output(fault),
-        }
+        change_output(inserted)
     }
 
     /// Gives one column of a row another value.
@@ -56,10 +53,7 @@ impl Cores {
         let column = column as usize;
         let set = transaction.set(self.primary.versions(), table, row, column, value);
         put_back(&mut self.transactions, number, transaction);
-        match set {
-            Ok(()) => Output::Accepted,
-            Err(fault) => change_output(fault),
-        }
+        change_output(set)
     }
 
     /// Takes a row out.
@@ -72,10 +66,7 @@ impl Cores {
         };
         let deleted = transaction.delete(self.primary.versions(), table, row);
         put_back(&mut self.transactions, number, transaction);
-        match deleted {
-            Ok(()) => Output::Accepted,
-            Err(fault) => change_output(fault),
-        }
+        change_output(deleted)
     }
 
     /// Looks at one column of a row, as the transaction sees it.

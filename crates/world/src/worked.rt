@@ -3,7 +3,7 @@
 ghost use Rattle.std.specs.Prelude.{◌≡◌};
 ghost use Rattle.world.specs.Worked.{first_commit, first_commit_outputs, lost_frame, lost_frame_outputs, conflict, conflict_outputs};
 ghost use Rattle.world.specs.Worked.{write_skew, write_skew_outputs, refusals, refusals_outputs, worked_world};
-ghost use Rattle.world.specs.World.{outputs_of};
+ghost use Rattle.world.specs.Steps.{outputs_of};
 
 /// What the definitions of the world say of five lists of events: a first commit that is reported,
 /// the same where its frame is lost at first, two transactions that change one row, two that each

@@ -8,6 +8,7 @@ ghost use Rattle.world.specs.Parts.{parts_started};
 ghost use Rattle.world.specs.Allowed.{MayHappen};
 ghost use Rattle.world.specs.Standing.{world_of, AreFed};
 ghost use Rattle.world.specs.Theorem.{ReportsItsBatch, IsBeginning, IsFaultless};
+ghost use Rattle.rows.specs.Limits.{replicas_max};
 
 use crate::cores::Cores;
 use script::{Event, Output, Setup};
@@ -24,7 +25,7 @@ pub struct World {
 
 impl Model for World {
     ghost use Rattle.world.specs.Parts.{Parts};
-    ghost use Rattle.world.specs.Inner.Kept.{IsKept};
+    ghost use Rattle.world.specs.Inner.Invariant.{IsKept};
 
     ghost Value = { Parts };
 
@@ -35,10 +36,10 @@ impl Model for World {
 
 impl World {
     /// A primary without commits, and replicas without frames, each with boot 1. For now there is
-    /// one worker. Fails for want of memory alone.
+    /// one worker. Fails only when out of memory.
     pub fn new(alloc: Global, setup: &Setup) -> Result<World, AllocError>
         requires workers { setup.now.workers ≡ 1 }
-        requires replicas { setup.now.replicas ≤ 16 }
+        requires replicas { setup.now.replicas ≤ replicas_max }
         ensures { IfOk result (λ world. world ≡ parts_started setup.now) }
     {
         setup.schema.keeps_limits();

@@ -5,11 +5,11 @@ use Rattle.rows.specs.declared.commit.Commit.{Commit}
 use Rattle.rows.specs.declared.limits.TheConstants.{REPLICAS_MAX}
 use Rattle.wire.specs.declared.datagram.Datagram.{Datagram}
 use Rattle.wire.specs.declared.datagram.Datagram.TheVariants as datagrams
-use Rattle.wire.specs.declared.fault.WireFault.{WireFault}
+use Rattle.wire.specs.declared.faults.WireFault.{WireFault}
 use Rattle.wire.specs.Reading.{reading}
 use Rattle.wire.specs.Spelling.{IsAsk}
-use Rattle.dispatcher.specs.Replica.{Fetched}
-use Rattle.world.specs.World.{World, Member, Batch}
+use Rattle.dispatcher.specs.State.{Fetched}
+use Rattle.world.specs.Steps.{World, Member, Batch}
 
 -- a batch asked at a version that is durable, and what was fetched for it is at least as new
 pub record IsFreshBatch (durable : List Commit) (batch : Batch) : Type 0 where

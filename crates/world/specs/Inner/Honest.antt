@@ -5,7 +5,7 @@ use Rattle.rows.specs.Commits.{tables_after}
 use Rattle.rows.specs.Shape.{shape_of}
 use Rattle.mvcc.specs.Draft.{Draft}
 use Rattle.primary.specs.State.{Primary}
-use Rattle.world.specs.World.{World}
+use Rattle.world.specs.Steps.{World}
 
 -- a transaction that the primary began: its entries are defined on the rows at a version that is durable
 pub record IsBegun (p : Primary) (draft : Draft) : Type 0 where

@@ -8,14 +8,14 @@ use Rattle.rows.specs.Shape.{Shape, shape_of}
 use Rattle.rows.specs.Spelling.{HasSpelling}
 use Rattle.wire.specs.declared.datagram.Datagram.{Datagram}
 use Rattle.wire.specs.declared.datagram.Datagram.TheVariants as datagrams
-use Rattle.wire.specs.declared.fault.WireFault.{WireFault}
+use Rattle.wire.specs.declared.faults.WireFault.{WireFault}
 use Rattle.wire.specs.Reading.{reading}
 use Rattle.wire.specs.Spelling.{IsAsk}
 use Rattle.mvcc.specs.declared.transaction.TheConstants.{TRANSACTION_ENTRIES_MAX}
 use Rattle.mvcc.specs.Draft.{Draft}
 use Rattle.primary.specs.State.{Primary}
 use Rattle.dispatcher.specs.Feeding.{IsFedFrom, Tells}
-use Rattle.dispatcher.specs.Replica.{Replica, Batch as ReplicaBatch}
+use Rattle.dispatcher.specs.State.{Replica, Batch as ReplicaBatch}
 use Rattle.world.specs.Parts.{Parts}
 
 -- a commit of the only worker, with one or two entries, each of which has a spelling

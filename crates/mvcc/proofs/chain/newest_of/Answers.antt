@@ -1,4 +1,4 @@
--- The last link is at the last place.
+-- The last link stands at the end.
 use Rattle.std.proofs.Common.{sym}
 use Rattle.mvcc.proofs.Links.{newest-last}
 use Rattle.mvcc.proofs.chain.newest_of.Goals as goal

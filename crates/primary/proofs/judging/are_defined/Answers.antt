@@ -1,7 +1,7 @@
 -- One entry that is not defined behind those before it decides, and the row of one that is is told.
 use Rattle.std.proofs.Common.{◌==◌, ◌&&◌, cond, Some, take, sym, ap, ◌∙◌}
 use Rattle.rows.specs.Entries.{table_of, row_of}
-use Rattle.primary.specs.RowsTold.{told_of}
+use Rattle.primary.specs.Inner.RowsTold.{told_of}
 use Rattle.primary.proofs.Definedness.{defined-more, not_defined-more, spelled-more, told-there}
 use Rattle.primary.proofs.Telling.{told-more}
 use Rattle.primary.proofs.judging.are_defined.Goals as goal

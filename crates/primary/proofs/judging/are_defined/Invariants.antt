@@ -3,7 +3,7 @@ use Rattle.std.proofs.Common.{◌≡◌, true, take}
 use Rattle.std.specs.List.{AllByRecursion}
 use Rattle.rows.specs.Spelling.{HasSpelling}
 use Rattle.mvcc.specs.History.{defined_at}
-use Rattle.primary.specs.RowsTold.{IsToldAfter}
+use Rattle.primary.specs.Inner.RowsTold.{IsToldAfter}
 use Rattle.primary.proofs.judging.are_defined.Given as goal
 
 abbrev pub invariant-loop-entry : goal.invariant-loop-entry

@@ -1,7 +1,7 @@
 -- The counts of the workers so far.
 use Rattle.std.proofs.Common.{◌≡◌, List, length}
 use Rattle.rows.specs.declared.commit.Commit.{Commit}
-use Rattle.primary.specs.StreamNumbers.{AreStreams}
+use Rattle.primary.specs.Inner.StreamNumbers.{AreStreams}
 use Rattle.primary.specs.Sending.{counts_of}
 use Rattle.primary.proofs.sending.counts.Given as goal
 

@@ -1,7 +1,8 @@
 -- The map holds the tables before the index, and those from it on have no fault behind them.
 use Rattle.std.proofs.Common.{◌≡◌, map, take, drop, None}
 use Rattle.rows.specs.SchemaFaults.{tables_fault}
-use Rattle.rows.specs.Shown.{given, shown}
+use Rattle.rows.specs.Shape.{given}
+use Rattle.rows.specs.Inner.Shown.{shown}
 use Rattle.rows.proofs.schema.build.Given as goal
 
 abbrev pub invariant-loop-name : goal.invariant-loop-name

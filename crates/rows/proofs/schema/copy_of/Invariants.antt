@@ -1,7 +1,7 @@
 -- The copy and what is left are the whole, and what is left has no fault behind the copy.
 use Rattle.std.proofs.Common.{◌≡◌, ◌++◌, map, None}
 use Rattle.rows.specs.SchemaFaults.{tables_fault}
-use Rattle.rows.specs.Shown.{shown}
+use Rattle.rows.specs.Inner.Shown.{shown}
 use Rattle.rows.proofs.schema.copy_of.Given as goal
 
 abbrev pub invariant-loop-name : goal.invariant-loop-name

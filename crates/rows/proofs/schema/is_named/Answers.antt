@@ -4,7 +4,7 @@ use Rattle.std.specs.Str.{bytes_eq}
 use Rattle.std.proofs.lemmas.Iterator.{YieldsList-from_slice}
 use Rattle.std.proofs.lemmas.Iterator.Search.{any_from_yields_List}
 use borrow.Author.Tests.{tests}
-use Rattle.rows.specs.Shown.{given}
+use Rattle.rows.specs.Shape.{given}
 use Rattle.rows.proofs.Schemas.{list_any-map}
 use Rattle.rows.proofs.schema.is_named.Goals as goal
 

@@ -1,4 +1,4 @@
--- The head fills the first twelve places, and the data those behind it.
+-- The head fills the first twelve bytes, and the data those behind it.
 use Rattle.std.proofs.Common.{◌≡◌, ◌+◌, ◌-◌, ◌++◌, length, drop, arith, ap, ◌∙◌}
 use Rattle.rows.proofs.Spelling.{both_written}
 use Rattle.rows.proofs.writing.write_insert.Goals as goal

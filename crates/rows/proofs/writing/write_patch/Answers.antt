@@ -1,4 +1,4 @@
--- The head fills the first fourteen places, and the data those behind it.
+-- The head fills the first fourteen bytes, and the data those behind it.
 use Rattle.std.proofs.Common.{◌≡◌, ◌+◌, ◌-◌, ◌++◌, length, drop, arith, ap, ◌∙◌}
 use Rattle.rows.proofs.Spelling.{both_written}
 use Rattle.rows.proofs.writing.write_patch.Goals as goal

@@ -2,5 +2,5 @@
 use Rattle.std.proofs.Common.{◌≡◌}
 use Rattle.scenarios.proofs.primary_steps.other_answer.Given as goal
 
-abbrev pub invariant-loop-place : goal.invariant-loop-place
-invariant-loop-place l = l.primary.workers ≡ l.workers
+abbrev pub invariant-loop-index : goal.invariant-loop-index
+invariant-loop-index l = l.primary.workers ≡ l.workers

@@ -2,5 +2,5 @@
 use Rattle.rows.specs.Spelling.{AreBytes}
 use Rattle.script.proofs.words.octets_of.Given as goal
 
-abbrev pub invariant-loop-place : goal.invariant-loop-place
-invariant-loop-place l = AreBytes l.bytes
+abbrev pub invariant-loop-index : goal.invariant-loop-index
+invariant-loop-index l = AreBytes l.bytes

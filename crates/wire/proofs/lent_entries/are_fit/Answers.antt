@@ -18,7 +18,7 @@ unreachable-requires c =
 pub returns-then-is_err : goal.returns-then-is_err
 returns-then-is_err c =
     let fails : is_ok (fitting (shape_of c.args.schema.now) (seen (c.in-Some.entry, c.in-Some.len)).0) ≡ false =
-    ap is_ok (sym c.fits_lent.ensures) ∙ c.if-is_err.ensures.negation in
+    ap is_ok (sym c.fits_lent.ensures.exact) ∙ c.if-is_err.ensures.negation in
     passed_not (λ (entry : Entry). is_ok (fitting (shape_of c.args.schema.now) entry)) c.args.count c.loop.counter c.loop.rest.now
     (seen (c.in-Some.entry, c.in-Some.len))
     (list_all (λ (entry : Entry). is_ok (fitting (shape_of c.args.schema.now) entry))
@@ -27,7 +27,7 @@ returns-then-is_err c =
 pub loop-preserved : goal.loop-preserved
 loop-preserved c =
     let passes : is_ok (fitting (shape_of c.args.schema.now) (seen (c.in-Some.entry, c.in-Some.len)).0) ≡ true =
-    ap is_ok (sym c.fits_lent.ensures) ∙ c.if-is_err.ensures.negation in
+    ap is_ok (sym c.fits_lent.ensures.exact) ∙ c.if-is_err.ensures.negation in
     rw c.split_at.ensures.back (passed_more (λ (entry : Entry). is_ok (fitting (shape_of c.args.schema.now) entry)) c.args.count
     c.loop.counter c.loop.rest.now (seen (c.in-Some.entry, c.in-Some.len))
     (list_all (λ (entry : Entry). is_ok (fitting (shape_of c.args.schema.now) entry))

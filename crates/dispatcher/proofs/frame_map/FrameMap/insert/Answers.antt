@@ -4,7 +4,7 @@ use Rattle.std.proofs.Common.{◌≡◌, ℕ, ◌-◌, ◌≤◌, List, length, 
 use Rattle.std.specs.Ordering.{nat_cmp}
 use Rattle.std.specs.Map.{keys_of}
 use Rattle.std.specs.BTreeMap.{insert_entry}
-use Rattle.wire.specs.declared.frame.Frame.{Frame}
+use Rattle.update_log.specs.declared.frame.Frame.{Frame}
 use Rattle.dispatcher.specs.Known.{missing_from, first_missing}
 use Rattle.dispatcher.proofs.Seqs.{missing_from-unknown, missing_from-known, is_known-lookup, first_missing-on, length-keys_of}
 use Rattle.dispatcher.proofs.Seqs.{length-insert_entry}

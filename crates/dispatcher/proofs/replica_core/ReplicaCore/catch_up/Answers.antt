@@ -1,7 +1,7 @@
 -- The frames hold commits in order, which were applied or not; or they hold none, or not as many as are wanted.
 use Rattle.std.proofs.Common.{refl, sym, ap, ◌∙◌}
 use Rattle.std.specs.Option.{option_map}
-use Rattle.dispatcher.specs.Inner.Core.{replica_of}
+use Rattle.dispatcher.specs.Inner.Invariant.{replica_of}
 use Rattle.dispatcher.proofs.Listed.{caught_up-unreached, caught_up-unlisted, catches_up-applied}
 use Rattle.dispatcher.proofs.replica_core.ReplicaCore.catch_up.Goals as goal
 

@@ -1,7 +1,7 @@
 -- The batch is answered on the tables that have caught up.
 use Rattle.std.proofs.Common.{ap, ◌∙◌, Some}
 use Rattle.std.specs.Option.{option_map}
-use Rattle.dispatcher.specs.Inner.Core.{replica_of, batch_of, fetched_of}
+use Rattle.dispatcher.specs.Inner.Invariant.{replica_of, batch_of, fetched_of}
 use Rattle.dispatcher.proofs.Running.{run_answers}
 use Rattle.dispatcher.proofs.replica_core.ReplicaCore.run.Goals as goal
 

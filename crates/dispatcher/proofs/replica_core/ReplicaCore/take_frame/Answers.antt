@@ -1,9 +1,9 @@
 -- Each test of the code is that of `frame_comes`, in the same order.
 use Rattle.std.proofs.Common.{inl, inr, refl, sym, ap, ◌∙◌, lt-ltb}
-use Rattle.wire.specs.declared.frame.Frame.{Frame}
+use Rattle.update_log.specs.declared.frame.Frame.{Frame}
 use Rattle.dispatcher.specs.declared.outcome.Got.{Got}
-use Rattle.dispatcher.specs.Inner.Core.{replica_of}
-use Rattle.dispatcher.specs.Replica.{Replica}
+use Rattle.dispatcher.specs.Inner.Invariant.{replica_of}
+use Rattle.dispatcher.specs.State.{Replica}
 use Rattle.dispatcher.proofs.Coming.{comes-unfit, comes-repeat, comes-ahead, comes-stored}
 use Rattle.dispatcher.proofs.replica_core.ReplicaCore.take_frame.Goals as goal
 use Rattle.dispatcher.proofs.replica_core.ReplicaCore.take_frame.Goals.{in-Ok-insert, in-Err}

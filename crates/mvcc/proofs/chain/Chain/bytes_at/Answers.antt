@@ -1,6 +1,6 @@
--- The link before the place where the later versions begin.
+-- The link before where the later versions begin.
 use Rattle.std.proofs.Common.{◌≤◌, None, length, take, sym, ap, subst, ◌∙◌}
-use Rattle.mvcc.specs.Chains.{bytes_at, latest_in}
+use Rattle.mvcc.specs.Inner.Chains.{bytes_at, latest_in}
 use Rattle.mvcc.proofs.Links.{latest-before}
 use Rattle.mvcc.proofs.chain.Chain.bytes_at.Goals as goal
 

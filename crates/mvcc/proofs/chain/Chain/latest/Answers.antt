@@ -1,4 +1,4 @@
--- The last link is at the last place.
+-- The last link stands at the end.
 use Rattle.std.proofs.Common.{◌-◌, None, length, sym, ap, ◌∙◌}
 use Rattle.std.specs.List.{slice_get}
 use Rattle.mvcc.proofs.Links.{latest-last}

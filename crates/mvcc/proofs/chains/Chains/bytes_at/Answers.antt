@@ -3,7 +3,7 @@ use Rattle.std.proofs.Common.{sym, ap, subst, ◌∙◌}
 use Rattle.std.specs.List.Sorted.{IsNonDecreasingBy}
 use Rattle.rows.proofs.Keys.{lookup-key}
 use Rattle.mvcc.specs.declared.link.Link.{Link}
-use Rattle.mvcc.specs.Chains.{links_found, links_at}
+use Rattle.mvcc.specs.Inner.Chains.{links_found, links_at}
 use Rattle.mvcc.proofs.chains.Chains.bytes_at.Goals as goal
 
 pub bytes_at-requires : goal.bytes_at-requires

@@ -1,6 +1,6 @@
 -- One row's chain was cut, and no other; where the row has none, nothing is cut.
 use Rattle.std.proofs.Common.{sym, subst}
-use Rattle.mvcc.specs.Chains.{cut_at, Turns}
+use Rattle.mvcc.specs.Inner.Chains.{cut_at, Turns}
 use Rattle.mvcc.proofs.Links.{links-set, links-left, cut-none}
 use Rattle.mvcc.proofs.chains.Chains.cut.Goals as goal
 

@@ -1,6 +1,6 @@
 -- What is still to be cut of each chain so far is what was to be cut of the first.
 use Rattle.std.proofs.Common.{◌≡◌, ℕ, drop}
-use Rattle.mvcc.specs.Chains.{links_at, cut_all}
+use Rattle.mvcc.specs.Inner.Chains.{links_at, cut_all}
 use Rattle.mvcc.proofs.chains.Chains.cut_entries.Given as goal
 
 abbrev pub invariant-loop-entry : goal.invariant-loop-entry

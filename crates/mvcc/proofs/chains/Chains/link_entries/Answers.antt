@@ -1,6 +1,6 @@
 -- Each entry links one more, and a refusal leaves what can be cut.
 use Rattle.std.proofs.Common.{sym, subst}
-use Rattle.mvcc.specs.Chains.{AreChainsCut}
+use Rattle.mvcc.specs.Inner.Chains.{AreChainsCut}
 use Rattle.mvcc.proofs.Keeping.{kept-begun, kept-linked, cut-part, on_err}
 use Rattle.mvcc.proofs.chains.Chains.link_entries.Goals as goal
 

@@ -1,6 +1,6 @@
 -- The chains are those of the commits, and one more of the entries so far.
 use Rattle.std.proofs.Common.{take}
-use Rattle.mvcc.specs.Chains.{and_entries, AreChains}
+use Rattle.mvcc.specs.Inner.Chains.{and_entries, AreChains}
 use Rattle.mvcc.proofs.chains.Chains.link_entries.Given as goal
 
 abbrev pub invariant-loop-entry : goal.invariant-loop-entry

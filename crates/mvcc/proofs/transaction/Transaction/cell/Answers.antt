@@ -4,8 +4,8 @@ use Rattle.rows.specs.Shape.{shape_of}
 use Rattle.rows.specs.Tables.{rows_of, row_at}
 use Rattle.rows.specs.Commits.{tables_after}
 use Rattle.rows.proofs.RowLaws.{row-seen}
-use Rattle.mvcc.specs.OwnRows.{picked, places_at}
-use Rattle.mvcc.specs.Cells.{cell_of, cell_after}
+use Rattle.mvcc.specs.Inner.OwnRows.{picked, indices_at}
+use Rattle.mvcc.specs.Inner.Cells.{cell_of, cell_after}
 use Rattle.mvcc.proofs.Effects.{unlisted}
 use Rattle.mvcc.proofs.CellLaws.{cell-row}
 use Rattle.mvcc.proofs.transaction.Transaction.cell.Goals as goal
@@ -36,16 +36,16 @@ returns-in-Some c =
     let row = c.args.row.0 in
     let column = c.args.column in
     let kinds = c.in-Some.kinds.now in
-    let places = places_at inside.rows table row in
+    let indices = indices_at inside.rows table row in
     let was = row_at (rows_of (tables_after shape versions.commits inside.snapshot) table) row in
     let some : slice_get shape table ≡ Some kinds =
     sym (c.in-Some.ensures.value ∙ ap (λ schema. slice_get (shape_of schema) table) c.schema.ensures) in
     rw (← c.self.view_is)
     (c.cell_after.ensures
-    ∙ ap (λ own. cell_after kinds table row column (picked own c.places-places.result.now) c.cell_at-was.result)
+    ∙ ap (λ own. cell_after kinds table row column (picked own c.indices-indices.result.now) c.cell_at-was.result)
     c.as_slice-entries.ensures.value
-    ∙ ap (λ places. cell_after kinds table row column (picked entries places) c.cell_at-was.result) c.places-places.ensures
-    ∙ ap (cell_after kinds table row column (picked entries places)) c.cell_at-was.ensures
-    ∙ sym (cell-row shape kinds table row column (picked entries places) was some)
+    ∙ ap (λ indices. cell_after kinds table row column (picked entries indices) c.cell_at-was.result) c.indices-indices.ensures
+    ∙ ap (cell_after kinds table row column (picked entries indices)) c.cell_at-was.ensures
+    ∙ sym (cell-row shape kinds table row column (picked entries indices) was some)
     ∙ ap (cell_of column) (c.self.invariant.1.told table row shape was
     ∙ sym (row-seen shape versions.commits inside.snapshot entries table row)))

@@ -3,7 +3,7 @@ use Rattle.std.proofs.Common.{◌≡◌, true, [], ◌∷◌, ◌++◌, length, 
 use Rattle.rows.specs.declared.commit.Commit.{Commit}
 use Rattle.rows.specs.Shape.{shape_of}
 use Rattle.mvcc.specs.History.{History, defined_at}
-use Rattle.mvcc.specs.Chains.{and_entries, AreChains}
+use Rattle.mvcc.specs.Inner.Chains.{and_entries, AreChains}
 use Rattle.mvcc.proofs.Keeping.{versions-push}
 use Rattle.mvcc.proofs.versions.Versions.absorb.Goals as goal
 

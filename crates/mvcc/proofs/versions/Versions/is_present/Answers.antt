@@ -3,7 +3,7 @@ use Rattle.std.proofs.Common.{sym, ap, ◌∙◌}
 use Rattle.std.specs.Option.{is_some}
 use Rattle.rows.specs.Shape.{shape_of, kinds_in}
 use Rattle.rows.specs.Values.{values_of}
-use Rattle.mvcc.specs.Chains.{bytes_at, links_at}
+use Rattle.mvcc.specs.Inner.Chains.{bytes_at, links_at}
 use Rattle.mvcc.proofs.Keeping.{sorted-at, row-kept, is_some-map}
 use Rattle.mvcc.proofs.versions.Versions.is_present.Goals as goal
 

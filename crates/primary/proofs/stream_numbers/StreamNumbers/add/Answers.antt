@@ -1,6 +1,6 @@
 -- The number goes behind those of its worker.
 use Rattle.std.proofs.Common.{◌<◌, List, length, subst, sym}
-use Rattle.primary.specs.StreamNumbers.{Numbers, AreStreams}
+use Rattle.primary.specs.Inner.StreamNumbers.{Numbers, AreStreams}
 use Rattle.primary.proofs.Numbering.{streams-push, within-room}
 use Rattle.primary.proofs.stream_numbers.StreamNumbers.add.Goals as goal
 

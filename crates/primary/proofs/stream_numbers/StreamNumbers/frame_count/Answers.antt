@@ -2,7 +2,7 @@
 use Rattle.std.proofs.Common.{◌≡◌, ◌<◌, ℕ, List, length, subst, sym, ◌∙◌, rules}
 use Rattle.std.specs.Prelude.{nat_le}
 use Rattle.std.proofs.lemmas.List.Sorted.{IsPartitionedBy-leb, IsPartitionPoint-from_clause}
-use Rattle.primary.specs.StreamNumbers.{Numbers, AreStreams, numbers_of}
+use Rattle.primary.specs.Inner.StreamNumbers.{Numbers, AreStreams, numbers_of}
 use Rattle.primary.proofs.Numbering.{frame_count-from, numbers-kept}
 use Rattle.primary.proofs.stream_numbers.StreamNumbers.frame_count.Goals as goal
 

@@ -1,6 +1,6 @@
 -- Each list so far is empty.
 use Rattle.std.proofs.Common.{◌≡◌, ℕ, [], length}
-use Rattle.primary.specs.StreamNumbers.{numbers_at}
+use Rattle.primary.specs.Inner.StreamNumbers.{numbers_at}
 use Rattle.primary.proofs.stream_numbers.StreamNumbers.start.Given as goal
 
 abbrev pub invariant-loop : goal.invariant-loop

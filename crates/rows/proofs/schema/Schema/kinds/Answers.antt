@@ -1,4 +1,4 @@
--- The entry at a place, seen as a table, has these kinds; the invariant bounds them.
+-- An entry of the map, seen as a table, has these kinds; the invariant bounds them.
 use Rattle.std.proofs.Common.{Some, slice_get, sym, ap, ◌∙◌}
 use Rattle.rows.specs.Shape.{shape_of}
 use Rattle.rows.proofs.Schemas.{AreColumns-schema, kinds_at}

@@ -1,4 +1,4 @@
--- The place among the map's keys is the place among its tables.
+-- The number among the map's keys is the number among its tables.
 use Rattle.std.proofs.Common.{position, ap, ◌∙◌}
 use Rattle.std.specs.Str.{bytes_eq}
 use Rattle.rows.proofs.Schemas.{place_of_name}

@@ -1,4 +1,4 @@
--- The transaction is taken out of its slot, and put back for want of memory.
+-- The transaction is taken out of its slot, and put back when out of memory.
 use Rattle.std.proofs.Common.{refl, sym, ◌∙◌}
 use Rattle.world.proofs.Moving.{beside_memory, commit_nothing, put_back_same}
 use Rattle.world.proofs.cores.Cores.commit.Goals as goal

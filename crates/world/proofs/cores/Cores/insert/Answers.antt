@@ -6,9 +6,8 @@ use Rattle.mvcc.specs.Transactions.{insert_answer}
 use Rattle.script.specs.declared.event.Event.TheVariants.{Insert}
 use Rattle.world.proofs.Slots.{slot_at}
 use Rattle.world.proofs.Told.{insert-told}
-use Rattle.world.proofs.Moving.{change_nothing, changed, change_refused}
+use Rattle.world.proofs.Moving.{change_nothing, answered}
 use Rattle.world.proofs.cores.Cores.insert.Goals as goal
-use Rattle.world.proofs.cores.Cores.insert.Goals.{in-Ok, in-Err}
 
 pub returns-in_default : goal.returns-in_default
 returns-in_default c =
@@ -42,10 +41,7 @@ returns c =
     draft there snapshots in
     let told = sym (insert-told (shape_of primary.schema) primary.durable primary.pending draft c.args.table c.args.row.0 within
     c.args.values.now) in
-    elim c.match-inserted.branch [
-      | in-Ok w ↦ rw w.result-is (changed _ _ c.self.view_is c.args.number event change refl draft after _ there left
-          (told ∙ (rw (c.versions.ensures, c.as_slice-values.ensures) at w.in-Ok.ensures.ok)))
-      | in-Err w ↦ rw (w.result-is, w.change_output.ensures)
-          (change_refused _ _ c.self.view_is c.args.number event change refl draft after _ _ _ there left
-          w.in-Err.ensures.refused.0 told (rw (c.versions.ensures, c.as_slice-values.ensures) at w.in-Err.ensures.refused.1))
-    ]
+    rw (c.change_output.ensures) (answered _ _ c.self.view_is c.args.number event change refl draft after _ _
+    c.insert-inserted.result there left told
+    (rw (c.versions.ensures, c.as_slice-values.ensures) at c.insert-inserted.ensures.ok)
+    (rw (c.versions.ensures, c.as_slice-values.ensures) at c.insert-inserted.ensures.refused))

@@ -6,9 +6,8 @@ use Rattle.mvcc.specs.Transactions.{set_answer}
 use Rattle.script.specs.declared.event.Event.TheVariants.{Set}
 use Rattle.world.proofs.Slots.{slot_at}
 use Rattle.world.proofs.Told.{set-told}
-use Rattle.world.proofs.Moving.{change_nothing, changed, change_refused}
+use Rattle.world.proofs.Moving.{change_nothing, answered}
 use Rattle.world.proofs.cores.Cores.set.Goals as goal
-use Rattle.world.proofs.cores.Cores.set.Goals.{in-Ok, in-Err}
 
 pub returns-in_default : goal.returns-in_default
 returns-in_default c =
@@ -43,10 +42,7 @@ returns c =
     let told =
     sym (set-told (shape_of primary.schema) primary.durable primary.pending draft c.args.table c.args.row.0 within c.args.column
     c.args.value) in
-    elim c.match-set.branch [
-      | in-Ok w ↦ rw w.result-is (changed _ _ c.self.view_is c.args.number event change refl draft after _ there left
-          (told ∙ (rw (c.versions.ensures) at w.in-Ok.ensures.ok)))
-      | in-Err w ↦ rw (w.result-is, w.change_output.ensures)
-          (change_refused _ _ c.self.view_is c.args.number event change refl draft after _ _ _ there left
-          w.in-Err.ensures.refused.0 told (rw (c.versions.ensures) at w.in-Err.ensures.refused.1))
-    ]
+    rw (c.change_output.ensures) (answered _ _ c.self.view_is c.args.number event change refl draft after _ _
+    c.set-set.result there left told
+    (rw (c.versions.ensures) at c.set-set.ensures.ok)
+    (rw (c.versions.ensures) at c.set-set.ensures.refused))

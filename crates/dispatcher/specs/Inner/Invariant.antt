@@ -1,0 +1,51 @@
+-- How the fields of a replica's core make the state that its contracts speak of, and what holds of them.
+use Rattle.std.specs.Prelude.{◌≡◌, ℕ, ◌<◌, ◌≤◌, [], length, Bool, true, false, Option, None, Some, if◌then◌else◌, slice_index, IfSome}
+use Rattle.std.specs.Option.{option_map}
+use Rattle.dispatcher.specs.declared.batch.Batch.{Batch as HeldBatch}
+use Rattle.dispatcher.specs.declared.batch.Fetched.{Fetched as HeldFetched}
+use Rattle.dispatcher.specs.declared.replica_core.ReplicaCore.TheInside.{Inside}
+use Rattle.dispatcher.specs.State.{Replica, Batch, Fetched}
+use Rattle.rows.specs.Shape.{shape_of}
+use Rattle.rows.specs.Tables.{Tables}
+use Rattle.rows.specs.Limits.{replicas_max}
+
+abbrev pub fetched_of : HeldFetched → Fetched
+fetched_of held = record { version = held.version; counts = held.counts }
+
+abbrev pub batch_of : HeldBatch → Batch
+batch_of held = record { plans = held.plans.items; fetched = option_map fetched_of held.fetched }
+
+-- a replica on a store of these tables
+abbrev pub replica_of : {S Place Fault : Type 0} → (S → Tables) → Inside S Place Fault → Replica
+replica_of tables a = record {
+  shape = shape_of a.schema;
+  workers = a.workers;
+  number = a.number;
+  boot = a.boot;
+  request = a.request;
+  frames = a.frames;
+  applied = a.applied;
+  tables = if a.broken then [] else tables a.store;
+  version = a.version;
+  waiting = a.waiting.items;
+  batch = option_map batch_of a.batch;
+  broken = a.broken;
+}
+
+-- what was fetched has one count, and goes back neither in version nor in count
+pub record GoesOn (version applied : ℕ) (fetched : HeldFetched) : Type 0 where
+  pub one : length fetched.counts ≡ 1
+  pub version_on : version ≤ fetched.version
+  pub count_on : applied ≤ slice_index fetched.counts 0
+
+-- what was fetched for a batch, if there is one and something was
+abbrev pub BatchGoesOn : ℕ → ℕ → Option HeldBatch → Type 0
+BatchGoesOn version applied None = Unit {0}
+BatchGoesOn version applied (Some batch) = IfSome batch.fetched (GoesOn version applied)
+
+-- what holds of a replica on a store that is whole or not
+pub record IsCore {S Place Fault : Type 0} (is_whole : S → Bool) (a : Inside S Place Fault) : Type 0 where
+  pub one_worker : a.workers ≡ 1
+  pub number_below : a.number < replicas_max
+  pub store_whole : a.broken ≡ false → is_whole a.store ≡ true
+  pub fetched : BatchGoesOn a.version a.applied a.batch

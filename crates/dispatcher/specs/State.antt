@@ -1,0 +1,35 @@
+-- The state of a replica, as its callers see it.
+use Rattle.std.specs.Prelude.{ℕ, List, Option, Bool}
+use Rattle.rows.specs.Shape.{Shape}
+use Rattle.rows.specs.Tables.{Tables}
+use Rattle.update_log.specs.declared.frame.Frame.{Frame}
+use Rattle.dispatcher.specs.declared.plan.Plan.{Plan}
+
+-- the version that was fetched for a batch, and each worker's frame count at it
+pub record Fetched : Type 0 where
+  pub version : ℕ
+  pub counts : List ℕ
+
+-- the queries that are answered together, and what was fetched for them
+pub record Batch : Type 0 where
+  pub plans : List Plan
+  pub fetched : Option Fetched
+
+pub record Replica : Type 0 where
+  pub shape : Shape
+  pub workers : ℕ
+  pub number : ℕ
+  pub boot : ℕ
+  -- how many requests it has made
+  pub request : ℕ
+  -- the known frames of its worker, in rising seq
+  pub frames : List (ℕ × Frame)
+  -- how many of them its tables have
+  pub applied : ℕ
+  -- nothing is said of the tables of a broken replica: they are seen as none
+  pub tables : Tables
+  pub version : ℕ
+  -- the queries that wait for the next batch
+  pub waiting : List Plan
+  pub batch : Option Batch
+  pub broken : Bool

@@ -1,0 +1,7 @@
+pub mod Filling
+pub mod Texts
+pub mod RecordLaws
+pub mod Nesting
+pub mod Recovering
+pub mod Stops
+pub mod Determined

@@ -1,0 +1,83 @@
+-- The journal's text, table by table and commit by commit.
+use Rattle.std.proofs.Common.{◌≡◌, ◌+◌, ◌<◌, ◌≤◌, ℕ, suc, zero, List, [], ◌∷◌, ◌++◌, length, take, get_or, slice_get, None, Some, sym, ap}
+use Rattle.std.proofs.Common.{◌∙◌, arith}
+use Rattle.std.specs.List.{flat_map}
+use Rattle.std.proofs.lemmas.List.{take_all, flat_map_more, length-map, append_assoc, append-nil, take_more, length-take-le}
+use Rattle.std.proofs.lemmas.Option.{slice_get_within, get_or_from_slice_get}
+use Rattle.byteorder.specs.Endian.{big_bytes}
+use Rattle.rows.specs.declared.commit.Commit.{Commit}
+use Rattle.rows.specs.declared.entry.Entry.{Entry}
+use Rattle.rows.specs.declared.kind.Kind.{Kind}
+use Rattle.rows.specs.Shape.{Shape, shape_of}
+use Rattle.rows.specs.Spelling.{entry_spelling}
+use Rattle.journal.specs.Text.{table_header, record_body, record_of, records_from}
+
+-- the header of the first tables, with the number of all
+abbrev pub header_so_far : ℕ → Shape → ℕ → List ℕ
+header_so_far workers shape n = (0x42 ∷ 0x44 ∷ 0x4a ∷ 0x31 ∷ workers ∷ length shape ∷ []) ++ flat_map table_header (take n shape)
+
+-- records behind others
+pub records_from_append : (before : ℕ) (xs ys : List Commit)
+    → records_from before (xs ++ ys) ≡ records_from before xs ++ records_from (before + length xs) ys
+records_from_append before [] ys = ap (λ n. records_from n ys) (omega arith)
+records_from_append before (x ∷ xs) ys =
+    let same : before + 1 + length xs ≡ before + suc (length xs) = omega arith in
+    ap (λ rest. record_of (before + 1) x ++ rest)
+    (records_from_append (before + 1) xs ys ∙ ap (λ n. records_from (before + 1) xs ++ records_from n ys) same)
+    ∙ sym (append_assoc (record_of (before + 1) x) (records_from (before + 1) xs) (records_from (before + suc (length xs)) ys))
+
+-- the record of one commit more
+pub records_from_more : (before : ℕ) (commits : List Commit) (i : ℕ) (commit : Commit) → i < length commits
+    → commit ≡ get_or commits i commit
+    → records_from before (take (i + 1) commits) ≡ records_from before (take i commits) ++ record_of (before + i + 1) commit
+records_from_more before commits i commit h e =
+    let same : before + length (take i commits) ≡ before + i = omega (arith, length-take-le i commits (omega arith)) in
+    ap (records_from before) (take_more commits i commit h ∙ ap (λ c. take i commits ++ c ∷ []) (sym e))
+    ∙ records_from_append before (take i commits) (commit ∷ [])
+    ∙ ap (λ n. records_from before (take i commits) ++ (record_of (n + 1) commit ++ [])) same
+    ∙ ap (λ r. records_from before (take i commits) ++ r) (append-nil (record_of (before + i + 1) commit))
+
+-- a front of the right length, and the entries, are the record
+record_of_parts : (front : List ℕ) (len number : ℕ) (commit : Commit) → len ≡ 11 + length (flat_map entry_spelling commit.entries)
+    → front ≡ big_bytes 4 len ++ (commit.worker ∷ []) ++ big_bytes 8 number ++ big_bytes 2 (length commit.entries)
+    → front ++ flat_map entry_spelling commit.entries ≡ record_of number commit
+record_of_parts front len number commit counted e =
+    let same : len ≡ length (record_body number commit) = omega arith in
+    ap (λ front. front ++ flat_map entry_spelling commit.entries) e ∙ ap (λ n. big_bytes 4 n ++ record_body number commit) same
+
+-- and they have been written one behind the other
+pub record_written : (old front fronted written : List ℕ) (len number : ℕ) (commit : Commit) (entries : List Entry) (i : ℕ)
+    → entries ≡ commit.entries
+    → len ≡ 11 + length (flat_map entry_spelling entries)
+    → front ≡ big_bytes 4 len ++ (commit.worker ∷ []) ++ big_bytes 8 number ++ big_bytes 2 (length entries)
+    → fronted ≡ old ++ front → written ≡ fronted ++ flat_map entry_spelling (take i entries) → length entries ≤ i
+    → written ≡ old ++ record_of number commit
+record_written old front fronted written len number commit entries i same counted is_front first then all =
+    let counted' = rw same at counted in
+    let is_front' = rw same at is_front in
+    then
+    ∙ ap (λ text. text ++ flat_map entry_spelling (take i entries)) first
+    ∙ ap (λ entries. (old ++ front) ++ flat_map entry_spelling entries) (take_all i entries all ∙ same)
+    ∙ append_assoc old front (flat_map entry_spelling commit.entries)
+    ∙ ap (λ text. old ++ text) (record_of_parts front len number commit counted' is_front')
+
+-- the kinds at an index of the shape
+none_past : {X : Type 0} (xs : List X) (i : ℕ) → slice_get xs i ≡ None → length xs ≤ i
+none_past [] i h = omega arith
+none_past (x ∷ xs) zero h = cc
+none_past (x ∷ xs) (suc i) h = omega (arith, none_past xs i h)
+
+-- the header with the part of one table more
+pub header_more : (workers : ℕ) (shape : Shape) (table : ℕ) (kinds : List Kind) → slice_get shape table ≡ Some kinds
+    → header_so_far workers shape table ++ table_header kinds ≡ header_so_far workers shape (table + 1)
+header_more workers shape table kinds h =
+    let within = slice_get_within shape table kinds h in
+    let front = 0x42 ∷ 0x44 ∷ 0x4a ∷ 0x31 ∷ workers ∷ length shape ∷ [] in
+    flat_map_more table_header front (take table shape) kinds
+    ∙ ap (λ tables. front ++ flat_map table_header tables)
+    (ap (λ k. take table shape ++ k ∷ []) (sym (get_or_from_slice_get shape table kinds kinds h))
+    ∙ sym (take_more shape table kinds within))
+
+-- there is no index without kinds before the end
+pub no_gap : (schema : List (List ℕ × List Kind)) (table : ℕ) → table < length schema → None ≡ slice_get (shape_of schema) table → ⊥
+no_gap schema table within none = omega (arith, none_past (shape_of schema) table (sym none), length-map schema (λ t. t.1))

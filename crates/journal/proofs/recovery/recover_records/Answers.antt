@@ -1,0 +1,38 @@
+-- Where recovery stops the commits so far are the kept ones, and what stands there says why.
+use Rattle.std.proofs.Common.{◌≡◌, ◌+◌, ◌-◌, ◌<◌, ◌^◌, ◌∷◌, [], ◌++◌, ℕ, length, is_ok, not, true, subst, sym, ap, ◌∙◌, arith}
+use Rattle.std.proofs.lemmas.Bool.{cond-true}
+use Rattle.rows.specs.Shape.{shape_of}
+use Rattle.journal.specs.Inner.Progress.{IsNext, IsStop}
+use Rattle.journal.proofs.Recovering.{recovered, refused, has_come-more}
+use Rattle.journal.proofs.recovery.recover_records.Goals as goal
+
+pub returns-in-Err : goal.returns-in-Err
+returns-in-Err c =
+    let commits = c.loop-alloc.commits in
+    let rest = c.loop-alloc.rest.now in
+    let bytes = c.args.bytes.now in
+    let number : c.len.result + 1 ≡ length commits.items + 1 = omega (arith, c.len.ensures, commits.ok.0) in
+    let few : length bytes < 2 ^ 64 = omega arith in
+    refused c.entries_are_read_as_spelled.ensures.spelled c.args.workers (shape_of c.args.schema.now) bytes commits.items c.loop-alloc.store
+    rest (length bytes - length rest) c.in-Err.fault c.loop-alloc.invariant (omega arith) few
+    (subst (λ (n : ℕ). IsStop c.args.workers n c.loop-alloc.store.tables (length bytes - length rest) rest c.in-Err.fault) number
+    c.in-Err.ensures.err)
+
+pub loop-alloc-preserved : goal.loop-alloc-preserved
+loop-alloc-preserved c =
+    let commits = c.loop-alloc.commits in
+    let commit = c.in-Ok-next_commit.commit in
+    let number : c.len.result + 1 ≡ length commits.items + 1 = omega (arith, c.len.ensures, commits.ok.0) in
+    let ok : is_ok c.push.result ≡ true = c.is_err.ensures.negation ∙ ap not c.if-is_err.false in
+    let pushed : c.push.new.self.items ≡ commits.items ++ commit ∷ [] = c.push.ensures.items ∙ cond-true _ _ _ ok in
+    rw pushed (has_come-more c.args.workers (shape_of c.args.schema.now) c.args.bytes.now commits.items c.loop-alloc.store
+    c.next_commit.new.store c.loop-alloc.rest.now commit c.in-Ok-next_commit.behind.now c.loop-alloc.invariant
+    (subst (λ (n : ℕ). IsNext c.args.workers n c.loop-alloc.store c.next_commit.new.store c.loop-alloc.rest.now commit
+    c.in-Ok-next_commit.behind.now) number c.in-Ok-next_commit.ensures.ok))
+
+pub returns : goal.returns
+returns c =
+    recovered c.entries_are_read_as_spelled.ensures.spelled c.args.workers (shape_of c.args.schema.now) c.args.bytes.now
+    c.loop-alloc.commits.items c.loop-alloc.store c.loop-alloc.rest.now (length c.args.bytes.now - length c.loop-alloc.rest.now)
+    c.loop-alloc.invariant (omega arith)
+    (sym c.is_torn.ensures ∙ c.loop-alloc-test.false)

@@ -1,0 +1,22 @@
+-- What a journal's store leaves after its calls, and when it counts a fault.
+use Rattle.std.specs.Prelude.{◌≡◌, ℕ, ◌+◌, ◌≤◌, List, ◌++◌, length, Option, None, Some, Result, Ok, Err}
+use Rattle.journal.specs.Recovery.{IsBeginning}
+
+-- an append that failed: behind the old bytes stands some beginning of the new ones
+abbrev pub IsPartlyAppended : List ℕ → List ℕ → List ℕ → Type 0
+IsPartlyAppended old bytes new = (front : List ℕ) × IsBeginning front bytes × (new ≡ old ++ front)
+
+-- a cut to so many bytes that failed: some beginning stands, and it is not shorter
+abbrev pub IsPartlyCut : ℕ → List ℕ → List ℕ → Type 0
+IsPartlyCut len old new = IsBeginning new old × (len ≤ length new)
+
+-- a fault is counted, and nothing else is
+abbrev pub CountsFault : {A F : Type 0} → Result A F → ℕ → ℕ → Type 0
+CountsFault (Ok done) old new = new ≡ old
+CountsFault (Err fault) old new = new ≡ old + 1
+
+-- the same where a call may also be out of memory, which is no fault
+abbrev pub CountsFaultOrMemory : {A F : Type 0} → Result A (Option F) → ℕ → ℕ → Type 0
+CountsFaultOrMemory (Ok done) old new = new ≡ old
+CountsFaultOrMemory (Err None) old new = new ≡ old
+CountsFaultOrMemory (Err (Some fault)) old new = new ≡ old + 1

@@ -1,0 +1,180 @@
+//! A journal in a file.
+
+ghost use Rattle.std.specs.Prelude.{◌≡◌, ◌+◌, ◌<◌};
+
+use crate::faults::{FileFault, OpenFault};
+use crate::journal_store::JournalStore;
+use std::alloc::AllocError;
+use std::fs::{File, Files, OpenOptions, TryLockError};
+use std::io::{self, ErrorKind};
+use std::os::unix::fs::FileExt;
+use std::path::Path;
+
+/// A journal in a file of the operating system, which it has locked.
+///
+/// No contract can say what a file holds, so contracts count no such journal as honest, and nothing
+/// is proved of its bytes. An append that is answered Ok was written and synced. Behind a write or a
+/// cut that failed it appends nothing, until `cut_to` or `read_all` has cleared away what that left:
+/// the bytes behind the last ones that are known to stand.
+#[derive(Debug, Drop)]
+pub struct FileJournal {
+    file: File,
+    /// How many bytes are known to stand.
+    len: u64,
+    /// Whether others may stand behind them.
+    unsettled: bool,
+    faults: u64,
+}
+
+impl FileJournal {
+    /// Opens the journal at a path, and makes the file where there is none. What it holds is then
+    /// synced, and so is the folder that has its name.
+    ///
+    /// Fails with `Locked` where another journal has the file open, and with `System` where the
+    /// system refuses to make, open, lock or sync it.
+    pub fn open<R: Files<File = File>>(files: &R, path: &str) -> Result<FileJournal, OpenFault> {
+        let file = open_file(files, path).map_err(OpenFault::System)?;
+        lock(&file)?;
+        let len = settle(files, path, &file).map_err(OpenFault::System)?;
+        Ok(FileJournal {
+            file,
+            len,
+            unsettled: false,
+            faults: 0,
+        })
+    }
+
+    /// Counts a fault.
+    fn fault(&mut self, fault: FileFault) -> FileFault
+        requires { self.old.faults < 18446744073709551615 }
+        ensures { self.new.faults ≡ self.old.faults + 1 }
+    {
+        self.faults += 1;
+        fault
+    }
+}
+
+/// The file at a path, for reading and writing; it is made where there is none.
+fn open_file<R: Files<File = File>>(files: &R, path: &str) -> io::Result<File> {
+    OpenOptions::new()
+        .read(true)
+        .write(true)
+        .create(true)
+        .open(files, path)
+}
+
+/// Takes the file's lock, which ends with the file.
+fn lock(file: &File) -> Result<(), OpenFault> {
+    match file.try_lock() {
+        Ok(()) => Ok(()),
+        Err(TryLockError::WouldBlock) => Err(OpenFault::Locked),
+        Err(TryLockError::Error(error)) => Err(OpenFault::System(error)),
+    }
+}
+
+/// Syncs the file and the folder that has its name: what an earlier process wrote and did not sync
+/// may not be lost once it was read. Answers how many bytes the file has.
+fn settle<R: Files<File = File>>(files: &R, path: &str, file: &File) -> io::Result<u64> {
+    file.sync_all()?;
+    File::open(files, folder_of(path))?.sync_all()?;
+    Ok(file.metadata()?.len())
+}
+
+/// The path of the folder that has the name of the file at a path.
+fn folder_of(path: &str) -> &str {
+    match Path::new(path).parent() {
+        Some(folder) if !folder.as_str().is_empty() => folder.as_str(),
+        Some(_) | None => ".",
+    }
+}
+
+/// Writes bytes at the end of a file that has so many, and syncs them.
+fn write_at_end(file: &File, len: u64, bytes: &[u8]) -> io::Result<()> {
+    file.write_all_at(bytes, len)?;
+    file.sync_data()
+}
+
+/// Cuts a file to so many bytes, and syncs that.
+fn cut(file: &File, len: u64) -> io::Result<()> {
+    file.set_len(len)?;
+    file.sync_all()
+}
+
+/// Fills the list with the first bytes of a file, as many as the list has.
+fn fill(file: &File, list: &mut [u8]) -> io::Result<()> {
+    file.read_exact_at(list, 0)
+}
+
+impl JournalStore for FileJournal {
+    ghost use Rattle.std.specs.Prelude.{[], false};
+
+    type Fault = FileFault;
+
+    ghost standing = { λ _. [] };
+
+    ghost room = { λ _. 18446744073709551615 };
+
+    ghost fault_count = { λ j. j.faults };
+
+    ghost is_honest = { λ _. false };
+
+    /// A file needs no room set aside.
+    fn reserve(&mut self, _count: usize) -> Result<(), AllocError> {
+        Ok(())
+    }
+
+    /// Writes the bytes behind those that stand, and syncs them. Fails with `Unsettled` where an
+    /// earlier write or cut failed, and changes nothing then; and with `System`.
+    fn append(&mut self, bytes: &[u8]) -> Result<(), FileFault> {
+        if self.unsettled {
+            return Err(self.fault(FileFault::Unsettled));
+        }
+        match write_at_end(&self.file, self.len, bytes) {
+            Ok(()) => {
+                self.len = self.len.saturating_add(bytes.len() as u64);
+                Ok(())
+            }
+            Err(error) => {
+                self.unsettled = true;
+                Err(self.fault(FileFault::System(error)))
+            }
+        }
+    }
+
+    /// Cuts the file to so many bytes, and syncs that. Whatever an earlier write left is then gone.
+    fn cut_to(&mut self, len: u64) -> Result<(), FileFault> {
+        self.len = self.len.min(len);
+        match cut(&self.file, self.len) {
+            Ok(()) => {
+                self.unsettled = false;
+                Ok(())
+            }
+            Err(error) => {
+                self.unsettled = true;
+                Err(self.fault(FileFault::System(error)))
+            }
+        }
+    }
+
+    /// Reads the whole file. What an earlier write that failed may have left behind the bytes that
+    /// are known to stand is cut away first: it was not synced, so reading it tells nothing.
+    fn read_all(&mut self, list: &mut Vec<u8>) -> Result<(), Option<FileFault>> {
+        if self.unsettled {
+            if let Err(fault) = self.cut_to(self.len) {
+                return Err(Some(fault));
+            }
+        }
+        list.clear();
+        if list.resize(self.len as usize, 0).is_err() {
+            return Err(None);
+        }
+        match fill(&self.file, list) {
+            Ok(()) => Ok(()),
+            Err(error) => Err(Some(self.fault(FileFault::System(error)))),
+        }
+    }
+
+    fn faults(&self) -> u64 {
+        self.faults
+    }
+}

@@ -1,0 +1,81 @@
+//! The header of a journal.
+
+ghost use Rattle.std.specs.Prelude.{◌≡◌, ◌+◌, ◌≤◌, ◌∷◌, [], ◌++◌, length, IfOk};
+ghost use Rattle.rows.specs.Shape.{shape_of};
+ghost use Rattle.journal.specs.Text.{header, table_header, kind_code};
+
+use arrayvec::ArrayVec;
+use rows::{Kind, Schema};
+use std::alloc::{AllocError, Global};
+
+/// Bytes of a header, at most: 6, and 17 for each of 16 tables.
+pub const HEADER_LEN_MAX: usize = 278;
+
+/// The header of a journal of this schema and this number of workers. Fails only where it is out of
+/// memory.
+pub fn header_bytes(alloc: Global, workers: u8, schema: &Schema) -> Result<Vec<u8>, AllocError>
+    ensures { IfOk result (λ bytes. bytes.items ≡ header workers (shape_of schema.now)) }
+{
+    let header = header_of(workers, schema);
+    Vec::from_slice(alloc, header.as_slice())
+}
+
+/// The header, kept inline. Takes no memory.
+pub fn header_of(workers: u8, schema: &Schema) -> ArrayVec<u8, HEADER_LEN_MAX>
+    ensures { result.items ≡ header workers (shape_of schema.now) }
+{
+    let tables = table_count(schema);
+    let mut bytes = front(workers, tables);
+    for table in 0..schema.len() {
+        if let Some(kinds) = schema.kinds(table) {
+            push_table(&mut bytes, kinds);
+        }
+    }
+    bytes
+}
+
+/// How many tables a schema has; there are at most 16.
+fn table_count(schema: &Schema) -> u8
+    ensures count { result ≡ length (shape_of schema.now) }
+    ensures few { result ≤ 16 }
+{
+    schema.keeps_limits();
+    schema.len() as u8
+}
+
+/// What stands before the tables.
+fn front(workers: u8, tables: u8) -> ArrayVec<u8, HEADER_LEN_MAX>
+    ensures { result.items ≡ 0x42 ∷ 0x44 ∷ 0x4a ∷ 0x31 ∷ workers ∷ tables ∷ [] }
+{
+    let mut bytes = ArrayVec::new();
+    bytes.push(0x42);
+    bytes.push(0x44);
+    bytes.push(0x4a);
+    bytes.push(0x31);
+    bytes.push(workers);
+    bytes.push(tables);
+    bytes
+}
+
+/// Adds a table's part: how many columns, and a byte for each.
+fn push_table(bytes: &mut ArrayVec<u8, HEADER_LEN_MAX>, kinds: &[Kind])
+    requires few { length kinds.now ≤ 16 }
+    requires room { length bytes.old.items + 17 ≤ HEADER_LEN_MAX }
+    ensures items { bytes.new.items ≡ bytes.old.items ++ table_header kinds.now }
+    ensures len { length bytes.new.items ≤ length bytes.old.items + 17 }
+{
+    bytes.push(kinds.len() as u8);
+    for kind in kinds {
+        bytes.push(kind_code(*kind));
+    }
+}
+
+/// The byte that stands for a kind: 0 for an `Int`, the width for octets.
+fn kind_code(kind: Kind) -> u8
+    ensures { result ≡ kind_code kind }
+{
+    match kind {
+        Kind::Int => 0,
+        Kind::Octets(width) => width,
+    }
+}

@@ -1,0 +1,75 @@
+//! The interface to what keeps a journal's bytes.
+
+ghost use Rattle.std.specs.Prelude.{◌≡◌, ℕ, ◌<◌, ◌≤◌, List, ◌++◌, length, take, Bool, true, OnOk, OnErr};
+ghost use Rattle.journal.specs.Storing.{IsPartlyAppended, IsPartlyCut, CountsFault, CountsFaultOrMemory};
+
+use std::alloc::AllocError;
+
+/// What keeps the bytes of a journal.
+///
+/// Contracts see the bytes that stand, how much room is reserved, how many faults there were, and
+/// whether the store is honest: whether its bytes are what its answers say. What is said of the
+/// bytes holds of honest stores, and no contract can know whether a real device is one. A fault is
+/// counted, and comes only where the count grew. All calls but `reserve` and `read_all` take no
+/// memory.
+pub trait JournalStore {
+    ghost use Rattle.std.specs.Prelude.{ℕ, List, Bool};
+
+    /// Why a call failed.
+    type Fault: Drop;
+
+    /// The bytes that stand.
+    ghost standing: { Self → List ℕ };
+
+    /// How many bytes an append may bring.
+    ghost room: { Self → ℕ };
+
+    /// How many faults there were.
+    ghost fault_count: { Self → ℕ };
+
+    /// Whether what stands is what the answers say.
+    ghost is_honest: { Self → Bool };
+
+    /// Makes room for an append of so many bytes. Fails only where it is out of memory. Nothing that
+    /// stands changes.
+    fn reserve(&mut self, count: usize) -> Result<(), AllocError>
+        ensures room { OnOk result (count ≤ room self.new) }
+        ensures standing { is_honest self.old ≡ true → standing self.new ≡ standing self.old }
+        ensures faults { fault_count self.new ≡ fault_count self.old }
+        ensures honest { is_honest self.new ≡ is_honest self.old };
+
+    /// Puts bytes behind those that stand, in the room that was reserved for them. They are
+    /// acknowledged where it answers Ok; where it fails, some beginning of them may stand. Takes no
+    /// memory.
+    fn append(&mut self, bytes: &[u8]) -> Result<(), Self::Fault>
+        requires room { length bytes.now ≤ room self.old }
+        requires countable { fault_count self.old < 18446744073709551615 }
+        ensures ok { is_honest self.old ≡ true → OnOk result (standing self.new ≡ standing self.old ++ bytes.now) }
+        ensures err { is_honest self.old ≡ true
+            → OnErr result (IsPartlyAppended (standing self.old) bytes.now (standing self.new)) }
+        ensures faults { CountsFault result (fault_count self.old) (fault_count self.new) }
+        ensures honest { is_honest self.new ≡ is_honest self.old };
+
+    /// Keeps the first `len` of the bytes that stand, and no other. Where it fails, some beginning
+    /// of them stands, which is not shorter. Takes no memory.
+    fn cut_to(&mut self, len: u64) -> Result<(), Self::Fault>
+        requires within { is_honest self.old ≡ true → len ≤ length (standing self.old) }
+        requires countable { fault_count self.old < 18446744073709551615 }
+        ensures ok { is_honest self.old ≡ true → OnOk result (standing self.new ≡ take len (standing self.old)) }
+        ensures err { is_honest self.old ≡ true → OnErr result (IsPartlyCut len (standing self.old) (standing self.new)) }
+        ensures faults { CountsFault result (fault_count self.old) (fault_count self.new) }
+        ensures honest { is_honest self.new ≡ is_honest self.old };
+
+    /// Makes a list the bytes that stand, whatever it had before. Fails with `None` where it is out
+    /// of memory; after either failure nothing is known of the list. Nothing that stands changes.
+    fn read_all(&mut self, list: &mut Vec<u8>) -> Result<(), Option<Self::Fault>>
+        requires { fault_count self.old < 18446744073709551615 }
+        ensures ok { is_honest self.old ≡ true → OnOk result (list.new.items ≡ standing self.old) }
+        ensures standing { is_honest self.old ≡ true → standing self.new ≡ standing self.old }
+        ensures faults { CountsFaultOrMemory result (fault_count self.old) (fault_count self.new) }
+        ensures honest { is_honest self.new ≡ is_honest self.old };
+
+    /// How many faults there were. Takes no memory.
+    fn faults(&self) -> u64
+        ensures { result ≡ fault_count self.now };
+}

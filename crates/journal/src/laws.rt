@@ -1,0 +1,23 @@
+//! Laws of the journal's text, and of what its bytes keep.
+
+ghost use Rattle.journal.specs.Laws.{IsOneToOne, IsNested, StopsAreRecovered, IsRecoveredOnce, IsNotRefused};
+
+/// The text of a list of commits determines the list, and of two lists whose texts begin the same
+/// bytes one begins the other. It does nothing: its contract is the law.
+pub fn texts_determine_commits()
+    ensures one_to_one { IsOneToOne }
+    ensures nested { IsNested }
+{
+    rows::laws::entries_are_read_as_spelled();
+}
+
+/// Whatever a stop leaves of the text of a list that a journal may be of, the first commits of the
+/// list are recovered; and bytes are recovered in one way, and not refused then. It does nothing:
+/// its contract is the law.
+pub fn stops_are_recovered()
+    ensures stops { StopsAreRecovered }
+    ensures once { IsRecoveredOnce }
+    ensures not_refused { IsNotRefused }
+{
+    rows::laws::entries_are_read_as_spelled();
+}

@@ -1,0 +1,97 @@
+//! A journal in memory.
+
+ghost use Rattle.std.specs.Prelude.{◌≡◌, []};
+
+use crate::journal_store::JournalStore;
+use std::alloc::{AllocError, Global};
+use std::marker::Model;
+use thiserror::Error;
+
+/// A journal in memory. It is honest, and never has a fault.
+///
+/// Contracts see its bytes, and how many more it can take without memory.
+#[derive(Debug, Drop)]
+pub struct MemJournal {
+    content: Vec<u8>,
+}
+
+impl Model for MemJournal {
+    ghost use Rattle.std.specs.Prelude.{◌-◌, vec_len, vec_capacity};
+    ghost use Rattle.journal.specs.State.{State};
+
+    ghost Value = { State };
+
+    ghost view = { λ j. record { bytes = j.content.items; room = vec_capacity j.content - vec_len j.content } };
+}
+
+impl MemJournal {
+    /// A journal without bytes. Takes no memory.
+    pub fn new(alloc: Global) -> MemJournal
+        ensures { result.bytes ≡ [] }
+    {
+        MemJournal {
+            content: Vec::new(alloc),
+        }
+    }
+
+    /// A journal of these bytes. Takes no memory.
+    pub fn of(content: Vec<u8>) -> MemJournal
+        ensures { result.bytes ≡ content.items }
+    {
+        MemJournal { content }
+    }
+
+    /// The bytes that stand, lent. Takes no memory.
+    pub fn content(&self) -> &[u8]
+        ensures { result.now ≡ self.now.bytes }
+    {
+        self.content.as_slice()
+    }
+}
+
+/// Why a call on a journal in memory failed: there is no such value, since none does.
+#[derive(Debug, Drop, Error)]
+#[error("no fault")]
+pub enum NoFault {}
+
+impl JournalStore for MemJournal {
+    ghost use Rattle.std.specs.Prelude.{true};
+
+    type Fault = NoFault;
+
+    ghost standing = { λ j. j.bytes };
+
+    ghost room = { λ j. j.room };
+
+    ghost fault_count = { λ _. 0 };
+
+    ghost is_honest = { λ _. true };
+
+    fn reserve(&mut self, count: usize) -> Result<(), AllocError> {
+        self.content.reserve(count)
+    }
+
+    fn append(&mut self, bytes: &[u8]) -> Result<(), NoFault> {
+        match self.content.extend_from_slice(bytes) {
+            Ok(()) => Ok(()),
+            Err(_) => unreachable!(),
+        }
+    }
+
+    fn cut_to(&mut self, len: u64) -> Result<(), NoFault> {
+        self.content.truncate(len as usize);
+        Ok(())
+    }
+
+    fn read_all(&mut self, list: &mut Vec<u8>) -> Result<(), Option<NoFault>> {
+        list.clear();
+        match list.extend_from_slice(&self.content) {
+            Ok(()) => Ok(()),
+            Err(_) => Err(None),
+        }
+    }
+
+    fn faults(&self) -> u64 {
+        0
+    }
+}

@@ -1,0 +1,128 @@
+//! Reading a record from the front of bytes.
+
+ghost use Rattle.std.specs.Prelude.{◌≡◌, ◌+◌, ◌≤◌, false, length, IfOk};
+ghost use Rattle.byteorder.specs.Endian.{big_number};
+ghost use Rattle.rows.specs.Reading.{entry_of};
+ghost use Rattle.journal.specs.Recovery.{is_record_len, is_torn};
+ghost use Rattle.journal.specs.Inner.Reading.{entries_filling, commit_in, record_at};
+
+use crate::numbered_commit::NumberedCommit;
+use byteorder::{BigEndian, ByteOrder};
+use rows::limits::COMMIT_ENTRIES_MAX;
+use rows::{ByteList, Commit, Entry, EntryList, EntryRef, read_entry};
+use std::alloc::{AllocError, Global};
+
+/// Bytes that a record takes behind its length, at least: those of one delete.
+const RECORD_LEN_MIN: usize = 21;
+
+/// And at most: those of 4096 inserts of the widest rows.
+const RECORD_LEN_MAX: usize = 2_146_315;
+
+/// Whether a stop may have left these bytes behind the last whole record.
+pub fn is_torn(bytes: &[u8]) -> bool
+    ensures { result ≡ is_torn bytes.now }
+{
+    bytes.len() < 4 || (is_record_len(body_len(bytes)) && bytes.len() < 4 + body_len(bytes))
+}
+
+/// How many bytes are to follow the four that tell it.
+pub fn body_len(bytes: &[u8]) -> usize
+    requires { 4 ≤ length bytes.now }
+    ensures value { result ≡ big_number 4 bytes.now }
+    ensures few { result ≤ 4294967295 }
+{
+    BigEndian::read_u32(bytes) as usize
+}
+
+/// Whether a record may have this length.
+fn is_record_len(len: usize) -> bool
+    ensures { result ≡ is_record_len len }
+{
+    len >= RECORD_LEN_MIN && len <= RECORD_LEN_MAX
+}
+
+/// The commit whose record stands at the front of the bytes, and its number; `None` where they are
+/// damaged. Fails only where it is out of memory.
+pub fn read_record(alloc: Global, bytes: &[u8]) -> Result<Option<NumberedCommit>, AllocError>
+    requires { is_torn bytes.now ≡ false }
+    ensures { IfOk result (λ found. found ≡ record_at bytes.now) }
+{
+    let len = body_len(bytes);
+    if !is_record_len(len) {
+        return Ok(None);
+    }
+    let (_, rest) = bytes.split_at(4);
+    let (body, _) = rest.split_at(len);
+    read_body(alloc, body)
+}
+
+/// The commit that a record holds behind its length, and its number; `None` where it is damaged.
+fn read_body(alloc: Global, body: &[u8]) -> Result<Option<NumberedCommit>, AllocError>
+    requires { 11 ≤ length body.now }
+    ensures { IfOk result (λ found. found ≡ commit_in body.now) }
+{
+    let (front, rest) = body.split_at(11);
+    let count = BigEndian::read_u16(&front[9..]);
+    if count == 0 || count as usize > COMMIT_ENTRIES_MAX {
+        return Ok(None);
+    }
+    let number = BigEndian::read_u64(&front[1..]);
+    let worker = front[0];
+    match read_entries(alloc, count, rest)? {
+        None => Ok(None),
+        Some(entries) => Ok(Some(NumberedCommit {
+            number,
+            commit: Commit { worker, entries },
+        })),
+    }
+}
+
+/// The entries that the bytes spell, `count` of them and all of the bytes, owned; `None` where they
+/// do not.
+fn read_entries(alloc: Global, count: u16, bytes: &[u8]) -> Result<Option<EntryList>, AllocError>
+    ensures { IfOk result (λ found. found ≡ entries_filling count bytes.now) }
+{
+    let mut entries = EntryList::new(alloc);
+    let mut rest = bytes;
+    for _ in 0..count {
+        match read_entry(rest) {
+            None => return Ok(None),
+            Some((entry, len)) => {
+                entries.push(owned(alloc, entry)?)?;
+                rest = rest.split_at(len).1;
+            }
+        }
+    }
+    if rest.is_empty() {
+        Ok(Some(entries))
+    } else {
+        Ok(None)
+    }
+}
+
+/// The entry, owned.
+fn owned(alloc: Global, lent: EntryRef<'_>) -> Result<Entry, AllocError>
+    ensures { IfOk result (λ owned. owned ≡ entry_of lent.entry) }
+{
+    match lent {
+        EntryRef::Insert { table, row, bytes } => {
+            let bytes = ByteList::from_vec(Vec::from_slice(alloc, bytes)?);
+            Ok(Entry::Insert { table, row, bytes })
+        }
+        EntryRef::Patch {
+            table,
+            row,
+            offset,
+            bytes,
+        } => {
+            let bytes = ByteList::from_vec(Vec::from_slice(alloc, bytes)?);
+            Ok(Entry::Patch {
+                table,
+                row,
+                offset,
+                bytes,
+            })
+        }
+        EntryRef::Delete { table, row } => Ok(Entry::Delete { table, row }),
+    }
+}

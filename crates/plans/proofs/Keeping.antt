@@ -1,0 +1,293 @@
+-- What is kept for a plan, with one row more; and its lines once all rows were looked at.
+use Rattle.std.proofs.Common.{◌≡◌, ℕ, ◌+◌, ◌≤◌, Bool, true, false, ◌||◌, cond, List, [], ◌∷◌, ◌++◌, length, map, take, Option, None, Some}
+use Rattle.std.proofs.Common.{slice_get, IfSome}
+use Rattle.std.proofs.Common.{refl, sym, ap, ◌∙◌, subst, arith}
+use Rattle.std.specs.BTreeMap.{is_at}
+use Rattle.std.specs.List.{All, AllByRecursion, filter, filter_map, cons_option, list_all, list_any}
+use Rattle.std.specs.List.Sorted.{IsStrictlySortedBy}
+use Rattle.std.specs.Map.{keys_of, lookup}
+use Rattle.std.specs.Option.{unwrap_or}
+use Rattle.std.specs.Ordering.{is_eq}
+use Rattle.std.proofs.lemmas.Bool.{or_parts, cond-false}
+use Rattle.std.proofs.lemmas.Int.{ints}
+use Rattle.std.proofs.lemmas.List.{map_push, take_more, take_all, append-nil}
+use Rattle.std.proofs.lemmas.List.Elements.{All-from_recursion, filter-append, filter_map-append}
+use Rattle.std.proofs.lemmas.List.Folds.{list_any-append}
+use Rattle.std.proofs.lemmas.Option.{slice_get_within, get_or_from_slice_get, IfSome_then}
+use Rattle.rows.specs.declared.value.Value.{Value}
+use Rattle.rows.specs.Tables.{Tables, rows_of}
+use Rattle.plans.specs.declared.aggregate.Aggregate.{Aggregate}
+use Rattle.plans.specs.declared.aggregate.Aggregate.TheVariants.{Count, Sum, Min, Max}
+use Rattle.plans.specs.declared.column.Column.{Column}
+use Rattle.plans.specs.declared.field.Field.{Field}
+use Rattle.plans.specs.declared.field.Field.TheVariants.{Stored, Number, Absent}
+use Rattle.plans.specs.declared.plan.Plan.{Plan}
+use Rattle.plans.specs.Order.{group_cmp, rising}
+use Rattle.plans.specs.Answers.{JoinedRow, group_of, groups_of, rows_in, rows_among, joined_with, meets, aggregate_of, line_of, lines_of}
+use Rattle.plans.specs.Inner.Kept.{GroupList, IsWithin, AreWithin, grown_all, opening_of, opening_groups, with_row, kept_at, IsKept}
+use Rattle.plans.specs.Inner.Kept.{rows_before}
+use Rattle.plans.specs.Inner.TotalOrder.{group_cmp_total}
+use Rattle.plans.proofs.Orders.{group_cmp-exact, same_group, is_itself, flips, same_entries}
+use Rattle.plans.proofs.Rising.{paired, keys_of-paired, lookup-paired, rising-sorted, rising-any}
+use Rattle.plans.proofs.Aggregates.{grown_all-push, All-IsWithin-more}
+
+or_none : (b : Bool) → (b || false) ≡ b
+or_none true = refl
+or_none false = refl
+
+or_all : (b : Bool) → (b || true) ≡ true
+or_all true = refl
+or_all false = refl
+
+or_itself : (b : Bool) → (b || false) ≡ ((b || false) || b)
+or_itself true = refl
+or_itself false = refl
+
+-- ---- the groups of rows with one row more
+
+abbrev is_group : List Column → List JoinedRow → List Value → Bool
+is_group columns rows group = list_any (λ other. is_eq (group_cmp group other)) (groups_of columns rows)
+
+is_group-push : (columns : List Column) (rows : List JoinedRow) (row : JoinedRow) (group : List Value)
+    → is_group columns (rows ++ row ∷ []) group ≡ (is_group columns rows group || is_eq (group_cmp group (group_of columns row)))
+is_group-push [] rows row group = or_itself (is_eq (group_cmp group []))
+is_group-push (column ∷ columns) rows row group =
+    let key : JoinedRow → List Value = group_of (column ∷ columns) in
+    let test : List Value → Bool = λ other. is_eq (group_cmp group other) in
+    ap (list_any test) (map_push key rows row)
+    ∙ list_any-append test (map key rows) (key row ∷ [])
+    ∙ ap (λ b. list_any test (map key rows) || b) (or_none (test (key row)))
+
+rows_in-push : (columns : List Column) (rows : List JoinedRow) (row : JoinedRow) (group : List Value)
+    → rows_in columns group (rows ++ row ∷ [])
+    ≡ rows_in columns group rows ++ cond (is_eq (group_cmp group (group_of columns row))) (row ∷ []) []
+rows_in-push columns rows row group = filter-append (λ row. is_eq (group_cmp group (group_of columns row))) rows (row ∷ [])
+
+filter-none : (test : JoinedRow → Bool) (rows : List JoinedRow) → ((row : JoinedRow) → test row ≡ false) → filter test rows ≡ []
+filter-none test [] h = refl
+filter-none test (row ∷ rows) h = cond-false (test row) (row ∷ filter test rows) (filter test rows) (h row) ∙ filter-none test rows h
+
+filter-absent : (key : JoinedRow → List Value) (test : List Value → Bool) (rows : List JoinedRow) → list_any test (map key rows) ≡ false
+    → filter (λ row. test (key row)) rows ≡ []
+filter-absent key test [] h = refl
+filter-absent key test (row ∷ rows) h =
+    let parts = or_parts (test (key row)) (list_any test (map key rows)) h in
+    cond-false (test (key row)) (row ∷ filter (λ row. test (key row)) rows) (filter (λ row. test (key row)) rows) parts.0
+    ∙ filter-absent key test rows parts.1
+
+-- what is no group has no rows
+absent-rows : (columns : List Column) (rows : List JoinedRow) (group : List Value) → is_group columns rows group ≡ false
+    → rows_in columns group rows ≡ []
+absent-rows [] rows group h =
+    filter-none (λ row. is_eq (group_cmp group (group_of [] row))) rows
+    (λ row. (or_parts (is_eq (group_cmp group [])) false h).0)
+absent-rows (column ∷ columns) rows group h =
+    filter-absent (group_of (column ∷ columns)) (λ other. is_eq (group_cmp group other)) rows h
+
+module _ (plan : Plan) (rows : List JoinedRow) (row : JoinedRow) where
+  abbrev key : List Value
+  key = group_of plan.groups row
+
+  -- the aggregates of a group, those of no rows where it is none
+  kept-or_empty : (group : List Value)
+      → unwrap_or (kept_at plan rows group) (map (aggregate_of []) plan.aggregates)
+      ≡ map (aggregate_of (rows_in plan.groups group rows)) plan.aggregates
+  kept-or_empty group = by (is_group plan.groups rows group) refl
+    where
+      by : (there : Bool) → is_group plan.groups rows group ≡ there
+          → unwrap_or (cond there (Some (map (aggregate_of (rows_in plan.groups group rows)) plan.aggregates)) None)
+          (map (aggregate_of []) plan.aggregates)
+          ≡ map (aggregate_of (rows_in plan.groups group rows)) plan.aggregates
+      by true h = refl
+      by false h = ap (λ group_rows. map (aggregate_of group_rows) plan.aggregates) (sym (absent-rows plan.groups rows group h))
+
+  kept-other : (group : List Value) → is_eq (group_cmp group key) ≡ false → kept_at plan (rows ++ row ∷ []) group ≡ kept_at plan rows group
+  kept-other group h =
+      let there : is_group plan.groups (rows ++ row ∷ []) group ≡ is_group plan.groups rows group =
+      is_group-push plan.groups rows row group ∙ ap (λ b. is_group plan.groups rows group || b) h
+      ∙ or_none (is_group plan.groups rows group) in
+      let same : rows_in plan.groups group (rows ++ row ∷ []) ≡ rows_in plan.groups group rows =
+      rows_in-push plan.groups rows row group ∙ ap (λ b. rows_in plan.groups group rows ++ cond b (row ∷ []) []) h
+      ∙ append-nil (rows_in plan.groups group rows) in
+      λ i. cond (there i) (Some (map (aggregate_of (same i)) plan.aggregates)) None
+
+  kept-same : kept_at plan (rows ++ row ∷ []) key
+      ≡ Some (grown_all row plan.aggregates (unwrap_or (kept_at plan rows key) (map (aggregate_of []) plan.aggregates)))
+  kept-same =
+      let there : is_group plan.groups (rows ++ row ∷ []) key ≡ true =
+      is_group-push plan.groups rows row key ∙ ap (λ b. is_group plan.groups rows key || b) (is_itself key)
+      ∙ or_all (is_group plan.groups rows key) in
+      let more : rows_in plan.groups key (rows ++ row ∷ []) ≡ rows_in plan.groups key rows ++ row ∷ [] =
+      rows_in-push plan.groups rows row key ∙ ap (λ b. rows_in plan.groups key rows ++ cond b (row ∷ []) []) (is_itself key) in
+      (λ i. cond (there i) (Some (map (aggregate_of (more i)) plan.aggregates)) None)
+      ∙ ap Some (grown_all-push (rows_in plan.groups key rows) row plan.aggregates)
+      ∙ ap (λ fields. Some (grown_all row plan.aggregates fields)) (sym (kept-or_empty key))
+
+  kept-push : (group : List Value)
+      → cond (is_eq (group_cmp key group))
+      (Some (grown_all row plan.aggregates (unwrap_or (kept_at plan rows key) (map (aggregate_of []) plan.aggregates))))
+      (kept_at plan rows group)
+      ≡ kept_at plan (rows ++ row ∷ []) group
+  kept-push group = by (is_eq (group_cmp key group)) refl
+    where
+      by : (here : Bool) → is_eq (group_cmp key group) ≡ here
+          → cond here (Some (grown_all row plan.aggregates (unwrap_or (kept_at plan rows key) (map (aggregate_of []) plan.aggregates))))
+          (kept_at plan rows group)
+          ≡ kept_at plan (rows ++ row ∷ []) group
+      by true h = sym kept-same ∙ ap (kept_at plan (rows ++ row ∷ [])) (same_group key group h)
+      by false h = sym (kept-other group (flips group key ∙ h))
+
+  -- a row is added to what is kept of those before it
+  pub kept-more : (count : ℕ) (groups after : GroupList) → IsKept plan rows count groups
+      → ((group : List Value) → lookup (is_at (group_cmp group)) after ≡ with_row row plan groups group) → AreWithin (count + 1) after
+      → IsKept plan (rows ++ row ∷ []) (count + 1) after
+  kept-more count groups after kept finds within = record {
+    found = λ group.
+        finds group
+        ∙ (λ i. cond (is_eq (group_cmp key group))
+        (Some (grown_all row plan.aggregates (unwrap_or (kept.found key i) (map (aggregate_of []) plan.aggregates))))
+        (kept.found group i))
+        ∙ kept-push group;
+    within = within;
+  }
+
+-- a row that is not looked at
+pub kept-skip : (plan : Plan) (rows : List JoinedRow) (count : ℕ) (groups : GroupList) → IsKept plan rows count groups
+    → IsKept plan rows (count + 1) groups
+kept-skip plan rows count groups kept = record {
+  found = kept.found;
+  within = λ group.
+      IfSome_then (lookup (is_at (group_cmp group)) groups) (kept.within group) (λ fields all. All-IsWithin-more count fields all);
+}
+
+-- ---- the rows before a place
+
+module _ (tables : Tables) (plan : Plan) where
+  abbrev rows : List (ℕ × List Value)
+  rows = rows_of tables plan.table
+
+  abbrev passing : List JoinedRow → List JoinedRow
+  passing found = filter (λ row. list_all (meets row) plan.conditions) found
+
+  before-step : (i id : ℕ) (own : List Value) → slice_get rows i ≡ Some (id, own)
+      → rows_before tables plan (i + 1) ≡ rows_before tables plan i ++ passing (cons_option (joined_with tables plan.join own) [])
+  before-step i id own e =
+      let joined : ℕ × List Value → Option JoinedRow = λ row. joined_with tables plan.join row.1 in
+      let one : take (i + 1) rows ≡ take i rows ++ (id, own) ∷ [] =
+      take_more rows i (id, own) (slice_get_within rows i (id, own) e)
+      ∙ ap (λ row. take i rows ++ row ∷ []) (get_or_from_slice_get rows i (id, own) (id, own) e) in
+      ap (λ some. passing (filter_map joined some)) one
+      ∙ ap passing (filter_map-append joined (take i rows) ((id, own) ∷ []))
+      ∙ filter-append (λ row. list_all (meets row) plan.conditions) (filter_map joined (take i rows)) (filter_map joined ((id, own) ∷ []))
+
+  pub before-none : (i id : ℕ) (own : List Value) → slice_get rows i ≡ Some (id, own) → joined_with tables plan.join own ≡ None
+      → rows_before tables plan (i + 1) ≡ rows_before tables plan i
+  before-none i id own e h =
+      before-step i id own e
+      ∙ ap (λ found. rows_before tables plan i ++ passing (cons_option found [])) h
+      ∙ append-nil (rows_before tables plan i)
+
+  found-step : (i id : ℕ) (own : List Value) (row : JoinedRow) → slice_get rows i ≡ Some (id, own)
+      → joined_with tables plan.join own ≡ Some row
+      → rows_before tables plan (i + 1)
+      ≡ rows_before tables plan i ++ cond (list_all (meets row) plan.conditions) (row ∷ []) []
+  found-step i id own row e h =
+      before-step i id own e ∙ ap (λ found. rows_before tables plan i ++ passing (cons_option found [])) h
+
+  pub before-not : (i id : ℕ) (own : List Value) (row : JoinedRow) → slice_get rows i ≡ Some (id, own)
+      → joined_with tables plan.join own ≡ Some row → list_all (meets row) plan.conditions ≡ false
+      → rows_before tables plan (i + 1) ≡ rows_before tables plan i
+  before-not i id own row e h fails =
+      found-step i id own row e h
+      ∙ ap (λ b. rows_before tables plan i ++ cond b (row ∷ []) []) fails
+      ∙ append-nil (rows_before tables plan i)
+
+  pub before-more : (i id : ℕ) (own : List Value) (row : JoinedRow) → slice_get rows i ≡ Some (id, own)
+      → joined_with tables plan.join own ≡ Some row → list_all (meets row) plan.conditions ≡ true
+      → rows_before tables plan (i + 1) ≡ rows_before tables plan i ++ row ∷ []
+  before-more i id own row e h passes =
+      found-step i id own row e h ∙ ap (λ b. rows_before tables plan i ++ cond b (row ∷ []) []) passes
+
+  -- before the end of the table stand all its rows
+  pub before-all : rows_before tables plan (length rows) ≡ rows_among tables plan rows
+  before-all = ap (rows_among tables plan) (take_all (length rows) rows (omega arith))
+
+-- ---- before any row
+
+opening-found : (columns : List Column) (aggregates : List Aggregate) (group : List Value)
+    → lookup (is_at (group_cmp group)) (opening_of columns (map (aggregate_of []) aggregates))
+    ≡ cond (is_group columns [] group) (Some (map (aggregate_of (rows_in columns group [])) aggregates)) None
+opening-found [] aggregates group =
+    ap (λ b. cond b (Some (map (aggregate_of []) aggregates)) None) (sym (or_none (is_eq (group_cmp group []))))
+opening-found (column ∷ columns) aggregates group = refl
+
+none-within : (count : ℕ) (aggregate : Aggregate) → IsWithin count (aggregate_of [] aggregate)
+none-within count Count = (omega (arith, ints), omega (arith, ints))
+none-within count (Sum column) = (omega (arith, ints), omega (arith, ints))
+none-within count (Min column) = tt
+none-within count (Max column) = tt
+
+all-none-within : (count : ℕ) (aggregates : List Aggregate) → AllByRecursion (IsWithin count) (map (aggregate_of []) aggregates)
+all-none-within count [] = tt
+all-none-within count (aggregate ∷ aggregates) = (none-within count aggregate, all-none-within count aggregates)
+
+-- aggregates of no rows fit
+pub empty-within : (count : ℕ) (aggregates : List Aggregate) → All (IsWithin count) (map (aggregate_of []) aggregates)
+empty-within count aggregates = All-from_recursion (IsWithin count) (map (aggregate_of []) aggregates) (all-none-within count aggregates)
+
+-- and so do those of all groups, where one group's have grown
+pub within-put : (count : ℕ) (groups after : GroupList) (key : List Value) (fields : List Field) → AreWithin count groups
+    → All (IsWithin (count + 1)) fields
+    → ((group : List Value) → lookup (is_at (group_cmp group)) after
+    ≡ cond (is_at (group_cmp key) group) (Some fields) (lookup (is_at (group_cmp group)) groups))
+    → AreWithin (count + 1) after
+within-put count groups after key fields within grown finds group =
+    subst (λ found. IfSome found (λ fields. All (IsWithin (count + 1)) fields)) (sym (finds group)) (by (is_at (group_cmp key) group))
+  where
+    by : (here : Bool)
+        → IfSome (cond here (Some fields) (lookup (is_at (group_cmp group)) groups)) (λ fields. All (IsWithin (count + 1)) fields)
+    by true = grown
+    by false =
+        IfSome_then (lookup (is_at (group_cmp group)) groups) (within group) (λ fields all. All-IsWithin-more count fields all)
+
+opening-within : (columns : List Column) (aggregates : List Aggregate) → AreWithin 0 (opening_of columns (map (aggregate_of []) aggregates))
+opening-within [] aggregates group = by (is_eq (group_cmp group []))
+  where
+    by : (here : Bool) → IfSome (cond here (Some (map (aggregate_of []) aggregates)) None) (λ fields. All (IsWithin 0) fields)
+    by true = empty-within 0 aggregates
+    by false = tt
+opening-within (column ∷ columns) aggregates group = tt
+
+-- nothing is kept before the first row
+pub opening-kept : (plan : Plan) → IsKept plan [] 0 (opening_groups plan)
+opening-kept plan = record {
+  found = opening-found plan.groups plan.aggregates;
+  within = opening-within plan.groups plan.aggregates;
+}
+
+-- ---- all rows
+
+lines-paired : (plan : Plan) (rows : List JoinedRow) (groups : List (List Value))
+    → map (λ entry. map Stored entry.0 ++ entry.1)
+    (paired (λ group. map (aggregate_of (rows_in plan.groups group rows)) plan.aggregates) groups)
+    ≡ map (line_of plan rows) groups
+lines-paired plan _ [] = refl
+lines-paired plan rows (group ∷ groups) = ap (λ rest. line_of plan rows group ∷ rest) (lines-paired plan rows groups)
+
+-- the lines of what is kept of all rows are those of the answer
+pub kept-lines : (plan : Plan) (rows : List JoinedRow) (count : ℕ) (groups : GroupList) → IsKept plan rows count groups
+    → IsStrictlySortedBy group_cmp (keys_of groups)
+    → map (λ entry. map Stored entry.0 ++ entry.1) groups ≡ lines_of plan rows
+kept-lines plan rows count groups kept sorted =
+    let of_group : List Value → List Field = λ group. map (aggregate_of (rows_in plan.groups group rows)) plan.aggregates in
+    let names : List (List Value) = rising (groups_of plan.groups rows) in
+    let defined = paired of_group names in
+    let rise : IsStrictlySortedBy group_cmp (keys_of defined) =
+    subst (IsStrictlySortedBy group_cmp) (sym (keys_of-paired of_group names)) (rising-sorted (groups_of plan.groups rows)) in
+    let finds : (group : List Value) → lookup (is_at (group_cmp group)) groups ≡ lookup (is_at (group_cmp group)) defined =
+    λ group.
+    kept.found group
+    ∙ ap (λ b. cond b (Some (of_group group)) None) (sym (rising-any (λ other. is_eq (group_cmp group other)) (groups_of plan.groups rows)))
+    ∙ sym (lookup-paired of_group group names) in
+    ap (map (λ entry. map Stored entry.0 ++ entry.1)) (same_entries group_cmp_total group_cmp-exact groups defined sorted rise finds)
+    ∙ lines-paired plan rows names

@@ -1,0 +1,8 @@
+pub mod Orders
+pub mod Rising
+pub mod Aggregates
+pub mod Keeping
+pub mod Columns
+pub mod Taking
+pub mod Placing
+pub mod Texts

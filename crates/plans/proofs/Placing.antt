@@ -1,0 +1,45 @@
+-- A row by its place in a table's order; its columns by its place in a store.
+use Rattle.std.proofs.Common.{◌≡◌, ℕ, zero, suc, ◌<◌, cond, nat_lt, ◌==◌, List, [], ◌∷◌, Option, None, Some, slice_get, IsSome, refl, sym}
+use Rattle.std.proofs.Common.{ap, ◌∙◌, arith}
+use Rattle.std.specs.BTreeMap.{is_at}
+use Rattle.std.specs.Map.{lookup}
+use Rattle.std.specs.Option.{option_map}
+use Rattle.std.specs.Ordering.{nat_cmp, is_eq}
+use Rattle.std.proofs.lemmas.Bool.Decides.{nat_tests}
+use Rattle.std.proofs.lemmas.Option.{same_Some}
+use Rattle.rows.specs.declared.value.Value.{Value}
+use Rattle.rows.specs.Tables.{Rows, row_at}
+use Rattle.store.specs.Changes.{column_of, id_in, IsAboveAllBefore}
+use Rattle.plans.specs.Inner.Places.{or_none}
+
+-- the row at a place
+pub record IsPlaced (rows : Rows) (i id : ℕ) : Type 0 where
+  pub own : List Value
+  pub there : slice_get rows i ≡ Some (id, own)
+  pub found : row_at rows id ≡ Some own
+
+at-first : (rows : Rows) (first : ℕ × List Value) (id : ℕ) → id ≡ first.0 → row_at (first ∷ rows) id ≡ Some first.1
+at-first rows first id e = grind (arith, nat_tests)
+
+past-first : (rows : Rows) (first : ℕ × List Value) (id : ℕ) → first.0 < id → row_at (first ∷ rows) id ≡ row_at rows id
+past-first rows first id lt = grind (arith, nat_tests)
+
+-- the identifier at a place is that of the row there, since those before it are below
+pub placed : (rows : Rows) (i id : ℕ) → Some id ≡ id_in rows i → IsAboveAllBefore rows i id → IsPlaced rows i id
+placed [] i id e above = absurd (cc)
+placed (first ∷ rows) zero id e above =
+    let same : id ≡ first.0 = same_Some id first.0 e in
+    record {
+      own = first.1;
+      there = ap (λ id. Some (id, first.1)) (sym same);
+      found = at-first rows first id same;
+    }
+placed (first ∷ rows) (suc i) id e above =
+    let lt : first.0 < id = above zero (omega arith) in
+    let rest = placed rows i id e (λ j h. above (suc j) (omega arith)) in
+    record { own = rest.own; there = rest.there; found = past-first rows first id lt ∙ rest.found }
+
+-- the column of the row at a place
+pub column-at-place : (values : Option (List Value)) (column : ℕ) → slice_get (or_none values) column ≡ column_of values column
+column-at-place None column = refl
+column-at-place (Some values) column = refl

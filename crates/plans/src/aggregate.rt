@@ -1,0 +1,14 @@
+use crate::column::Column;
+
+/// What a plan asks of each group of rows.
+#[derive(Clone, Copy, Debug, PartialEq, Eq)]
+pub enum Aggregate {
+    /// How many rows it has.
+    Count,
+    /// The exact sum of a column of numbers; 0 of no rows.
+    Sum(Column),
+    /// The least value of a column; of no rows there is none.
+    Min(Column),
+    /// The greatest value of a column; of no rows there is none.
+    Max(Column),
+}

@@ -1,0 +1,138 @@
+//! Answering plans on a store.
+
+ghost use Rattle.std.specs.Prelude.{◌≡◌, ◌+◌, ◌<◌, true, length, map, Ok, IsSome, IfOk, OnOk};
+ghost use Rattle.std.specs.List.{AllByRecursion, list_all};
+ghost use Rattle.std.specs.Option.{option_map};
+ghost use Rattle.rows.specs.Tables.{shape_in, rows_of};
+ghost use Rattle.plans.specs.Checking.{checked};
+ghost use Rattle.plans.specs.Answers.{column_in, id_of, joined_with, meets, plain_answer};
+ghost use Rattle.plans.specs.Inner.Kept.{IsKeptBefore, HasJoin};
+ghost use Rattle.plans.specs.Inner.Places.{row_at_place, or_none};
+
+use crate::answer::Answer;
+use crate::comparing::{compare, passes};
+use crate::condition::Condition;
+use crate::groups::Groups;
+use crate::plan::Plan;
+use crate::row_place::{RowPlace, value_in};
+use rows::{RowId, Value};
+use std::alloc::{AllocError, Global};
+use std::marker::Sync;
+use store::Store;
+
+/// The answers of plans on the rows of a store, in their order. Each plan was checked against the
+/// kinds of the store's tables, and the store is whole. Fails only when out of memory.
+pub fn answer_batch<S: Store + Sync>(
+    alloc: Global,
+    store: &S,
+    plans: &[Plan],
+) -> Result<Vec<Answer>, AllocError>
+    requires whole { S.is_whole store.now ≡ true }
+    requires checked { AllByRecursion (λ plan. checked (shape_in (S.tables store.now)) plan ≡ Ok tt) plans.now }
+    ensures { IfOk result (λ answers. answers.items ≡ map (plain_answer (S.tables store.now)) plans.now) }
+{
+    let mut answers = Vec::with_capacity(alloc, plans.len())?;
+    for plan in plans {
+        answers.push(answer(alloc, store, plan)?)?;
+    }
+    Ok(answers)
+}
+
+/// The answer of one plan. Fails only when out of memory.
+fn answer<S: Store>(alloc: Global, store: &S, plan: &Plan) -> Result<Answer, AllocError>
+    requires whole { S.is_whole store.now ≡ true }
+    requires checked { checked (shape_in (S.tables store.now)) plan.now ≡ Ok tt }
+    ensures { IfOk result (λ answer. answer ≡ plain_answer (S.tables store.now) plan.now) }
+{
+    let mut groups = Groups::new(alloc, plan)?;
+    for i in 0..store.len(plan.table) {
+        take_row(alloc, store, plan, i, &mut groups)?;
+    }
+    groups.answer(alloc)
+}
+
+/// Adds the row at a place of the plan's table, where the plan looks at it, to what is kept of the
+/// rows before it. Fails only when out of memory.
+fn take_row<S: Store>(
+    alloc: Global,
+    store: &S,
+    plan: &Plan,
+    i: usize,
+    groups: &mut Groups,
+) -> Result<(), AllocError>
+    requires whole { S.is_whole store.now ≡ true }
+    requires checked { checked (shape_in (S.tables store.now)) plan.now ≡ Ok tt }
+    requires within { i < length (rows_of (S.tables store.now) plan.now.table) }
+    requires kept { IsKeptBefore (S.tables store.now) plan.now i groups.old }
+    ensures { OnOk result (IsKeptBefore (S.tables store.now) plan.now (i + 1) groups.new) }
+{
+    store.keeps_kinds();
+    let id = store.id_at(plan.table, i);
+    let Some(place) = store.find(plan.table, id) else {
+        unreachable!();
+    };
+    let Some(row) = joined_row(store, plan, place) else {
+        return Ok(());
+    };
+    if !meets_all(store, &row, plan.conditions.as_slice()) {
+        return Ok(());
+    }
+    groups.add(alloc, store, plan, &row, i)
+}
+
+/// Where a row of the plan's table stands with the row that it is joined with; `None` where that is
+/// not there.
+fn joined_row<S: Store>(store: &S, plan: &Plan, place: S::Place) -> Option<RowPlace<S::Place>>
+    requires whole { S.is_whole store.now ≡ true }
+    requires there { HasJoin plan.now.join (or_none (S.values_at store.now plan.now.table place)) }
+    ensures { option_map (row_at_place (S.values_at store.now)) result
+        ≡ joined_with (S.tables store.now) plan.now.join (or_none (S.values_at store.now plan.now.table place)) }
+{
+    let table = plan.table;
+    let Some(join) = plan.join else {
+        return Some(RowPlace {
+            table,
+            place,
+            joined: None,
+        });
+    };
+    let id = id_of(store.value(table, place, join.column as usize))?;
+    let other = store.find(join.table, id)?;
+    Some(RowPlace {
+        table,
+        place,
+        joined: Some((join.table, other)),
+    })
+}
+
+/// The identifier of a row that a value names; `None` where it is negative, or no number.
+fn id_of(value: Value) -> Option<RowId>
+    ensures { option_map (λ id. id.0) result ≡ id_of value }
+{
+    match value {
+        Value::Int(number) => {
+            if number < 0 {
+                None
+            } else {
+                Some(RowId(number as u64))
+            }
+        }
+        Value::Octets(_) => None,
+    }
+}
+
+/// Whether a row meets all conditions.
+fn meets_all<S: Store>(store: &S, row: &RowPlace<S::Place>, conditions: &[Condition]) -> bool
+    requires whole { S.is_whole store.now ≡ true }
+    requires there { AllByRecursion
+        (λ condition. IsSome (column_in (row_at_place (S.values_at store.now) row.now) condition.column)) conditions.now }
+    ensures { result ≡ list_all (meets (row_at_place (S.values_at store.now) row.now)) conditions.now }
+{
+    for condition in conditions {
+        let value = value_in(store, row, condition.column);
+        if !passes(condition.comparison, compare(&value, &condition.value)) {
+            return false;
+        }
+    }
+    true
+}

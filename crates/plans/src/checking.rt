@@ -1,0 +1,187 @@
+//! The first fault of a plan.
+
+ghost use Rattle.std.specs.Prelude.{◌≡◌, map, slice_get};
+ghost use Rattle.std.specs.Option.{option_map};
+ghost use Rattle.rows.specs.Shape.{shape_of};
+ghost use Rattle.rows.specs.Values.{is_of_kind};
+ghost use Rattle.plans.specs.Checking.{first, plan_fault, is_too_many, column_kind, joined_kinds, join_fault, condition_fault};
+ghost use Rattle.plans.specs.Checking.{group_fault, aggregate_fault, number_fault, column_faults};
+
+use crate::aggregate::Aggregate;
+use crate::column::Column;
+use crate::condition::Condition;
+use crate::faults::PlanFault;
+use crate::limits::{AGGREGATES_MAX, CONDITIONS_MAX, GROUPS_MAX};
+use crate::plan::{Join, Plan};
+use rows::{Kind, Schema, Value};
+
+/// The first fault of a plan for a schema.
+pub fn plan_fault(plan: &Plan, schema: &Schema) -> Option<PlanFault>
+    ensures { result ≡ plan_fault (shape_of schema.now) plan.now }
+{
+    if is_too_many(plan) {
+        return Some(PlanFault::TooMany);
+    }
+    if plan.aggregates.as_slice().is_empty() {
+        return Some(PlanFault::NoAggregate);
+    }
+    let Some(own) = schema.kinds(plan.table as usize) else {
+        return Some(PlanFault::NoTable);
+    };
+    let Some(joined) = joined_kinds(schema, plan.join) else {
+        return Some(PlanFault::NoTable);
+    };
+    column_faults(own, joined, plan)
+}
+
+/// Whether a plan has too many conditions, columns to group by or aggregates.
+fn is_too_many(plan: &Plan) -> bool
+    ensures { result ≡ is_too_many plan.now }
+{
+    plan.conditions.as_slice().len() > CONDITIONS_MAX
+        || plan.groups.as_slice().len() > GROUPS_MAX
+        || plan.aggregates.as_slice().len() > AGGREGATES_MAX
+}
+
+/// The kinds of the columns that a plan joins, none where it joins no table; `None` where the
+/// table is not there.
+fn joined_kinds<'s>(schema: &'s Schema, join: Option<Join>) -> Option<&'s [Kind]>
+    ensures { option_map (λ kinds. kinds.now) result ≡ joined_kinds (shape_of schema.now) join }
+{
+    match join {
+        None => Some(&[]),
+        Some(join) => schema.kinds(join.table as usize),
+    }
+}
+
+/// The first fault of a plan's columns, among those of its table and of the table that it joins.
+fn column_faults(own: &[Kind], joined: &[Kind], plan: &Plan) -> Option<PlanFault>
+    ensures { result ≡ column_faults own.now joined.now plan.now }
+{
+    if let Some(fault) = join_fault(own, plan.join) {
+        return Some(fault);
+    }
+    if let Some(fault) = conditions_fault(own, joined, plan.conditions.as_slice()) {
+        return Some(fault);
+    }
+    if let Some(fault) = groups_fault(own, joined, plan.groups.as_slice()) {
+        return Some(fault);
+    }
+    aggregates_fault(own, joined, plan.aggregates.as_slice())
+}
+
+/// The kind of a column; `None` where it is not there.
+fn column_kind(own: &[Kind], joined: &[Kind], column: Column) -> Option<Kind>
+    ensures { result ≡ column_kind own.now joined.now column }
+{
+    match column {
+        Column::Own(column) => own.get(column as usize).copied(),
+        Column::Joined(column) => joined.get(column as usize).copied(),
+    }
+}
+
+/// The fault of a column that is to be one of numbers.
+fn number_fault(kind: Option<Kind>) -> Option<PlanFault>
+    ensures { result ≡ number_fault kind }
+{
+    match kind {
+        None => Some(PlanFault::NoColumn),
+        Some(Kind::Int) => None,
+        Some(Kind::Octets(_)) => Some(PlanFault::WrongKind),
+    }
+}
+
+/// The fault of a join.
+fn join_fault(own: &[Kind], join: Option<Join>) -> Option<PlanFault>
+    ensures { result ≡ join_fault own.now join }
+{
+    match join {
+        None => None,
+        Some(join) => number_fault(own.get(join.column as usize).copied()),
+    }
+}
+
+/// The fault of a condition.
+fn condition_fault(own: &[Kind], joined: &[Kind], condition: &Condition) -> Option<PlanFault>
+    ensures { result ≡ condition_fault own.now joined.now condition.now }
+{
+    match column_kind(own, joined, condition.column) {
+        None => Some(PlanFault::NoColumn),
+        Some(kind) => {
+            if is_of_kind(&condition.value, kind) {
+                None
+            } else {
+                Some(PlanFault::WrongKind)
+            }
+        }
+    }
+}
+
+/// Whether a value is of a kind.
+fn is_of_kind(value: &Value, kind: Kind) -> bool
+    ensures { result ≡ is_of_kind value.now kind }
+{
+    match (value, kind) {
+        (Value::Int(_), Kind::Int) => true,
+        (Value::Octets(bytes), Kind::Octets(width)) => bytes.as_slice().len() == width as usize,
+        (Value::Int(_), Kind::Octets(_)) | (Value::Octets(_), Kind::Int) => false,
+    }
+}
+
+/// The fault of a column to group by.
+fn group_fault(own: &[Kind], joined: &[Kind], column: Column) -> Option<PlanFault>
+    ensures { result ≡ group_fault own.now joined.now column }
+{
+    match column_kind(own, joined, column) {
+        None => Some(PlanFault::NoColumn),
+        Some(_) => None,
+    }
+}
+
+/// The fault of an aggregate.
+fn aggregate_fault(own: &[Kind], joined: &[Kind], aggregate: Aggregate) -> Option<PlanFault>
+    ensures { result ≡ aggregate_fault own.now joined.now aggregate }
+{
+    match aggregate {
+        Aggregate::Count => None,
+        Aggregate::Sum(column) => number_fault(column_kind(own, joined, column)),
+        Aggregate::Min(column) => group_fault(own, joined, column),
+        Aggregate::Max(column) => group_fault(own, joined, column),
+    }
+}
+
+/// The first fault of conditions.
+fn conditions_fault(own: &[Kind], joined: &[Kind], conditions: &[Condition]) -> Option<PlanFault>
+    ensures { result ≡ first (map (condition_fault own.now joined.now) conditions.now) }
+{
+    for condition in conditions {
+        if let Some(fault) = condition_fault(own, joined, condition) {
+            return Some(fault);
+        }
+    }
+    None
+}
+
+/// The first fault of columns to group by.
+fn groups_fault(own: &[Kind], joined: &[Kind], columns: &[Column]) -> Option<PlanFault>
+    ensures { result ≡ first (map (group_fault own.now joined.now) columns.now) }
+{
+    for column in columns {
+        if let Some(fault) = group_fault(own, joined, *column) {
+            return Some(fault);
+        }
+    }
+    None
+}
+
+/// The first fault of aggregates.
+fn aggregates_fault(own: &[Kind], joined: &[Kind], aggregates: &[Aggregate]) -> Option<PlanFault>
+    ensures { result ≡ first (map (aggregate_fault own.now joined.now) aggregates.now) }
+{
+    for aggregate in aggregates {
+        if let Some(fault) = aggregate_fault(own, joined, *aggregate) {
+            return Some(fault);
+        }
+    }
+    None
+}

@@ -1,0 +1,150 @@
+//! What is kept for a plan while its rows are looked at: the aggregates of each group so far.
+
+ghost use Rattle.std.specs.Prelude.{◌≡◌, ◌+◌, ◌++◌, [], true, map, List, IsSome, IfOk, OnOk};
+ghost use Rattle.std.specs.BTreeMap.{is_at};
+ghost use Rattle.std.specs.List.{AllByRecursion};
+ghost use Rattle.std.specs.List.Sorted.{IsStrictlySortedBy};
+ghost use Rattle.std.specs.Map.{keys_of, lookup};
+ghost use Rattle.rows.specs.declared.value.Value.{Value as ColumnValue};
+ghost use Rattle.plans.specs.declared.field.Field.TheVariants.{Stored};
+ghost use Rattle.plans.specs.Order.{group_cmp};
+ghost use Rattle.plans.specs.Answers.{aggregate_of, group_of, column_in};
+ghost use Rattle.plans.specs.Inner.Kept.{opening_groups, with_row, HasColumns, AreWithin};
+ghost use Rattle.plans.specs.Inner.Places.{row_at_place};
+
+use crate::aggregate::Aggregate;
+use crate::answer::Answer;
+use crate::column::Column;
+use crate::field::Field;
+use crate::field_list::FieldList;
+use crate::group_key::GroupKey;
+use crate::growing::grow;
+use crate::plan::Plan;
+use crate::row_place::{RowPlace, value_in};
+use rows::Value;
+use std::alloc::{AllocError, Global};
+use std::collections::BTreeMap;
+use std::marker::Model;
+use store::Store;
+
+/// The groups of a plan, each with its aggregates of the rows so far. Contracts see them in rising
+/// order.
+#[derive(Debug, Drop)]
+pub struct Groups {
+    map: BTreeMap<GroupKey, FieldList>,
+}
+
+impl Model for Groups {
+    ghost use Rattle.plans.specs.Inner.Kept.{GroupList};
+
+    ghost Value = { GroupList };
+
+    ghost view = { λ groups. groups.map.entries };
+}
+
+impl Groups {
+    /// The groups of a plan before any row: none, but for the one of a plan that does not group.
+    /// Fails only when out of memory.
+    pub fn new(alloc: Global, plan: &Plan) -> Result<Groups, AllocError>
+        ensures { IfOk result (λ groups. groups ≡ opening_groups plan.now) }
+    {
+        let mut map = BTreeMap::new(alloc);
+        if plan.groups.as_slice().is_empty() {
+            let fields = empty_fields(alloc, plan.aggregates.as_slice())?;
+            map.insert(GroupKey::from_vec(Vec::new(alloc)), fields)?;
+        }
+        Ok(Groups { map })
+    }
+
+    /// Adds a row, behind at most so many others. Fails only when out of memory.
+    pub fn add<S: Store>(
+        &mut self,
+        alloc: Global,
+        store: &S,
+        plan: &Plan,
+        row: &RowPlace<S::Place>,
+        rows: usize,
+    ) -> Result<(), AllocError>
+        requires whole { S.is_whole store.now ≡ true }
+        requires there { HasColumns plan.now (row_at_place (S.values_at store.now) row.now) }
+        requires within { AreWithin rows self.old }
+        ensures found { OnOk result ((group : List ColumnValue) → lookup (is_at (group_cmp group)) self.new
+            ≡ with_row (row_at_place (S.values_at store.now) row.now) plan.now self.old group) }
+        ensures within { OnOk result (AreWithin (rows + 1) self.new) }
+    {
+        let key = key_of(alloc, store, row, plan.groups.as_slice())?;
+        if let Some(fields) = self.map.get_mut(&key) {
+            grow(store, row, plan.aggregates.as_slice(), fields, rows);
+            return Ok(());
+        }
+        let mut fields = empty_fields(alloc, plan.aggregates.as_slice())?;
+        grow(store, row, plan.aggregates.as_slice(), &mut fields, rows);
+        self.map.insert(key, fields)?;
+        Ok(())
+    }
+
+    /// The lines of the groups. Fails only when out of memory.
+    pub fn answer(&self, alloc: Global) -> Result<Answer, AllocError>
+        ensures ordered { IsStrictlySortedBy group_cmp (keys_of self.now) }
+        ensures lines { IfOk result (λ answer. answer ≡ map (λ entry. map Stored entry.0 ++ entry.1) self.now) }
+    {
+        let mut lines = Vec::with_capacity(alloc, self.map.len())?;
+        for (group, fields) in &self.map {
+            lines.push(line_of(alloc, group.as_slice(), fields.as_slice())?)?;
+        }
+        Ok(Answer::from_vec(lines))
+    }
+}
+
+/// The values by which a row is grouped. Fails only when out of memory.
+fn key_of<S: Store>(
+    alloc: Global,
+    store: &S,
+    row: &RowPlace<S::Place>,
+    columns: &[Column],
+) -> Result<GroupKey, AllocError>
+    requires whole { S.is_whole store.now ≡ true }
+    requires there { AllByRecursion (λ column. IsSome (column_in (row_at_place (S.values_at store.now) row.now) column)) columns.now }
+    ensures { IfOk result (λ key. key ≡ group_of columns.now (row_at_place (S.values_at store.now) row.now)) }
+{
+    let mut values = Vec::with_capacity(alloc, columns.len())?;
+    for column in columns {
+        values.push(value_in(store, row, *column))?;
+    }
+    Ok(GroupKey::from_vec(values))
+}
+
+/// Aggregates of no rows. Fails only when out of memory.
+fn empty_fields(alloc: Global, aggregates: &[Aggregate]) -> Result<FieldList, AllocError>
+    ensures { IfOk result (λ fields. fields ≡ map (aggregate_of []) aggregates.now) }
+{
+    let fields = aggregates
+        .iter()
+        .map(|aggregate| empty_field(*aggregate))
+        .collect(alloc)?;
+    Ok(FieldList::from_vec(fields))
+}
+
+/// An aggregate of no rows.
+fn empty_field(aggregate: Aggregate) -> Field
+    ensures { result ≡ aggregate_of [] aggregate }
+{
+    match aggregate {
+        Aggregate::Count => Field::Number(0),
+        Aggregate::Sum(_) => Field::Number(0),
+        Aggregate::Min(_) => Field::Absent,
+        Aggregate::Max(_) => Field::Absent,
+    }
+}
+
+/// The line of a group: its values, and then its aggregates. Fails only when out of memory.
+fn line_of(alloc: Global, group: &[Value], fields: &[Field]) -> Result<FieldList, AllocError>
+    ensures { IfOk result (λ line. line ≡ map Stored group.now ++ fields.now) }
+{
+    let mut line = Vec::new(alloc);
+    for value in group {
+        line.push(Field::Stored(*value))?;
+    }
+    line.extend_from_slice(fields)?;
+    Ok(FieldList::from_vec(line))
+}

@@ -1,0 +1,10 @@
+//! Which entry a spelling is of: its first byte.
+
+/// An insert.
+pub const INSERT_CODE: u8 = 1;
+
+/// A patch.
+pub const PATCH_CODE: u8 = 2;
+
+/// A delete.
+pub const DELETE_CODE: u8 = 3;

@@ -1,0 +1,38 @@
+use thiserror::Error;
+
+/// Why a list of tables is no schema, or why none could be made of it.
+///
+/// The first that stands is named: no table, too many tables, and then table by table an empty
+/// name, a name twice, no column, too many columns, a bad width, a row too wide. Being out of
+/// memory comes last.
+#[derive(Clone, Copy, Debug, PartialEq, Eq, Error)]
+pub enum SchemaFault {
+    #[error("too many tables")]
+    TooManyTables,
+    #[error("too many columns")]
+    TooManyColumns,
+    #[error("row too wide")]
+    RowTooWide,
+    #[error("a column of no bytes, or of more than 64")]
+    BadWidth,
+    #[error("table name given twice")]
+    NameTwice,
+    #[error("no table, an empty table name, or a table without columns")]
+    Empty,
+    #[error("out of memory")]
+    Memory,
+}
+
+/// Why an entry does not fit a schema.
+#[derive(Clone, Copy, Debug, PartialEq, Eq, Error)]
+pub enum EntryFault {
+    /// The schema has no table of that number.
+    #[error("no such table")]
+    NoTable,
+    /// An insert's data has not the width of the table's rows.
+    #[error("the data has not the row's width")]
+    WrongSize,
+    /// A patch's offset and size are not exactly those of one column's bytes.
+    #[error("the data is not exactly one column's bytes")]
+    NotAColumn,
+}

@@ -1,0 +1,117 @@
+//! A journal in memory of which one call fails.
+
+ghost use Rattle.std.specs.Prelude.{◌≡◌, ◌+◌, ◌≤◌, ◌++◌, length, vec_len, vec_capacity};
+
+use journal::JournalStore;
+use std::alloc::{AllocError, Global};
+
+/// A journal in memory whose call of some number fails, counted from 0 among the calls that may.
+/// It is honest in what it leaves: so many bytes of what was to be appended, or more than a cut was
+/// to keep.
+#[derive(Debug, Drop)]
+pub struct FailingJournal {
+    content: Vec<u8>,
+    calls_before: u64,
+    bytes_left: usize,
+    faults: u64,
+}
+
+/// The call that is to fail.
+#[derive(Clone, Copy, Debug, PartialEq)]
+pub struct Refused;
+
+impl FailingJournal {
+    /// A journal without bytes, whose call of that number fails and leaves so many bytes.
+    pub fn new(alloc: Global, calls_before: u64, bytes_left: usize) -> FailingJournal {
+        FailingJournal {
+            content: Vec::new(alloc),
+            calls_before,
+            bytes_left,
+            faults: 0,
+        }
+    }
+
+    /// The bytes that stand.
+    pub fn content(&self) -> &[u8] {
+        self.content.as_slice()
+    }
+
+    /// Whether this call is to fail.
+    fn is_turn(&mut self) -> bool
+        ensures content { self.new.content ≡ self.old.content }
+        ensures faults { self.new.faults ≡ self.old.faults }
+    {
+        if self.calls_before == 0 && self.faults == 0 {
+            return true;
+        }
+        self.calls_before = self.calls_before.saturating_sub(1);
+        false
+    }
+}
+
+/// Puts bytes at the end, where there is room for them.
+fn put(content: &mut Vec<u8>, bytes: &[u8])
+    requires { vec_len content.old + length bytes.now ≤ vec_capacity content.old }
+    ensures { content.new.items ≡ content.old.items ++ bytes.now }
+{
+    match content.extend_from_slice(bytes) {
+        Ok(()) => {}
+        Err(_) => unreachable!(),
+    }
+}
+
+impl JournalStore for FailingJournal {
+    ghost use Rattle.std.specs.Prelude.{true, ◌-◌, vec_len, vec_capacity};
+
+    type Fault = Refused;
+
+    ghost standing = { λ j. j.content.items };
+
+    ghost room = { λ j. vec_capacity j.content - vec_len j.content };
+
+    ghost fault_count = { λ j. j.faults };
+
+    ghost is_honest = { λ _. true };
+
+    fn reserve(&mut self, count: usize) -> Result<(), AllocError> {
+        self.content.reserve(count)
+    }
+
+    fn append(&mut self, bytes: &[u8]) -> Result<(), Refused> {
+        if self.is_turn() {
+            let (front, _) = bytes.split_at(self.bytes_left.min(bytes.len()));
+            put(&mut self.content, front);
+            self.faults += 1;
+            return Err(Refused);
+        }
+        put(&mut self.content, bytes);
+        Ok(())
+    }
+
+    fn cut_to(&mut self, len: u64) -> Result<(), Refused> {
+        if self.is_turn() {
+            self.content
+                .truncate((len as usize).saturating_add(self.bytes_left));
+            self.faults += 1;
+            return Err(Refused);
+        }
+        self.content.truncate(len as usize);
+        Ok(())
+    }
+
+    fn read_all(&mut self, list: &mut Vec<u8>) -> Result<(), Option<Refused>> {
+        list.clear();
+        if self.is_turn() {
+            self.faults += 1;
+            return Err(Some(Refused));
+        }
+        match list.extend_from_slice(&self.content) {
+            Ok(()) => Ok(()),
+            Err(_) => Err(None),
+        }
+    }
+
+    fn faults(&self) -> u64 {
+        self.faults
+    }
+}

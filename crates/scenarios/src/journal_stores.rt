@@ -1,0 +1,157 @@
+//! What stands in a journal after each call, and after each that fails.
+
+ghost use Rattle.std.specs.Prelude.{◌<◌};
+
+use crate::failing_journal::FailingJournal;
+use crate::journal_bytes::{HEADER_LEN, JOURNAL, Outcome, outcome};
+use journal::{JournalStore, MemJournal};
+use std::alloc::Global;
+use std::test::Fail;
+
+/// A call on a journal.
+#[derive(Clone, Copy)]
+enum Call {
+    /// Room is made, and these bytes are appended.
+    Append(&'static [u8]),
+    /// It is read, and where it has so many bytes it is cut to them.
+    CutTo(u64),
+    /// It is read.
+    ReadAll,
+}
+
+/// The header is written and a record, which is cut away and written again.
+const CALLS: [Call; 5] = [
+    Call::Append(&JOURNAL_HEADER),
+    Call::Append(&JOURNAL_RECORD),
+    Call::CutTo(9),
+    Call::ReadAll,
+    Call::Append(&JOURNAL_RECORD),
+];
+
+const JOURNAL_HEADER: [u8; 9] = [0x42, 0x44, 0x4a, 0x31, 0x02, 0x01, 0x02, 0x00, 0x00];
+
+const JOURNAL_RECORD: [u8; 43] = [
+    0x00, 0x00, 0x00, 0x27, 0x00, 0x00, 0x00, 0x00, 0x00, 0x00, 0x00, 0x00, 0x01, 0x00, 0x01, 0x01,
+    0x00, 0x00, 0x00, 0x00, 0x00, 0x00, 0x00, 0x00, 0x07, 0x00, 0x10, 0x00, 0x00, 0x00, 0x00, 0x00,
+    0x00, 0x00, 0x05, 0xff, 0xff, 0xff, 0xff, 0xff, 0xff, 0xff, 0xff,
+];
+
+/// Makes a call, and answers whether it was done. The list is left with what was read.
+fn make<J: JournalStore>(journal: &mut J, call: Call, list: &mut Vec<u8>) -> Result<bool, Fail> {
+    if journal.faults() == u64::MAX {
+        return Err("too many faults".into());
+    }
+    match call {
+        Call::Append(bytes) => {
+            journal.reserve(bytes.len())?;
+            Ok(journal.append(bytes).is_ok())
+        }
+        Call::CutTo(len) => cut(journal, len, list),
+        Call::ReadAll => Ok(journal.read_all(list).is_ok()),
+    }
+}
+
+/// Reads the journal, and cuts it where it has so many bytes.
+fn cut<J: JournalStore>(journal: &mut J, len: u64, list: &mut Vec<u8>) -> Result<bool, Fail>
+    requires { J.fault_count journal.old < 18446744073709551615 }
+{
+    if journal.read_all(list).is_err() {
+        return Ok(false);
+    }
+    if len > list.len() as u64 {
+        return Err("too few bytes".into());
+    }
+    Ok(journal.cut_to(len).is_ok())
+}
+
+/// Makes these calls up to the first that fails.
+fn make_all<J: JournalStore>(
+    journal: &mut J,
+    calls: &[Call],
+    list: &mut Vec<u8>,
+) -> Result<bool, Fail> {
+    for call in calls {
+        if !make(journal, *call, list)? {
+            return Ok(false);
+        }
+    }
+    Ok(true)
+}
+
+/// The number of the call that fails and leaves two bytes; and then how many bytes stand, how many
+/// faults there were, and what is recovered.
+const LEFT: [(u64, usize, u64, Outcome); 7] = [
+    (0, 2, 1, Ok((0, 0))),
+    (1, 11, 1, Ok((0, 9))),
+    (2, 52, 1, Ok((1, 52))),
+    (3, 11, 1, Ok((0, 9))),
+    (4, 9, 1, Ok((0, 9))),
+    (5, 11, 1, Ok((0, 9))),
+    (6, 52, 0, Ok((1, 52))),
+];
+
+/// What a journal whose call of that number fails has after the calls: the bytes, which are a
+/// beginning of the journal's, and the faults.
+fn left_by(alloc: Global, calls_before: u64) -> Result<(usize, u64, Outcome), Fail> {
+    let mut journal = FailingJournal::new(alloc, calls_before, 2);
+    let mut list = Vec::new(alloc);
+    let done = make_all(&mut journal, &CALLS, &mut list)?;
+    let faults = journal.faults();
+    if done != (faults == 0) || !JOURNAL.starts_with(journal.content()) {
+        return Err("other bytes".into());
+    }
+    let bytes = journal.content();
+    Ok((bytes.len(), faults, outcome(alloc, bytes)?))
+}
+
+/// The index of the first call of which something else is left.
+fn other_left(alloc: Global) -> Result<Option<usize>, Fail> {
+    for (index, (calls_before, len, faults, recovered)) in LEFT.iter().enumerate() {
+        if left_by(alloc, *calls_before)? != (*len, *faults, *recovered) {
+            return Ok(Some(index));
+        }
+    }
+    Ok(None)
+}
+
+#[test]
+fn a_call_that_fails_leaves_a_beginning(rt: HostRuntime) -> Result<(), Fail> {
+    assert_eq!(rt; other_left(rt.alloc())?, None);
+    Ok(())
+}
+
+#[test]
+fn a_journal_in_memory_does_each_call(rt: HostRuntime) -> Result<(), Fail> {
+    let mut journal = MemJournal::new(rt.alloc());
+    let mut list = Vec::new(rt.alloc());
+    assert!(rt; make_all(&mut journal, &CALLS, &mut list)?);
+    assert_eq!(rt;
+        (journal.content(), list.as_slice(), journal.faults()),
+        (JOURNAL.as_slice(), &JOURNAL[..HEADER_LEN], 0)
+    );
+    Ok(())
+}
+
+#[test]
+fn a_journal_is_made_of_bytes(rt: HostRuntime) -> Result<(), Fail> {
+    let mut journal = MemJournal::of(Vec::from_slice(rt.alloc(), &JOURNAL)?);
+    let mut list = Vec::from_slice(rt.alloc(), &[1, 2, 3])?;
+    assert!(rt; make(&mut journal, Call::CutTo(9), &mut list)?);
+    assert_eq!(rt; list.as_slice(), JOURNAL.as_slice());
+    assert_eq!(rt; journal.content(), &JOURNAL[..HEADER_LEN]);
+    Ok(())
+}
+
+/// Whichever allocation is refused: what was to be made room for is not appended, and what stands
+/// stays.
+#[test]
+fn a_journal_without_memory_keeps_its_bytes(rt: HostRuntime) -> Result<(), Fail> {
+    let mut journal = MemJournal::of(Vec::from_slice(rt.alloc(), &JOURNAL_HEADER)?);
+    if journal.reserve(JOURNAL_RECORD.len()).is_err() {
+        assert_eq!(rt; journal.content(), JOURNAL_HEADER.as_slice());
+        journal.reserve(JOURNAL_RECORD.len())?;
+    }
+    assert!(rt; journal.append(&JOURNAL_RECORD).is_ok());
+    assert_eq!(rt; journal.content(), JOURNAL.as_slice());
+    Ok(())
+}

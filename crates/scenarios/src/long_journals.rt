@@ -1,0 +1,40 @@
+//! Journals of many commits, which `bench/recovery` times.
+
+use crate::journal_bytes::{JOURNAL, Outcome, outcome};
+use std::alloc::Global;
+use std::test::Fail;
+
+/// A journal of so many commits, each of which inserts the row of its number.
+fn journal_of(alloc: Global, count: u32) -> Result<Vec<u8>, Fail> {
+    let mut bytes = Vec::from_slice(alloc, &JOURNAL[..9])?;
+    for commit in 0..count {
+        let number = (u64::from(commit) + 1).to_be_bytes();
+        let mut record = [0; 43];
+        record.copy_from_slice(&JOURNAL[9..]);
+        record[5..13].copy_from_slice(&number);
+        record[17..25].copy_from_slice(&number);
+        bytes.extend_from_slice(&record)?;
+    }
+    Ok(bytes)
+}
+
+/// What is recovered of such a journal.
+fn recovered_of(alloc: Global, count: u32) -> Result<Outcome, Fail> {
+    let bytes = journal_of(alloc, count)?;
+    outcome(alloc, &bytes)
+}
+
+#[test]
+fn recovery_of_50000_commits(rt: HostRuntime) -> Result<(), Fail> {
+    assert_eq!(rt; recovered_of(rt.alloc(), 50_000)?, Ok((50_000, 2_150_009)));
+    Ok(())
+}
+
+#[test]
+fn recovery_of_100000_commits(rt: HostRuntime) -> Result<(), Fail> {
+    assert_eq!(rt;
+        recovered_of(rt.alloc(), 100_000)?,
+        Ok((100_000, 4_300_009))
+    );
+    Ok(())
+}

@@ -1,0 +1,68 @@
+//! Lines of words, which one space parts.
+
+ghost use Rattle.std.specs.Prelude.{◌≡◌, ◌∷◌, [], ◌++◌, map, OnOk};
+ghost use Rattle.script.specs.Text.{value_text, words_text};
+ghost use Rattle.script.specs.Inner.Words.{word_text, tail_text};
+ghost use Rattle.dispatcher.specs.Report.{line_of};
+
+use crate::event::Node;
+use crate::value_text::{push_number, push_value};
+use rows::Value;
+use std::alloc::AllocError;
+
+/// A word that is written.
+#[derive(Clone, Copy)]
+pub enum Word<'a> {
+    Text(&'a str),
+    Number(u64),
+    Value(&'a Value),
+    Node(Node),
+}
+
+/// Adds a line of these words, the first of which is a text, with its end.
+pub fn push_line(text: &mut Vec<u8>, first: &str, words: &[Word]) -> Result<(), AllocError>
+    ensures { OnOk result (text.new.items ≡ text.old.items ++ line_of (first.now ∷ map word_text words.now)) }
+{
+    push_words(text, first, words)?;
+    text.push(b'\n')?;
+    Ok(())
+}
+
+/// Adds these words, the first of which is a text.
+pub fn push_words(text: &mut Vec<u8>, first: &str, words: &[Word]) -> Result<(), AllocError>
+    ensures { OnOk result (text.new.items ≡ text.old.items ++ words_text (first.now ∷ map word_text words.now)) }
+{
+    text.extend_from_slice(first.as_bytes())?;
+    for word in words {
+        text.push(b' ')?;
+        push_word(text, word)?;
+    }
+    Ok(())
+}
+
+/// Adds values, each behind a space.
+pub fn push_values(text: &mut Vec<u8>, values: &[Value]) -> Result<(), AllocError>
+    ensures { OnOk result (text.new.items ≡ text.old.items ++ tail_text (map value_text values.now)) }
+{
+    for value in values {
+        text.push(b' ')?;
+        push_value(text, value)?;
+    }
+    Ok(())
+}
+
+/// Adds a word.
+fn push_word(text: &mut Vec<u8>, word: &Word) -> Result<(), AllocError>
+    ensures { OnOk result (text.new.items ≡ text.old.items ++ word_text word.now) }
+{
+    match word {
+        Word::Text(word) => text.extend_from_slice(word.as_bytes()),
+        Word::Number(number) => push_number(text, *number),
+        Word::Value(value) => push_value(text, value),
+        Word::Node(Node::Primary) => text.extend_from_slice(b"p"),
+        Word::Node(Node::Replica(number)) => {
+            text.push(b'r')?;
+            push_number(text, u64::from(*number))
+        }
+    }
+}

@@ -1,0 +1,36 @@
+use thiserror::Error;
+
+/// Why a plain store refuses a change.
+///
+/// The first that stands is named: the store is broken, the entry does not fit, its row stands
+/// otherwise than it needs; being out of memory comes last.
+#[derive(Clone, Copy, Debug, PartialEq, Eq, Error)]
+pub enum StoreFault {
+    /// It inserts a row that is there.
+    #[error("the row is there")]
+    Exists,
+    /// It changes a row that is not there.
+    #[error("the row is not there")]
+    Missing,
+    /// The entry does not fit the schema.
+    #[error("the entry does not fit the schema")]
+    Unfit,
+    #[error("out of memory")]
+    Memory,
+    /// The store is not whole: a list of commits could not be applied.
+    #[error("the store is broken")]
+    Broken,
+}
+
+/// Why a list of commits was not applied. The store is not whole from then on.
+#[derive(Clone, Copy, Debug, PartialEq, Eq, Error)]
+pub enum ApplyFault {
+    /// A change is refused: its entry does not fit, or its row stands otherwise than it needs.
+    #[error("a change is refused")]
+    Inconsistent,
+    #[error("out of memory")]
+    Memory,
+    /// The store was not whole before.
+    #[error("the store is broken")]
+    Broken,
+}

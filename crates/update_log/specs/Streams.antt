@@ -1,0 +1,32 @@
+-- A worker's stream: the frames of its commits, joined in their order, each with its index as its seq.
+use Rattle.std.specs.Prelude.{◌≡◌, ℕ, ◌+◌, List, [], ◌∷◌, ◌++◌, length, take, Option, None, Some, slice_get, ◌==◌, if◌then◌else◌}
+use Rattle.rows.specs.declared.commit.Commit.{Commit}
+use Rattle.update_log.specs.declared.frame.Frame.{Frame}
+use Rattle.update_log.specs.Frames.{frames_of}
+
+-- the worker's frames of commits that stand behind `before` others, the first frame with the seq `first`
+abbrev pub stream_from : ℕ → ℕ → ℕ → List Commit → List Frame
+stream_from worker before first [] = []
+stream_from worker before first (commit ∷ commits) =
+    let frames : List Frame = (if commit.worker == worker then frames_of commit (before + 1) first else []) in
+    frames ++ stream_from worker (before + 1) (first + length frames) commits
+
+-- the stream of a worker
+abbrev pub stream_of : List Commit → ℕ → List Frame
+stream_of commits worker = stream_from worker 0 0 commits
+
+-- how many frames of the worker belong to the first `version` commits
+abbrev pub frame_count : List Commit → ℕ → ℕ → ℕ
+frame_count commits worker version = length (stream_of (take version commits) worker)
+
+-- the stream that is kept of a worker; none where there is no worker of that number
+abbrev pub stream_at : List (List Frame) → ℕ → List Frame
+stream_at streams worker = or_none (slice_get streams worker)
+  where
+    or_none : Option (List Frame) → List Frame
+    or_none None = []
+    or_none (Some stream) = stream
+
+-- these are the streams of the commits, by worker
+pub record AreStreamsOf (streams : List (List Frame)) (commits : List Commit) : Type 0 where
+  pub each : (worker : ℕ) → stream_at streams worker ≡ stream_of commits worker

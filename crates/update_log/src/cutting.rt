@@ -1,0 +1,109 @@
+//! Cutting a commit into frames.
+
+ghost use Rattle.std.specs.Prelude.{◌≡◌, ◌+◌, ◌^◌, ◌<◌, ◌≤◌, length, map, take, IfOk};
+ghost use Rattle.std.specs.List.{AllByRecursion};
+ghost use Rattle.rows.specs.Spelling.{HasSpelling};
+ghost use Rattle.update_log.specs.Parts.{AreParts, frame_len, parts_of};
+ghost use Rattle.update_log.specs.Frames.{IsCuttable, IsSendable, frames_from, frames_of};
+
+use crate::frame::Frame;
+use rows::limits::DATAGRAM_MAX;
+use rows::{Commit, Entry, EntryList, entry_len};
+use std::alloc::{AllocError, Global};
+
+/// Bytes of a frame before its entries.
+const FRAME_FRONT_LEN: usize = 26;
+
+/// The frames of a commit, by the commit's number and the seq that its first frame has in its
+/// worker's stream. An entry goes into the frame of the one before it while that frame stays within
+/// 1200 bytes, and otherwise begins the next; the last frame alone is marked as such. A commit
+/// without entries has none. Fails only where it is out of memory.
+pub fn cut(
+    alloc: Global,
+    commit: &Commit,
+    number: u64,
+    first_seq: u64,
+) -> Result<Vec<Frame>, AllocError>
+    requires { IsCuttable commit.now number first_seq }
+    ensures frames { IfOk result (λ frames. frames.items ≡ frames_of commit.now number first_seq) }
+
+    // The entries in order, each frame full before the next; and a datagram spells each frame.
+    ensures parts { IfOk result (λ frames. AreParts commit.now.entries (map (λ frame. frame.entries) frames.items)) }
+    ensures sendable { IfOk result (λ frames. AllByRecursion IsSendable frames.items) }
+{
+    cut_entries(
+        alloc,
+        commit.worker,
+        number,
+        first_seq,
+        commit.entries.as_slice(),
+    )
+}
+
+/// The frames of the entries of a worker's commit.
+fn cut_entries(
+    alloc: Global,
+    worker: u8,
+    number: u64,
+    first_seq: u64,
+    entries: &[Entry],
+) -> Result<Vec<Frame>, AllocError>
+    requires spelled { AllByRecursion HasSpelling entries.now }
+    requires seqs { first_seq + length (parts_of entries.now) < 2 ^ 64 }
+    ensures { IfOk result (λ frames. frames.items ≡ frames_from worker number first_seq (parts_of entries.now)) }
+{
+    let mut frames = Vec::new(alloc);
+    let mut seq = first_seq;
+    let mut rest = entries;
+    while !rest.is_empty() {
+        let (part, behind) = rest.split_at(part_len(rest));
+        let copy = copied(alloc, part)?;
+        frames.push(Frame {
+            worker,
+            seq,
+            commit: number,
+            last: behind.is_empty(),
+            entries: copy,
+        })?;
+        seq += 1;
+        rest = behind;
+    }
+    Ok(frames)
+}
+
+/// How many of the entries, from the first on, one frame holds.
+fn part_len(entries: &[Entry]) -> usize
+    requires some { 0 < length entries.now }
+    requires spelled { AllByRecursion HasSpelling entries.now }
+    ensures some { 0 < result }
+    ensures within { result ≤ length entries.now }
+    ensures fits { frame_len (take result entries.now) ≤ DATAGRAM_MAX }
+    ensures full { result < length entries.now → DATAGRAM_MAX < frame_len (take (result + 1) entries.now) }
+{
+    let mut len = FRAME_FRONT_LEN;
+    for (index, entry) in entries.iter().enumerate() {
+        len += entry_len(entry);
+        if len > DATAGRAM_MAX {
+            return index;
+        }
+    }
+    entries.len()
+}
+
+/// The same entries once more. Fails only where it is out of memory.
+fn copied(alloc: Global, entries: &[Entry]) -> Result<EntryList, AllocError>
+    ensures { IfOk result (λ copy. copy ≡ entries.now) }
+{
+    let mut copy = EntryList::new(alloc);
+    for entry in entries {
+        copy.push(copy_of(entry)?)?;
+    }
+    Ok(copy)
+}
+
+/// The same entry once more. Fails only where it is out of memory.
+fn copy_of(entry: &Entry) -> Result<Entry, AllocError>
+    ensures { IfOk result (λ copy. copy ≡ entry.now) }
+{
+    entry.clone()
+}

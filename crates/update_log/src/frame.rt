@@ -1,0 +1,16 @@
+use rows::EntryList;
+
+/// Entries of one commit on their way to the replicas: a link of its worker's stream.
+#[derive(Clone, Debug, Drop)]
+pub struct Frame {
+    /// The worker whose stream it is of, below 16.
+    pub worker: u8,
+    /// Its number in that stream, from 0.
+    pub seq: u64,
+    /// The number of its commit, from 1.
+    pub commit: u64,
+    /// Whether it is the last frame of its commit.
+    pub last: bool,
+    /// Its entries, at least one.
+    pub entries: EntryList,
+}

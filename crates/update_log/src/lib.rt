@@ -1,0 +1,26 @@
+//! The update log: a commit of any size is cut into frames, and the frames of a worker's commits
+//! are its stream.
+//!
+//! A frame holds entries of one commit and goes in one datagram of at most 1200 bytes. `specs/`
+//! has the parts into which a commit's entries are cut (`Parts.antt`: what they are, and the
+//! function that gives them), the frames of a commit (`Frames.antt`), a worker's stream and its
+//! frame counts (`Streams.antt`), and the laws of cutting (`Laws.antt`).
+//!
+//! Promised: `cut` answers the frames of a commit, all of which a datagram spells. `Streams` are
+//! the streams of a list of commits that grows by one commit at a time: `extend` adds a commit's
+//! frames or changes nothing, `count` and `frame` take no memory. `one_cut` says that there is
+//! exactly one way to cut. It stands on `rows` for entries and commits.
+#![tactic(auto)]
+
+mod cutting;
+mod frame;
+mod laws;
+mod stream;
+mod streams;
+mod worked;
+
+pub use cutting::cut;
+pub use frame::Frame;
+pub use laws::one_cut;
+pub use streams::Streams;
+pub use worked::worked_cuts;

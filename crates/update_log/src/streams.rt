@@ -1,0 +1,99 @@
+//! The streams of all workers.
+
+ghost use Rattle.std.specs.Prelude.{◌≡◌, ◌+◌, ◌∷◌, [], ◌++◌, List, length, slice_get, IfOk, IfSome, OnOk, OnErr};
+ghost use Rattle.std.specs.Option.{option_map};
+ghost use Rattle.rows.specs.declared.commit.Commit.{Commit as CommitOf};
+ghost use Rattle.update_log.specs.Frames.{IsCuttable, IsSendable};
+ghost use Rattle.update_log.specs.Streams.{AreStreamsOf, stream_at, stream_of, frame_count};
+
+use crate::frame::Frame;
+use crate::stream::Stream;
+use rows::Commit;
+use rows::limits::WORKERS_MAX;
+use std::alloc::{AllocError, Global};
+use std::marker::Model;
+
+/// The streams of a list of commits: of each worker the frames of its commits. Entries are kept
+/// once, in their frames.
+///
+/// Contracts see the streams by worker; of which list of commits they are is a relation
+/// (`AreStreamsOf`) that `new` begins and `extend` carries on.
+#[derive(Debug, Drop)]
+pub struct Streams {
+    alloc: Global,
+    workers: Vec<Stream>,
+}
+
+impl Model for Streams {
+    ghost use Rattle.std.specs.Prelude.{◌≡◌, List, length};
+    ghost use Rattle.rows.specs.Limits.{workers_max};
+    ghost use Rattle.update_log.specs.declared.frame.Frame.{Frame as FrameOf};
+
+    ghost Value = { List (List FrameOf) };
+
+    ghost view = { λ s. s.workers.items };
+
+    ghost invariant = { λ s. length s.workers.items ≡ workers_max };
+}
+
+impl Streams {
+    /// The streams of no commit. Fails only where it is out of memory.
+    pub fn new(alloc: Global) -> Result<Streams, AllocError>
+        ensures { IfOk result (λ streams. AreStreamsOf streams []) }
+    {
+        let mut workers = Vec::new(alloc);
+        for _ in 0..WORKERS_MAX {
+            workers.push(Stream::new(alloc))?;
+        }
+        Ok(Streams { alloc, workers })
+    }
+
+    /// Adds the next commit, by its number: its frames go to the end of its worker's stream. It
+    /// costs the commit's own entries, which are copied. Fails only where it is out of memory, and
+    /// then nothing has changed.
+    pub fn extend(&mut self, commit: &Commit, number: u64) -> Result<(), AllocError>
+        requires { IsCuttable commit.now number (length (stream_at self.old commit.now.worker)) }
+        ensures ok { OnOk result ((commits : List CommitOf) → AreStreamsOf self.old commits → number ≡ length commits + 1
+            → AreStreamsOf self.new (commits ++ commit.now ∷ [])) }
+        ensures err { OnErr result (self.new ≡ self.old) }
+    {
+        let alloc = self.alloc;
+        let stream = &mut self.workers[commit.worker as usize];
+        stream.extend(alloc, commit, number)
+    }
+
+    /// The seq that the worker's next frame gets, which is how many frames its stream has; 0 where
+    /// there is no such worker. Takes no memory.
+    pub fn next_seq(&self, worker: u8) -> u64
+        ensures { result ≡ length (stream_at self.now worker) }
+    {
+        match self.workers.as_slice().get(worker as usize) {
+            None => 0,
+            Some(stream) => stream.len(),
+        }
+    }
+
+    /// How many frames of the worker belong to the first `version` commits; none where there is no
+    /// such worker. Found by halving; takes no memory.
+    pub fn count(&self, worker: u8, version: u64) -> u64
+        ensures { (commits : List CommitOf) → AreStreamsOf self.now commits → result ≡ frame_count commits worker version }
+    {
+        match self.workers.as_slice().get(worker as usize) {
+            None => 0,
+            Some(stream) => stream.count(version),
+        }
+    }
+
+    /// The frame of that seq of the worker's stream, where the stream has it; `None` also where
+    /// there is no such worker. Takes no memory.
+    pub fn frame(&self, worker: u8, seq: u64) -> Option<&Frame>
+        ensures found { (commits : List CommitOf) → AreStreamsOf self.now commits
+            → option_map (λ frame. frame.now) result ≡ slice_get (stream_of commits worker) seq }
+        ensures sendable { IfSome result (λ frame. IsSendable frame.now) }
+    {
+        match self.workers.as_slice().get(worker as usize) {
+            None => None,
+            Some(stream) => stream.frame(seq),
+        }
+    }
+}

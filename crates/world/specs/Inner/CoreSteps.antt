@@ -1,0 +1,120 @@
+-- Only for proofs: what the call that an event is answers and leaves. Beside the replicas that is what happens in the world;
+-- what a call on a replica does is told by the replica's own definitions.
+use Rattle.std.specs.Prelude.{◌≡◌, ℕ, List, [], ◌∷◌, ◌++◌, length, Option, None, Some, Result, Ok, Err, slice_get, slice_set, ◌⊎◌}
+use Rattle.wire.specs.declared.out.Out.{Out}
+use Rattle.dispatcher.specs.declared.plan.Plan.{Plan}
+use Rattle.dispatcher.specs.declared.faults.OpenFault.{OpenFault}
+use Rattle.dispatcher.specs.declared.faults.AskFault.{AskFault}
+use Rattle.dispatcher.specs.declared.outcome.Got.{Got}
+use Rattle.dispatcher.specs.declared.outcome.Run.{Run}
+use Rattle.dispatcher.specs.declared.outcome.Run.TheVariants as runs
+use Rattle.dispatcher.specs.State.{Replica, Batch as ReplicaBatch}
+use Rattle.dispatcher.specs.Steps.{opened, asked, received, ran, WantsMemory}
+use Rattle.script.specs.declared.event.Event.{Event}
+use Rattle.script.specs.declared.event.Event.TheVariants as events
+use Rattle.script.specs.declared.event.Node.TheVariants as nodes
+use Rattle.script.specs.declared.output.Output.{Output}
+use Rattle.script.specs.declared.output.Output.TheVariants as outputs
+use Rattle.world.specs.Outputs.{of_open, of_ask, of_got}
+use Rattle.world.specs.Parts.{Parts}
+use Rattle.world.specs.Allowed.{MayHappen}
+use Rattle.world.specs.Standing.{world_of}
+
+-- ---- beside the replicas
+
+-- what happens in the world, where the replicas and what is noted of them stay
+pub record HappensBeside (old : Parts) (event : Event) (output : Output) (new : Parts) : Type 0 where
+  pub happens : MayHappen (world_of old) event output (world_of new)
+  pub replicas : new.replicas ≡ old.replicas
+  pub asked_at : new.asked_at ≡ old.asked_at
+
+-- ---- calls on a replica
+
+-- one more datagram is sent
+abbrev pub with_sent : Parts → List ℕ → Parts
+with_sent p bytes = record p { sent = p.sent ++ bytes ∷ [] }
+
+abbrev pub sent_one : Parts → List ℕ → Output
+sent_one p bytes = outputs.Sent (record { index = length p.sent; len = length bytes } ∷ [])
+
+abbrev pub with_replica : Parts → ℕ → Replica → Parts
+with_replica p number replica = record p { replicas = slice_set p.replicas number replica }
+
+abbrev pub got_by : Parts → ℕ → Got × Replica → Output × Parts
+got_by p number got = (of_got got.0, with_replica p number got.1)
+
+abbrev pub to_replica : Parts → ℕ → List ℕ → Option Replica → Output × Parts
+to_replica p number bytes None = (outputs.Ignored, p)
+to_replica p number bytes (Some replica) = got_by p number (received replica bytes)
+
+-- the bytes of a datagram that was sent come to a replica
+abbrev pub come_by : Parts → ℕ → Option (List ℕ) → Output × Parts
+come_by p number None = (outputs.NeverSent, p)
+come_by p number (Some bytes) = to_replica p number bytes (slice_get p.replicas number)
+
+abbrev pub opening_query : Parts → ℕ → Result (ℕ × Replica) OpenFault → Output × Parts
+opening_query p number (Ok opened) = (outputs.Opened opened.0, with_replica p number opened.1)
+opening_query p number (Err fault) = (of_open fault, p)
+
+abbrev pub open_by : Parts → ℕ → Plan → Option Replica → Output × Parts
+open_by p number plan None = (outputs.Ignored, p)
+open_by p number plan (Some replica) = opening_query p number (opened replica plan)
+
+-- an ask that makes a batch notes what is durable at it; one that repeats a batch's Ask leaves that note
+abbrev pub asked_durable : Parts → ℕ → Option ReplicaBatch → List ℕ
+asked_durable p number None = slice_set p.asked_at number (length p.primary.durable)
+asked_durable p number (Some batch) = p.asked_at
+
+abbrev pub asking : Parts → ℕ → Option ReplicaBatch → Result (Out × Replica) AskFault → Output × Parts
+asking p number batch (Ok asked) = (
+  sent_one p asked.0.packet,
+  record p {
+    replicas = slice_set p.replicas number asked.1;
+    sent = p.sent ++ asked.0.packet ∷ [];
+    asked_at = asked_durable p number batch;
+  },
+)
+asking p number batch (Err fault) = (of_ask fault, p)
+
+abbrev pub ask_by : Parts → ℕ → Option Replica → Output × Parts
+ask_by p number None = (outputs.Ignored, p)
+ask_by p number (Some replica) = asking p number replica.batch (asked replica)
+
+-- a run that waits for a frame sends its Want
+abbrev pub run_output : Parts → ℕ → Run × Replica → Output × Parts
+run_output p number (runs.NoBatch, replica) = (outputs.NoBatch, with_replica p number replica)
+run_output p number (runs.WaitingHead, replica) = (outputs.WaitingHead, with_replica p number replica)
+run_output p number (runs.Waiting worker seq want, replica) = (
+  outputs.Waiting worker seq (record { index = length p.sent; len = length want.packet }),
+  with_sent (with_replica p number replica) want.packet,
+)
+run_output p number (runs.Answered report, replica) = (outputs.Report report, with_replica p number replica)
+run_output p number (runs.Inconsistent, replica) = (outputs.Inconsistent, with_replica p number replica)
+run_output p number (runs.Broken, replica) = (outputs.Broken, with_replica p number replica)
+run_output p number (runs.Memory, replica) = (outputs.Memory, with_replica p number replica)
+
+abbrev pub run_by : Parts → ℕ → Option Replica → Output × Parts
+run_by p number None = (outputs.Ignored, p)
+run_by p number (Some replica) = run_output p number (ran replica)
+
+-- a run that lacks memory may have applied what it fetched, or may be broken
+abbrev pub CallIsCut : Parts → ℕ → Option Replica → Output → Parts → Type 0
+CallIsCut old number None output new = ⊥
+CallIsCut old number (Some replica) output new =
+    (answer : Run) × (after : Replica) × WantsMemory replica answer after × (run_output old number (answer, after) ≡ (output, new))
+
+-- ---- any event
+
+-- what a call answers and leaves, or `memory`, and nothing has changed
+abbrev pub MayAnswer : Parts → Output × Parts → Output → Parts → Type 0
+MayAnswer old answer output new = (answer ≡ (output, new)) ⊎ ((output ≡ outputs.Memory) × (new ≡ old))
+
+abbrev pub MayStep : Parts → Event → Output → Parts → Type 0
+MayStep old (events.Deliver index (nodes.Replica number)) output new =
+    MayAnswer old (come_by old number (slice_get old.sent index)) output new
+MayStep old (events.Open replica plan) output new = MayAnswer old (open_by old replica plan (slice_get old.replicas replica)) output new
+MayStep old (events.Ask replica) output new = MayAnswer old (ask_by old replica (slice_get old.replicas replica)) output new
+MayStep old (events.Run replica) output new =
+    MayAnswer old (run_by old replica (slice_get old.replicas replica)) output new
+    ⊎ CallIsCut old replica (slice_get old.replicas replica) output new
+MayStep old other output new = HappensBeside old other output new

@@ -1,0 +1,272 @@
+-- The world: one primary, its open transactions, every datagram that was ever sent, and of each replica what it knows.
+-- No replica's tables are held: what a batch answers is said by the one list of durable commits.
+use Rattle.std.specs.Prelude.{ℕ, zero, suc, ◌+◌, List, [], ◌∷◌, ◌++◌, length, Bool, false, Option, None, Some, Result, Ok, Err}
+use Rattle.std.specs.Prelude.{slice_get, slice_set, ◌==◌, ◌||◌, ◌&&◌, not, nat_lt, nat_le, if◌then◌else◌, is_ok}
+use Rattle.std.specs.List.{list_all}
+use Rattle.std.specs.Option.{option_and_then}
+use Rattle.std.specs.Ordering.{nat_cmp}
+use Rattle.std.specs.BTreeSet.{insert_key}
+use Rattle.rows.specs.Limits.{waiting_queries_max}
+use Rattle.rows.specs.declared.entry.Entry.{Entry}
+use Rattle.rows.specs.Shape.{Shape, shape_of}
+use Rattle.rows.specs.Entries.{fitting}
+use Rattle.rows.specs.Commits.{tables_after}
+use Rattle.wire.specs.declared.datagram.Datagram.{Datagram}
+use Rattle.wire.specs.declared.datagram.Datagram.TheVariants as datagrams
+use Rattle.wire.specs.declared.faults.WireFault.{WireFault}
+use Rattle.wire.specs.Spelling.{spelling}
+use Rattle.wire.specs.Reading.{reading}
+use Rattle.mvcc.specs.declared.faults.TxFault.{TxFault}
+use Rattle.mvcc.specs.Draft.{Draft}
+use Rattle.mvcc.specs.Transactions.{insert_answer, set_answer, delete_answer, get_answer}
+use Rattle.primary.specs.declared.faults.CommitFault.{CommitFault}
+use Rattle.primary.specs.State.{Primary}
+use Rattle.primary.specs.Steps.{started, commit_answer, committed, flushed}
+use Rattle.primary.specs.Sending.{pushed, answers}
+use Rattle.dispatcher.specs.declared.plan.Plan.{Plan}
+use Rattle.dispatcher.specs.declared.faults.PlanFault.{PlanFault}
+use Rattle.dispatcher.specs.Known.{is_known, is_ahead, first_missing}
+use Rattle.dispatcher.specs.Plans.{checked}
+use Rattle.dispatcher.specs.State.{Fetched}
+use Rattle.dispatcher.specs.Report.{report_of}
+use Rattle.dispatcher.specs.Steps.{lacks_frame}
+use Rattle.script.specs.declared.event.Event.{Event}
+use Rattle.script.specs.declared.event.Event.TheVariants as events
+use Rattle.script.specs.declared.event.Node.{Node}
+use Rattle.script.specs.declared.event.Node.TheVariants as nodes
+use Rattle.script.specs.declared.output.Output.{Output}
+use Rattle.script.specs.declared.output.Output.TheVariants as outputs
+use Rattle.script.specs.declared.setup.Setup.{Setup}
+use Rattle.world.specs.Outputs.{of_change, of_look, of_commit, of_answers, packets_of}
+
+-- a batch: its queries, how many commits were durable when it asked, and what was fetched for it
+pub record Batch : Type 0 where
+  pub plans : List Plan
+  pub asked_at : ℕ
+  pub fetched : Option Fetched
+
+-- a replica
+pub record Member : Type 0 where
+  pub number : ℕ
+  pub boot : ℕ
+  -- how many requests it has made
+  pub request : ℕ
+  -- the seqs of the known frames of its worker, each once, in rising order
+  pub known : List ℕ
+  pub version : ℕ
+  -- the queries that wait for the next batch
+  pub waiting : List Plan
+  pub batch : Option Batch
+  pub broken : Bool
+
+pub record World : Type 0 where
+  pub primary : Primary
+  -- the transactions in the order of their `begin`; none where one is no longer open
+  pub transactions : List (Option Draft)
+  -- the bytes of every datagram that was ever sent, in order; the network may deliver any of them, to any node, in any
+  -- order and number
+  pub sent : List (List ℕ)
+  pub members : List Member
+
+-- a replica fresh from its start with boot 1
+abbrev pub fresh : ℕ → Member
+fresh number = record { number = number; boot = 1; request = 0; known = []; version = 0; waiting = []; batch = None; broken = false }
+
+abbrev pub fresh_from : ℕ → ℕ → List Member
+fresh_from number zero = []
+fresh_from number (suc count) = fresh number ∷ fresh_from (suc number) count
+
+-- the world at its beginning
+abbrev pub opening_world : Setup → World
+opening_world setup =
+    record { primary = started setup.schema setup.workers; transactions = []; sent = []; members = fresh_from 0 setup.replicas }
+
+-- ---- transactions, commits and flushes
+
+-- the open transaction of this number, where there is one
+abbrev pub open_draft : List (Option Draft) → ℕ → Option Draft
+open_draft transactions number = option_and_then (λ slot. slot) (slice_get transactions number)
+
+-- a change that is taken stands in the transaction, and a refused one leaves it
+abbrev pub change_happens : World → ℕ → Result Draft TxFault → Output × World
+change_happens w number (Ok draft) = (outputs.Accepted, record w { transactions = slice_set w.transactions number (Some draft) })
+change_happens w number (Err fault) = (of_change fault, w)
+
+abbrev pub on_draft : World → Option Draft → (Draft → Output × World) → Output × World
+on_draft w None next = (outputs.NoTx, w)
+on_draft w (Some draft) next = next draft
+
+-- a transaction is open until its commit is answered, or it is given up
+abbrev pub commit_happens : World → ℕ → ℕ → Draft → Result ℕ CommitFault → Output × World
+commit_happens w transaction worker draft (Ok number) = (
+  outputs.Ticket number,
+  record w {
+    primary = committed w.primary worker draft.entries;
+    transactions = slice_set w.transactions transaction None;
+  },
+)
+commit_happens w transaction worker draft (Err fault) =
+    (of_commit fault, record w { transactions = slice_set w.transactions transaction None })
+
+abbrev pub abort_happens : World → ℕ → Output × World
+abort_happens w transaction = (outputs.Accepted, record w { transactions = slice_set w.transactions transaction None })
+
+-- ---- datagrams
+
+-- one more datagram is sent
+abbrev pub send : World → List ℕ → Output × World
+send w bytes = (outputs.Sent (record { index = length w.sent; len = length bytes } ∷ []), record w { sent = w.sent ++ bytes ∷ [] })
+
+abbrev pub push_happens : World → Option (List ℕ) → Output × World
+push_happens w None = (outputs.NoFrame, w)
+push_happens w (Some bytes) = send w bytes
+
+abbrev pub with_member : World → Member → World
+with_member w member = record w { members = slice_set w.members member.number member }
+
+-- a frame that comes to a replica
+abbrev pub frame_happens : Shape → ℕ → Member → ℕ → ℕ → List Entry → Output × Member
+frame_happens shape workers m worker seq entries =
+    if not (nat_lt worker workers) || not (list_all (λ entry. is_ok (fitting shape entry)) entries) then (outputs.Ignored, m) else
+    if is_known m.known seq then (outputs.Repeat, m) else
+    if is_ahead m.known seq then (outputs.Ahead, m) else
+    (outputs.Stored, record m { known = insert_key nat_cmp m.known seq })
+
+-- a Head of a replica's own number, boot and request: it is taken where the batch has none
+abbrev pub head_happens : Member → ℕ → List ℕ → Option Batch → Output × Member
+head_happens m version counts None = (outputs.Ignored, m)
+head_happens m version counts (Some batch) = unless_fetched batch.fetched
+  where
+    unless_fetched : Option Fetched → Output × Member
+    unless_fetched (Some fetched) = (outputs.Ignored, m)
+    unless_fetched None =
+        (outputs.Head version, record m { batch = Some (record batch { fetched = Some (record { version = version; counts = counts }) }) })
+
+-- a datagram that comes to a replica
+abbrev pub datagram_happens : Shape → ℕ → Member → Result Datagram WireFault → Output × Member
+datagram_happens shape workers m (Err fault) = (outputs.Ignored, m)
+datagram_happens shape workers m (Ok (datagrams.Frame worker seq commit last entries)) = frame_happens shape workers m worker seq entries
+datagram_happens shape workers m (Ok (datagrams.Head replica boot request version counts)) =
+    if (replica == m.number) && (boot == m.boot)
+    && (request == m.request) then head_happens m version counts m.batch else (outputs.Ignored, m)
+datagram_happens shape workers m (Ok (datagrams.Ask replica boot request)) = (outputs.Ignored, m)
+datagram_happens shape workers m (Ok (datagrams.Want replica worker from)) = (outputs.Ignored, m)
+
+abbrev pub on_member : World → Option Member → (Member → Output × World) → Output × World
+on_member w None next = (outputs.Ignored, w)
+on_member w (Some member) next = next member
+
+abbrev pub member_output : World → Output × Member → Output × World
+member_output w answer = (answer.0, with_member w answer.1)
+
+abbrev pub delivered : World → List ℕ → Node → Output × World
+delivered w bytes nodes.Primary =
+    (of_answers (length w.sent) (answers w.primary bytes), record w { sent = w.sent ++ packets_of (answers w.primary bytes) })
+delivered w bytes (nodes.Replica number) =
+    on_member w (slice_get w.members number)
+    (λ m. if m.broken then (outputs.Broken, w) else member_output w
+    (datagram_happens (shape_of w.primary.schema) w.primary.workers m (reading bytes)))
+
+abbrev pub deliver_happens : World → Node → Option (List ℕ) → Output × World
+deliver_happens w node None = (outputs.NeverSent, w)
+deliver_happens w node (Some bytes) = delivered w bytes node
+
+abbrev pub shown : Option (List ℕ) → Output
+shown None = outputs.NeverSent
+shown (Some bytes) = outputs.Shown bytes
+
+-- ---- batches
+
+abbrev pub open_happens : World → Member → Plan → Result (Unit {0}) PlanFault → Output × World
+open_happens w m plan (Err fault) = (outputs.BadPlan fault, w)
+open_happens w m plan (Ok fits) = (outputs.Opened (length m.waiting + 1), with_member w (record m { waiting = m.waiting ++ plan ∷ [] }))
+
+-- the Ask of a request
+abbrev pub ask_bytes : Member → ℕ → List ℕ
+ask_bytes m request = spelling (datagrams.Ask m.number m.boot request)
+
+-- the batch of all queries that wait
+abbrev pub new_batch : World → Member → Member
+new_batch w m = record m {
+  request = m.request + 1;
+  waiting = [];
+  batch = Some (record { plans = m.waiting; asked_at = length w.primary.durable; fetched = None });
+}
+
+abbrev pub ask_happens : World → Member → Option Batch → Output × World
+ask_happens w m None =
+    if length m.waiting == 0 then (outputs.Empty, w) else send (with_member w (new_batch w m)) (ask_bytes m (m.request + 1))
+ask_happens w m (Some batch) = again batch.fetched
+  where
+    again : Option Fetched → Output × World
+    again None = send w (ask_bytes m m.request)
+    again (Some fetched) = (outputs.Busy, w)
+
+abbrev pub want_bytes : Member → ℕ → ℕ → List ℕ
+want_bytes m worker from = spelling (datagrams.Want m.number worker from)
+
+abbrev pub wait_happens : World → ℕ → ℕ → List ℕ → Output × World
+wait_happens w worker seq bytes =
+    (outputs.Waiting worker seq (record { index = length w.sent; len = length bytes }), record w { sent = w.sent ++ bytes ∷ [] })
+
+-- a batch of which no frame is missing is answered by its report: the plain answers on the rows after exactly the first
+-- commits of the durable list, up to the version that was fetched
+abbrev pub run_happens : World → Member → Option Batch → Output × World
+run_happens w m None = (outputs.NoBatch, w)
+run_happens w m (Some batch) = on batch.fetched
+  where
+    on : Option Fetched → Output × World
+    on None = (outputs.WaitingHead, w)
+    on (Some fetched) =
+        if lacks_frame m.known fetched
+        then wait_happens w 0 (first_missing m.known) (want_bytes m 0 (first_missing m.known))
+        else (
+          outputs.Report (report_of (tables_after (shape_of w.primary.schema) w.primary.durable fetched.version) fetched.version
+              batch.plans),
+          with_member w (record m { version = fetched.version; batch = None }),
+        )
+
+-- ---- the step
+
+-- what an event answers, and the world after it. Being out of memory aside.
+abbrev pub happens : World → Event → Output × World
+happens w events.Begin = (
+  outputs.Tx (length w.transactions) (length w.primary.durable),
+  record w { transactions = w.transactions ++ Some (record { snapshot = length w.primary.durable; entries = [] }) ∷ [] },
+)
+happens w (events.Insert transaction table row values) =
+    on_draft w (open_draft w.transactions transaction)
+    (λ draft. change_happens w transaction (insert_answer (shape_of w.primary.schema) w.primary.durable draft table row.0 values))
+happens w (events.Set transaction table row column value) =
+    on_draft w (open_draft w.transactions transaction)
+    (λ draft. change_happens w transaction (set_answer (shape_of w.primary.schema) w.primary.durable draft table row.0 column value))
+happens w (events.Delete transaction table row) =
+    on_draft w (open_draft w.transactions transaction)
+    (λ draft. change_happens w transaction (delete_answer (shape_of w.primary.schema) w.primary.durable draft table row.0))
+happens w (events.Get transaction table row column) =
+    on_draft w (open_draft w.transactions transaction)
+    (λ draft. (of_look (get_answer (shape_of w.primary.schema) w.primary.durable draft table row.0 column), w))
+happens w (events.Commit transaction worker) =
+    on_draft w (open_draft w.transactions transaction)
+    (λ draft. commit_happens w transaction worker draft (commit_answer w.primary draft))
+happens w (events.Abort transaction) = on_draft w (open_draft w.transactions transaction) (λ draft. abort_happens w transaction)
+happens w (events.Flush count) =
+    if w.primary.failed then (outputs.Failed, w) else
+    (outputs.Durable (length (flushed w.primary count).durable), record w { primary = flushed w.primary count })
+happens w (events.Push worker seq) = push_happens w (pushed w.primary worker seq)
+happens w (events.Deliver index node) = deliver_happens w node (slice_get w.sent index)
+happens w (events.Show index) = (shown (slice_get w.sent index), w)
+happens w (events.Open replica plan) =
+    on_member w (slice_get w.members replica) (λ m.
+    if m.broken then (outputs.Broken, w) else
+    if nat_le waiting_queries_max (length m.waiting) then (outputs.BatchFull, w) else
+    open_happens w m plan (checked (shape_of w.primary.schema) plan))
+happens w (events.Ask replica) =
+    on_member w (slice_get w.members replica) (λ m. if m.broken then (outputs.Broken, w) else ask_happens w m m.batch)
+happens w (events.Run replica) =
+    on_member w (slice_get w.members replica) (λ m. if m.broken then (outputs.Broken, w) else run_happens w m m.batch)
+
+-- the outputs of a list of events, out of memory aside
+abbrev pub outputs_of : World → List Event → List Output
+outputs_of w [] = []
+outputs_of w (event ∷ events) = (happens w event).0 ∷ outputs_of (happens w event).1 events
