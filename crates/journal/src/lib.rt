@@ -30,7 +30,7 @@ pub use faults::{FileFault, JournalFault, OpenFault};
 pub use file_journal::FileJournal;
 pub use header::header_bytes;
 pub use journal_store::JournalStore;
-pub use mem_journal::{MemJournal, NoFault};
+pub use mem_journal::MemJournal;
 pub use recovered::Recovered;
 pub use recovery::recover;
 pub use text::records;

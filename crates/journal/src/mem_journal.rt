@@ -4,8 +4,8 @@ ghost use Rattle.std.specs.Prelude.{◌≡◌, []};
 
 use crate::journal_store::JournalStore;
 use std::alloc::{AllocError, Global};
+use std::convert::Infallible;
 use std::marker::Model;
-use thiserror::Error;
 
 /// A journal in memory. It is honest, and never has a fault.
 ///
@@ -49,15 +49,10 @@ impl MemJournal {
     }
 }
 
-/// Why a call on a journal in memory failed: there is no such value, since none does.
-#[derive(Debug, Drop, Error)]
-#[error("no fault")]
-pub enum NoFault {}
-
 impl JournalStore for MemJournal {
     ghost use Rattle.std.specs.Prelude.{true};
 
-    type Fault = NoFault;
+    type Fault = Infallible;
 
     ghost standing = { λ j. j.bytes };
 
@@ -71,19 +66,19 @@ impl JournalStore for MemJournal {
         self.content.reserve(count)
     }
 
-    fn append(&mut self, bytes: &[u8]) -> Result<(), NoFault> {
+    fn append(&mut self, bytes: &[u8]) -> Result<(), Infallible> {
         match self.content.extend_from_slice(bytes) {
             Ok(()) => Ok(()),
             Err(_) => unreachable!(),
         }
     }
 
-    fn cut_to(&mut self, len: u64) -> Result<(), NoFault> {
+    fn cut_to(&mut self, len: u64) -> Result<(), Infallible> {
         self.content.truncate(len as usize);
         Ok(())
     }
 
-    fn read_all(&mut self, list: &mut Vec<u8>) -> Result<(), Option<NoFault>> {
+    fn read_all(&mut self, list: &mut Vec<u8>) -> Result<(), Option<Infallible>> {
         list.clear();
         match list.extend_from_slice(&self.content) {
             Ok(()) => Ok(()),
