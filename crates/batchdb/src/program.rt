@@ -1,7 +1,9 @@
 //! The words that the program is called with.
 
-ghost use Rattle.std.specs.Prelude.{◌≡◌, ◌≤◌};
-ghost use Rattle.batchdb.specs.Status.{fault_status};
+ghost use Rattle.std.specs.Prelude.{◌≡◌, ◌≤◌, ◌⊎◌, ◌++◌, ◌∷◌, ℕ, List, [], OnOk};
+ghost use Rattle.std.specs.Io.KnownBytes.{Appends, Keeps};
+ghost use Rattle.world.specs.Scripts.{fault_text};
+ghost use Rattle.batchdb.specs.Status.{fault_status, HasRun, HasTold};
 
 use clap::error::ErrorKind;
 use clap::{Arg, ArgAction, Command, Error};
@@ -43,7 +45,7 @@ Exit status:
 
 /// Runs the program with these words, the first of which is its own name, and answers its exit
 /// status: 0, all was done; 1, a read or a write failed or memory was wanted; 2, the words or the
-/// script do not read. But for 0 one line on `errors` says why.
+/// script do not read, and nothing was written. But for 0 one line on `errors` says why.
 pub fn run_words<R: Read, W: Write, E: Write>(
     alloc: Global,
     words: &[&str],
@@ -51,7 +53,12 @@ pub fn run_words<R: Read, W: Write, E: Write>(
     writer: &mut W,
     errors: &mut E,
 ) -> u8
-    ensures { result ≤ 2 }
+    ensures status { result ≤ 2 }
+    ensures done { result ≡ 0 → HasRun (R.remaining reader.old) (R.remaining reader.new)
+        (W.contents writer.old) (W.contents writer.new)
+        ⊎ HasTold (R.remaining reader.old) (R.remaining reader.new)
+        (W.contents writer.old) (W.contents writer.new) }
+    ensures unwritten { result ≡ 2 → Keeps (W.contents writer.old) (W.contents writer.new) }
 {
     match asked(alloc, words) {
         Ok(Some(echo)) => simulate(alloc, echo, reader, writer, errors),
@@ -88,7 +95,10 @@ fn asked(alloc: Global, words: &[&str]) -> Result<Option<Echo>, Error> {
 /// Says what the words are answered with: help and the version on the output, what is wrong with
 /// them in one line on the errors.
 fn tell<W: Write, E: Write>(alloc: Global, answer: Error, writer: &mut W, errors: &mut E) -> u8
-    ensures { result ≤ 2 }
+    ensures status { result ≤ 2 }
+    ensures done { result ≡ 0 → (text : List ℕ)
+        × Appends (W.contents writer.old) (W.contents writer.new) text }
+    ensures unwritten { result ≡ 2 → Keeps (W.contents writer.old) (W.contents writer.new) }
 {
     let Some(text) = text_of(alloc, &answer) else {
         say(errors, "out of memory");
@@ -140,16 +150,26 @@ fn simulate<R: Read, W: Write, E: Write>(
     writer: &mut W,
     errors: &mut E,
 ) -> u8
-    ensures { result ≤ 2 }
+    ensures status { result ≤ 2 }
+    ensures done { result ≡ 0 → HasRun (R.remaining reader.old) (R.remaining reader.new)
+        (W.contents writer.old) (W.contents writer.new) }
+    ensures unwritten { result ≡ 2 → Keeps (W.contents writer.old) (W.contents writer.new) }
 {
     match run_script(alloc, echo, reader, writer) {
         Ok(()) => DONE,
         Err(fault) => {
             // The line is lost where it cannot be written; the status still tells.
-            let _ = writeln!(errors, "{fault}");
+            let _ = say_fault(errors, fault);
             status_of(fault)
         }
     }
+}
+
+/// Writes the line of a fault.
+fn say_fault<E: Write>(errors: &mut E, fault: RunFault) -> io::Result<()>
+    ensures { OnOk result (Appends (E.contents errors.old) (E.contents errors.new) (fault_text fault ++ 10 ∷ [])) }
+{
+    writeln!(errors, "{fault}")
 }
 
 /// The exit status of a script that was not run to its end.

@@ -205,6 +205,57 @@ const UNWRITTEN: [(&[&str], &str); 4] = [
     (&["batchdb", "--version"], ""),
 ];
 
+/// A writer that takes all bytes, and cannot be flushed.
+#[derive(Drop)]
+struct Unflushed;
+
+impl Write for Unflushed {
+    fn write(&mut self, buf: &[u8]) -> io::Result<usize> {
+        Ok(buf.len())
+    }
+
+    fn flush(&mut self) -> io::Result<()> {
+        Err(io::Error::from(ErrorKind::BrokenPipe))
+    }
+}
+
+/// The exit status and the line of the fault, where the output cannot be flushed.
+fn without_flush(alloc: Global, words: &[&str], script: &str) -> (u8, Vec<u8>) {
+    let mut reader = script.as_bytes();
+    let mut errors = Vec::new(alloc);
+    let status = run_words(alloc, words, &mut reader, &mut Unflushed, &mut errors);
+    (status, errors)
+}
+
+#[test]
+fn a_failed_flush_has_status_1(rt: HostRuntime) -> Result<(), Fail> {
+    for (words, script) in &UNWRITTEN {
+        let (status, errors) = without_flush(rt.alloc(), words, script);
+        assert_eq!(rt; status, 1, "{words:?}");
+        assert_eq!(rt;
+            errors.as_slice(),
+            b"the output could not be written\n".as_slice()
+        );
+    }
+    Ok(())
+}
+
+/// The exit status where neither the output nor the errors can be written.
+fn untold(alloc: Global, words: &[&str], script: &str) -> u8 {
+    let mut reader = script.as_bytes();
+    run_words(alloc, words, &mut reader, &mut Failing, &mut Failing)
+}
+
+#[test]
+fn a_status_is_given_where_its_line_is_lost(rt: HostRuntime) -> Result<(), Fail> {
+    assert_eq!(rt; untold(rt.alloc(), &SIM, "begin\n"), 2);
+    assert_eq!(rt; untold(rt.alloc(), &["batchdb"], ""), 2);
+    for (words, script) in &UNWRITTEN {
+        assert_eq!(rt; untold(rt.alloc(), words, script), 1, "{words:?}");
+    }
+    Ok(())
+}
+
 #[test]
 fn a_failed_write_has_status_1(rt: HostRuntime) -> Result<(), Fail> {
     for (words, script) in &UNWRITTEN {

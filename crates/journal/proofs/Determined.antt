@@ -1,16 +1,16 @@
--- Bytes are recovered in one way, and bytes that are recovered are not refused.
-use Rattle.std.proofs.Common.{◌≡◌, ℕ, ◌+◌, ◌≤◌, inl, inr, true, false, List, [], ◌∷◌, ◌++◌, length, drop, refl, sym, ap, ◌∙◌}
+-- Bytes are recovered in one way, and bytes that are recovered are not refused; others are refused in one way.
+use Rattle.std.proofs.Common.{◌≡◌, ℕ, ◌+◌, ◌≤◌, inl, inr, true, false, List, [], ◌∷◌, ◌++◌, length, drop, refl, sym, ap, subst, ◌∙◌}
 use Rattle.std.proofs.Common.{length-append, arith}
 use Rattle.std.proofs.lemmas.List.{append-nil}
 use Rattle.rows.specs.declared.commit.Commit.{Commit}
 use Rattle.rows.specs.Laws.{SpelledIsFound}
 use Rattle.rows.specs.Shape.{Shape}
 use Rattle.journal.specs.declared.faults.JournalFault.TheVariants.{OtherHeader, Damaged, OutOfOrder, Illegal, Memory}
-use Rattle.journal.specs.Laws.{IsRecoveredOnce, IsNotRefused}
-use Rattle.journal.specs.Recovery.{IsBeginning, IsKept, is_torn, IsRecordAt, EndsInHeader, IsRecovered}
+use Rattle.journal.specs.Laws.{IsRecoveredOnce, IsNotRefused, IsRefusedOnce}
+use Rattle.journal.specs.Recovery.{IsBeginning, IsKept, IsKeptUpTo, is_torn, IsRecordAt, EndsInHeader, IsRecovered}
 use Rattle.journal.specs.Text.{header, records_from, journal_text}
 use Rattle.journal.proofs.Nesting.{behind_header, is_nested}
-use Rattle.journal.proofs.RecordLaws.{record_whole}
+use Rattle.journal.proofs.RecordLaws.{record_whole, same_record}
 
 -- bytes that keep a text begin with the header, and do not end in it
 text_header : (workers : ℕ) (shape : Shape) (bytes : List ℕ) (commits : List Commit)
@@ -82,3 +82,74 @@ is_not_refused law workers shape bytes commits kept (Illegal offset) recovered o
     refused_behind law workers shape bytes commits refusal.0 kept offset recovered refusal.1.0 refusal.1.1
     (not_torn (drop offset bytes) (length refusal.0 + 1) refusal.2.commit refusal.2.there)
 is_not_refused law workers shape bytes commits kept Memory recovered other refusal = other refl
+
+-- the commits and the offset that a refusal speaks of
+one_offset : (law : SpelledIsFound) (workers : ℕ) (shape : Shape) (bytes : List ℕ) (commits others : List Commit) (offset behind : ℕ)
+    → IsKeptUpTo workers shape bytes commits offset → IsKeptUpTo workers shape bytes others behind
+    → (commits ≡ others) × (offset ≡ behind)
+one_offset law workers shape bytes commits others offset behind one two =
+    let same = one_kept law workers shape bytes commits others one.0 two.0 in
+    (same, one.1 ∙ ap (λ (cs : List Commit). length (journal_text workers shape cs)) same ∙ sym two.1)
+
+-- the same record at the same offset
+one_record : (law : SpelledIsFound) (bytes : List ℕ) (offset behind n m : ℕ) (commit other : Commit) → offset ≡ behind
+    → IsRecordAt (drop offset bytes) n commit → IsRecordAt (drop behind bytes) m other → (n ≡ m) × (commit ≡ other)
+one_record law bytes offset behind n m commit other same one two =
+    same_record law (drop behind bytes) n m commit other (subst (λ (at : ℕ). IsRecordAt (drop at bytes) n commit) same one) two
+
+-- bytes that keep commits are not those of another journal
+no_other : (workers : ℕ) (shape : Shape) (bytes : List ℕ) (commits : List Commit) → IsKept workers shape bytes commits
+    → ¬ IsBeginning (header workers shape) bytes → ⊥
+no_other workers shape bytes commits kept none = none (text_header workers shape bytes commits kept.text)
+
+pub is_refused_once : SpelledIsFound → IsRefusedOnce
+is_refused_once law workers shape bytes OtherHeader OtherHeader one two m m' = refl
+is_refused_once law workers shape bytes OtherHeader (Damaged o) one two m m' =
+    absurd (no_other workers shape bytes two.0 two.1.0 one.0)
+is_refused_once law workers shape bytes OtherHeader (OutOfOrder o) one two m m' =
+    absurd (no_other workers shape bytes two.0 two.1.0 one.0)
+is_refused_once law workers shape bytes OtherHeader (Illegal o) one two m m' =
+    absurd (no_other workers shape bytes two.0 two.1.0 one.0)
+is_refused_once law workers shape bytes (Damaged o) OtherHeader one two m m' =
+    absurd (no_other workers shape bytes one.0 one.1.0 two.0)
+is_refused_once law workers shape bytes (OutOfOrder o) OtherHeader one two m m' =
+    absurd (no_other workers shape bytes one.0 one.1.0 two.0)
+is_refused_once law workers shape bytes (Illegal o) OtherHeader one two m m' =
+    absurd (no_other workers shape bytes one.0 one.1.0 two.0)
+is_refused_once law workers shape bytes (Damaged o) (Damaged p) one two m m' =
+    ap Damaged ((one_offset law workers shape bytes one.0 two.0 o p one.1 two.1).1)
+is_refused_once law workers shape bytes (Damaged o) (OutOfOrder p) one two m m' =
+    let same = one_offset law workers shape bytes one.0 two.0 o p one.1 two.1 in
+    absurd (one.2.none two.2.number two.2.commit
+    (subst (λ (at : ℕ). IsRecordAt (drop at bytes) two.2.number two.2.commit) (sym same.1) two.2.there))
+is_refused_once law workers shape bytes (Damaged o) (Illegal p) one two m m' =
+    let same = one_offset law workers shape bytes one.0 two.0 o p one.1 two.1 in
+    absurd (one.2.none (length two.0 + 1) two.2.commit
+    (subst (λ (at : ℕ). IsRecordAt (drop at bytes) (length two.0 + 1) two.2.commit) (sym same.1) two.2.there))
+is_refused_once law workers shape bytes (OutOfOrder o) (Damaged p) one two m m' =
+    let same = one_offset law workers shape bytes one.0 two.0 o p one.1 two.1 in
+    absurd (two.2.none one.2.number one.2.commit
+    (subst (λ (at : ℕ). IsRecordAt (drop at bytes) one.2.number one.2.commit) same.1 one.2.there))
+is_refused_once law workers shape bytes (OutOfOrder o) (OutOfOrder p) one two m m' =
+    ap OutOfOrder ((one_offset law workers shape bytes one.0 two.0 o p one.1 two.1).1)
+is_refused_once law workers shape bytes (OutOfOrder o) (Illegal p) one two m m' =
+    let same = one_offset law workers shape bytes one.0 two.0 o p one.1 two.1 in
+    let number =
+    one_record law bytes o p one.2.number (length two.0 + 1) one.2.commit two.2.commit same.1 one.2.there two.2.there in
+    absurd (one.2.other (number.0 ∙ ap (λ (cs : List Commit). length cs + 1) (sym same.0)))
+is_refused_once law workers shape bytes (Illegal o) (Damaged p) one two m m' =
+    let same = one_offset law workers shape bytes one.0 two.0 o p one.1 two.1 in
+    absurd (two.2.none (length one.0 + 1) one.2.commit
+    (subst (λ (at : ℕ). IsRecordAt (drop at bytes) (length one.0 + 1) one.2.commit) same.1 one.2.there))
+is_refused_once law workers shape bytes (Illegal o) (OutOfOrder p) one two m m' =
+    let same = one_offset law workers shape bytes one.0 two.0 o p one.1 two.1 in
+    let number =
+    one_record law bytes o p (length one.0 + 1) two.2.number one.2.commit two.2.commit same.1 one.2.there two.2.there in
+    absurd (two.2.other (sym number.0 ∙ ap (λ (cs : List Commit). length cs + 1) same.0))
+is_refused_once law workers shape bytes (Illegal o) (Illegal p) one two m m' =
+    ap Illegal ((one_offset law workers shape bytes one.0 two.0 o p one.1 two.1).1)
+is_refused_once law workers shape bytes Memory other one two m m' = absurd (m refl)
+is_refused_once law workers shape bytes OtherHeader Memory one two m m' = absurd (m' refl)
+is_refused_once law workers shape bytes (Damaged o) Memory one two m m' = absurd (m' refl)
+is_refused_once law workers shape bytes (OutOfOrder o) Memory one two m m' = absurd (m' refl)
+is_refused_once law workers shape bytes (Illegal o) Memory one two m m' = absurd (m' refl)

@@ -1,4 +1,5 @@
 pub mod Filling
+pub mod Settling
 pub mod Texts
 pub mod RecordLaws
 pub mod Nesting

@@ -40,3 +40,9 @@ abbrev pub IsNotRefused : Type 0
 IsNotRefused =
     (workers : ℕ) (shape : Shape) (bytes : List ℕ) (commits : List Commit) (bytes_kept : ℕ) (fault : JournalFault)
     → IsRecovered workers shape bytes commits bytes_kept → ¬ (fault ≡ Memory) → ¬ IsRefusal workers shape bytes fault
+
+-- bytes are refused in one way, being out of memory aside
+abbrev pub IsRefusedOnce : Type 0
+IsRefusedOnce =
+    (workers : ℕ) (shape : Shape) (bytes : List ℕ) (fault other : JournalFault) → IsRefusal workers shape bytes fault
+    → IsRefusal workers shape bytes other → ¬ (fault ≡ Memory) → ¬ (other ≡ Memory) → fault ≡ other

@@ -2,6 +2,14 @@
 use Rattle.std.specs.Prelude.{◌≡◌, ℕ, ◌+◌, ◌≤◌, List, ◌++◌, length, Option, None, Some, Result, Ok, Err}
 use Rattle.journal.specs.Recovery.{IsBeginning}
 
+-- how many faults are counted, at most: the greatest number of 64 bits. A call that may fail is made below it
+abbrev pub faults_max : ℕ
+faults_max = 18446744073709551615
+
+-- the room of a store that needs none set aside: more bytes than any list has
+abbrev pub room_max : ℕ
+room_max = 18446744073709551615
+
 -- an append that failed: behind the old bytes stands some beginning of the new ones
 abbrev pub IsPartlyAppended : List ℕ → List ℕ → List ℕ → Type 0
 IsPartlyAppended old bytes new = (front : List ℕ) × IsBeginning front bytes × (new ≡ old ++ front)

@@ -1,24 +1,26 @@
 //! A journal in a file.
 
-ghost use Rattle.std.specs.Prelude.{◌≡◌, ◌+◌, ◌<◌};
+ghost use Rattle.std.specs.Prelude.{◌≡◌, ◌+◌, ◌<◌, length, take, true, IfOk};
+ghost use Rattle.journal.specs.Storing.{faults_max};
 
+use crate::disk::Disk;
 use crate::faults::{FileFault, OpenFault};
 use crate::journal_store::JournalStore;
 use std::alloc::AllocError;
 use std::fs::{File, Files, OpenOptions, TryLockError};
 use std::io::{self, ErrorKind};
-use std::os::unix::fs::FileExt;
+use std::marker::Model;
 use std::path::Path;
 
-/// A journal in a file of the operating system, which it has locked.
+/// A journal in a file: in one of the operating system, which it has locked, or in another `Disk`.
 ///
-/// No contract can say what a file holds, so contracts count no such journal as honest, and nothing
-/// is proved of its bytes. An append that is answered Ok was written and synced. Behind a write or a
-/// cut that failed it appends nothing, until `cut_to` or `read_all` has cleared away what that left:
-/// the bytes behind the last ones that are known to stand.
+/// Contracts see the bytes that are known to stand; it is as honest as what it stands in, and no
+/// file of the operating system counts as that. An append that is answered Ok was written and
+/// synced. Behind a write or a cut that failed it appends nothing, until `cut_to` or `read_all` has
+/// cleared away what that left: the bytes behind the last ones that are known to stand.
 #[derive(Debug, Drop)]
-pub struct FileJournal {
-    file: File,
+pub struct FileJournal<D: Disk = File> {
+    disk: D,
     /// How many bytes are known to stand.
     len: u64,
     /// Whether others may stand behind them.
@@ -26,28 +28,55 @@ pub struct FileJournal {
     faults: u64,
 }
 
-impl FileJournal {
+impl<D: Disk> Model for FileJournal<D> {
+    ghost use Rattle.std.specs.Prelude.{◌≡◌, take, true};
+    ghost use Rattle.journal.specs.State.{FileState};
+    ghost use Rattle.journal.specs.Inner.Settling.{StandsIn};
+
+    ghost Value = { FileState };
+
+    ghost view = { λ j. record { bytes = take j.len (D.content j.disk); faults = j.faults } };
+
+    ghost invariant = { λ j. D.is_honest ≡ true → StandsIn j.len j.unsettled (D.content j.disk) };
+}
+
+impl FileJournal<File> {
     /// Opens the journal at a path, and makes the file where there is none. What it holds is then
     /// synced, and so is the folder that has its name.
     ///
     /// Fails with `Locked` where another journal has the file open, and with `System` where the
     /// system refuses to make, open, lock or sync it.
-    pub fn open<R: Files<File = File>>(files: &R, path: &str) -> Result<FileJournal, OpenFault> {
+    pub fn open<R: Files<File = File>>(
+        files: &R,
+        path: &str,
+    ) -> Result<FileJournal<File>, OpenFault>
+        ensures { IfOk result (λ journal. journal.faults ≡ 0) }
+    {
         let file = open_file(files, path).map_err(OpenFault::System)?;
         lock(&file)?;
         let len = settle(files, path, &file).map_err(OpenFault::System)?;
-        Ok(FileJournal {
-            file,
+        Ok(FileJournal::on(file, len))
+    }
+}
+
+impl<D: Disk> FileJournal<D> {
+    /// The journal in a file that has `len` bytes.
+    pub fn on(disk: D, len: u64) -> FileJournal<D>
+        requires { D.is_honest ≡ true → len ≡ length (D.content disk) }
+        ensures { result ≡ record { bytes = take len (D.content disk); faults = 0 } }
+    {
+        FileJournal {
+            disk,
             len,
             unsettled: false,
             faults: 0,
-        })
+        }
     }
 
     /// Counts a fault.
     fn fault(&mut self, fault: FileFault) -> FileFault
-        requires { self.old.faults < 18446744073709551615 }
-        ensures { self.new.faults ≡ self.old.faults + 1 }
+        requires { self.old.faults < faults_max }
+        ensures { self.new ≡ record self.old { faults = self.old.faults + 1 } }
     {
         self.faults += 1;
         fault
@@ -88,35 +117,18 @@ fn folder_of(path: &str) -> &str {
     }
 }
 
-/// Writes bytes at the end of a file that has so many, and syncs them.
-fn write_at_end(file: &File, len: u64, bytes: &[u8]) -> io::Result<()> {
-    file.write_all_at(bytes, len)?;
-    file.sync_data()
-}
-
-/// Cuts a file to so many bytes, and syncs that.
-fn cut(file: &File, len: u64) -> io::Result<()> {
-    file.set_len(len)?;
-    file.sync_all()
-}
-
-/// Fills the list with the first bytes of a file, as many as the list has.
-fn fill(file: &File, list: &mut [u8]) -> io::Result<()> {
-    file.read_exact_at(list, 0)
-}
-
-impl JournalStore for FileJournal {
-    ghost use Rattle.std.specs.Prelude.{[], false};
+impl<D: Disk> JournalStore for FileJournal<D> {
+    ghost use Rattle.journal.specs.Storing.{room_max};
 
     type Fault = FileFault;
 
-    ghost standing = { λ _. [] };
+    ghost standing = { λ j. j.bytes };
 
-    ghost room = { λ _. 18446744073709551615 };
+    ghost room = { λ _. room_max };
 
     ghost fault_count = { λ j. j.faults };
 
-    ghost is_honest = { λ _. false };
+    ghost is_honest = { λ _. D.is_honest };
 
     /// A file needs no room set aside.
     fn reserve(&mut self, _count: usize) -> Result<(), AllocError> {
@@ -129,9 +141,13 @@ impl JournalStore for FileJournal {
         if self.unsettled {
             return Err(self.fault(FileFault::Unsettled));
         }
-        match write_at_end(&self.file, self.len, bytes) {
+        let Some(len) = self.len.checked_add(bytes.len() as u64) else {
+            let error = io::Error::from(ErrorKind::FileTooLarge);
+            return Err(self.fault(FileFault::System(error)));
+        };
+        match self.disk.append(self.len, bytes) {
             Ok(()) => {
-                self.len = self.len.saturating_add(bytes.len() as u64);
+                self.len = len;
                 Ok(())
             }
             Err(error) => {
@@ -144,7 +160,7 @@ impl JournalStore for FileJournal {
     /// Cuts the file to so many bytes, and syncs that. Whatever an earlier write left is then gone.
     fn cut_to(&mut self, len: u64) -> Result<(), FileFault> {
         self.len = self.len.min(len);
-        match cut(&self.file, self.len) {
+        match self.disk.cut_to(self.len) {
             Ok(()) => {
                 self.unsettled = false;
                 Ok(())
@@ -168,7 +184,7 @@ impl JournalStore for FileJournal {
         if list.resize(self.len as usize, 0).is_err() {
             return Err(None);
         }
-        match fill(&self.file, list) {
+        match self.disk.read(list) {
             Ok(()) => Ok(()),
             Err(error) => Err(Some(self.fault(FileFault::System(error)))),
         }

@@ -1,7 +1,7 @@
 //! The interface to what keeps a journal's bytes.
 
 ghost use Rattle.std.specs.Prelude.{◌≡◌, ℕ, ◌<◌, ◌≤◌, List, ◌++◌, length, take, Bool, true, OnOk, OnErr};
-ghost use Rattle.journal.specs.Storing.{IsPartlyAppended, IsPartlyCut, CountsFault, CountsFaultOrMemory};
+ghost use Rattle.journal.specs.Storing.{IsPartlyAppended, IsPartlyCut, CountsFault, CountsFaultOrMemory, faults_max};
 
 use std::alloc::AllocError;
 
@@ -43,7 +43,7 @@ pub trait JournalStore {
     /// memory.
     fn append(&mut self, bytes: &[u8]) -> Result<(), Self::Fault>
         requires room { length bytes.now ≤ room self.old }
-        requires countable { fault_count self.old < 18446744073709551615 }
+        requires countable { fault_count self.old < faults_max }
         ensures ok { is_honest self.old ≡ true → OnOk result (standing self.new ≡ standing self.old ++ bytes.now) }
         ensures err { is_honest self.old ≡ true
             → OnErr result (IsPartlyAppended (standing self.old) bytes.now (standing self.new)) }
@@ -54,7 +54,7 @@ pub trait JournalStore {
     /// of them stands, which is not shorter. Takes no memory.
     fn cut_to(&mut self, len: u64) -> Result<(), Self::Fault>
         requires within { is_honest self.old ≡ true → len ≤ length (standing self.old) }
-        requires countable { fault_count self.old < 18446744073709551615 }
+        requires countable { fault_count self.old < faults_max }
         ensures ok { is_honest self.old ≡ true → OnOk result (standing self.new ≡ take len (standing self.old)) }
         ensures err { is_honest self.old ≡ true → OnErr result (IsPartlyCut len (standing self.old) (standing self.new)) }
         ensures faults { CountsFault result (fault_count self.old) (fault_count self.new) }
@@ -63,7 +63,7 @@ pub trait JournalStore {
     /// Makes a list the bytes that stand, whatever it had before. Fails with `None` where it is out
     /// of memory; after either failure nothing is known of the list. Nothing that stands changes.
     fn read_all(&mut self, list: &mut Vec<u8>) -> Result<(), Option<Self::Fault>>
-        requires { fault_count self.old < 18446744073709551615 }
+        requires { fault_count self.old < faults_max }
         ensures ok { is_honest self.old ≡ true → OnOk result (list.new.items ≡ standing self.old) }
         ensures standing { is_honest self.old ≡ true → standing self.new ≡ standing self.old }
         ensures faults { CountsFaultOrMemory result (fault_count self.old) (fault_count self.new) }

@@ -1,6 +1,6 @@
 //! Laws of the journal's text, and of what its bytes keep.
 
-ghost use Rattle.journal.specs.Laws.{IsOneToOne, IsNested, StopsAreRecovered, IsRecoveredOnce, IsNotRefused};
+ghost use Rattle.journal.specs.Laws.{IsOneToOne, IsNested, StopsAreRecovered, IsRecoveredOnce, IsNotRefused, IsRefusedOnce};
 
 /// The text of a list of commits determines the list, and of two lists whose texts begin the same
 /// bytes one begins the other. It does nothing: its contract is the law.
@@ -12,12 +12,13 @@ pub fn texts_determine_commits()
 }
 
 /// Whatever a stop leaves of the text of a list that a journal may be of, the first commits of the
-/// list are recovered; and bytes are recovered in one way, and not refused then. It does nothing:
-/// its contract is the law.
+/// list are recovered; bytes are recovered in one way, and not refused then, or are refused in one
+/// way. It does nothing: its contract is the law.
 pub fn stops_are_recovered()
     ensures stops { StopsAreRecovered }
     ensures once { IsRecoveredOnce }
     ensures not_refused { IsNotRefused }
+    ensures refused_once { IsRefusedOnce }
 {
     rows::laws::entries_are_read_as_spelled();
 }

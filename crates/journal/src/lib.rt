@@ -5,14 +5,16 @@
 //! commits of bytes: the longest legal list whose text begins them. A torn record behind it is what
 //! a stop may leave, and is not kept; anything else that stands there is refused, by what it is.
 //! `JournalStore` is the interface to what keeps the bytes; `MemJournal` keeps them in memory, and
-//! `FileJournal` in a file.
+//! `FileJournal` in a file (`Disk`).
 //!
 //! Promised: `recover` is exact, being out of memory aside; a text determines its commits; and what
-//! an honest store leaves after each outcome of each call. Of a real file nothing is proved.
+//! an honest store leaves after each outcome of each call, which a `FileJournal` is where its file is
+//! honest. That a real file is honest is not proved.
 //! It stands on `rows`, whose entries it spells and reads, and on `store`, where recovery tries
 //! what it reads. Its definitions are `specs/Text.antt`, `Recovery.antt` and `Storing.antt`.
 #![tactic(auto)]
 
+mod disk;
 mod faults;
 mod file_journal;
 mod header;
@@ -26,6 +28,7 @@ mod recovery;
 mod text;
 mod worked;
 
+pub use disk::Disk;
 pub use faults::{FileFault, JournalFault, OpenFault};
 pub use file_journal::FileJournal;
 pub use header::header_bytes;

@@ -7,54 +7,42 @@ ghost use Rattle.rows.specs.Presence.{is_there_after};
 ghost use Rattle.rows.specs.Tables.{is_row_at};
 ghost use Rattle.mvcc.specs.History.{tables_at, defined_at};
 
+use crate::wanted::{SIX, Table, Wanted, all_made};
 use mvcc::Versions;
-use rows::{
-    Commit, Entry, EntryList, Kind, Octets, RowId, Schema, Value, fits, is_there_after, row_bytes,
-};
+use rows::{Entry, Kind, Octets, Schema, Value, fits, is_there_after};
 use std::alloc::Global;
 use std::test::Fail;
 
-/// A change of the account of that identifier.
-#[derive(Clone, Copy)]
-pub enum Change {
-    /// It is put in with this number and the bytes `ab`.
-    Insert(u64, i64),
-    /// It gets another number.
-    Patch(u64, i64),
-    /// It is taken out.
-    Delete(u64),
-}
+/// Accounts of a number and two bytes.
+pub const ACCOUNTS: [Table; 1] = [("accounts", &[Kind::Int, Kind::Octets(2)])];
 
-/// Account 7 put in with 5, set to 6 and taken out; then in one commit put in again with 8, and
-/// account 8 put in with 9 and set to 10.
-const HISTORY: [&[Change]; 4] = [
-    &[Change::Insert(7, 5)],
-    &[Change::Patch(7, 6)],
-    &[Change::Delete(7)],
+/// Account 7 put in with 5 and `ab`, set to 6 and taken out; then in one commit put in again with 8
+/// and `ab`, and account 8 put in with 9 and `ab` and set to 10; then account 8 set to 11.
+pub const HISTORY: [&[Wanted<'static>]; 5] = [
+    &[Wanted::Insert(0, 7, b"\0\0\0\0\0\0\0\x05ab")],
+    &[Wanted::Patch(0, 7, 0, &SIX)],
+    &[Wanted::Delete(0, 7)],
     &[
-        Change::Insert(7, 8),
-        Change::Insert(8, 9),
-        Change::Patch(8, 10),
+        Wanted::Insert(0, 7, b"\0\0\0\0\0\0\0\x08ab"),
+        Wanted::Insert(0, 8, b"\0\0\0\0\0\0\0\x09ab"),
+        Wanted::Patch(0, 8, 0, b"\0\0\0\0\0\0\0\x0a"),
     ],
+    &[Wanted::Patch(0, 8, 0, b"\0\0\0\0\0\0\0\x0b")],
 ];
 
-/// What a column holds: a number, or one byte or two.
-#[derive(Clone, Copy, Debug, PartialEq)]
+/// What a column holds: a number, or bytes; or that there is no value.
 pub enum Cell {
     Number(i64),
-    Byte(u8),
-    Pair(u8, u8),
+    Octets(&'static [u8]),
+    Nothing,
 }
 
-/// The bytes that each account is put in with.
-const NAME: Cell = Cell::Pair(b'a', b'b');
-
 /// The value of a column that holds this.
-pub fn value_of(cell: Cell) -> Result<Value, Fail> {
+pub fn value_of(cell: &Cell) -> Result<Value, Fail> {
     match cell {
-        Cell::Number(number) => Ok(Value::Int(number)),
-        Cell::Byte(byte) => octets(&[byte]),
-        Cell::Pair(first, second) => octets(&[first, second]),
+        Cell::Number(number) => Ok(Value::Int(*number)),
+        Cell::Octets(bytes) => octets(bytes),
+        Cell::Nothing => Err("no value".into()),
     }
 }
 
@@ -64,86 +52,54 @@ fn octets(bytes: &[u8]) -> Result<Value, Fail> {
     Ok(Value::Octets(octets))
 }
 
-/// What a column of this value holds.
-pub fn cell_of(value: &Value) -> Result<Cell, Fail> {
-    match value {
-        Value::Int(number) => Ok(Cell::Number(*number)),
-        Value::Octets(octets) => cell_of_bytes(octets.as_slice()),
+/// Whether the value is what the column holds.
+pub fn is_held(value: &Option<Value>, cell: &Cell) -> bool {
+    match (value, cell) {
+        (Some(Value::Int(number)), Cell::Number(expected)) => number == expected,
+        (Some(Value::Octets(octets)), Cell::Octets(expected)) => octets.as_slice() == *expected,
+        (None, Cell::Nothing) => true,
+        _ => false,
     }
 }
 
-/// What a column of these bytes holds.
-fn cell_of_bytes(bytes: &[u8]) -> Result<Cell, Fail> {
-    match bytes {
-        [byte] => Ok(Cell::Byte(*byte)),
-        [first, second] => Ok(Cell::Pair(*first, *second)),
-        _ => Err("neither one byte nor two".into()),
-    }
-}
-
-/// Versions of accounts without commits.
-pub fn no_commits(alloc: Global) -> Result<Versions, Fail> {
-    let kinds = [Kind::Int, Kind::Octets(2)];
-    let schema = Schema::new(alloc, &[("accounts", kinds.as_slice())])?;
-    Ok(Versions::new(alloc, &schema)?)
-}
-
-/// The versions of that history.
-pub fn history(alloc: Global) -> Result<Versions, Fail> {
-    let mut versions = no_commits(alloc)?;
-    absorb_all(alloc, &mut versions, &HISTORY)?;
+/// The versions of tables with these commits.
+pub fn versions_of(
+    alloc: Global,
+    tables: &[Table],
+    commits: &[&[Wanted<'_>]],
+) -> Result<Versions, Fail> {
+    let schema = Schema::new(alloc, tables)?;
+    let mut versions = Versions::new(alloc, &schema)?;
+    absorb_all(alloc, &mut versions, commits)?;
     Ok(versions)
 }
 
-/// Absorbs a commit of worker 0 for each list of changes.
-pub fn absorb_all(alloc: Global, versions: &mut Versions, lists: &[&[Change]]) -> Result<(), Fail> {
-    for changes in lists {
-        absorb(versions, &commit_of(alloc, changes)?)?;
+/// Absorbs these commits, each of worker 0.
+fn absorb_all(
+    alloc: Global,
+    versions: &mut Versions,
+    commits: &[&[Wanted<'_>]],
+) -> Result<(), Fail> {
+    for commit in commits {
+        let entries = all_made(alloc, commit)?;
+        if !is_absorbed(versions, entries.as_slice())? {
+            return Err("out of memory".into());
+        }
     }
     Ok(())
 }
 
-/// Absorbs a commit that is defined on the newest rows.
-pub fn absorb(versions: &mut Versions, commit: &Commit) -> Result<(), Fail> {
-    if !are_defined(versions, commit.entries.as_slice()) {
+/// Absorbs a commit of worker 0 that is defined on the newest rows, if there is memory; answers
+/// whether there was.
+pub fn is_absorbed(versions: &mut Versions, entries: &[Entry]) -> Result<bool, Fail> {
+    if !are_defined(versions, entries) {
         return Err("not defined".into());
     }
-    versions.absorb(commit.worker, commit.entries.as_slice())?;
-    Ok(())
-}
-
-/// A commit of worker 0 with these changes.
-pub fn commit_of(alloc: Global, changes: &[Change]) -> Result<Commit, Fail> {
-    let mut entries = EntryList::new(alloc);
-    for change in changes {
-        entries.push(entry_of(alloc, *change)?)?;
-    }
-    Ok(Commit { worker: 0, entries })
-}
-
-/// The entry that makes that change.
-fn entry_of(alloc: Global, change: Change) -> Result<Entry, Fail> {
-    match change {
-        Change::Insert(row, number) => Ok(Entry::Insert {
-            table: 0,
-            row: RowId(row),
-            bytes: row_bytes(alloc, &[Value::Int(number), value_of(NAME)?])?,
-        }),
-        Change::Patch(row, number) => Ok(Entry::Patch {
-            table: 0,
-            row: RowId(row),
-            offset: 0,
-            bytes: row_bytes(alloc, &[Value::Int(number)])?,
-        }),
-        Change::Delete(row) => Ok(Entry::Delete {
-            table: 0,
-            row: RowId(row),
-        }),
-    }
+    Ok(versions.absorb(0, entries).is_ok())
 }
 
 /// Whether each of the entries is defined where it stands on the newest rows.
-pub fn are_defined(versions: &Versions, entries: &[Entry]) -> bool
+fn are_defined(versions: &Versions, entries: &[Entry]) -> bool
     ensures { OnTrue result (defined_at versions.now (length versions.now.commits) entries.now ≡ true) }
 {
     for index in 0..entries.len() {

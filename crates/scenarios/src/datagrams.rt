@@ -3,7 +3,7 @@
 ghost use Rattle.std.specs.Prelude.{◌≤◌, IfOk};
 ghost use Rattle.wire.specs.Spelling.{HasSpelling, FrameHasSpelling};
 
-use crate::worker_datagrams::{ASK, FRAME, HEAD, HEAD_OF_TWO, WANT, changed};
+use crate::worker_datagrams::{ASK, FRAME, HEAD, HEAD_OF_TWO, WANT, changed, want_from};
 use rows::{Commit, Entry, RowId};
 use std::alloc::Global;
 use std::test::Fail;
@@ -68,14 +68,29 @@ fn is_ask(bytes: &[u8]) -> bool {
     )
 }
 
-#[test]
-fn datagrams_are_read(rt: HostRuntime) {
-    assert!(rt; is_frame(&FRAME, 1, &FRAME[26..]));
-    assert!(rt; is_frame(&THREE, 3, &THREE[26..]));
-    assert!(rt; is_ask(&ASK));
-    assert!(rt; is_head(&HEAD, &[1]));
-    assert!(rt; is_head(&HEAD_OF_TWO, &[1, 0]));
-    assert_eq!(rt; read(&WANT).err(), Some(WireFault::Kind));
+/// Whether the bytes read as the Want of replica 0, of the frames of worker 0 from this seq on.
+fn is_want(bytes: &[u8], expected: u64) -> bool {
+    match read(bytes) {
+        Ok(
+            Datagram::Want {
+                replica: 0,
+                worker: 0,
+                from,
+            },
+        ) => from == expected,
+        _ => false,
+    }
+}
+
+/// Whether each kind of datagram is read.
+fn are_read() -> bool {
+    is_frame(&FRAME, 1, &FRAME[26..])
+        && is_frame(&THREE, 3, &THREE[26..])
+        && is_ask(&ASK)
+        && is_head(&HEAD, &[1])
+        && is_head(&HEAD_OF_TWO, &[1, 0])
+        && is_want(&WANT, 0)
+        && is_want(&want_from(260), 260)
 }
 
 /// The frame that these bytes spell, owned.
@@ -133,18 +148,35 @@ fn are_entries(entries: &[Entry]) -> bool {
     ) && entries.iter().all(|entry| is_of_three(entry))
 }
 
-/// Whether the frame that these bytes spell has so many entries, and those.
-fn are_read(alloc: Global, bytes: &[u8], count: usize) -> Result<bool, Fail> {
+/// Whether the frame that these bytes spell has so many entries, and those; and it is written as
+/// they are.
+fn is_frame_of(alloc: Global, bytes: &[u8], count: usize) -> Result<bool, Fail> {
     let frame = frame_in(alloc, bytes)?;
     let entries = frame.entries.as_slice();
-    Ok(entries.len() == count && are_entries(entries))
+    Ok(entries.len() == count && are_entries(entries) && is_frame_written(&frame, bytes))
 }
 
-#[test]
-fn entries_are_read(rt: HostRuntime) -> Result<(), Fail> {
-    assert!(rt; are_read(rt.alloc(), &FRAME, 1)?);
-    assert!(rt; are_read(rt.alloc(), &THREE, 3)?);
-    Ok(())
+/// Whether the frame is written as these bytes, at the front of a buffer that keeps the rest of what
+/// it had; and not into one that is too small, which stays as it was.
+fn is_frame_written(frame: &Frame, bytes: &[u8]) -> bool
+    requires { FrameHasSpelling frame.now }
+{
+    if bytes.len() == 0 || bytes.len() > 99 {
+        return false;
+    }
+    let mut room = [0xee; 99];
+    let (small, _) = room.split_at_mut(bytes.len() - 1);
+    if write_frame(frame, small) != Err(TooSmall) || !is_empty(&room) {
+        return false;
+    }
+    let written = write_frame(frame, &mut room);
+    let (front, rest) = room.split_at(bytes.len());
+    written == Ok(bytes.len()) && front == bytes && is_empty(rest)
+}
+
+/// Whether nothing was written here.
+fn is_empty(room: &[u8]) -> bool {
+    room.iter().all(|byte| *byte == 0xee)
 }
 
 /// The fault of a frame whose one entry is of this form, for row 7 of this table, and goes on with
@@ -187,12 +219,14 @@ const ENTRIES: [(u8, u8, [u8; 4], u16, Option<WireFault>); 15] = [
     (3, 0, [0; 4], 9, BODY),
 ];
 
-#[test]
-fn a_frame_holds_whole_entries(rt: HostRuntime) {
-    for (form, table, next, len, fault) in &ENTRIES {
-        let found = fault_of(*form, *table, *next, *len);
-        assert_eq!(rt; found, *fault, "form {form}, table {table}, {len} bytes");
+/// The index of the first of these that has another fault.
+fn other_entry() -> Option<usize> {
+    for (index, (form, table, next, len, fault)) in ENTRIES.iter().enumerate() {
+        if fault_of(*form, *table, *next, *len) != *fault {
+            return Some(index);
+        }
     }
+    None
 }
 
 /// The Head of replica 0, its boot 1 and request 1, at version 1: the first worker has one frame,
@@ -215,44 +249,38 @@ fn head_of(others: u8) -> Datagram<'static>
     }
 }
 
-/// A buffer that they fill, and `Packet`, have the bytes.
-#[test]
-fn an_ask_a_head_and_a_want_are_written(rt: HostRuntime) {
+/// Whether a buffer that it fills, and `Packet`, have these bytes.
+fn is_written(datagram: &Datagram<'_>, bytes: &[u8]) -> bool
+    requires { HasSpelling datagram.now }
+{
+    let mut room = [0xee; 99];
+    let (front, rest) = room.split_at_mut(bytes.len().min(99));
+    let written = write(datagram, front);
+    written == Ok(bytes.len())
+        && &*front == bytes
+        && is_empty(rest)
+        && Packet::of(datagram).bytes() == bytes
+}
+
+/// Whether an Ask, a Want and two Heads are written as they should be.
+fn are_written() -> bool {
     let ask = Datagram::Ask {
         replica: 0,
         boot: 1,
         request: 1,
     };
-    let mut buffer = [0xee; 23];
-    assert_eq!(rt; (write(&ask, &mut buffer), buffer), (Ok(23), ASK));
-    let mut buffer = [0xee; 40];
-    assert_eq!(rt; (write(&head_of(0), &mut buffer), buffer), (Ok(40), HEAD));
-    assert_eq!(rt; Packet::of(&head_of(1)).bytes(), HEAD_OF_TWO.as_slice());
     let want = Datagram::Want {
         replica: 0,
         worker: 0,
         from: 0,
     };
-    let mut buffer = [0xee; 16];
-    assert_eq!(rt; (write(&want, &mut buffer), buffer), (Ok(16), WANT));
+    is_written(&ask, &ASK)
+        && is_written(&want, &WANT)
+        && is_written(&head_of(0), &HEAD)
+        && is_written(&head_of(1), &HEAD_OF_TWO)
 }
 
-#[test]
-fn a_frame_is_written(rt: HostRuntime) -> Result<(), Fail> {
-    let frame = frame_in(rt.alloc(), &FRAME)?;
-    let mut buffer = [0xee; 60];
-    assert_eq!(rt; write_frame(&frame, &mut buffer), Ok(54));
-    let (front, rest) = buffer.split_at(54);
-    assert_eq!(rt; (front, rest), (FRAME.as_slice(), [0xee; 6].as_slice()));
-    let mut short = [0xee; 53];
-    assert_eq!(rt;
-        (write_frame(&frame, &mut short), short),
-        (Err(TooSmall), [0xee; 53])
-    );
-    Ok(())
-}
-
-/// Whether the frame that these bytes spell is written as they are, as a frame and as its commit.
+/// Whether the frame that these bytes spell is a packet of them, as a frame and as its commit.
 fn is_packet(alloc: Global, bytes: &[u8]) -> Result<bool, Fail> {
     let frame = frame_in(alloc, bytes)?;
     if Packet::of_frame(&frame).bytes() != bytes {
@@ -263,47 +291,93 @@ fn is_packet(alloc: Global, bytes: &[u8]) -> Result<bool, Fail> {
     Ok(Packet::of_commit(&commit, 1, 0).bytes() == bytes)
 }
 
+/// Whether what is read of the frame is a packet of its bytes.
+fn is_packet_of_read(bytes: &[u8]) -> bool {
+    match read(bytes) {
+        Ok(datagram) => Packet::of(&datagram).bytes() == bytes,
+        Err(_) => false,
+    }
+}
+
 #[test]
-fn a_frame_is_a_packet(rt: HostRuntime) -> Result<(), Fail> {
-    assert_eq!(rt; Packet::of(&read(&FRAME)?).bytes(), FRAME.as_slice());
-    assert!(rt; is_packet(rt.alloc(), &FRAME)?);
-    assert!(rt; is_packet(rt.alloc(), &THREE)?);
+fn datagrams_are_read_and_written(rt: HostRuntime) -> Result<(), Fail> {
+    one_spelling();
+    assert!(rt; are_read());
+    assert!(rt; are_written());
+    assert!(rt; is_packet_of_read(&FRAME));
+    assert!(rt; is_frame_of(rt.alloc(), &FRAME, 1)? && is_packet(rt.alloc(), &FRAME)?);
+    assert!(rt; is_frame_of(rt.alloc(), &THREE, 3)? && is_packet(rt.alloc(), &THREE)?);
     Ok(())
 }
 
-#[test]
-fn spellings_tell_datagrams_apart() {
-    one_spelling();
-}
-
 /// An index of the frame, another byte there, and the first fault.
-const FAULTS: [(usize, u8, WireFault); 8] = [
+const FAULTS: [(usize, u8, WireFault); 9] = [
     (1, 0x45, WireFault::Magic),
     (2, 2, WireFault::Version),
-    (3, 4, WireFault::Kind),
+    (3, 5, WireFault::Kind),
     (3, 0, WireFault::Kind),
+    (3, 4, WireFault::Body),
     (6, 16, WireFault::Body),
     (22, 0, WireFault::Body),
     (23, 2, WireFault::Body),
     (25, 2, WireFault::Body),
 ];
 
-#[test]
-fn the_first_fault_is_named(rt: HostRuntime) {
-    for (index, byte, fault) in &FAULTS {
-        let found = read(&changed(FRAME, *index, *byte)).err();
-        assert_eq!(rt; found, Some(*fault), "{byte} at {index}");
+/// The index of the first of these that has another fault.
+fn other_fault() -> Option<usize> {
+    for (index, (at, byte, fault)) in FAULTS.iter().enumerate() {
+        if read(&changed(FRAME, *at, *byte)).err() != Some(*fault) {
+            return Some(index);
+        }
     }
-    assert_eq!(rt; read(&FRAME[..5]).err(), Some(WireFault::Short));
-    assert_eq!(rt; read(&FRAME[..53]).err(), Some(WireFault::Length));
+    None
+}
+
+/// Whether a frame is refused that has too few bytes, or one too many, or more than there may be.
+fn are_lengths_refused() -> bool {
     let mut longer = [0; 55];
     longer[..54].copy_from_slice(&FRAME);
-    assert_eq!(rt; read(&longer).err(), Some(WireFault::Length));
     let mut above = [0; 1201];
     above[..54].copy_from_slice(&FRAME);
     above[4] = 0x04;
     above[5] = 0xb1;
-    assert_eq!(rt; read(&above).err(), Some(WireFault::Length));
+    read(&FRAME[..5]).err() == Some(WireFault::Short)
+        && read(&FRAME[..53]).err() == Some(WireFault::Length)
+        && read(&longer).err() == Some(WireFault::Length)
+        && read(&above).err() == Some(WireFault::Length)
+}
+
+/// A number of entries, how many bytes behind the front of the frame are to be theirs, and how many
+/// entries those then have; `None` where so many do not fill them.
+const FILLINGS: [(u16, usize, Option<usize>); 5] = [
+    (1, 28, Some(1)),
+    (0, 0, Some(0)),
+    (0, 28, None),
+    (2, 28, None),
+    (1, 27, None),
+];
+
+/// The index of the first of these that goes otherwise.
+fn other_filling() -> Option<usize> {
+    for (index, (count, len, expected)) in FILLINGS.iter().enumerate() {
+        let (bytes, _) = FRAME[26..].split_at((*len).min(28));
+        if filled(*count, bytes) != *expected {
+            return Some(index);
+        }
+    }
+    None
+}
+
+/// Whether a Want of replica 16, of worker 16, and with a byte behind it is refused.
+fn are_wants_refused() -> bool {
+    let mut longer = [0; 17];
+    longer[..16].copy_from_slice(&WANT);
+    let mut told = longer;
+    told[5] = 17;
+    read(&changed(WANT, 6, 16)).err() == Some(WireFault::Body)
+        && read(&changed(WANT, 7, 16)).err() == Some(WireFault::Body)
+        && read(&longer).err() == Some(WireFault::Length)
+        && read(&told).err() == Some(WireFault::Body)
 }
 
 /// How many entries fill the bytes, where so many do.
@@ -311,12 +385,12 @@ fn filled(count: u16, bytes: &[u8]) -> Option<usize> {
     Some(LentEntries::filling(count, bytes)?.len())
 }
 
+/// A frame holds whole entries, and they fill their bytes.
 #[test]
-fn entries_fill_their_bytes(rt: HostRuntime) {
-    let bytes = &FRAME[26..];
-    assert_eq!(rt; filled(1, bytes), Some(1));
-    assert_eq!(rt; filled(0, &[]), Some(0));
-    assert_eq!(rt; filled(0, bytes), None);
-    assert_eq!(rt; filled(2, bytes), None);
-    assert_eq!(rt; filled(1, &bytes[..27]), None);
+fn the_first_fault_is_named(rt: HostRuntime) {
+    assert_eq!(rt; other_entry(), None);
+    assert_eq!(rt; other_fault(), None);
+    assert!(rt; are_lengths_refused());
+    assert!(rt; are_wants_refused());
+    assert_eq!(rt; other_filling(), None);
 }

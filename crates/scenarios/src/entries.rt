@@ -1,6 +1,6 @@
 //! Each entry's spelling byte by byte, what is read as none, and which entries fit.
 
-use crate::wanted::{Wanted, bank, made};
+use crate::wanted::{FIVE, SIX, Wanted, bank, made};
 use rows::{Entry, EntryFault, EntryRef, Schema, entry_len, fits, read_entry, write_entry};
 use std::alloc::Global;
 use std::test::Fail;
@@ -20,35 +20,21 @@ const PATCH: [u8; 22] = [
 /// The delete of row 7 of table 0.
 const DELETE: [u8; 10] = [0x03, 0x00, 0x00, 0x00, 0x00, 0x00, 0x00, 0x00, 0x00, 0x07];
 
-/// The number 6.
-const SIX: [u8; 8] = [0, 0, 0, 0, 0, 0, 0, 6];
-
 /// What an entry is: its form, its table, its row, its offset, and its data.
 type Parts<'a> = (u8, u8, u64, u16, &'a [u8]);
 
 /// Entries that are wanted, each with its spelling and its parts.
 const SPELLINGS: [(Wanted<'static>, &[u8], Parts<'static>); 3] = [
-    (
-        Wanted::Insert(0, 7, 5, -1),
-        &INSERT,
-        (
-            1,
-            0,
-            7,
-            0,
-            b"\0\0\0\0\0\0\0\x05\xff\xff\xff\xff\xff\xff\xff\xff",
-        ),
-    ),
+    (Wanted::Insert(0, 7, &FIVE), &INSERT, (1, 0, 7, 0, &FIVE)),
     (Wanted::Patch(0, 7, 8, &SIX), &PATCH, (2, 0, 7, 8, &SIX)),
     (Wanted::Delete(0, 7), &DELETE, (3, 0, 7, 0, &[])),
 ];
 
-/// The index of the first of these that is not written so, where each fits the bank.
-fn other_spelling(alloc: Global) -> Result<Option<usize>, Fail> {
-    let schema = bank(alloc)?;
-    for (index, (wanted, bytes, _)) in SPELLINGS.iter().enumerate() {
-        let entry = made(alloc, *wanted)?;
-        if !is_spelled(&schema, &entry, bytes) {
+/// The index of the first of these that is not written so, where each fits the bank, or not read so.
+fn other_spelling(alloc: Global, schema: &Schema) -> Result<Option<usize>, Fail> {
+    for (index, (wanted, bytes, expected)) in SPELLINGS.iter().enumerate() {
+        let entry = made(alloc, wanted)?;
+        if !is_spelled(schema, &entry, bytes) || !is_read_whole(bytes, expected) {
             return Ok(Some(index));
         }
     }
@@ -89,19 +75,14 @@ fn parts(bytes: &[u8]) -> Option<(Parts<'_>, usize)> {
     }
 }
 
-/// Whether an entry is read from some of the bytes at the front, but not from all of them.
-fn is_read_early(bytes: &[u8]) -> bool {
-    (0..bytes.len()).any(|len| read_entry(&bytes[..len]).is_some())
-}
-
-#[test]
-fn entries_are_written_and_read(rt: HostRuntime) -> Result<(), Fail> {
-    assert_eq!(rt; other_spelling(rt.alloc())?, None);
-    for (_, bytes, expected) in &SPELLINGS {
-        assert_eq!(rt; parts(bytes), Some((*expected, bytes.len())));
-        assert!(rt; !is_read_early(bytes));
+/// Whether that entry is read from these bytes, and none from fewer of them.
+fn is_read_whole(bytes: &[u8], expected: &Parts<'_>) -> bool {
+    for len in 0..bytes.len() {
+        if read_entry(&bytes[..len]).is_some() {
+            return false;
+        }
     }
-    Ok(())
+    parts(bytes) == Some((*expected, bytes.len()))
 }
 
 /// Whether an entry is read from a form, a table, row 7, these four bytes, and zeros behind them.
@@ -135,15 +116,14 @@ const FRONTS: [(u8, u8, [u8; 4], bool); 14] = [
     (2, 0, [0xff, 0xff, 0, 1], false),
 ];
 
-#[test]
-fn what_is_no_entry_is_not_read(rt: HostRuntime) {
-    for (form, table, next, expected) in &FRONTS {
-        assert_eq!(rt;
-            is_read(*form, *table, *next),
-            *expected,
-            "{form} {table} {next:?}"
-        );
+/// The index of the first of these that is read otherwise.
+fn other_front() -> Option<usize> {
+    for (index, (form, table, next, expected)) in FRONTS.iter().enumerate() {
+        if is_read(*form, *table, *next) != *expected {
+            return Some(index);
+        }
     }
+    None
 }
 
 /// One column of a number, and two.
@@ -155,11 +135,14 @@ const NO_TABLE: Option<EntryFault> = Some(EntryFault::NoTable);
 
 const NOT_A_COLUMN: Option<EntryFault> = Some(EntryFault::NotAColumn);
 
+/// A row of two numbers.
+const ROW: [u8; 16] = [0, 0, 0, 0, 0, 0, 0, 1, 0, 0, 0, 0, 0, 0, 0, 2];
+
 /// Entries that are wanted, and why they do not fit the bank.
 const FAULTS: [(Wanted<'static>, Option<EntryFault>); 10] = [
-    (Wanted::Insert(0, 7, 1, 2), None),
-    (Wanted::Insert(1, 7, 1, 2), Some(EntryFault::WrongSize)),
-    (Wanted::Insert(2, 7, 1, 2), NO_TABLE),
+    (Wanted::Insert(0, 7, &ROW), None),
+    (Wanted::Insert(1, 7, &ROW), Some(EntryFault::WrongSize)),
+    (Wanted::Insert(2, 7, &ROW), NO_TABLE),
     (Wanted::Patch(0, 7, 8, &COLUMN), None),
     // Behind the row; parts of two columns; two columns.
     (Wanted::Patch(1, 7, 8, &COLUMN), NOT_A_COLUMN),
@@ -170,17 +153,11 @@ const FAULTS: [(Wanted<'static>, Option<EntryFault>); 10] = [
     (Wanted::Delete(2, 7), NO_TABLE),
 ];
 
-/// Why the wanted entry does not fit the bank; `None` where it fits.
-fn fault_of(alloc: Global, wanted: Wanted<'_>) -> Result<Option<EntryFault>, Fail> {
-    let schema = bank(alloc)?;
-    let entry = made(alloc, wanted)?;
-    Ok(fits(&schema, &entry).err())
-}
-
 /// The index of the first of these that has another fault.
-fn other_fault(alloc: Global) -> Result<Option<usize>, Fail> {
+fn other_fault(alloc: Global, schema: &Schema) -> Result<Option<usize>, Fail> {
     for (index, (wanted, fault)) in FAULTS.iter().enumerate() {
-        if fault_of(alloc, *wanted)? != *fault {
+        let entry = made(alloc, wanted)?;
+        if fits(schema, &entry).err() != *fault {
             return Ok(Some(index));
         }
     }
@@ -188,7 +165,10 @@ fn other_fault(alloc: Global) -> Result<Option<usize>, Fail> {
 }
 
 #[test]
-fn entries_fit_by_their_table(rt: HostRuntime) -> Result<(), Fail> {
-    assert_eq!(rt; other_fault(rt.alloc())?, None);
+fn entries_are_written_read_and_fit(rt: HostRuntime) -> Result<(), Fail> {
+    let schema = bank(rt.alloc())?;
+    assert_eq!(rt; other_spelling(rt.alloc(), &schema)?, None);
+    assert_eq!(rt; other_front(), None);
+    assert_eq!(rt; other_fault(rt.alloc(), &schema)?, None);
     Ok(())
 }

@@ -3,8 +3,9 @@
 ghost use Rattle.std.specs.Prelude.{IfOk};
 ghost use Rattle.journal.specs.Recovery.{HasRecord};
 
+use crate::wanted::{FIVE, NUMBERS, Wanted, made};
 use journal::{JournalFault, Recovered, header_bytes, laws, records, recover, worked_journal};
-use rows::{Commit, Entry, EntryList, Kind, RowId, Schema, Value, fits, row_bytes};
+use rows::{Commit, Entry, EntryList, RowId, Schema, fits};
 use std::alloc::Global;
 use std::slice::from_ref;
 use std::test::Fail;
@@ -21,18 +22,12 @@ pub const JOURNAL: [u8; 52] = [
 /// How many of these bytes are its header.
 pub const HEADER_LEN: usize = 9;
 
-/// The schema of the accounts.
-pub fn accounts(alloc: Global) -> Result<Schema, Fail> {
-    let kinds = [Kind::Int, Kind::Int];
-    Ok(Schema::new(alloc, &[("acct", kinds.as_slice())])?)
-}
-
 /// How many commits and how many bytes are kept, or why the bytes are refused.
 pub type Outcome = Result<(usize, u64), JournalFault>;
 
 /// What is recovered of bytes, of two workers and of accounts.
 pub fn outcome(alloc: Global, bytes: &[u8]) -> Result<Outcome, Fail> {
-    let schema = accounts(alloc)?;
+    let schema = Schema::new(alloc, &NUMBERS)?;
     Ok(match recover(alloc, bytes, &schema, 2) {
         Ok(recovered) => Ok((recovered.commits.len(), recovered.bytes_kept)),
         Err(fault) => Err(fault),
@@ -133,11 +128,16 @@ fn bytes_of(alloc: Global, case: &Case) -> Result<Vec<u8>, Fail> {
     Ok(bytes)
 }
 
+/// Whether that is recovered of a case.
+fn is_recovered(alloc: Global, case: &Case) -> Result<bool, Fail> {
+    let bytes = bytes_of(alloc, case)?;
+    Ok(outcome(alloc, &bytes)? == case.3)
+}
+
 /// The index of the first case of which something else is recovered.
 fn other_case(alloc: Global) -> Result<Option<usize>, Fail> {
     for (index, case) in CASES.iter().enumerate() {
-        let bytes = bytes_of(alloc, case)?;
-        if outcome(alloc, &bytes)? != case.3 {
+        if !is_recovered(alloc, case)? {
             return Ok(Some(index));
         }
     }
@@ -168,54 +168,59 @@ fn is_insert(entries: &[Entry]) -> bool {
     }
 }
 
-#[test]
-fn a_commit_is_recovered_as_it_was(rt: HostRuntime) -> Result<(), Fail> {
-    worked_journal();
-    laws::texts_determine_commits();
-    let schema = accounts(rt.alloc())?;
-    let recovered = recover(rt.alloc(), &JOURNAL, &schema, 2)?;
-    assert!(rt; is_of_journal(&recovered));
-    Ok(())
+/// Whether the commit of the journal is recovered as it was.
+fn is_recovered_as_it_was(alloc: Global, schema: &Schema) -> Result<bool, Fail> {
+    let recovered = recover(alloc, &JOURNAL, schema, 2)?;
+    Ok(is_of_journal(&recovered))
 }
 
 /// The commit of the journal.
 fn commit(alloc: Global, schema: &Schema) -> Result<Commit, Fail>
     ensures { IfOk result HasRecord }
 {
-    let insert = Entry::Insert {
-        table: 0,
-        row: RowId(7),
-        bytes: row_bytes(alloc, &[Value::Int(5), Value::Int(-1)])?,
-    };
+    let insert = made(alloc, &Wanted::Insert(0, 7, &FIVE))?;
     fits(schema, &insert)?;
     let mut entries = EntryList::new(alloc);
     entries.push(insert)?;
     Ok(Commit { worker: 0, entries })
 }
 
-/// The text of that commit behind the header.
-fn text(alloc: Global) -> Result<Vec<u8>, Fail> {
-    let schema = accounts(alloc)?;
-    let mut bytes = header_bytes(alloc, 2, &schema)?;
-    let commit = commit(alloc, &schema)?;
-    bytes.extend_from_slice(&records(alloc, from_ref(&commit), 1)?)?;
-    Ok(bytes)
+/// The record of that commit.
+fn record(alloc: Global, schema: &Schema) -> Result<Vec<u8>, Fail> {
+    let commit = commit(alloc, schema)?;
+    Ok(records(alloc, from_ref(&commit), 1)?)
+}
+
+/// Whether the header and that record are the bytes of the journal.
+fn is_written(alloc: Global, schema: &Schema) -> Result<bool, Fail> {
+    let header = header_bytes(alloc, 2, schema)?;
+    let record = record(alloc, schema)?;
+    let (front, rest) = JOURNAL.split_at(HEADER_LEN);
+    Ok(header.as_slice() == front && record.as_slice() == rest)
 }
 
 #[test]
-fn a_commit_is_written(rt: HostRuntime) -> Result<(), Fail> {
-    let bytes = text(rt.alloc())?;
-    assert_eq!(rt; bytes.as_slice(), JOURNAL.as_slice());
+fn a_commit_is_written_and_recovered(rt: HostRuntime) -> Result<(), Fail> {
+    worked_journal();
+    laws::texts_determine_commits();
+    let schema = Schema::new(rt.alloc(), &NUMBERS)?;
+    assert!(rt; is_written(rt.alloc(), &schema)?);
+    assert!(rt; is_recovered_as_it_was(rt.alloc(), &schema)?);
     Ok(())
+}
+
+/// Whether all is recovered, at once or where it was refused for memory and is asked for again.
+fn is_recovered_again(alloc: Global) -> Result<bool, Fail> {
+    let whole = Ok((1, 52));
+    match outcome(alloc, &JOURNAL)? {
+        Err(JournalFault::Memory) => Ok(outcome(alloc, &JOURNAL)? == whole),
+        found => Ok(found == whole),
+    }
 }
 
 /// Whichever allocation is refused: recovery says so, or has recovered all.
 #[test]
 fn recovery_without_memory_says_so(rt: HostRuntime) -> Result<(), Fail> {
-    let first = outcome(rt.alloc(), &JOURNAL)?;
-    if first != Ok((1, 52)) {
-        assert_eq!(rt; first, Err(JournalFault::Memory));
-        assert_eq!(rt; outcome(rt.alloc(), &JOURNAL)?, Ok((1, 52)));
-    }
+    assert!(rt; is_recovered_again(rt.alloc())?);
     Ok(())
 }

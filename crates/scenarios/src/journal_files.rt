@@ -8,7 +8,7 @@ use std::test::Fail;
 use std::{fs, process};
 
 /// The path of a file of this process, for the test of that name; there is no such file.
-fn fresh_path(rt: &HostRuntime, name: &str) -> Result<String, Fail> {
+pub fn fresh_path(rt: &HostRuntime, name: &str) -> Result<String, Fail> {
     let folder = temp_dir(rt)?;
     let process = process::id(rt.process());
     let path = format!(in rt.alloc(); "{}/journal-{process}-{name}", folder.as_str())?;
@@ -55,24 +55,20 @@ fn write(rt: &HostRuntime, path: &str) -> Result<(), Fail> {
     append(&mut journal, &JOURNAL[9..])
 }
 
-/// What is recovered of the journal in a file, which is opened for that.
-fn reopened(rt: &HostRuntime, path: &str) -> Result<Outcome, Fail> {
-    let mut journal = FileJournal::open(rt, path)?;
-    let bytes = read(rt.alloc(), &mut journal)?;
-    if bytes.as_slice() != JOURNAL.as_slice() {
+/// What is recovered of a journal in a file, which is to have these bytes.
+fn recovered(alloc: Global, journal: &mut FileJournal, bytes: &[u8]) -> Result<Outcome, Fail> {
+    let found = read(alloc, journal)?;
+    if found.as_slice() != bytes {
         return Err("other bytes".into());
     }
-    outcome(rt.alloc(), &bytes)
+    outcome(alloc, &found)
 }
 
-#[test]
-fn a_file_keeps_a_journal(rt: HostRuntime) -> Result<(), Fail> {
-    let path = fresh_path(&rt, "keeps")?;
-    write(&rt, path.as_str())?;
-    let recovered = reopened(&rt, path.as_str())?;
-    fs::remove_file(&rt, path.as_str())?;
-    assert_eq!(rt; recovered, Ok((1, 52)));
-    Ok(())
+/// What is recovered of the journal that is written to a new file, which is opened again for that.
+fn reopened(rt: &HostRuntime, path: &str) -> Result<Outcome, Fail> {
+    write(rt, path)?;
+    let mut journal = FileJournal::open(rt, path)?;
+    recovered(rt.alloc(), &mut journal, &JOURNAL)
 }
 
 /// Whether the file is refused since another journal has it open.
@@ -80,29 +76,20 @@ fn is_locked(rt: &HostRuntime, path: &str) -> bool {
     matches!(FileJournal::open(rt, path), Err(OpenFault::Locked))
 }
 
-#[test]
-fn a_file_has_one_journal(rt: HostRuntime) -> Result<(), Fail> {
-    let path = fresh_path(&rt, "locked")?;
-    let journal = FileJournal::open(&rt, path.as_str())?;
-    let while_open = is_locked(&rt, path.as_str());
+/// Whether the file is refused while a journal has it open, and whether it is afterwards.
+fn are_locked(rt: &HostRuntime, path: &str) -> Result<(bool, bool), Fail> {
+    let journal = FileJournal::open(rt, path)?;
+    let while_open = is_locked(rt, path);
     drop(journal);
-    let afterwards = is_locked(&rt, path.as_str());
-    fs::remove_file(&rt, path.as_str())?;
-    assert_eq!(rt; (while_open, afterwards), (true, false));
-    Ok(())
+    Ok((while_open, is_locked(rt, path)))
 }
 
-/// What is recovered of a file that has the first `len` bytes of the journal. What stands behind
-/// the kept ones is then cut away, and all that is missing appended.
-fn repaired(rt: &HostRuntime, path: &str, len: usize) -> Result<Outcome, Fail> {
-    let (front, _) = JOURNAL.split_at(len.min(52));
+/// What is recovered of a file that has this beginning of the journal. What stands behind the kept
+/// bytes is then cut away, and all that is missing appended.
+fn repaired(rt: &HostRuntime, path: &str, front: &[u8]) -> Result<Outcome, Fail> {
     fs::write(rt, path, front)?;
     let mut journal = FileJournal::open(rt, path)?;
-    let bytes = read(rt.alloc(), &mut journal)?;
-    if bytes.as_slice() != front {
-        return Err("other bytes".into());
-    }
-    let recovered = outcome(rt.alloc(), &bytes)?;
+    let recovered = recovered(rt.alloc(), &mut journal, front)?;
     if let Ok((_, kept)) = recovered {
         cut_to(&mut journal, kept)?;
         let (_, missing) = JOURNAL.split_at((kept as usize).min(52));
@@ -122,24 +109,43 @@ fn expected(len: usize) -> Outcome {
     }
 }
 
+/// Whether that is recovered of so many bytes of the journal, and it is made whole again.
+fn is_repaired(rt: &HostRuntime, path: &str, len: usize) -> Result<bool, Fail> {
+    let (front, _) = JOURNAL.split_at(len.min(52));
+    if repaired(rt, path, front)? != expected(len) {
+        return Ok(false);
+    }
+    let bytes = fs::read(rt, path)?;
+    Ok(bytes.as_slice() == JOURNAL.as_slice())
+}
+
 /// The first number of bytes of which something else is recovered, or that is not made whole again.
 fn other_cut(rt: &HostRuntime, path: &str) -> Result<Option<usize>, Fail> {
     for len in 0..53 {
-        let recovered = repaired(rt, path, len)?;
-        let bytes = fs::read(rt, path)?;
-        if recovered != expected(len) || bytes.as_slice() != JOURNAL.as_slice() {
+        if !is_repaired(rt, path, len)? {
             return Ok(Some(len));
         }
     }
     Ok(None)
 }
 
+/// What is recovered of a new file, whether it is locked, and the first cut that goes otherwise.
+type Found = (Outcome, (bool, bool), Option<usize>);
+
+/// What is found of a file of this path, which is removed at last.
+fn found_at(rt: &HostRuntime, path: &str) -> Result<Found, Fail> {
+    let kept = reopened(rt, path)?;
+    let locked = are_locked(rt, path)?;
+    let cut = other_cut(rt, path)?;
+    fs::remove_file(rt, path)?;
+    Ok((kept, locked, cut))
+}
+
 #[test]
-fn a_file_is_cut_at_each_byte(rt: HostRuntime) -> Result<(), Fail> {
-    let path = fresh_path(&rt, "cut")?;
-    let other = other_cut(&rt, path.as_str())?;
-    fs::remove_file(&rt, path.as_str())?;
-    assert_eq!(rt; other, None);
+fn a_file_keeps_a_journal(rt: HostRuntime) -> Result<(), Fail> {
+    let path = fresh_path(&rt, "kept")?;
+    let found = found_at(&rt, path.as_str())?;
+    assert_eq!(rt; found, (Ok((1, 52)), (true, false), None));
     Ok(())
 }
 

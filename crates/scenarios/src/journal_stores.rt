@@ -1,9 +1,10 @@
 //! What stands in a journal after each call, and after each that fails.
 
 ghost use Rattle.std.specs.Prelude.{◌<◌};
+ghost use Rattle.journal.specs.Storing.{faults_max};
 
 use crate::failing_journal::FailingJournal;
-use crate::journal_bytes::{HEADER_LEN, JOURNAL, Outcome, outcome};
+use crate::journal_bytes::{JOURNAL, Outcome, outcome};
 use journal::{JournalStore, MemJournal};
 use std::alloc::Global;
 use std::test::Fail;
@@ -53,7 +54,7 @@ fn make<J: JournalStore>(journal: &mut J, call: Call, list: &mut Vec<u8>) -> Res
 
 /// Reads the journal, and cuts it where it has so many bytes.
 fn cut<J: JournalStore>(journal: &mut J, len: u64, list: &mut Vec<u8>) -> Result<bool, Fail>
-    requires { J.fault_count journal.old < 18446744073709551615 }
+    requires { J.fault_count journal.old < faults_max }
 {
     if journal.read_all(list).is_err() {
         return Ok(false);
@@ -114,44 +115,55 @@ fn other_left(alloc: Global) -> Result<Option<usize>, Fail> {
     Ok(None)
 }
 
+/// Whether a journal in memory does each call.
+fn does_each_call(alloc: Global) -> Result<bool, Fail> {
+    let mut journal = MemJournal::new(alloc);
+    let mut list = Vec::new(alloc);
+    Ok(
+        make_all(&mut journal, &CALLS, &mut list)?
+            && journal.faults() == 0
+            && journal.content() == JOURNAL.as_slice()
+            && list.as_slice() == JOURNAL_HEADER.as_slice(),
+    )
+}
+
+/// Whether a journal in memory is made of bytes, and a list of others is left with what is read.
+fn is_made_of_bytes(alloc: Global) -> Result<bool, Fail> {
+    let mut journal = MemJournal::of(Vec::from_slice(alloc, &JOURNAL)?);
+    let mut list = Vec::from_slice(alloc, &[1, 2, 3])?;
+    Ok(
+        make(&mut journal, Call::CutTo(9), &mut list)?
+            && list.as_slice() == JOURNAL.as_slice()
+            && journal.content() == JOURNAL_HEADER.as_slice(),
+    )
+}
+
+/// A call that fails leaves a beginning.
 #[test]
-fn a_call_that_fails_leaves_a_beginning(rt: HostRuntime) -> Result<(), Fail> {
+fn a_journal_stands_after_each_call(rt: HostRuntime) -> Result<(), Fail> {
     assert_eq!(rt; other_left(rt.alloc())?, None);
+    assert!(rt; does_each_call(rt.alloc())?);
+    assert!(rt; is_made_of_bytes(rt.alloc())?);
     Ok(())
 }
 
-#[test]
-fn a_journal_in_memory_does_each_call(rt: HostRuntime) -> Result<(), Fail> {
-    let mut journal = MemJournal::new(rt.alloc());
-    let mut list = Vec::new(rt.alloc());
-    assert!(rt; make_all(&mut journal, &CALLS, &mut list)?);
-    assert_eq!(rt;
-        (journal.content(), list.as_slice(), journal.faults()),
-        (JOURNAL.as_slice(), &JOURNAL[..HEADER_LEN], 0)
-    );
-    Ok(())
-}
-
-#[test]
-fn a_journal_is_made_of_bytes(rt: HostRuntime) -> Result<(), Fail> {
-    let mut journal = MemJournal::of(Vec::from_slice(rt.alloc(), &JOURNAL)?);
-    let mut list = Vec::from_slice(rt.alloc(), &[1, 2, 3])?;
-    assert!(rt; make(&mut journal, Call::CutTo(9), &mut list)?);
-    assert_eq!(rt; list.as_slice(), JOURNAL.as_slice());
-    assert_eq!(rt; journal.content(), &JOURNAL[..HEADER_LEN]);
-    Ok(())
+/// Whether the record is appended to a journal in memory, where room was made for it; and where
+/// that was refused, nothing was appended, and it is asked for once more.
+fn keeps_its_bytes(alloc: Global) -> Result<bool, Fail> {
+    let mut journal = MemJournal::of(Vec::from_slice(alloc, &JOURNAL_HEADER)?);
+    if journal.reserve(JOURNAL_RECORD.len()).is_err() {
+        if journal.content() != JOURNAL_HEADER.as_slice() {
+            return Ok(false);
+        }
+        journal.reserve(JOURNAL_RECORD.len())?;
+    }
+    Ok(journal.append(&JOURNAL_RECORD).is_ok() && journal.content() == JOURNAL.as_slice())
 }
 
 /// Whichever allocation is refused: what was to be made room for is not appended, and what stands
 /// stays.
 #[test]
 fn a_journal_without_memory_keeps_its_bytes(rt: HostRuntime) -> Result<(), Fail> {
-    let mut journal = MemJournal::of(Vec::from_slice(rt.alloc(), &JOURNAL_HEADER)?);
-    if journal.reserve(JOURNAL_RECORD.len()).is_err() {
-        assert_eq!(rt; journal.content(), JOURNAL_HEADER.as_slice());
-        journal.reserve(JOURNAL_RECORD.len())?;
-    }
-    assert!(rt; journal.append(&JOURNAL_RECORD).is_ok());
-    assert_eq!(rt; journal.content(), JOURNAL.as_slice());
+    assert!(rt; keeps_its_bytes(rt.alloc())?);
     Ok(())
 }

@@ -10,13 +10,21 @@ mod batches;
 #[cfg(test)]
 mod commits;
 #[cfg(test)]
+mod cuts;
+#[cfg(test)]
 mod datagrams;
 #[cfg(test)]
+mod drawn_queries;
+#[cfg(test)]
 mod entries;
+#[cfg(test)]
+mod failing_files;
 #[cfg(test)]
 mod failing_journal;
 #[cfg(test)]
 mod frames;
+#[cfg(test)]
+mod intake_steps;
 #[cfg(test)]
 mod journal_bytes;
 #[cfg(test)]
@@ -26,7 +34,13 @@ mod journal_stores;
 #[cfg(test)]
 mod long_journals;
 #[cfg(test)]
+mod merges;
+#[cfg(test)]
+mod plain_queries;
+#[cfg(test)]
 mod primary_steps;
+#[cfg(test)]
+mod queries;
 #[cfg(test)]
 mod replica;
 #[cfg(test)]
@@ -34,11 +48,15 @@ mod row_values;
 #[cfg(test)]
 mod schemas;
 #[cfg(test)]
+mod script_ends;
+#[cfg(test)]
 mod script_faults;
 #[cfg(test)]
 mod script_memory;
 #[cfg(test)]
 mod script_transactions;
+#[cfg(test)]
+mod script_writers;
 #[cfg(test)]
 mod scripts;
 #[cfg(test)]

@@ -1,6 +1,6 @@
 //! Journals of many commits, which `bench/recovery` times.
 
-use crate::journal_bytes::{JOURNAL, Outcome, outcome};
+use crate::journal_bytes::{JOURNAL, outcome};
 use std::alloc::Global;
 use std::test::Fail;
 
@@ -18,23 +18,21 @@ fn journal_of(alloc: Global, count: u32) -> Result<Vec<u8>, Fail> {
     Ok(bytes)
 }
 
-/// What is recovered of such a journal.
-fn recovered_of(alloc: Global, count: u32) -> Result<Outcome, Fail> {
+/// Whether such a journal is kept, each of whose records has 43 bytes behind the 9 of the header.
+fn is_kept(alloc: Global, count: u32) -> Result<bool, Fail> {
     let bytes = journal_of(alloc, count)?;
-    outcome(alloc, &bytes)
+    let kept = (count as usize, u64::from(count) * 43 + 9);
+    Ok(outcome(alloc, &bytes)? == Ok(kept))
 }
 
 #[test]
 fn recovery_of_50000_commits(rt: HostRuntime) -> Result<(), Fail> {
-    assert_eq!(rt; recovered_of(rt.alloc(), 50_000)?, Ok((50_000, 2_150_009)));
+    assert!(rt; is_kept(rt.alloc(), 50_000)?);
     Ok(())
 }
 
 #[test]
 fn recovery_of_100000_commits(rt: HostRuntime) -> Result<(), Fail> {
-    assert_eq!(rt;
-        recovered_of(rt.alloc(), 100_000)?,
-        Ok((100_000, 4_300_009))
-    );
+    assert!(rt; is_kept(rt.alloc(), 100_000)?);
     Ok(())
 }

@@ -1,154 +1,199 @@
 //! What is done with a replica, step by step, and what it answers.
 
+use crate::wanted::Table;
 use crate::worker_datagrams::{ASK, FRAME, HEAD, changed, frame_at, want_from};
 use dispatcher::{AskFault, Got, OpenFault, Plan, ReplicaCore, Run};
-use rows::{Kind, Schema};
+use rows::Schema;
 use std::alloc::Global;
 use std::test::Fail;
 use store::PlainStore;
 use wire::{Out, To};
 
-/// Columns of accounts: two numbers.
-pub const NUMBERS: [Kind; 2] = [Kind::Int, Kind::Int];
-
-/// What is done with replica 0 of one worker, in its boot 1.
-#[derive(Clone, Copy)]
+/// What is done with replica 0 of one worker, in its boot 1, and last what it answers.
 pub enum Step<'a> {
-    /// A query of this table is opened.
-    Open(u8),
-    /// It asks for a version.
+    /// A query of this table is opened, and so many wait then.
+    Open(u8, usize),
+    /// Queries of table 0 are opened until so many wait.
+    OpenAll(usize),
+    /// A query of this table is not taken.
+    OpenRefused(u8, OpenFault),
+    /// It asks for a version: its first Ask is on the way to the primary.
     Ask,
+    /// It asks for none.
+    AskRefused(AskFault),
     /// These bytes come.
-    Get(&'a [u8]),
+    Get(&'a [u8], Got),
     /// Frame 0 comes as the frame of another seq.
-    GetFrameAt(u64),
+    GetFrameAt(u64, Got),
     /// Frame 0 comes with another byte at this index of the datagram.
-    GetFrameWith(usize, u8),
+    GetFrameWith(usize, u8, Got),
     /// The Head of its request at version 1 comes with another byte at this index.
-    GetHeadWith(usize, u8),
+    GetHeadWith(usize, u8, Got),
     /// The batch is run.
-    Run,
-    /// The batch is run, and is to be answered with this report.
-    Report(&'a [u8]),
+    Run(Ran<'a>),
+    /// The batch is run twice, as refused memory leaves it: with this report once.
+    RunTwice(&'a [u8]),
     /// It is asked for the number of its newest request.
-    Request,
+    Request(u64),
     /// It is asked for its version.
-    Version,
+    Version(u64),
 }
 
-/// What it answers.
-#[derive(Clone, Copy, Debug, PartialEq)]
-pub enum Answer {
-    /// So many queries wait.
-    Opened(usize),
-    NotOpened(OpenFault),
-    /// Its first Ask is on the way to the primary.
-    FirstAsk,
-    OtherAsk,
-    NotAsked(AskFault),
-    Got(Got),
+/// What becomes of a run.
+#[derive(Clone, Copy)]
+pub enum Ran<'a> {
     NoBatch,
     WaitingHead,
     /// The frame of this worker with this seq is missing, and a Want of it is on the way.
     Waiting(u8, u64),
-    OtherWant,
-    /// The report is the expected one.
-    Told,
-    OtherReport,
+    /// This is the report.
+    Answered(&'a [u8]),
     Inconsistent,
     Broken,
-    Memory,
-    Number(u64),
 }
 
-/// A line of a story: a step, and the answer that it is to have.
-pub type Line<'a> = (Step<'a>, Answer);
+/// The tables of a replica, and what is done with it.
+pub type Story = (&'static [Table], &'static [Step<'static>]);
 
-/// A fresh replica, whose accounts have these columns.
-pub fn fresh(alloc: Global, kinds: &[Kind]) -> Result<ReplicaCore<PlainStore>, Fail> {
-    let schema = Schema::new(alloc, &[("acct", kinds)])?;
+/// The first of these stories that goes otherwise, and the index of its step; each begins at a
+/// fresh replica.
+pub fn other_story(alloc: Global, stories: &[Story]) -> Result<Option<(usize, usize)>, Fail> {
+    for (number, (tables, story)) in stories.iter().enumerate() {
+        if let Some(index) = other_step(alloc, tables, story)? {
+            return Ok(Some((number, index)));
+        }
+    }
+    Ok(None)
+}
+
+/// The index of the first step that a fresh replica answers otherwise.
+pub fn other_step(
+    alloc: Global,
+    tables: &[Table],
+    story: &[Step<'_>],
+) -> Result<Option<usize>, Fail> {
+    let mut replica = fresh(alloc, tables)?;
+    Ok(other_step_of(&mut replica, story))
+}
+
+/// A fresh replica of these tables.
+fn fresh(alloc: Global, tables: &[Table]) -> Result<ReplicaCore<PlainStore>, Fail> {
+    let schema = Schema::new(alloc, tables)?;
     let store = PlainStore::new(alloc, &schema)?;
     Ok(ReplicaCore::start(alloc, store, &schema, 1, 0, 1)?)
 }
 
-/// The index of the first step that a fresh replica answers otherwise, and its answer.
-pub fn other_answer(
-    alloc: Global,
-    kinds: &[Kind],
-    story: &[Line<'_>],
-) -> Result<Option<(usize, Answer)>, Fail> {
-    let mut replica = fresh(alloc, kinds)?;
-    Ok(other_answer_of(&mut replica, story))
-}
-
-/// The index of the first step that it answers otherwise, and its answer.
-pub fn other_answer_of(
-    replica: &mut ReplicaCore<PlainStore>,
-    story: &[Line<'_>],
-) -> Option<(usize, Answer)> {
-    for (index, (step, expected)) in story.iter().enumerate() {
-        let answer = answer_to(replica, *step);
-        if answer != *expected {
-            return Some((index, answer));
+/// The index of the first step that a replica answers otherwise.
+fn other_step_of(replica: &mut ReplicaCore<PlainStore>, story: &[Step<'_>]) -> Option<usize> {
+    for (index, step) in story.iter().enumerate() {
+        if !is_answered(replica, step) {
+            return Some(index);
         }
     }
     None
 }
 
-/// What it answers to one step.
-fn answer_to(replica: &mut ReplicaCore<PlainStore>, step: Step<'_>) -> Answer {
+/// Whether it answers one step as it should.
+fn is_answered(replica: &mut ReplicaCore<PlainStore>, step: &Step<'_>) -> bool {
     match step {
-        Step::Open(table) => opened(replica, table),
-        Step::Ask => asked(replica),
-        Step::Get(bytes) => got(replica, bytes),
-        Step::GetFrameAt(seq) => got(replica, &frame_at(seq)),
-        Step::GetFrameWith(index, byte) => got(replica, &changed(FRAME, index, byte)),
-        Step::GetHeadWith(index, byte) => got(replica, &changed(HEAD, index, byte)),
-        Step::Run => ran(replica, b""),
-        Step::Report(text) => ran(replica, text),
-        Step::Request => Answer::Number(replica.request()),
-        Step::Version => Answer::Number(replica.version()),
+        Step::Open(table, count) => replica.open(Plan { table: *table }) == Ok(*count),
+        Step::OpenAll(count) => are_opened(replica, *count),
+        Step::OpenRefused(table, fault) => replica.open(Plan { table: *table }) == Err(*fault),
+        Step::Ask => asks(replica),
+        Step::AskRefused(fault) => is_ask_refused(replica, *fault),
+        Step::Get(bytes, answer) => gets(replica, bytes, *answer),
+        Step::GetFrameAt(seq, answer) => gets(replica, &frame_at(*seq), *answer),
+        Step::GetFrameWith(index, byte, answer) => {
+            gets(replica, &changed(FRAME, *index, *byte), *answer)
+        }
+        Step::GetHeadWith(index, byte, answer) => {
+            gets(replica, &changed(HEAD, *index, *byte), *answer)
+        }
+        Step::Run(ran) => runs(replica, ran),
+        Step::RunTwice(report) => runs_twice(replica, report),
+        Step::Request(number) => replica.request() == *number,
+        Step::Version(number) => replica.version() == *number,
     }
 }
 
 /// Nothing is said of the answer, which keeps the bytes out of the proof of a step.
-fn got(replica: &mut ReplicaCore<PlainStore>, bytes: &[u8]) -> Answer {
-    Answer::Got(replica.on_bytes(bytes))
+fn gets(replica: &mut ReplicaCore<PlainStore>, bytes: &[u8], answer: Got) -> bool {
+    replica.on_bytes(bytes) == answer
 }
 
-fn opened(replica: &mut ReplicaCore<PlainStore>, table: u8) -> Answer {
-    match replica.open(Plan { table }) {
-        Ok(count) => Answer::Opened(count),
-        Err(fault) => Answer::NotOpened(fault),
+/// Whether queries of table 0 are opened, where none waits, until so many do.
+fn are_opened(replica: &mut ReplicaCore<PlainStore>, count: usize) -> bool {
+    for waiting in 0..count {
+        if replica.open(Plan { table: 0 }) != Ok(waiting + 1) {
+            return false;
+        }
     }
+    true
 }
 
-/// No replica of these tests makes more than one request.
-fn asked(replica: &mut ReplicaCore<PlainStore>) -> Answer {
+/// Whether it sends its first Ask. No replica of these tests makes more than one request.
+fn asks(replica: &mut ReplicaCore<PlainStore>) -> bool {
     if replica.request() > 1 {
-        return Answer::OtherAsk;
+        return false;
     }
     match replica.ask() {
-        Ok(out) if is_to_primary(&out, &ASK) => Answer::FirstAsk,
-        Ok(_) => Answer::OtherAsk,
-        Err(fault) => Answer::NotAsked(fault),
+        Ok(out) => is_to_primary(&out, &ASK),
+        Err(_) => false,
     }
 }
 
-/// Runs the batch. An answered one is to have this report.
-pub fn ran(replica: &mut ReplicaCore<PlainStore>, report: &[u8]) -> Answer {
+/// Whether it asks for no version for this reason.
+fn is_ask_refused(replica: &mut ReplicaCore<PlainStore>, fault: AskFault) -> bool {
+    if replica.request() > 1 {
+        return false;
+    }
+    match replica.ask() {
+        Ok(_) => false,
+        Err(found) => found == fault,
+    }
+}
+
+/// Whether this becomes of a run.
+fn runs(replica: &mut ReplicaCore<PlainStore>, ran: &Ran<'_>) -> bool {
     match replica.run() {
-        Run::NoBatch => Answer::NoBatch,
-        Run::WaitingHead => Answer::WaitingHead,
-        Run::Waiting { worker, seq, want } if is_to_primary(&want, &want_from(seq)) => {
-            Answer::Waiting(worker, seq)
+        Run::NoBatch => matches!(ran, Ran::NoBatch),
+        Run::WaitingHead => matches!(ran, Ran::WaitingHead),
+        Run::Waiting { worker, seq, want } => is_waiting(ran, worker, seq, &want),
+        Run::Answered(text) => is_report(ran, text.as_slice()),
+        Run::Inconsistent => matches!(ran, Ran::Inconsistent),
+        Run::Broken => matches!(ran, Ran::Broken),
+        Run::Memory => false,
+    }
+}
+
+/// Whether that frame is to be missing, and this is the Want of it.
+fn is_waiting(ran: &Ran<'_>, worker: u8, seq: u64, want: &Out) -> bool {
+    match ran {
+        Ran::Waiting(expected, first) => {
+            worker == *expected && seq == *first && is_to_primary(want, &want_from(seq))
         }
-        Run::Waiting { .. } => Answer::OtherWant,
-        Run::Answered(text) if text.as_slice() == report => Answer::Told,
-        Run::Answered(_) => Answer::OtherReport,
-        Run::Inconsistent => Answer::Inconsistent,
-        Run::Broken => Answer::Broken,
-        Run::Memory => Answer::Memory,
+        _ => false,
+    }
+}
+
+/// Whether this is to be the report.
+fn is_report(ran: &Ran<'_>, text: &[u8]) -> bool {
+    match ran {
+        Ran::Answered(report) => text == *report,
+        _ => false,
+    }
+}
+
+/// Whether the batch is answered with this report and is then none; or stands where memory is
+/// refused, and is answered when it is run again; or the replica breaks and stays at its version.
+fn runs_twice(replica: &mut ReplicaCore<PlainStore>, report: &[u8]) -> bool {
+    match replica.run() {
+        Run::Answered(text) if text.as_slice() == report => {
+            runs(replica, &Ran::NoBatch) && replica.version() == 1
+        }
+        Run::Memory => runs(replica, &Ran::Answered(report)) && replica.version() == 1,
+        Run::Broken => runs(replica, &Ran::Broken) && replica.version() == 0,
+        _ => false,
     }
 }
 

@@ -1,20 +1,37 @@
 //! The faults of schemas, what schemas and kinds tell, and the limits.
 
-use crate::wanted::{BANK, bank};
+use crate::wanted::{BANK, Table, bank};
 use rows::{Kind, Schema, SchemaFault, column_at, limits};
 use std::alloc::Global;
 use std::test::Fail;
-
-/// A table: its name and its columns.
-type Table = (&'static str, &'static [Kind]);
 
 const INT: &[Kind] = &[Kind::Int];
 
 /// The widest column.
 const WIDE: Kind = Kind::Octets(64);
 
-/// As many tables as there may be, and one more, whose name is empty.
-const TABLES: [Table; 17] = [
+/// As many tables as there may be.
+const TABLES: [Table; 16] = [
+    ("a", INT),
+    ("b", INT),
+    ("c", INT),
+    ("d", INT),
+    ("e", INT),
+    ("f", INT),
+    ("g", INT),
+    ("h", INT),
+    ("i", INT),
+    ("j", INT),
+    ("k", INT),
+    ("l", INT),
+    ("m", INT),
+    ("n", INT),
+    ("o", INT),
+    ("p", INT),
+];
+
+/// One more, whose name is empty.
+const TOO_MANY: [Table; 17] = [
     ("a", INT),
     ("b", INT),
     ("c", INT),
@@ -32,6 +49,19 @@ const TABLES: [Table; 17] = [
     ("o", INT),
     ("p", INT),
     ("", INT),
+];
+
+/// Tables, and how many there are or their fault.
+const SCHEMAS: [(&[Table], Result<usize, SchemaFault>); 5] = [
+    (&[], Err(SchemaFault::Empty)),
+    (&[("", INT)], Err(SchemaFault::Empty)),
+    (
+        &[("a", INT), ("b", INT), ("a", &[])],
+        Err(SchemaFault::NameTwice),
+    ),
+    (&TABLES, Ok(16)),
+    // Too many tables come before an empty name.
+    (&TOO_MANY, Err(SchemaFault::TooManyTables)),
 ];
 
 /// Columns of a table named `a`, and its fault.
@@ -93,19 +123,14 @@ fn other_fault(alloc: Global) -> Option<usize> {
     None
 }
 
-#[test]
-fn schemas_are_good_or_have_a_fault(rt: HostRuntime) {
-    let alloc = rt.alloc();
-    assert_eq!(rt; other_fault(alloc), None);
-    assert_eq!(rt; count_of(alloc, &[]), Err(SchemaFault::Empty));
-    assert_eq!(rt; count_of(alloc, &TABLES[16..]), Err(SchemaFault::Empty));
-    assert_eq!(rt;
-        count_of(alloc, &[("a", INT), ("b", INT), ("a", &[])]),
-        Err(SchemaFault::NameTwice)
-    );
-    assert_eq!(rt; count_of(alloc, &TABLES[..16]), Ok(16));
-    // Too many tables come before an empty name.
-    assert_eq!(rt; count_of(alloc, &TABLES), Err(SchemaFault::TooManyTables));
+/// The index of the first of these tables of which something else is answered.
+fn other_count(alloc: Global) -> Option<usize> {
+    for (index, (tables, expected)) in SCHEMAS.iter().enumerate() {
+        if count_of(alloc, tables) != *expected {
+            return Some(index);
+        }
+    }
+    None
 }
 
 /// Columns that are looked for by where their bytes stand.
@@ -132,14 +157,24 @@ const WIDTHS: [(Kind, usize, bool); 5] = [
     (Kind::Octets(0), 0, false),
 ];
 
-#[test]
-fn columns_have_their_places_and_widths(rt: HostRuntime) {
-    for (offset, size, column) in &SPANS {
-        assert_eq!(rt; column_at(&KINDS, *offset, *size), *column);
+/// The index of the first of these columns that stand elsewhere.
+fn other_span() -> Option<usize> {
+    for (index, (offset, size, column)) in SPANS.iter().enumerate() {
+        if column_at(&KINDS, *offset, *size) != *column {
+            return Some(index);
+        }
     }
-    for (kind, width, is_good) in &WIDTHS {
-        assert_eq!(rt; (kind.width(), kind.is_good()), (*width, *is_good));
+    None
+}
+
+/// The index of the first of these kinds that is otherwise.
+fn other_width() -> Option<usize> {
+    for (index, (kind, width, is_good)) in WIDTHS.iter().enumerate() {
+        if kind.width() != *width || kind.is_good() != *is_good {
+            return Some(index);
+        }
     }
+    None
 }
 
 /// Whether the schema tells the tables of the bank.
@@ -158,16 +193,21 @@ fn tells_the_bank(schema: &Schema) -> bool {
         && schema.table_named("audits").is_none()
 }
 
-#[test]
-fn a_schema_and_its_copy_tell_their_tables(rt: HostRuntime) -> Result<(), Fail> {
-    let schema = bank(rt.alloc())?;
-    assert!(rt; tells_the_bank(&schema));
-    assert!(rt; tells_the_bank(&schema.clone()?));
-    Ok(())
+/// Whether a schema and its copy tell their tables.
+fn copy_tells_the_bank(alloc: Global) -> Result<bool, Fail> {
+    let schema = bank(alloc)?;
+    let copy = schema.clone()?;
+    Ok(tells_the_bank(&schema) && tells_the_bank(&copy))
 }
 
-/// Its contract says them.
+/// The limits are those of the definitions, as their contract says.
 #[test]
-fn limits_are_those_of_the_definitions() {
+fn schemas_are_good_or_have_a_fault(rt: HostRuntime) -> Result<(), Fail> {
     limits::are_as_defined();
+    assert_eq!(rt; other_fault(rt.alloc()), None);
+    assert_eq!(rt; other_count(rt.alloc()), None);
+    assert_eq!(rt; other_span(), None);
+    assert_eq!(rt; other_width(), None);
+    assert!(rt; copy_tells_the_bank(rt.alloc())?);
+    Ok(())
 }

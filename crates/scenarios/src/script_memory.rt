@@ -1,7 +1,7 @@
 //! What a script prints where a request for memory is refused.
 
-use crate::scripts::{SETTINGS, expect, printed};
-use std::alloc::Global;
+use crate::scripts::{SETTINGS, expect, is_text_of, printed, script_of};
+use std::alloc::{AllocError, Global};
 use std::test::Fail;
 use world::{Echo, RunFault, run_script};
 
@@ -37,15 +37,13 @@ fn the_story_answers_as_it_should(rt: HostRuntime) -> Result<(), Fail> {
     expect(&rt, rt.alloc(), SETTINGS, &STORY)
 }
 
-/// The script of the story without the event of that index; all of it, where there is none.
-fn script_without(alloc: Global, index: usize) -> Result<String, Fail> {
-    let mut script = String::from_str(alloc, SETTINGS)?;
-    for (other, (event, _)) in STORY.iter().enumerate() {
-        if other != index {
-            script.push_str(event)?;
-            script.push_str("\n")?;
-        }
-    }
+/// The script of the story without the event of that index.
+fn script_without(alloc: Global, index: usize) -> Result<String, AllocError> {
+    let (before, behind) = STORY.split_at(index.min(21));
+    let mut script = script_of(alloc, SETTINGS, before)?;
+    let (_, behind) = behind.split_at(behind.len().min(1));
+    let rest = script_of(alloc, "", behind)?;
+    script.push_str(rest.as_str())?;
     Ok(script)
 }
 
@@ -53,17 +51,6 @@ fn script_without(alloc: Global, index: usize) -> Result<String, Fail> {
 fn index_of_memory(text: &[u8]) -> Option<usize> {
     text.split(|byte| *byte == b'\n')
         .position(|line| line == b"memory".as_slice())
-}
-
-/// Whether the text is what the story answers.
-fn is_answered(text: &[u8]) -> bool {
-    let mut lines = text.split(|byte| *byte == b'\n');
-    for (_, answer) in &STORY {
-        if lines.next() != Some(answer.as_bytes()) {
-            return false;
-        }
-    }
-    lines.next() == Some(b"".as_slice()) && lines.next().is_none()
 }
 
 /// Whether the text is that other text with a line put in at that index.
@@ -77,22 +64,26 @@ fn has_one_more_line(text: &[u8], index: usize, other: &[u8]) -> bool {
     others.next().is_none()
 }
 
-/// Whether a text is what the story answers; or what it answers without one event, with the line
-/// `memory` for that one. One request is refused at the most, so that memory is ample then.
-fn is_allowed(alloc: Global, text: &[u8]) -> Result<bool, Fail> {
-    let Some(index) = index_of_memory(text) else {
-        return Ok(is_answered(text));
-    };
+/// Whether a text is what the story answers without one event, with the line `memory` for that one.
+/// One request is refused at the most, so that memory is ample then.
+fn is_allowed_without(alloc: Global, text: &[u8], index: usize) -> Result<bool, Fail> {
     let script = script_without(alloc, index)?;
     let other = printed(alloc, script.as_bytes())?;
     Ok(has_one_more_line(text, index, other.as_slice()))
 }
 
-/// Whether the story's script ends as it may: out of memory with nothing written, or with a
+/// Whether a text is what the story answers, or that.
+fn is_allowed(alloc: Global, text: &[u8]) -> Result<bool, Fail> {
+    match index_of_memory(text) {
+        Some(index) => is_allowed_without(alloc, text, index),
+        None => Ok(is_text_of(alloc, Echo::No, &STORY, text)?),
+    }
+}
+
+/// Whether this script of the story ends as it may: out of memory with nothing written, or with a
 /// text that is allowed.
-fn ends_as_allowed(alloc: Global) -> Result<bool, Fail> {
-    let script = script_without(alloc, STORY.len())?;
-    let mut reader = script.as_bytes();
+fn ends_as_allowed(alloc: Global, script: &[u8]) -> Result<bool, Fail> {
+    let mut reader = script;
     let mut text = Vec::with_capacity(alloc, 1000)?;
     match run_script(alloc, Echo::No, &mut reader, &mut text) {
         Ok(()) => is_allowed(alloc, text.as_slice()),
@@ -105,6 +96,7 @@ fn ends_as_allowed(alloc: Global) -> Result<bool, Fail> {
 /// lacked memory has changed nothing.
 #[test]
 fn an_event_without_memory_changes_nothing(rt: HostRuntime) -> Result<(), Fail> {
-    assert!(rt; ends_as_allowed(rt.alloc())?);
+    let script = script_of(rt.alloc(), SETTINGS, &STORY)?;
+    assert!(rt; ends_as_allowed(rt.alloc(), script.as_bytes())?);
     Ok(())
 }

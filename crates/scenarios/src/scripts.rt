@@ -1,5 +1,6 @@
 //! Scripts from their text to what they print, and what the crate `world` gives its callers.
 
+use crate::wanted::NUMBERS;
 use rows::{Kind, Schema};
 use std::alloc::{AllocError, Global};
 use std::process::Abort;
@@ -36,29 +37,51 @@ pub fn expect(
     settings: &str,
     story: &[(&str, &str)],
 ) -> Result<(), Fail> {
-    expect_with(rt, alloc, Echo::No, settings, story)?;
-    expect_with(rt, alloc, Echo::Events, settings, story)
+    let script = script_of(alloc, settings, story)?;
+    assert!(rt; is_printed(alloc, Echo::No, script.as_bytes(), story)?);
+    assert!(rt; is_printed(alloc, Echo::Events, script.as_bytes(), story)?);
+    Ok(())
 }
 
-fn expect_with(
-    rt: &impl Abort,
+/// The script of these settings and events.
+pub fn script_of(
     alloc: Global,
-    echo: Echo,
     settings: &str,
     story: &[(&str, &str)],
-) -> Result<(), Fail> {
+) -> Result<String, AllocError> {
     let mut script = String::from_str(alloc, settings)?;
+    for (event, _) in story {
+        push_line(&mut script, "", event)?;
+    }
+    Ok(script)
+}
+
+/// Whether the script prints what stands beside its events.
+fn is_printed(
+    alloc: Global,
+    echo: Echo,
+    script: &[u8],
+    story: &[(&str, &str)],
+) -> Result<bool, Fail> {
+    let text = printed_with(alloc, echo, script)?;
+    Ok(is_text_of(alloc, echo, story, text.as_slice())?)
+}
+
+/// Whether this text is what stands beside these events.
+pub fn is_text_of(
+    alloc: Global,
+    echo: Echo,
+    story: &[(&str, &str)],
+    text: &[u8],
+) -> Result<bool, AllocError> {
     let mut expected = String::new(alloc);
     for (event, answer) in story {
-        push_line(&mut script, "", event)?;
         if echo == Echo::Events {
             push_line(&mut expected, "> ", event)?;
         }
         push_line(&mut expected, "", answer)?;
     }
-    let text = printed_with(alloc, echo, script.as_bytes())?;
-    assert_eq!(rt; text.as_slice(), expected.as_bytes());
-    Ok(())
+    Ok(text == expected.as_bytes())
 }
 
 /// Adds a line.
@@ -180,74 +203,77 @@ fn events_answer_as_they_should(rt: HostRuntime) -> Result<(), Fail> {
     Ok(())
 }
 
-/// The last line may lack its end.
+/// The events of a commit whose frame is shown. The last line may lack its end.
+const SHOWN: &str = "workers 1\nreplicas 1\ntable acct int int\n\
+    begin\ninsert 0 acct 7 5 -1\ncommit 0 0\nflush 1\npush 0 0\nshow 0";
+
+/// How that frame is shown.
+const FRAME: &str = "\
+    42440101003600000000000000000000000000000000010100010100000000000000000700100000000000000005ffffffffffffffff\n";
+
 #[test]
 fn a_frame_is_shown_to_the_byte(rt: HostRuntime) -> Result<(), Fail> {
-    let script = "begin\ninsert 0 acct 7 5 -1\ncommit 0 0\nflush 1\npush 0 0\nshow 0";
-    let whole = format!(in rt.alloc(); "{SETTINGS}{script}")?;
-    let text = printed(rt.alloc(), whole.as_bytes())?;
-    let frame =
-        "42440101003600000000000000000000000000000000010100010100000000000000000700100000000000000005ffffffffffffffff\n";
-    assert!(rt; text.as_slice().ends_with(frame.as_bytes()));
+    let text = printed(rt.alloc(), SHOWN.as_bytes())?;
+    assert!(rt; text.as_slice().ends_with(FRAME.as_bytes()));
     Ok(())
 }
 
-#[test]
-fn scripts_read_as_their_events(rt: HostRuntime) -> Result<(), Fail> {
-    let script = format!(in rt.alloc(); "{SETTINGS}push 0 3\ndeliver 2 p\n")?;
-    let (setup, events) = read_script(rt.alloc(), script.as_bytes())?;
-    assert_eq!(rt; (setup.workers, setup.replicas), (1, 1));
-    assert_eq!(rt; setup.schema.name(0), Some("acct"));
-    assert_eq!(rt;
-        setup.schema.kinds(0),
-        Some([Kind::Int, Kind::Int].as_slice())
+/// Settings and two events.
+const TWO_EVENTS: &str = "workers 1\nreplicas 1\ntable acct int int\npush 0 3\ndeliver 2 p\n";
+
+/// Whether these are the settings and events of that script.
+fn are_read(setup: &Setup, events: &[Event]) -> bool {
+    let are_events = matches!(
+        events,
+        [
+            Event::Push { worker: 0, seq: 3 },
+            Event::Deliver {
+                index: 2,
+                node: Node::Primary
+            }
+        ]
     );
-    assert!(rt;
-        matches!(
-            events.as_slice(),
-            [
-                Event::Push { worker: 0, seq: 3 },
-                Event::Deliver {
-                    index: 2,
-                    node: Node::Primary
-                }
-            ]
-        )
-    );
-    Ok(())
+    are_events
+        && setup.workers == 1
+        && setup.replicas == 1
+        && setup.schema.name(0) == Some("acct")
+        && setup.schema.kinds(0) == Some([Kind::Int, Kind::Int].as_slice())
 }
 
-#[test]
-fn a_run_answers_each_event(rt: HostRuntime) -> Result<(), Fail> {
-    let kinds = [Kind::Int];
+/// Whether that script reads as them.
+fn reads_as_its_events(alloc: Global) -> Result<bool, Fail> {
+    let (setup, events) = read_script(alloc, TWO_EVENTS.as_bytes())?;
+    Ok(are_read(&setup, events.as_slice()))
+}
+
+/// Whether a run on this schema answers each event.
+fn answers_each_event(alloc: Global, schema: Schema) -> Result<bool, Fail> {
     let setup = Setup {
-        schema: Schema::new(rt.alloc(), &[("acct", &kinds)])?,
+        schema,
         workers: 1,
         replicas: 1,
     };
-    let outputs = run(
-        rt.alloc(),
-        &setup,
-        &[Event::Begin, Event::Show { index: 0 }],
-    )?;
-    assert!(rt;
-        matches!(
-            outputs.as_slice(),
-            [
-                Output::Tx {
-                    number: 0,
-                    snapshot: 0
-                },
-                Output::NeverSent
-            ]
-        )
-    );
-    Ok(())
+    let outputs = run(alloc, &setup, &[Event::Begin, Event::Show { index: 0 }])?;
+    Ok(matches!(
+        outputs.as_slice(),
+        [
+            Output::Tx {
+                number: 0,
+                snapshot: 0
+            },
+            Output::NeverSent
+        ]
+    ))
 }
 
+/// The laws can be called too.
 #[test]
-fn the_laws_can_be_called() {
+fn scripts_are_read_and_events_run(rt: HostRuntime) -> Result<(), Fail> {
     runs_keep_promises();
     allowed_runs_are_exact();
     worked_scripts();
+    assert!(rt; reads_as_its_events(rt.alloc())?);
+    let schema = Schema::new(rt.alloc(), &NUMBERS)?;
+    assert!(rt; answers_each_event(rt.alloc(), schema)?);
+    Ok(())
 }

@@ -8,15 +8,89 @@ ghost use Rattle.rows.specs.Tables.{rows_of, row_at, change_of};
 ghost use Rattle.rows.specs.Commits.{commits_of};
 ghost use Rattle.store.specs.Changes.{column_of};
 
-use crate::wanted::{Wanted, all_made, bank, made};
+use crate::wanted::{FIVE, SIX, Wanted, all_made, bank, made};
 use rows::{ByteList, Commit, Entry, EntryRef, Kind, Octets, RowId, Schema, Value};
 use std::alloc::{AllocError, Global};
 use std::test::Fail;
 use store::{ApplyFault, ApplyStore, PlainStore, Store, run};
 
-/// A store of the bank, without rows.
-fn fresh(alloc: Global) -> Result<PlainStore, Fail> {
-    Ok(PlainStore::new(alloc, &bank(alloc)?)?)
+/// What is done with a store of the bank, and last what it answers.
+enum Step {
+    /// A change is made, 0, or refused with a fault of this kind. Where memory is refused, that has
+    /// changed nothing, and it is asked for once more.
+    Change(Wanted<'static>, u8),
+    /// A run of changes stops at one of them with a fault of this kind, or goes to the end.
+    Run(&'static [Wanted<'static>], Option<(usize, u8)>),
+    /// A list of commits is applied, and so many accounts are there then; or it is refused, and the
+    /// store is broken, as it is where memory is refused.
+    Apply(&'static [&'static [Wanted<'static>]], Result<usize, ApplyFault>),
+    /// These are the identifiers of the accounts, in their order.
+    Ids(&'static [u64]),
+    /// So many rows has the audit.
+    Audits(usize),
+    /// Whether it has that account.
+    Has(u64, bool),
+    /// It is whole.
+    IsWhole,
+}
+
+/// The first of these stories that goes otherwise, and the index of its step; each begins at a
+/// store without rows.
+fn other_story(alloc: Global, stories: &[&[Step]]) -> Result<Option<(usize, usize)>, Fail> {
+    for (number, story) in stories.iter().enumerate() {
+        if let Some(index) = other_step(alloc, story)? {
+            return Ok(Some((number, index)));
+        }
+    }
+    Ok(None)
+}
+
+/// The index of the first step that a fresh store answers otherwise.
+fn other_step(alloc: Global, story: &[Step]) -> Result<Option<usize>, Fail> {
+    let schema = bank(alloc)?;
+    let mut store = PlainStore::new(alloc, &schema)?;
+    other_step_of(alloc, &mut store, story)
+}
+
+/// The index of the first step that a store answers otherwise.
+fn other_step_of(
+    alloc: Global,
+    store: &mut PlainStore,
+    story: &[Step],
+) -> Result<Option<usize>, Fail> {
+    for (index, step) in story.iter().enumerate() {
+        if !is_answered(alloc, store, step)? {
+            return Ok(Some(index));
+        }
+    }
+    Ok(None)
+}
+
+/// Whether it answers this step as it should.
+fn is_answered(alloc: Global, store: &mut PlainStore, step: &Step) -> Result<bool, Fail> {
+    match step {
+        Step::Change(wanted, kind) => {
+            let entry = made(alloc, wanted)?;
+            Ok(is_changed(store, &entry, *kind))
+        }
+        Step::Run(wanted, stop) => {
+            let entries = all_made(alloc, wanted)?;
+            Ok(stop_of_run(store, entries.as_slice()) == *stop)
+        }
+        Step::Apply(lists, expected) => {
+            let commits = made_commits(alloc, lists)?;
+            Ok(is_applied(store, &commits, *expected))
+        }
+        Step::Ids(ids) => Ok(are_ids(store, ids)),
+        Step::Audits(count) => Ok(store.len(1) == *count),
+        Step::Has(row, expected) => Ok(has(store, *row) == *expected),
+        Step::IsWhole => Ok(store.whole()),
+    }
+}
+
+/// Whether the store has that account.
+fn has<S: Store>(store: &S, row: u64) -> bool {
+    store.find(0, RowId(row)).is_some()
 }
 
 /// The kind of the fault with which a store refuses a change; 0 where it makes it.
@@ -27,55 +101,21 @@ fn kind_of_change<S: Store>(store: &mut S, entry: &Entry) -> u8 {
     }
 }
 
-/// Whether the store has that account.
-fn has<S: Store>(store: &S, row: u64) -> bool {
-    store.find(0, RowId(row)).is_some()
+/// Whether the store is whole, and whether it has the row of that entry. Takes no memory.
+fn told<S: Store>(store: &S, entry: &Entry) -> (bool, bool) {
+    let place = store.find(entry.table(), entry.row());
+    (store.whole(), place.is_some())
 }
 
-/// The kinds of the faults with which a bank refuses these changes, one after the other, 0 for each
-/// that it makes; and whether it then has account 7.
-fn kinds_of(alloc: Global, changes: &[Wanted<'_>]) -> Result<(Vec<u8>, bool), Fail> {
-    let mut store = fresh(alloc)?;
-    let mut kinds = Vec::new(alloc);
-    for change in changes {
-        kinds.push(kind_of_change(&mut store, &made(alloc, *change)?))?;
+/// Whether the change is refused with a fault of this kind, or made: 0. Where memory is refused,
+/// that has changed nothing, and it is asked for once more.
+fn is_changed<S: Store>(store: &mut S, entry: &Entry, expected: u8) -> bool {
+    let before = told(store, entry);
+    let kind = kind_of_change(store, entry);
+    if kind == 4 {
+        return told(store, entry) == before && kind_of_change(store, entry) == expected;
     }
-    Ok((kinds, has(&store, 7)))
-}
-
-/// The account of that identifier with the values 5 and -1.
-const INSERT_7: Wanted<'static> = Wanted::Insert(0, 7, 5, -1);
-
-/// The number 6.
-const SIX: [u8; 8] = [0, 0, 0, 0, 0, 0, 0, 6];
-
-#[test]
-fn a_patch_of_no_column_is_unfit(rt: HostRuntime) -> Result<(), Fail> {
-    let changes = [
-        INSERT_7,
-        Wanted::Patch(0, 7, 4, &SIX),
-        Wanted::Patch(0, 7, 8, &SIX),
-    ];
-    let (kinds, _) = kinds_of(rt.alloc(), &changes)?;
-    assert_eq!(rt; kinds.as_slice(), [0, 3, 0].as_slice());
-    Ok(())
-}
-
-#[test]
-fn rows_stand_otherwise(rt: HostRuntime) -> Result<(), Fail> {
-    let changes = [
-        Wanted::Delete(0, 7),
-        Wanted::Patch(0, 7, 8, &SIX),
-        INSERT_7,
-        INSERT_7,
-        Wanted::Delete(0, 7),
-    ];
-    let (kinds, is_there) = kinds_of(rt.alloc(), &changes)?;
-    assert_eq!(rt;
-        (kinds.as_slice(), is_there),
-        ([2, 2, 0, 1, 0].as_slice(), false)
-    );
-    Ok(())
+    kind == expected
 }
 
 /// Where a run of these entries stops, and the kind of the fault; `None` where it goes to the end.
@@ -86,56 +126,165 @@ fn stop_of_run<S: Store>(store: &mut S, entries: &[Entry]) -> Option<(usize, u8)
     }
 }
 
-/// The identifiers of the accounts, in their order.
-fn ids<S: Store>(alloc: Global, store: &S) -> Result<Vec<u64>, AllocError>
-    requires { S.is_whole store.now ≡ true }
-{
-    let mut ids = Vec::new(alloc);
+/// Whether the store is whole and these are the identifiers of its accounts, in their order.
+fn are_ids<S: Store>(store: &S, ids: &[u64]) -> bool {
+    if !store.whole() || store.len(0) != ids.len() {
+        return false;
+    }
     for i in 0..store.len(0) {
-        ids.push(store.id_at(0, i).0)?;
+        if store.id_at(0, i).0 != ids[i] {
+            return false;
+        }
     }
-    Ok(ids)
+    true
 }
 
-/// What a run of entries that are wanted leaves of a bank: where it stops, with the kind of the
-/// fault, the identifiers of the accounts, and how many rows the audit has.
-type Left = (Option<(usize, u8)>, Vec<u64>, usize);
-
-fn left_by(alloc: Global, wanted: &[Wanted<'_>]) -> Result<Left, Fail> {
-    let mut store = fresh(alloc)?;
-    let entries = all_made(alloc, wanted)?;
-    let stop = stop_of_run(&mut store, entries.as_slice());
-    if !store.whole() {
-        return Err("the store is broken".into());
+/// Commits of worker 0, each of these entries.
+fn made_commits(alloc: Global, lists: &[&[Wanted<'_>]]) -> Result<Vec<Commit>, AllocError> {
+    let mut commits = Vec::new(alloc);
+    for wanted in lists {
+        let entries = all_made(alloc, wanted)?;
+        commits.push(Commit { worker: 0, entries })?;
     }
-    Ok((stop, ids(alloc, &store)?, store.len(1)))
+    Ok(commits)
 }
+
+/// How many accounts there are once these commits are applied to a store without rows. The clauses
+/// of the bound alone say that it is what the commits make.
+fn count_after<S: ApplyStore + Sync>(store: &mut S, commits: &[Commit]) -> Result<usize, ApplyFault>
+    ensures { IfOk result (λ count. IsOkAnd (commits_of (S.tables store.old) commits.now)
+        (λ after. count ≡ length (rows_of after 0))) }
+{
+    store.apply_all(commits)?;
+    Ok(store.len(0))
+}
+
+/// Whether the list of commits is applied, and so many accounts are there then; or it is refused
+/// for that, or for memory, and the store is broken.
+fn is_applied<S: ApplyStore + Sync>(
+    store: &mut S,
+    commits: &[Commit],
+    expected: Result<usize, ApplyFault>,
+) -> bool {
+    match count_after(store, commits) {
+        Ok(count) => expected == Ok(count) && store.whole(),
+        Err(ApplyFault::Memory) => is_broken(store),
+        Err(fault) => expected == Err(fault) && is_broken(store),
+    }
+}
+
+/// Whether the store is broken: it is not whole, and refuses each change and each list of commits
+/// as a broken one does.
+fn is_broken<S: ApplyStore + Sync>(store: &mut S) -> bool {
+    let delete = Entry::Delete {
+        table: 0,
+        row: RowId(1),
+    };
+    !store.whole()
+        && kind_of_change(store, &delete) == 5
+        && store.apply_all(&[]) == Err(ApplyFault::Broken)
+}
+
+/// A patch of no column is unfit.
+const NO_COLUMN: [Step; 3] = [
+    Step::Change(Wanted::Insert(0, 7, &FIVE), 0),
+    Step::Change(Wanted::Patch(0, 7, 4, &SIX), 3),
+    Step::Change(Wanted::Patch(0, 7, 8, &SIX), 0),
+];
+
+/// A row is there or not.
+const ROWS_THERE_OR_NOT: [Step; 6] = [
+    Step::Change(Wanted::Delete(0, 7), 2),
+    Step::Change(Wanted::Patch(0, 7, 8, &SIX), 2),
+    Step::Change(Wanted::Insert(0, 7, &FIVE), 0),
+    Step::Change(Wanted::Insert(0, 7, &FIVE), 1),
+    Step::Change(Wanted::Delete(0, 7), 0),
+    Step::Has(7, false),
+];
+
+/// A run stops in the middle.
+const STOP: [Step; 2] = [
+    Step::Run(
+        &[
+            Wanted::Insert(0, 1, &FIVE),
+            Wanted::Insert(0, 2, &FIVE),
+            Wanted::Delete(0, 3),
+            Wanted::Insert(0, 4, &FIVE),
+        ],
+        Some((2, 2)),
+    ),
+    Step::Ids(&[1, 2]),
+];
+
+/// Identifiers rise.
+const RISING: [Step; 3] = [
+    Step::Run(
+        &[
+            Wanted::Insert(0, 128, &FIVE),
+            Wanted::Insert(0, 64, &FIVE),
+            Wanted::Insert(0, 63, &FIVE),
+        ],
+        None,
+    ),
+    Step::Ids(&[63, 64, 128]),
+    Step::Audits(0),
+];
+
+/// Commits are applied.
+const APPLIED: [Step; 4] = [
+    Step::Apply(
+        &[
+            &[Wanted::Insert(0, 1, &FIVE), Wanted::Insert(0, 2, &FIVE)],
+            &[Wanted::Patch(0, 1, 0, &SIX), Wanted::Delete(0, 2)],
+        ],
+        Ok(1),
+    ),
+    Step::IsWhole,
+    Step::Has(1, true),
+    Step::Has(2, false),
+];
+
+/// A commit that is refused breaks the store.
+const REFUSED: [Step; 1] = [Step::Apply(
+    &[&[Wanted::Insert(0, 1, &FIVE), Wanted::Insert(0, 1, &FIVE)]],
+    Err(ApplyFault::Inconsistent),
+)];
+
+const STORIES: [&[Step]; 6] = [
+    &NO_COLUMN,
+    &ROWS_THERE_OR_NOT,
+    &STOP,
+    &RISING,
+    &APPLIED,
+    &REFUSED,
+];
 
 #[test]
-fn a_run_stops_in_the_middle(rt: HostRuntime) -> Result<(), Fail> {
-    let wanted = [
-        Wanted::Insert(0, 1, 5, -1),
-        Wanted::Insert(0, 2, 5, -1),
-        Wanted::Delete(0, 3),
-        Wanted::Insert(0, 4, 5, -1),
-    ];
-    let (stop, ids, _) = left_by(rt.alloc(), &wanted)?;
-    assert_eq!(rt; (stop, ids.as_slice()), (Some((2, 2)), [1, 2].as_slice()));
+fn stores_answer_as_they_should(rt: HostRuntime) -> Result<(), Fail> {
+    assert_eq!(rt; other_story(rt.alloc(), &STORIES)?, None);
     Ok(())
 }
 
+/// A change of a store without rows.
+const CHANGE: [Step; 5] = [
+    Step::IsWhole,
+    Step::Has(7, false),
+    Step::Change(Wanted::Insert(0, 7, &FIVE), 0),
+    Step::IsWhole,
+    Step::Has(7, true),
+];
+
+/// A commit of two inserts.
+const COMMIT: [Step; 1] = [Step::Apply(
+    &[&[Wanted::Insert(0, 1, &FIVE), Wanted::Insert(0, 2, &FIVE)]],
+    Ok(2),
+)];
+
+/// Whichever allocation is refused: a change that was refused for memory has changed nothing, and
+/// is made when it is asked for again; commits that were refused for memory leave a broken store.
 #[test]
-fn identifiers_rise(rt: HostRuntime) -> Result<(), Fail> {
-    let wanted = [
-        Wanted::Insert(0, 128, 5, -1),
-        Wanted::Insert(0, 64, 5, -1),
-        Wanted::Insert(0, 63, 5, -1),
-    ];
-    let (stop, ids, others) = left_by(rt.alloc(), &wanted)?;
-    assert_eq!(rt;
-        (stop, ids.as_slice(), others),
-        (None, [63, 64, 128].as_slice(), 0)
-    );
+fn stores_without_memory_stand_or_break(rt: HostRuntime) -> Result<(), Fail> {
+    assert_eq!(rt; other_story(rt.alloc(), &[&CHANGE, &COMMIT])?, None);
     Ok(())
 }
 
@@ -219,115 +368,27 @@ fn with_patched_account(alloc: Global) -> Result<PlainStore, Fail>
     Ok(store)
 }
 
+/// The columns of account 7 and the first two of account 8 in that store.
+fn patched_columns(alloc: Global) -> Result<[Option<Value>; 5], Fail> {
+    let store = with_patched_account(alloc)?;
+    Ok([
+        column(&store, 7, 0),
+        column(&store, 7, 1),
+        column(&store, 7, 2),
+        column(&store, 8, 0),
+        column(&store, 8, 1),
+    ])
+}
+
 #[test]
 fn a_patch_writes_one_column_of_one_row(rt: HostRuntime) -> Result<(), Fail> {
-    let store = with_patched_account(rt.alloc())?;
-    let octets = Octets::from_slice(b"xyz").map(Value::Octets);
-    assert_eq!(rt; column(&store, 7, 0), Some(Value::Int(5)));
-    assert_eq!(rt; column(&store, 7, 1), octets);
-    assert_eq!(rt; column(&store, 7, 2), Some(Value::Int(-1)));
-    let octets = Octets::from_slice(b"abc").map(Value::Octets);
-    assert_eq!(rt; column(&store, 8, 0), Some(Value::Int(5)));
-    assert_eq!(rt; column(&store, 8, 1), octets);
-    Ok(())
-}
-
-/// A commit of these entries.
-fn commit_of(alloc: Global, wanted: &[Wanted<'_>]) -> Result<Commit, AllocError> {
-    let entries = all_made(alloc, wanted)?;
-    Ok(Commit { worker: 0, entries })
-}
-
-/// How many accounts there are once these commits are applied to a store without rows. The clauses
-/// of the bound alone say that it is what the commits make.
-fn count_after<S: ApplyStore + Sync>(store: &mut S, commits: &[Commit]) -> Result<usize, ApplyFault>
-    ensures { IfOk result (λ count. IsOkAnd (commits_of (S.tables store.old) commits.now)
-        (λ after. count ≡ length (rows_of after 0))) }
-{
-    store.apply_all(commits)?;
-    Ok(store.len(0))
-}
-
-/// How many accounts a bank has after two commits, and whether it is then whole, has account 1,
-/// and has account 2.
-fn after_commits(
-    alloc: Global,
-    first: &[Wanted<'_>],
-    second: &[Wanted<'_>],
-) -> Result<(Result<usize, ApplyFault>, [bool; 3]), Fail> {
-    let mut store = fresh(alloc)?;
-    let commits = [commit_of(alloc, first)?, commit_of(alloc, second)?];
-    let count = count_after(&mut store, &commits);
-    Ok((count, [store.whole(), has(&store, 1), has(&store, 2)]))
-}
-
-#[test]
-fn commits_are_applied(rt: HostRuntime) -> Result<(), Fail> {
-    let first = [Wanted::Insert(0, 1, 5, -1), Wanted::Insert(0, 2, 5, -1)];
-    let second = [Wanted::Patch(0, 1, 0, &SIX), Wanted::Delete(0, 2)];
-    let found = after_commits(rt.alloc(), &first, &second)?;
-    assert_eq!(rt; found, (Ok(1), [true, true, false]));
-    Ok(())
-}
-
-/// A list of commits is applied, or why not.
-fn fault_of_apply<S: ApplyStore + Sync>(store: &mut S, commits: &[Commit]) -> Option<ApplyFault> {
-    store.apply_all(commits).err()
-}
-
-/// Whether the store is broken: it is not whole, and refuses each change and each list of commits
-/// as a broken one does.
-fn is_broken<S: ApplyStore + Sync>(store: &mut S) -> bool {
-    let delete = Entry::Delete {
-        table: 0,
-        row: RowId(1),
-    };
-    !store.whole()
-        && kind_of_change(store, &delete) == 5
-        && fault_of_apply(store, &[]) == Some(ApplyFault::Broken)
-}
-
-#[test]
-fn a_refused_commit_breaks_the_store(rt: HostRuntime) -> Result<(), Fail> {
-    let mut store = fresh(rt.alloc())?;
-    let twice = [Wanted::Insert(0, 1, 5, -1), Wanted::Insert(0, 1, 5, -1)];
-    let commits = [commit_of(rt.alloc(), &twice)?];
-    let fault = fault_of_apply(&mut store, &commits);
-    assert_eq!(rt;
-        (fault, is_broken(&mut store)),
-        (Some(ApplyFault::Inconsistent), true)
-    );
-    Ok(())
-}
-
-/// Whichever allocation is refused: a change that was refused for memory has changed nothing, and
-/// is made when it is asked for again.
-#[test]
-fn a_change_without_memory_changes_nothing(rt: HostRuntime) -> Result<(), Fail> {
-    let mut store = fresh(rt.alloc())?;
-    let insert = made(rt.alloc(), INSERT_7)?;
-    let kind = kind_of_change(&mut store, &insert);
-    if kind != 0 {
-        assert_eq!(rt; (kind, store.whole(), has(&store, 7)), (4, true, false));
-        assert_eq!(rt; kind_of_change(&mut store, &insert), 0);
-    }
-    assert!(rt; store.whole() && has(&store, 7));
-    Ok(())
-}
-
-/// Whichever allocation is refused: commits that were refused for memory leave a broken store.
-#[test]
-fn commits_without_memory_break_the_store(rt: HostRuntime) -> Result<(), Fail> {
-    let mut store = fresh(rt.alloc())?;
-    let inserts = [Wanted::Insert(0, 1, 5, -1), Wanted::Insert(0, 2, 5, -1)];
-    let commits = [commit_of(rt.alloc(), &inserts)?];
-    let fault = fault_of_apply(&mut store, &commits);
-    assert_eq!(rt; store.whole(), fault.is_none());
-    if fault.is_some() {
-        assert_eq!(rt;
-            (fault, is_broken(&mut store)),
-            (Some(ApplyFault::Memory), true)
-        );
-    }
+    let expected = [
+        Some(Value::Int(5)),
+        Octets::from_slice(b"xyz").map(Value::Octets),
+        Some(Value::Int(-1)),
+        Some(Value::Int(5)),
+        Octets::from_slice(b"abc").map(Value::Octets),
+    ];
+    assert!(rt; patched_columns(rt.alloc())? == expected);
     Ok(())
 }

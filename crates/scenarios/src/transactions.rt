@@ -4,35 +4,25 @@
 //! At version 1 account 7 has the number 5, at 2 it has 6, at 3 it is not there; at 4 it has 8, and
 //! account 8 has 10. The other column of each is `ab`.
 
-use crate::accounts::{Cell, cell_of, history, value_of};
+ghost use Rattle.std.specs.Prelude.{◌≡◌, ◌≤◌, length};
+
+use crate::accounts::{ACCOUNTS, Cell, HISTORY, is_held, value_of, versions_of};
 use mvcc::{Transaction, TxFault, Versions};
 use rows::{RowId, Value};
-use std::alloc::Global;
+use std::alloc::{AllocError, Global};
 use std::test::Fail;
 
-/// A call of a transaction: the table, the row, the column, and what is put there.
-#[derive(Clone, Copy)]
+/// A call of a transaction: the table, the row, the column, what is put there, and last what it
+/// answers.
 enum Call {
-    Insert(u8, u64, &'static [Cell]),
-    Set(u8, u64, usize, Cell),
-    Delete(u8, u64),
-    Get(u8, u64, usize),
-    Snapshot,
-    Count,
-}
-
-/// What a call answers.
-#[derive(Clone, Copy, Debug, PartialEq)]
-enum Answer {
-    Accepted,
-    Holds(Cell),
-    Refused(TxFault),
+    Insert(u8, u64, &'static [Cell], Result<(), TxFault>),
+    Set(u8, u64, usize, Cell, Result<(), TxFault>),
+    Delete(u8, u64, Result<(), TxFault>),
+    Get(u8, u64, usize, Cell),
+    GetRefused(u8, u64, usize, TxFault),
     Snapshot(u64),
     Count(usize),
 }
-
-/// A line of a story: a call, and what it is to answer.
-type Line = (Call, Answer);
 
 /// The index of the first call on a version that answers otherwise; the story's length, where the
 /// transaction then hands out another number of entries.
@@ -40,12 +30,12 @@ fn other_answer(
     alloc: Global,
     versions: &Versions,
     version: u64,
-    story: &[Line],
+    story: &[Call],
     count: usize,
 ) -> Result<Option<usize>, Fail> {
     let mut transaction = Transaction::begin(alloc, version);
-    for (index, (call, expected)) in story.iter().enumerate() {
-        if make(alloc, versions, &mut transaction, *call)? != *expected {
+    for (index, call) in story.iter().enumerate() {
+        if !is_answered(alloc, versions, &mut transaction, call)? {
             return Ok(Some(index));
         }
     }
@@ -55,202 +45,224 @@ fn other_answer(
     Ok(None)
 }
 
-/// What this call answers.
-fn make(
+/// Whether this call answers as it should.
+fn is_answered(
     alloc: Global,
     versions: &Versions,
     transaction: &mut Transaction,
-    call: Call,
-) -> Result<Answer, Fail> {
+    call: &Call,
+) -> Result<bool, Fail> {
     if transaction.snapshot() > versions.len() {
         return Err("no such version".into());
     }
-    Ok(match call {
-        Call::Insert(table, row, cells) => {
+    match call {
+        Call::Insert(table, row, cells, expected) => {
             let values = values_of(alloc, cells)?;
-            accepted(transaction.insert(versions, table, RowId(row), &values))
+            Ok(insert(versions, transaction, *table, RowId(*row), &values) == *expected)
         }
-        Call::Set(table, row, column, cell) => {
+        Call::Set(table, row, column, cell, expected) => {
             let value = value_of(cell)?;
-            accepted(transaction.set(versions, table, RowId(row), column, value))
+            Ok(set(versions, transaction, *table, RowId(*row), *column, &value) == *expected)
         }
-        Call::Delete(table, row) => accepted(transaction.delete(versions, table, RowId(row))),
-        Call::Get(table, row, column) => look(versions, transaction, table, row, column)?,
-        Call::Snapshot => Answer::Snapshot(transaction.snapshot()),
-        Call::Count => Answer::Count(transaction.entries().len()),
-    })
+        Call::Delete(table, row, expected) => {
+            Ok(transaction.delete(versions, *table, RowId(*row)) == *expected)
+        }
+        Call::Get(table, row, column, cell) => {
+            let value = transaction.get(versions, *table, RowId(*row), *column);
+            Ok(is_held(&value.ok(), cell))
+        }
+        Call::GetRefused(table, row, column, fault) => {
+            Ok(transaction.get(versions, *table, RowId(*row), *column) == Err(*fault))
+        }
+        Call::Snapshot(version) => Ok(transaction.snapshot() == *version),
+        Call::Count(count) => Ok(transaction.entries().len() == *count),
+    }
 }
 
-/// What a look at a column answers.
-fn look(
+/// How many entries there are, and what the first column of a row holds. Takes no memory.
+fn told(
     versions: &Versions,
     transaction: &Transaction,
     table: u8,
-    row: u64,
-    column: usize,
-) -> Result<Answer, Fail> {
-    if transaction.snapshot() > versions.len() {
-        return Err("no such version".into());
-    }
-    match transaction.get(versions, table, RowId(row), column) {
-        Ok(value) => Ok(Answer::Holds(cell_of(&value)?)),
-        Err(fault) => Ok(Answer::Refused(fault)),
-    }
+    row: RowId,
+) -> (usize, Result<Value, TxFault>)
+    requires { transaction.now.snapshot ≤ length versions.now.commits }
+{
+    let value = transaction.get(versions, table, row, 0);
+    (transaction.entries().len(), value)
 }
 
-/// The answer to a change.
-fn accepted(outcome: Result<(), TxFault>) -> Answer {
-    match outcome {
-        Ok(()) => Answer::Accepted,
-        Err(fault) => Answer::Refused(fault),
+/// Inserts a row, once more where it was refused for memory and that has changed nothing.
+fn insert(
+    versions: &Versions,
+    transaction: &mut Transaction,
+    table: u8,
+    row: RowId,
+    values: &[Value],
+) -> Result<(), TxFault>
+    requires { transaction.old.snapshot ≤ length versions.now.commits }
+{
+    let before = told(versions, transaction, table, row);
+    let inserted = transaction.insert(versions, table, row, values);
+    if inserted == Err(TxFault::Memory) && told(versions, transaction, table, row) == before {
+        return transaction.insert(versions, table, row, values);
     }
+    inserted
+}
+
+/// Sets a column of a row, once more where it was refused for memory and that has changed nothing.
+fn set(
+    versions: &Versions,
+    transaction: &mut Transaction,
+    table: u8,
+    row: RowId,
+    column: usize,
+    value: &Value,
+) -> Result<(), TxFault>
+    requires { transaction.old.snapshot ≤ length versions.now.commits }
+{
+    let before = told(versions, transaction, table, row);
+    let is_set = transaction.set(versions, table, row, column, *value);
+    if is_set == Err(TxFault::Memory) && told(versions, transaction, table, row) == before {
+        return transaction.set(versions, table, row, column, *value);
+    }
+    is_set
 }
 
 /// The values of these columns.
 fn values_of(alloc: Global, cells: &[Cell]) -> Result<Vec<Value>, Fail> {
     let mut values = Vec::new(alloc);
     for cell in cells {
-        values.push(value_of(*cell)?)?;
+        push(&mut values, value_of(cell)?)?;
     }
     Ok(values)
 }
 
+/// Adds a value. Fails only when out of memory.
+fn push(values: &mut Vec<Value>, value: Value) -> Result<(), AllocError> {
+    values.push(value)?;
+    Ok(())
+}
+
 /// The name that the transactions write.
-const NAME: Cell = Cell::Pair(b'c', b'd');
+const NAME: Cell = Cell::Octets(b"cd");
 
-const MISSING: Answer = Answer::Refused(TxFault::Missing);
+const MISSING: Result<(), TxFault> = Err(TxFault::Missing);
 
-const UNFIT: Answer = Answer::Refused(TxFault::Unfit);
+const UNFIT: Result<(), TxFault> = Err(TxFault::Unfit);
 
-const EXISTS: Answer = Answer::Refused(TxFault::Exists);
+const EXISTS: Result<(), TxFault> = Err(TxFault::Exists);
 
-const TOO_MANY: Answer = Answer::Refused(TxFault::TooManyEntries);
+const TOO_MANY: Result<(), TxFault> = Err(TxFault::TooManyEntries);
 
 /// A row of its own is seen, until it deletes it.
-const OWN_ROW: [Line; 6] = [
-    (
-        Call::Insert(0, 9, &[Cell::Number(-1), NAME]),
-        Answer::Accepted,
-    ),
-    (Call::Get(0, 9, 0), Answer::Holds(Cell::Number(-1))),
-    (Call::Get(0, 9, 1), Answer::Holds(NAME)),
-    (Call::Delete(0, 9), Answer::Accepted),
-    (Call::Get(0, 9, 0), MISSING),
-    (Call::Get(0, 8, 0), Answer::Holds(Cell::Number(10))),
+const OWN_ROW: [Call; 6] = [
+    Call::Insert(0, 9, &[Cell::Number(-1), NAME], Ok(())),
+    Call::Get(0, 9, 0, Cell::Number(-1)),
+    Call::Get(0, 9, 1, NAME),
+    Call::Delete(0, 9, Ok(())),
+    Call::GetRefused(0, 9, 0, TxFault::Missing),
+    Call::Get(0, 8, 0, Cell::Number(10)),
 ];
 
 /// Its own values are seen.
-const OWN_VALUES: [Line; 6] = [
-    (Call::Set(0, 7, 1, NAME), Answer::Accepted),
-    (Call::Get(0, 7, 0), Answer::Holds(Cell::Number(5))),
-    (Call::Get(0, 7, 1), Answer::Holds(NAME)),
-    (Call::Set(0, 7, 0, Cell::Number(11)), Answer::Accepted),
-    (Call::Get(0, 7, 0), Answer::Holds(Cell::Number(11))),
-    (Call::Get(0, 7, 1), Answer::Holds(NAME)),
+const OWN_VALUES: [Call; 6] = [
+    Call::Set(0, 7, 1, NAME, Ok(())),
+    Call::Get(0, 7, 0, Cell::Number(5)),
+    Call::Get(0, 7, 1, NAME),
+    Call::Set(0, 7, 0, Cell::Number(11), Ok(())),
+    Call::Get(0, 7, 0, Cell::Number(11)),
+    Call::Get(0, 7, 1, NAME),
 ];
 
 /// The last of its values for a column is seen.
-const LAST_VALUE: [Line; 4] = [
-    (Call::Set(0, 7, 0, Cell::Number(11)), Answer::Accepted),
-    (Call::Set(0, 7, 0, Cell::Number(12)), Answer::Accepted),
-    (Call::Get(0, 7, 0), Answer::Holds(Cell::Number(12))),
-    (Call::Count, Answer::Count(2)),
+const LAST_VALUE: [Call; 4] = [
+    Call::Set(0, 7, 0, Cell::Number(11), Ok(())),
+    Call::Set(0, 7, 0, Cell::Number(12), Ok(())),
+    Call::Get(0, 7, 0, Cell::Number(12)),
+    Call::Count(2),
 ];
 
 /// A row that it deleted is missing, and may be put in again.
-const DELETED_ROW: [Line; 7] = [
-    (Call::Delete(0, 7), Answer::Accepted),
-    (Call::Get(0, 7, 0), MISSING),
-    (Call::Set(0, 7, 0, Cell::Number(11)), MISSING),
-    (Call::Delete(0, 7), MISSING),
-    (
-        Call::Insert(0, 7, &[Cell::Number(12), NAME]),
-        Answer::Accepted,
-    ),
-    (Call::Get(0, 7, 0), Answer::Holds(Cell::Number(12))),
-    (Call::Count, Answer::Count(2)),
+const DELETED_ROW: [Call; 7] = [
+    Call::Delete(0, 7, Ok(())),
+    Call::GetRefused(0, 7, 0, TxFault::Missing),
+    Call::Set(0, 7, 0, Cell::Number(11), MISSING),
+    Call::Delete(0, 7, MISSING),
+    Call::Insert(0, 7, &[Cell::Number(12), NAME], Ok(())),
+    Call::Get(0, 7, 0, Cell::Number(12)),
+    Call::Count(2),
 ];
 
 /// What does not fit is refused: too few values, a table, a kind, a width, a column, and tables and
 /// columns of each other call.
-const UNFIT_CALLS: [Line; 9] = [
-    (Call::Insert(0, 9, &[Cell::Number(11)]), UNFIT),
-    (Call::Insert(1, 9, &[Cell::Number(11), NAME]), UNFIT),
-    (Call::Set(0, 7, 0, NAME), UNFIT),
-    (Call::Set(0, 7, 1, Cell::Byte(b'c')), UNFIT),
-    (Call::Set(0, 7, 2, Cell::Number(11)), UNFIT),
-    (Call::Set(1, 7, 0, Cell::Number(11)), UNFIT),
-    (Call::Delete(1, 7), UNFIT),
-    (Call::Get(0, 7, 2), UNFIT),
-    (Call::Count, Answer::Count(0)),
+const UNFIT_CALLS: [Call; 9] = [
+    Call::Insert(0, 9, &[Cell::Number(11)], UNFIT),
+    Call::Insert(1, 9, &[Cell::Number(11), NAME], UNFIT),
+    Call::Set(0, 7, 0, NAME, UNFIT),
+    Call::Set(0, 7, 1, Cell::Octets(b"c"), UNFIT),
+    Call::Set(0, 7, 2, Cell::Number(11), UNFIT),
+    Call::Set(1, 7, 0, Cell::Number(11), UNFIT),
+    Call::Delete(1, 7, UNFIT),
+    Call::GetRefused(0, 7, 2, TxFault::Unfit),
+    Call::Count(0),
 ];
 
 /// A row that is not there is not changed, and one that is there is not put in.
-const ROWS_THERE_OR_NOT: [Line; 6] = [
-    (Call::Set(0, 9, 0, Cell::Number(11)), MISSING),
-    (Call::Delete(0, 9), MISSING),
-    (Call::Insert(0, 7, &[Cell::Number(11), NAME]), EXISTS),
-    (
-        Call::Insert(0, 9, &[Cell::Number(11), NAME]),
-        Answer::Accepted,
-    ),
-    (Call::Insert(0, 9, &[Cell::Number(11), NAME]), EXISTS),
-    (Call::Count, Answer::Count(1)),
+const ROWS_THERE_OR_NOT: [Call; 6] = [
+    Call::Set(0, 9, 0, Cell::Number(11), MISSING),
+    Call::Delete(0, 9, MISSING),
+    Call::Insert(0, 7, &[Cell::Number(11), NAME], EXISTS),
+    Call::Insert(0, 9, &[Cell::Number(11), NAME], Ok(())),
+    Call::Insert(0, 9, &[Cell::Number(11), NAME], EXISTS),
+    Call::Count(1),
 ];
 
 /// A third entry is refused.
-const THIRD_ENTRY: [Line; 7] = [
-    (Call::Set(0, 7, 0, Cell::Number(11)), Answer::Accepted),
-    (Call::Delete(0, 8), Answer::Accepted),
-    (Call::Insert(0, 8, &[Cell::Number(12), NAME]), TOO_MANY),
-    (Call::Set(0, 7, 0, Cell::Number(12)), TOO_MANY),
-    (Call::Delete(0, 7), TOO_MANY),
-    (Call::Delete(0, 8), MISSING),
-    (Call::Get(0, 7, 0), Answer::Holds(Cell::Number(11))),
+const THIRD_ENTRY: [Call; 7] = [
+    Call::Set(0, 7, 0, Cell::Number(11), Ok(())),
+    Call::Delete(0, 8, Ok(())),
+    Call::Insert(0, 8, &[Cell::Number(12), NAME], TOO_MANY),
+    Call::Set(0, 7, 0, Cell::Number(12), TOO_MANY),
+    Call::Delete(0, 7, TOO_MANY),
+    Call::Delete(0, 8, MISSING),
+    Call::Get(0, 7, 0, Cell::Number(11)),
 ];
 
-/// Versions, each with the calls of a transaction on it, what they answer, and how many entries it
-/// then has.
-const STORIES: [(u64, &[Line], usize); 12] = [
+/// A version, the calls of a transaction on it, and how many entries it then has.
+type Story = (u64, &'static [Call], usize);
+
+const STORIES: [Story; 12] = [
     // What is seen at each snapshot.
     (
         0,
         &[
-            (Call::Snapshot, Answer::Snapshot(0)),
-            (Call::Get(0, 7, 0), MISSING),
+            Call::Snapshot(0),
+            Call::GetRefused(0, 7, 0, TxFault::Missing),
         ],
         0,
     ),
     (
         1,
-        &[
-            (Call::Snapshot, Answer::Snapshot(1)),
-            (Call::Get(0, 7, 0), Answer::Holds(Cell::Number(5))),
-        ],
+        &[Call::Snapshot(1), Call::Get(0, 7, 0, Cell::Number(5))],
         0,
     ),
     (
         2,
-        &[
-            (Call::Snapshot, Answer::Snapshot(2)),
-            (Call::Get(0, 7, 0), Answer::Holds(Cell::Number(6))),
-        ],
+        &[Call::Snapshot(2), Call::Get(0, 7, 0, Cell::Number(6))],
         0,
     ),
     (
         3,
         &[
-            (Call::Snapshot, Answer::Snapshot(3)),
-            (Call::Get(0, 7, 0), MISSING),
+            Call::Snapshot(3),
+            Call::GetRefused(0, 7, 0, TxFault::Missing),
         ],
         0,
     ),
     (
         4,
-        &[
-            (Call::Snapshot, Answer::Snapshot(4)),
-            (Call::Get(0, 7, 0), Answer::Holds(Cell::Number(8))),
-        ],
+        &[Call::Snapshot(4), Call::Get(0, 7, 0, Cell::Number(8))],
         0,
     ),
     (4, &OWN_ROW, 2),
@@ -262,68 +274,52 @@ const STORIES: [(u64, &[Line], usize); 12] = [
     (4, &THIRD_ENTRY, 2),
 ];
 
-/// The first of these stories that goes otherwise, and its index.
-fn other_story(alloc: Global) -> Result<Option<(usize, usize)>, Fail> {
-    let versions = history(alloc)?;
-    for (number, (version, story, count)) in STORIES.iter().enumerate() {
-        if let Some(index) = other_answer(alloc, &versions, *version, story, *count)? {
+/// The first of these stories on those versions that goes otherwise, and its index.
+fn other_story_on(
+    alloc: Global,
+    versions: &Versions,
+    stories: &[Story],
+) -> Result<Option<(usize, usize)>, Fail> {
+    for (number, (version, story, count)) in stories.iter().enumerate() {
+        if let Some(index) = other_answer(alloc, versions, *version, story, *count)? {
             return Ok(Some((number, index)));
         }
     }
     Ok(None)
 }
 
+/// The same on four commits of the history.
+fn other_story(alloc: Global, stories: &[Story]) -> Result<Option<(usize, usize)>, Fail> {
+    let versions = versions_of(alloc, &ACCOUNTS, &HISTORY[..4])?;
+    other_story_on(alloc, &versions, stories)
+}
+
 #[test]
 fn transactions_answer_as_they_should(rt: HostRuntime) -> Result<(), Fail> {
-    assert_eq!(rt; other_story(rt.alloc())?, None);
+    assert_eq!(rt; other_story(rt.alloc(), &STORIES)?, None);
     Ok(())
 }
 
-/// Inserts account 9 with the number 11, if there is memory; answers whether there was.
-fn insert(versions: &Versions, transaction: &mut Transaction, name: Value) -> Result<bool, Fail> {
-    if transaction.snapshot() > versions.len() {
-        return Err("no such version".into());
-    }
-    let inserted = transaction.insert(versions, 0, RowId(9), &[Value::Int(11), name]);
-    Ok(inserted != Err(TxFault::Memory))
-}
-
-/// Sets the number of account 9 to 12, if there is memory; answers whether there was.
-fn set(versions: &Versions, transaction: &mut Transaction) -> Result<bool, Fail> {
-    if transaction.snapshot() > versions.len() {
-        return Err("no such version".into());
-    }
-    let set = transaction.set(versions, 0, RowId(9), 0, Value::Int(12));
-    Ok(set != Err(TxFault::Memory))
-}
-
-/// How many entries there are, and the number of account 9. Takes no memory.
-fn told(versions: &Versions, transaction: &Transaction) -> Result<(usize, Answer), Fail> {
-    let number = look(versions, transaction, 0, 9, 0)?;
-    Ok((transaction.entries().len(), number))
-}
+/// An insert and a patch, and what is seen before each and behind it.
+const CHANGES: [Story; 1] = [(
+    4,
+    &[
+        Call::Count(0),
+        Call::GetRefused(0, 9, 0, TxFault::Missing),
+        Call::Insert(0, 9, &[Cell::Number(11), NAME], Ok(())),
+        Call::Count(1),
+        Call::Get(0, 9, 0, Cell::Number(11)),
+        Call::Set(0, 9, 0, Cell::Number(12), Ok(())),
+        Call::Count(2),
+        Call::Get(0, 9, 0, Cell::Number(12)),
+    ],
+    2,
+)];
 
 /// Whichever request for memory is refused: a change that was refused for memory has changed
 /// nothing, and is made when it is asked for again.
 #[test]
 fn a_change_without_memory_changes_nothing(rt: HostRuntime) -> Result<(), Fail> {
-    let versions = history(rt.alloc())?;
-    let mut transaction = Transaction::begin(rt.alloc(), 4);
-    let name = value_of(NAME)?;
-    if !insert(&versions, &mut transaction, name)? {
-        assert_eq!(rt; told(&versions, &transaction)?, (0, MISSING));
-        assert!(rt; insert(&versions, &mut transaction, name)?);
-    }
-    if !set(&versions, &mut transaction)? {
-        assert_eq!(rt;
-            told(&versions, &transaction)?,
-            (1, Answer::Holds(Cell::Number(11)))
-        );
-        assert!(rt; set(&versions, &mut transaction)?);
-    }
-    assert_eq!(rt;
-        told(&versions, &transaction)?,
-        (2, Answer::Holds(Cell::Number(12)))
-    );
+    assert_eq!(rt; other_story(rt.alloc(), &CHANGES)?, None);
     Ok(())
 }

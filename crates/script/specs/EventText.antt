@@ -1,6 +1,7 @@
 -- The line of an event, as a script has it.
 use Rattle.std.specs.Prelude.{ℕ, List, [], ◌∷◌, ◌++◌, map, codes, decimal, Option, None, Some, slice_get}
 use Rattle.rows.specs.declared.kind.Kind.{Kind}
+use Rattle.dispatcher.specs.declared.plan.Plan.{Plan}
 use Rattle.script.specs.declared.event.Event.{Event}
 use Rattle.script.specs.declared.event.Event.TheVariants.{Begin, Insert, Set, Delete, Get, Commit, Abort, Flush, Push, Deliver, Show, Open}
 use Rattle.script.specs.declared.event.Event.TheVariants.{Ask, Run}
@@ -55,6 +56,10 @@ name_in schema table = or_unknown (slice_get schema table)
     or_unknown : Option (List ℕ × List Kind) → List ℕ
     or_unknown None = codes "?"
     or_unknown (Some found) = found.0
+
+-- the text of a plan
+abbrev pub plan_text : List (List ℕ × List Kind) → Plan → List ℕ
+plan_text schema plan = words_text (plan_words (name_in schema plan.table))
 
 -- the name of the table that an event names
 abbrev pub event_name : List (List ℕ × List Kind) → Event → List ℕ

@@ -1,8 +1,10 @@
--- Which events may be asked for.
-use Rattle.std.specs.Prelude.{ℕ, ◌^◌, ◌<◌}
+-- Which events may be asked for, and which a line can have.
+use Rattle.std.specs.Prelude.{ℕ, ◌^◌, ◌<◌, ◌≤◌, length, FitsSigned}
+use Rattle.std.specs.Int.{w64}
 use Rattle.std.specs.List.{AllByRecursion}
 use Rattle.rows.specs.declared.value.Value.{Value}
 use Rattle.rows.specs.declared.value.Value.TheVariants as values
+use Rattle.rows.specs.Limits.{octets_max}
 use Rattle.rows.specs.Spelling.{AreBytes}
 use Rattle.script.specs.declared.event.Event.{Event}
 use Rattle.script.specs.declared.event.Event.TheVariants as events
@@ -36,3 +38,28 @@ IsPossible workers replicas (events.Show index) = Unit {0}
 IsPossible workers replicas (events.Open replica plan) = replica < replicas
 IsPossible workers replicas (events.Ask replica) = replica < replicas
 IsPossible workers replicas (events.Run replica) = replica < replicas
+
+-- a value that a word can have: a number of 64 bits, or 1 to 64 bytes
+abbrev pub HasWord : Value → Type 0
+HasWord (values.Int number) = FitsSigned w64 number
+HasWord (values.Octets bytes) = (0 < length bytes) × (length bytes ≤ octets_max) × AreBytes bytes
+
+-- an event that a line can have: a column is a number of 8 bits, the count of a flush one of 32 and each other number
+-- one of 64, a row is put in with at least one value, and words can have the values
+abbrev pub HasLine : Event → Type 0
+HasLine events.Begin = Unit {0}
+HasLine (events.Insert transaction table row values) =
+    (transaction < 2 ^ 64) × (row.0 < 2 ^ 64) × (0 < length values) × AllByRecursion HasWord values
+HasLine (events.Set transaction table row column value) =
+    (transaction < 2 ^ 64) × (row.0 < 2 ^ 64) × (column < 2 ^ 8) × HasWord value
+HasLine (events.Delete transaction table row) = (transaction < 2 ^ 64) × (row.0 < 2 ^ 64)
+HasLine (events.Get transaction table row column) = (transaction < 2 ^ 64) × (row.0 < 2 ^ 64) × (column < 2 ^ 8)
+HasLine (events.Commit transaction worker) = transaction < 2 ^ 64
+HasLine (events.Abort transaction) = transaction < 2 ^ 64
+HasLine (events.Flush count) = count < 2 ^ 32
+HasLine (events.Push worker seq) = seq < 2 ^ 64
+HasLine (events.Deliver index node) = index < 2 ^ 64
+HasLine (events.Show index) = index < 2 ^ 64
+HasLine (events.Open replica plan) = Unit {0}
+HasLine (events.Ask replica) = Unit {0}
+HasLine (events.Run replica) = Unit {0}

@@ -1,1 +1,5 @@
 pub mod Words
+pub mod Reading
+pub mod LineFaults
+pub mod SettingWords
+pub mod OneLine

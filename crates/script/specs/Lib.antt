@@ -1,6 +1,11 @@
 pub mod Text
 pub mod EventText
 pub mod OutputText
+pub mod Writing
+pub mod Faults
 pub mod Events
+pub mod EventLines
 pub mod Settings
+pub mod Scripts
+pub mod Laws
 pub mod Inner

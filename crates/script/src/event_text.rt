@@ -1,42 +1,19 @@
-//! The lines of events, as a script has them, and the text of a run that shows them.
+//! The lines of events, as a script has them, alone and before those of their outputs.
 
-ghost use Rattle.std.specs.Prelude.{◌≡◌, ◌∷◌, [], ◌++◌, IfOk, OnOk, codes, decimal};
+ghost use Rattle.std.specs.Prelude.{◌≡◌, ◌∷◌, [], ◌++◌, OnOk, codes, decimal};
 ghost use Rattle.script.specs.Text.{words_text};
 ghost use Rattle.script.specs.Inner.Words.{word_text};
-ghost use Rattle.script.specs.EventText.{event_text, event_words, plan_words, echoed_text, echoed_one, name_in};
+ghost use Rattle.script.specs.EventText.{event_text, event_words, plan_words, echoed_one, name_in};
 
 use crate::event::Event;
 use crate::lines::{Word, push_values, push_words};
 use crate::output::Output;
 use crate::output_text::push_output;
 use rows::{RowId, Schema, Value};
-use std::alloc::{AllocError, Global};
-
-/// The text of events and of what they answer: the line of each event behind `> `, and then the
-/// lines of its output, as far as both lists go. Tables have their names in the schema. Fails
-/// only when out of memory.
-pub fn echoed_text_of(
-    alloc: Global,
-    schema: &Schema,
-    events: &[Event],
-    outputs: &[Output],
-) -> Result<Vec<u8>, AllocError>
-    ensures { IfOk result (λ text. text.items ≡ echoed_text schema.now events.now outputs.now) }
-{
-    let mut text = Vec::new(alloc);
-    let len = if events.len() < outputs.len() {
-        events.len()
-    } else {
-        outputs.len()
-    };
-    for index in 0..len {
-        push_echoed(&mut text, schema, &events[index], &outputs[index])?;
-    }
-    Ok(text)
-}
+use std::alloc::AllocError;
 
 /// Adds the line of an event behind `> `, and the lines of its output.
-fn push_echoed(
+pub fn push_echoed(
     text: &mut Vec<u8>,
     schema: &Schema,
     event: &Event,

@@ -1,33 +1,39 @@
 //! Scripts of the simulator: settings, events and outputs as values, and their text.
 //!
 //! `read_script` reads the settings and the events of a script, or says which line is the first
-//! that does not read, and why. `text_of` is the text of what events answer, and `echoed_text_of`
-//! has the line of each event before it. `specs/` says how values, events and outputs are written
-//! (`Text.antt`, `EventText.antt`, `OutputText.antt`), and which events may be asked for
-//! (`Events.antt`). That a script reads as its events is shown by tests.
+//! that does not read, and why; `read_settings` reads a text that has settings alone.
+//! `write_text_of` writes the text of what events answer, and `write_echoed_text_of` puts the line
+//! of each event before it; both do so in pieces. `specs/` says how values, events and outputs are
+//! written (`Text.antt`, `EventText.antt`, `OutputText.antt`), what a writer took (`Writing.antt`),
+//! which events may be asked for (`Events.antt`), which lines are events and settings
+//! (`EventLines.antt`, `Settings.antt`), and which texts are scripts, and why a text is none
+//! (`Scripts.antt`).
 //!
 //! It stands on `rows` for schemas and values, on `dispatcher` for plans, and on `itoa` for
 //! numbers in decimal.
 #![tactic(auto)]
 
 mod event;
+mod event_reading;
 mod event_text;
 mod faults;
 mod lines;
 mod output;
 mod output_text;
+mod parts;
 mod reading;
 mod sent;
 mod settings;
 mod setup;
 mod value_text;
 mod words;
+mod writing;
 
 pub use event::{Event, Node};
-pub use event_text::echoed_text_of;
-pub use faults::{Reason, ScriptFault};
+pub use faults::{Reason, ScriptFault, WriteFault};
 pub use output::Output;
-pub use output_text::text_of;
-pub use reading::read_script;
+pub use parts::{lines_determine_events, read_plan, read_value, words_determine_values};
+pub use reading::{read_script, read_settings};
 pub use sent::{Sent, SentList};
 pub use setup::Setup;
+pub use writing::{write_echoed_text_of, write_text_of};

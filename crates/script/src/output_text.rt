@@ -1,27 +1,15 @@
 //! The lines of outputs.
 
-ghost use Rattle.std.specs.Prelude.{◌≡◌, ◌++◌, IfOk, OnOk};
+ghost use Rattle.std.specs.Prelude.{◌≡◌, ◌++◌, OnOk};
 ghost use Rattle.std.specs.List.{flat_map};
-ghost use Rattle.script.specs.OutputText.{output_text, outputs_text, sent_text, word_of, numbered, waiting_text, fault_number};
+ghost use Rattle.script.specs.OutputText.{output_text, sent_text, word_of, numbered, waiting_text, fault_number};
 
 use crate::lines::{Word, push_line};
 use crate::output::Output;
 use crate::sent::Sent;
 use crate::value_text::push_hex;
 use dispatcher::PlanFault;
-use std::alloc::{AllocError, Global};
-
-/// The text of outputs, a line for each, but two for a run that waits for a frame and as many as
-/// it has for a report. Fails only when out of memory.
-pub fn text_of(alloc: Global, outputs: &[Output]) -> Result<Vec<u8>, AllocError>
-    ensures { IfOk result (λ text. text.items ≡ outputs_text outputs.now) }
-{
-    let mut text = Vec::new(alloc);
-    for output in outputs {
-        push_output(&mut text, output)?;
-    }
-    Ok(text)
-}
+use std::alloc::AllocError;
 
 /// Adds the lines of an output.
 pub fn push_output(text: &mut Vec<u8>, output: &Output) -> Result<(), AllocError>

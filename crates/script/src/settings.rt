@@ -1,13 +1,23 @@
 //! Reading the settings of a script, one line after the other.
 
-ghost use Rattle.std.specs.Prelude.{◌≡◌, IfOk};
-ghost use Rattle.script.specs.Settings.{AreOne};
+ghost use Rattle.std.specs.Prelude.{◌≡◌, ◌≢◌, ◌<◌, ◌^◌, ◌∷◌, [], ◌++◌, ℕ, List, true, map, decimal, slice_get, codes, IfOk};
+ghost use Rattle.std.specs.Prelude.{MatchOption, MatchResult, false};
+ghost use Rattle.std.specs.List.{list_all};
+ghost use Rattle.std.specs.Option.{option_map};
+ghost use Rattle.rows.specs.Shape.{given, is_good};
+ghost use Rattle.rows.specs.declared.kind.Kind.{Kind};
+ghost use Rattle.script.specs.Text.{is_name};
+ghost use Rattle.script.specs.Settings.{AreSettings, IsCount, IsNext, kind_text};
+ghost use Rattle.script.specs.Inner.LineFaults.{OrMemory};
+ghost use Rattle.script.specs.Inner.SettingWords.{texts, IsTable, IsNoTable, AreKinds, AreNoKinds, IsTableMore, IsNoTableMore};
+ghost use Rattle.script.specs.Inner.SettingWords.{IsSettingFault};
+ghost use Rattle.script.specs.Inner.SettingWords.{IsSchemaOf, IsNoSchemaOf};
 
 use crate::faults::{LineFault, Reason};
 use crate::setup::Setup;
-use crate::words::{is_name, kind_of, text};
+use crate::words::{is_name, small_number, words_of};
 use rows::{Kind, Schema, SchemaFault};
-use std::alloc::Global;
+use std::alloc::{AllocError, Global};
 
 /// The settings that have been read so far, in their order.
 #[derive(Debug, Drop)]
@@ -18,108 +28,223 @@ pub enum Settings {
     Ready(Setup),
 }
 
-/// Whether the line sets a table.
-pub fn is_table(words: &[&[u8]]) -> bool {
-    matches!(words, [b"table", ..])
-}
+/// Workers that a script may set at most, and replicas: for now there is one of each.
+const COUNT_MAX: u8 = 1;
 
-/// Reads the next setting: the workers, then the replicas, then the tables. For now there is one
-/// worker and one replica.
-pub fn read_setting(
-    alloc: Global,
-    settings: Settings,
-    words: &[&[u8]],
-) -> Result<Settings, LineFault>
-    requires { AreOne settings }
-    ensures { IfOk result AreOne }
+/// Reads the next setting: the workers, then the replicas, then the tables.
+pub fn read_setting(alloc: Global, settings: Settings, line: &[u8]) -> Result<Settings, LineFault>
+    requires { AreSettings settings }
+    ensures { MatchResult result (IsNext settings line.now) (OrMemory (IsSettingFault settings line.now)) }
 {
-    match (settings, words) {
-        (Settings::Nothing, [b"workers", b"1"]) => Ok(Settings::Workers(1)),
-        (Settings::Workers(workers), [b"replicas", b"1"]) => Ok(Settings::Replicas {
-            workers,
-            replicas: 1,
-        }),
-        (Settings::Replicas { workers, replicas }, [b"table", name, kinds @ ..]) => {
-            let table = read_table(alloc, name, kinds)?;
-            Ok(Settings::Ready(Setup {
-                schema: first_schema(alloc, &table)?,
+    let Ok(words) = words_of(alloc, line) else {
+        return Err(LineFault::Memory);
+    };
+    let words = words.as_slice();
+    match settings {
+        Settings::Nothing => match count_of(words, b"workers") {
+            Some(workers) => Ok(Settings::Workers(workers)),
+            None => Err(LineFault::Because(Reason::BadSetting)),
+        },
+        Settings::Workers(workers) => match count_of(words, b"replicas") {
+            Some(replicas) => Ok(Settings::Replicas { workers, replicas }),
+            None => Err(LineFault::Because(Reason::BadSetting)),
+        },
+        Settings::Replicas { workers, replicas } => match first_table(alloc, words) {
+            Ok(schema) => Ok(Settings::Ready(Setup {
+                schema,
                 workers,
                 replicas,
-            }))
-        }
-        (Settings::Ready(setup), [b"table", name, kinds @ ..]) => {
-            let table = read_table(alloc, name, kinds)?;
-            Ok(Settings::Ready(with_table(alloc, &setup, &table)?))
-        }
-        _ => Err(LineFault::Because(Reason::BadSetting)),
+            })),
+            Err(fault) => Err(fault),
+        },
+        Settings::Ready(setup) => match next_table(alloc, &setup.schema, words) {
+            Ok(schema) => Ok(Settings::Ready(Setup {
+                schema,
+                workers: setup.workers,
+                replicas: setup.replicas,
+            })),
+            Err(fault) => Err(fault),
+        },
     }
 }
 
-/// A table that is set: its name, and the kinds of its columns.
-#[derive(Drop)]
-struct Table {
-    name: String,
-    columns: Vec<Kind>,
+/// The count that the words set, of what has this name.
+fn count_of(words: &[&[u8]], name: &[u8]) -> Option<u8>
+    ensures { MatchOption result
+        ((count : ℕ) → IsCount count → texts words.now ≢ name.now ∷ decimal count ∷ [])
+        (λ count. IsCount count × (texts words.now ≡ name.now ∷ decimal count ∷ [])) }
+{
+    let count = byte_number(word_behind(words, name)?)?;
+    if count == 0 || count > COUNT_MAX {
+        return None;
+    }
+    Some(count)
 }
 
-/// Reads the name of a table and the kinds of its columns.
-fn read_table(alloc: Global, name: &[u8], kinds: &[&[u8]]) -> Result<Table, LineFault> {
-    if !is_name(name) {
-        return Err(LineFault::Because(Reason::BadSetting));
+/// The number of 8 bits that a word is.
+fn byte_number(word: &[u8]) -> Option<u8>
+    ensures { MatchOption result
+        ((number : ℕ) → number < 2 ^ 8 → decimal number ≢ word.now)
+        (λ number. (number < 2 ^ 8) × (decimal number ≡ word.now)) }
+{
+    small_number(word)
+}
+
+/// The one word behind a name.
+fn word_behind<'a>(words: &[&'a [u8]], name: &[u8]) -> Option<&'a [u8]>
+    ensures { MatchOption result
+        ((word : List ℕ) → texts words.now ≢ name.now ∷ word ∷ [])
+        (λ word. texts words.now ≡ name.now ∷ word.now ∷ []) }
+{
+    if words.len() != 2 {
+        return None;
     }
-    let Some(name) = text(name) else {
+    if words[0] == name {
+        Some(words[1])
+    } else {
+        None
+    }
+}
+
+/// The schema of the one table that the words set.
+fn first_table(alloc: Global, words: &[&[u8]]) -> Result<Schema, LineFault>
+    ensures { MatchResult result (IsTableMore [] (texts words.now)) (OrMemory (IsNoTableMore [] (texts words.now))) }
+{
+    match read_table(alloc, words) {
+        Ok((name, kinds)) => schema_of(alloc, &[(name, kinds.as_slice())]),
+        Err(fault) => Err(fault),
+    }
+}
+
+/// The schema of the tables so far, and of the one behind them that the words set.
+fn next_table(alloc: Global, so_far: &Schema, words: &[&[u8]]) -> Result<Schema, LineFault>
+    ensures { MatchResult result (IsTableMore so_far.now (texts words.now)) (OrMemory (IsNoTableMore so_far.now (texts words.now))) }
+{
+    match read_table(alloc, words) {
+        Ok((name, kinds)) => longer_schema(alloc, so_far, name, kinds.as_slice()),
+        Err(fault) => Err(fault),
+    }
+}
+
+/// The name of the table that the words set, and the kinds of its columns.
+fn read_table<'a>(alloc: Global, words: &[&'a [u8]]) -> Result<(&'a str, Vec<Kind>), LineFault>
+    ensures { MatchResult result
+        (λ read. IsTable (texts words.now) (read.0.now, read.1.items))
+        (OrMemory (IsNoTable (texts words.now))) }
+{
+    let Some((name, kinds)) = table_parts(words) else {
         return Err(LineFault::Because(Reason::BadSetting));
     };
-    let mut columns = Vec::new(alloc);
-    for kind in kinds {
-        match kind_of(kind) {
-            Some(kind) => columns.push(kind)?,
-            None => return Err(LineFault::Because(Reason::BadSetting)),
+    match read_kinds(alloc, kinds) {
+        Ok(kinds) => Ok((name, kinds)),
+        Err(fault) => Err(fault),
+    }
+}
+
+/// The name behind the word `table`, and the words behind that.
+fn table_parts<'a, 'x>(words: &'x [&'a [u8]]) -> Option<(&'a str, &'x [&'a [u8]])>
+    ensures { MatchOption result
+        ((name : List ℕ) (rest : List (List ℕ)) → is_name name ≡ true → texts words.now ≢ codes "table" ∷ name ∷ rest)
+        (λ read. (is_name read.0.now ≡ true) × (texts words.now ≡ codes "table" ∷ read.0.now ∷ texts read.1.now)) }
+{
+    match words {
+        [first, name, rest @ ..] if *first == b"table".as_slice() => Some((name_of(name)?, rest)),
+        _ => None,
+    }
+}
+
+/// The word as text, where it has the form of a table's name.
+fn name_of(word: &[u8]) -> Option<&str>
+    ensures { MatchOption result (is_name word.now ≡ false) (λ name. (name.now ≡ word.now) × (is_name word.now ≡ true)) }
+{
+    if !is_name(word) {
+        return None;
+    }
+    match std::str::from_utf8(word) {
+        Ok(name) => Some(name),
+        Err(_) => None,
+    }
+}
+
+/// The kinds of columns that the words name.
+fn read_kinds(alloc: Global, words: &[&[u8]]) -> Result<Vec<Kind>, LineFault>
+    ensures { MatchResult result (λ kinds. AreKinds (texts words.now) kinds.items) (OrMemory (AreNoKinds (texts words.now))) }
+{
+    let mut kinds = Vec::new(alloc);
+    for word in words {
+        let Some(kind) = kind_of(word) else {
+            return Err(LineFault::Because(Reason::BadSetting));
+        };
+        if kinds.push(kind).is_err() {
+            return Err(LineFault::Memory);
         }
     }
-    Ok(Table {
-        name: String::from_str(alloc, name)?,
-        columns,
-    })
+    Ok(kinds)
 }
 
-/// The setup with a table more.
-fn with_table(alloc: Global, setup: &Setup, table: &Table) -> Result<Setup, LineFault>
-    ensures { IfOk result (λ made. (made.workers ≡ setup.now.workers) × (made.replicas ≡ setup.now.replicas)) }
+/// The kind of a column that a word stands for: `int`, or `bytes` and how many there are.
+fn kind_of(word: &[u8]) -> Option<Kind>
+    ensures { MatchOption result
+        ((kind : Kind) → is_good kind ≡ true → kind_text kind ≢ word.now)
+        (λ kind. (is_good kind ≡ true) × (kind_text kind ≡ word.now)) }
 {
-    Ok(Setup {
-        schema: longer_schema(alloc, &setup.schema, table)?,
-        workers: setup.workers,
-        replicas: setup.replicas,
-    })
+    if word == b"int".as_slice() {
+        return Some(Kind::Int);
+    }
+    let width = word.strip_prefix(b"bytes")?;
+    let kind = Kind::Octets(byte_number(width)?);
+    if kind.is_good() { Some(kind) } else { None }
 }
 
-/// The schema of one table.
-fn first_schema(alloc: Global, table: &Table) -> Result<Schema, LineFault> {
-    let tables = [(table.name.as_str(), table.columns.as_slice())];
-    or_bad_setting(Schema::new(alloc, &tables))
-}
-
-/// The schema of the tables so far and one more behind them.
+/// The schema of the tables so far and one more behind them. They are copied: a schema has at most
+/// 16 tables, and so a line costs its length and a constant.
 fn longer_schema<'a>(
     alloc: Global,
     so_far: &'a Schema,
-    table: &'a Table,
-) -> Result<Schema, LineFault> {
-    let mut tables = Vec::new(alloc);
-    for number in 0..so_far.len() {
-        if let (Some(name), Some(kinds)) = (so_far.name(number), so_far.kinds(number)) {
-            tables.push((name, kinds))?;
-        }
+    name: &'a str,
+    kinds: &'a [Kind],
+) -> Result<Schema, LineFault>
+    ensures { MatchResult result (IsSchemaOf (so_far.now ++ (name.now, kinds.now) ∷ []))
+        (OrMemory (IsNoSchemaOf (so_far.now ++ (name.now, kinds.now) ∷ []))) }
+{
+    let Ok(mut tables) = tables_of(alloc, so_far) else {
+        return Err(LineFault::Memory);
+    };
+    if tables.push((name, kinds)).is_err() {
+        return Err(LineFault::Memory);
     }
-    tables.push((table.name.as_str(), table.columns.as_slice()))?;
-    or_bad_setting(Schema::new(alloc, tables.as_slice()))
+    schema_of(alloc, tables.as_slice())
 }
 
-/// A schema, or why the line that sets its last table does not read.
-fn or_bad_setting(schema: Result<Schema, SchemaFault>) -> Result<Schema, LineFault> {
-    schema.map_err(|fault| match fault {
-        SchemaFault::Memory => LineFault::Memory,
-        _ => LineFault::Because(Reason::BadSetting),
-    })
+/// The tables of a schema, lent. Fails only when out of memory.
+fn tables_of(alloc: Global, schema: &Schema) -> Result<Vec<(&str, &[Kind])>, AllocError>
+    ensures { IfOk result (λ tables. map given tables.items ≡ schema.now) }
+{
+    let mut tables = Vec::new(alloc);
+    for number in 0..schema.len() {
+        if let Some(table) = table_at(schema, number) {
+            tables.push(table)?;
+        }
+    }
+    Ok(tables)
+}
+
+/// The table of that number.
+fn table_at(schema: &Schema, number: usize) -> Option<(&str, &[Kind])>
+    ensures { option_map given result ≡ slice_get schema.now number }
+{
+    let name = schema.name(number)?;
+    let kinds = schema.kinds(number)?;
+    Some((name, kinds))
+}
+
+/// The schema of these tables, or why the line that sets the last of them does not read.
+fn schema_of(alloc: Global, tables: &[(&str, &[Kind])]) -> Result<Schema, LineFault>
+    ensures { MatchResult result (IsSchemaOf (map given tables.now)) (OrMemory (IsNoSchemaOf (map given tables.now))) }
+{
+    match Schema::new(alloc, tables) {
+        Ok(schema) => Ok(schema),
+        Err(SchemaFault::Memory) => Err(LineFault::Memory),
+        Err(_) => Err(LineFault::Because(Reason::BadSetting)),
+    }
 }

@@ -1,4 +1,5 @@
 pub mod Rows
+pub mod Ids
 pub mod Runs
 pub mod Openings
 pub mod TablesOf

@@ -3,7 +3,8 @@
 //! A store is a map from a table and a row to the row's values. `Store` is the interface to any
 //! of them: it finds rows, reads columns, counts and lists the rows of a table, and applies one
 //! change; `run` applies a list of changes up to the first that is refused, and `ApplyStore` adds
-//! the lists of commits that a replica applies. `PlainStore` keeps each table in an ordered map.
+//! the lists of commits that a replica applies. `PlainStore` keeps each table in an ordered map, and
+//! its identifiers in a list.
 //!
 //! Promised of every store, while it is whole: what it finds, reads, counts and lists agrees with
 //! one list of tables, each row of which has a value of each column's kind, and a change makes of

@@ -1,4 +1,4 @@
-//! A store that keeps each table in an ordered map.
+//! A store that keeps each table in an ordered map, and its identifiers in a list.
 
 ghost use Rattle.std.specs.Prelude.{◌≡◌, [], true, IfOk, MatchOption};
 ghost use Rattle.rows.specs.Shape.{shape_of};
@@ -13,10 +13,11 @@ use rows::{Commit, Entry, RowId, Schema, Value, laws};
 use std::alloc::{AllocError, Global};
 use std::marker::Model;
 
-/// A store that keeps the rows of each table in an ordered map.
+/// A store that keeps the rows of each table in an ordered map, and their identifiers in a list.
 ///
 /// Contracts see its tables, and whether it is whole. It changes a row in place, and copies neither
-/// rows nor tables.
+/// rows nor tables. A row that is put in or taken out moves the identifiers on its shorter side:
+/// none where it is the greatest, and up to half of the table's in the middle.
 #[derive(Debug, Drop)]
 pub struct PlainStore {
     alloc: Global,
@@ -118,8 +119,7 @@ impl Store for PlainStore {
         }
     }
 
-    /// The identifier of the row at a place of the table's order, counted from 0. It walks the
-    /// rows before it: a walk over a whole table by `id_at` takes time of its square.
+    /// The identifier of the row at a place of the table's order, counted from 0, in one step.
     fn id_at(&self, table: u8, i: usize) -> RowId {
         let Some(rows) = self.rows(table) else {
             unreachable!();

@@ -1,23 +1,25 @@
-//! The rows of one table, by identifier.
+//! The rows of one table, by identifier and by place.
 
-ghost use Rattle.std.specs.Prelude.{◌≡◌, ◌<◌, [], length, true, false, Some, OnOk, OnErr};
-ghost use Rattle.std.specs.List.{list_all};
+ghost use Rattle.std.specs.Prelude.{◌≡◌, ◌<◌, [], length, true, false, Some, OnOk, OnErr, nat_lt};
+ghost use Rattle.std.specs.List.{list_all, prefix_len};
+ghost use Rattle.std.specs.List.Sorted.{IsStrictlySortedBy};
 ghost use Rattle.std.specs.Option.{option_map};
 ghost use Rattle.std.specs.Ordering.{nat_cmp};
-ghost use Rattle.std.specs.BTreeMap.{IsOrdered};
 ghost use Rattle.rows.specs.Shape.{is_good};
 ghost use Rattle.rows.specs.Tables.{row_at, is_present, with_row, with_patch, without_row};
 ghost use Rattle.store.specs.Changes.{id_in, IsAboveAllBefore};
 
 use rows::{Kind, Row, Value};
 use std::alloc::{AllocError, Global};
-use std::collections::BTreeMap;
+use std::collections::{BTreeMap, VecDeque};
 use std::marker::Model;
 
 /// The rows of one table. Contracts see them in rising identifier.
 #[derive(Debug, Drop)]
 pub struct TableMap {
     rows: BTreeMap<u64, Row>,
+    /// The identifiers of the rows, rising: the map does not tell which row stands at a place.
+    ids: VecDeque<u64>,
 }
 
 impl Model for TableMap {
@@ -26,7 +28,11 @@ impl Model for TableMap {
 
     ghost Value = { List (ℕ × List ColumnValue) };
 
+    ghost use Rattle.store.specs.Inner.Order.{IsTableMap};
+
     ghost view = { λ t. t.rows.entries };
+
+    ghost invariant = { IsTableMap };
 }
 
 impl TableMap {
@@ -36,6 +42,7 @@ impl TableMap {
     {
         TableMap {
             rows: BTreeMap::new(alloc),
+            ids: VecDeque::new(alloc),
         }
     }
 
@@ -63,21 +70,29 @@ impl TableMap {
         }
     }
 
-    /// The identifier of the row at a place of the order. It walks the rows before it.
+    /// The identifier of the row at a place of the order, in one step.
     pub fn id_at(&self, i: usize) -> u64
         requires { i < length self.now }
         ensures value { Some result ≡ id_in self.now i }
         ensures rises { IsAboveAllBefore self.now i result }
     {
-        nth_id(&self.rows, i)
+        self.ids[i]
     }
 
-    /// Puts a row in. Fails only when out of memory, and then nothing has changed.
+    /// Puts a row in. Fails only when out of memory, and then nothing has changed. Besides the
+    /// row's own place, the identifiers on the shorter side of it move: none for the greatest yet.
     pub fn insert(&mut self, row: u64, values: Row) -> Result<(), AllocError>
         ensures ok { OnOk result (self.new ≡ with_row self.old row values) }
         ensures err { OnErr result (self.new ≡ self.old) }
     {
-        self.rows.insert(row, values)?;
+        self.ids.reserve(1)?;
+        if self.rows.insert(row, values)?.is_some() {
+            return Ok(());
+        }
+        let index = index_of(&self.ids, row);
+        if self.ids.insert(index, row).is_err() {
+            unreachable!();
+        }
         Ok(())
     }
 
@@ -97,24 +112,26 @@ impl TableMap {
         }
     }
 
-    /// Takes a row out, and answers whether it was there; where it was not, nothing changes.
+    /// Takes a row out, and answers whether it was there; where it was not, nothing changes. The
+    /// identifiers on the shorter side of it move.
     pub fn remove(&mut self, row: u64) -> bool
         ensures rows { self.new ≡ without_row self.old row }
         ensures found { result ≡ is_present self.old row }
         ensures kept { result ≡ false → self.new ≡ self.old }
     {
-        self.rows.remove(&row).is_some()
+        if self.rows.remove(&row).is_none() {
+            return false;
+        }
+        let index = index_of(&self.ids, row);
+        self.ids.remove(index);
+        true
     }
 }
 
-/// The identifier at a place of a map's order.
-fn nth_id(rows: &BTreeMap<u64, Row>, i: usize) -> u64
-    requires { i < length rows.now.entries }
-    ensures value { Some result ≡ id_in rows.now.entries i }
-    ensures ordered { IsOrdered nat_cmp rows.now }
+/// The index of an identifier among those that rise: how many of them are below it.
+fn index_of(ids: &VecDeque<u64>, row: u64) -> usize
+    requires { IsStrictlySortedBy nat_cmp ids.now.items }
+    ensures { result ≡ prefix_len (λ id. nat_lt id row) ids.now.items }
 {
-    match rows.keys().nth(i) {
-        Some(id) => *id,
-        None => unreachable!(),
-    }
+    ids.partition_point(|id| *id < row)
 }

@@ -1,12 +1,12 @@
 -- Streams with one more commit: its frames go behind those of its worker.
-use Rattle.std.proofs.Common.{◌≡◌, ◌≢◌, ℕ, zero, suc, ◌+◌, ◌<◌, ◌≤◌, ◌==◌, Bool, true, false, cond, List, [], ◌∷◌, ◌++◌, length, get_or}
+use Rattle.std.proofs.Common.{◌≡◌, ◌≢◌, ℕ, zero, suc, ◌+◌, ◌<◌, ◌==◌, Bool, true, false, cond, List, [], ◌∷◌, ◌++◌, length}
 use Rattle.std.proofs.Common.{refl, sym, ap, ◌∙◌, append_assoc, append-nil, length-append, inl, inr, arith}
 use Rattle.std.specs.List.{slice_set}
 use Rattle.std.proofs.lemmas.Bool.{eq-eqb, ne_eqb, cases_eq}
 use Rattle.rows.specs.declared.commit.Commit.{Commit}
 use Rattle.update_log.specs.declared.frame.Frame.{Frame}
 use Rattle.update_log.specs.Frames.{frames_of}
-use Rattle.update_log.specs.Streams.{AreStreamsOf, stream_at, stream_from, stream_of}
+use Rattle.update_log.specs.Streams.{AreStreamsOf, stream_at, stream_from, stream_of, next_frames, extended}
 
 -- the frames that a commit adds to the stream of a worker
 abbrev added : ℕ → Commit → ℕ → ℕ → List Frame
@@ -46,24 +46,10 @@ set-other (first ∷ streams) zero (suc other) now h = refl
 set-other (first ∷ streams) (suc worker) zero now h = refl
 set-other (first ∷ streams) (suc worker) (suc other) now h = set-other streams worker other now (λ e. h (ap suc e))
 
--- the stream of a worker that is there, as it is read
-pub stream-read : (streams : List (List Frame)) (worker : ℕ) (stream : List Frame) → worker < length streams
-    → stream ≡ get_or streams worker stream → stream_at streams worker ≡ stream
-stream-read [] worker stream h e = absurd (omega arith)
-stream-read (first ∷ streams) zero stream h e = sym e
-stream-read (first ∷ streams) (suc worker) stream h e = stream-read streams worker stream (omega arith) e
-
--- and of one that is not
-pub stream-past : (streams : List (List Frame)) (worker : ℕ) → length streams ≤ worker → stream_at streams worker ≡ []
-stream-past [] worker h = refl
-stream-past (first ∷ streams) zero h = absurd (omega arith)
-stream-past (first ∷ streams) (suc worker) h = stream-past streams worker (omega arith)
-
-pub streams-push : (streams : List (List Frame)) (commits : List Commit) (commit : Commit) (was now : List Frame) (number : ℕ)
-    → commit.worker < length streams → was ≡ get_or streams commit.worker was → now ≡ was ++ frames_of commit number (length was)
-    → AreStreamsOf streams commits → number ≡ length commits + 1
-    → AreStreamsOf (slice_set streams commit.worker now) (commits ++ commit ∷ [])
-streams-push streams commits commit was now number there is_was now_is are numbered = record { each = each }
+pub streams-extended : (streams : List (List Frame)) (commits : List Commit) (commit : Commit) (number : ℕ)
+    → commit.worker < length streams → AreStreamsOf streams commits → number ≡ length commits + 1
+    → AreStreamsOf (extended streams (next_frames streams commit number)) (commits ++ commit ∷ [])
+streams-extended streams commits commit number there are numbered = record { each = each }
   where
     pushed : (worker : ℕ)
         → stream_of (commits ++ commit ∷ []) worker ≡ stream_of commits worker
@@ -75,25 +61,27 @@ streams-push streams commits commit was now number there is_was now_is are numbe
         ∙ ap (λ (n : ℕ). stream_of commits worker ++ added worker commit n (0 + length (stream_of commits worker))) next
         ∙ ap (λ (n : ℕ). stream_of commits worker ++ added worker commit number n) seq
 
-    each : (worker : ℕ) → stream_at (slice_set streams commit.worker now) worker ≡ stream_of (commits ++ commit ∷ []) worker
-    each worker = elim (cases_eq worker commit.worker) [
-      | inl e ↦
-          let ours : (commit.worker == worker) ≡ true = eq-eqb commit.worker worker (sym e) in
-          let before : was ≡ stream_of commits worker =
-          sym (stream-read streams commit.worker was there is_was) ∙ are.each commit.worker ∙ ap (stream_of commits) (sym e) in
-          ap (stream_at (slice_set streams commit.worker now)) e
-          ∙ set-same streams commit.worker now there
-          ∙ now_is
-          ∙ ap (λ (stream : List Frame). stream ++ frames_of commit number (length stream)) before
-          ∙ ap (λ (b : Bool). stream_of commits worker ++ cond b (frames_of commit number (length (stream_of commits worker))) [])
-          (sym ours)
-          ∙ sym (pushed worker)
-      | inr other ↦
-          let theirs : (commit.worker == worker) ≡ false = ne_eqb commit.worker worker (λ e. other (sym e)) in
-          set-other streams commit.worker worker now other
-          ∙ are.each worker
-          ∙ sym (append-nil (stream_of commits worker))
-          ∙ ap (λ (b : Bool). stream_of commits worker ++ cond b (frames_of commit number (length (stream_of commits worker))) [])
-          (sym theirs)
-          ∙ sym (pushed worker)
-    ]
+    each : (worker : ℕ)
+        → stream_at (extended streams (next_frames streams commit number)) worker ≡ stream_of (commits ++ commit ∷ []) worker
+    each worker =
+        let was = stream_at streams commit.worker in
+        let now = was ++ frames_of commit number (length was) in
+        elim (cases_eq worker commit.worker) [
+          | inl e ↦
+              let ours : (commit.worker == worker) ≡ true = eq-eqb commit.worker worker (sym e) in
+              let before : was ≡ stream_of commits worker = are.each commit.worker ∙ ap (stream_of commits) (sym e) in
+              ap (stream_at (slice_set streams commit.worker now)) e
+              ∙ set-same streams commit.worker now there
+              ∙ ap (λ (stream : List Frame). stream ++ frames_of commit number (length stream)) before
+              ∙ ap (λ (b : Bool). stream_of commits worker ++ cond b (frames_of commit number (length (stream_of commits worker))) [])
+              (sym ours)
+              ∙ sym (pushed worker)
+          | inr other ↦
+              let theirs : (commit.worker == worker) ≡ false = ne_eqb commit.worker worker (λ e. other (sym e)) in
+              set-other streams commit.worker worker now other
+              ∙ are.each worker
+              ∙ sym (append-nil (stream_of commits worker))
+              ∙ ap (λ (b : Bool). stream_of commits worker ++ cond b (frames_of commit number (length (stream_of commits worker))) [])
+              (sym theirs)
+              ∙ sym (pushed worker)
+        ]

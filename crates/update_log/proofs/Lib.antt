@@ -1,5 +1,6 @@
 pub mod Elements
 pub mod Uniqueness
 pub mod Framing
+pub mod Keeping
 pub mod Joining
 pub mod Splitting

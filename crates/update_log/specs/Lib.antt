@@ -1,5 +1,6 @@
 pub mod Parts
 pub mod Frames
+pub mod State
 pub mod Streams
 pub mod Laws
 pub mod Worked

@@ -1,8 +1,10 @@
 -- A worker's stream: the frames of its commits, joined in their order, each with its index as its seq.
-use Rattle.std.specs.Prelude.{◌≡◌, ℕ, ◌+◌, List, [], ◌∷◌, ◌++◌, length, take, Option, None, Some, slice_get, ◌==◌, if◌then◌else◌}
+use Rattle.std.specs.Prelude.{◌≡◌, ℕ, ◌+◌, ◌≤◌, List, [], ◌∷◌, ◌++◌, length, take, Option, None, Some, slice_get, slice_set, unwrap_or}
+use Rattle.std.specs.Prelude.{◌==◌, if◌then◌else◌}
 use Rattle.rows.specs.declared.commit.Commit.{Commit}
 use Rattle.update_log.specs.declared.frame.Frame.{Frame}
 use Rattle.update_log.specs.Frames.{frames_of}
+use Rattle.update_log.specs.State.{State, Next}
 
 -- the worker's frames of commits that stand behind `before` others, the first frame with the seq `first`
 abbrev pub stream_from : ℕ → ℕ → ℕ → List Commit → List Frame
@@ -30,3 +32,16 @@ stream_at streams worker = or_none (slice_get streams worker)
 -- these are the streams of the commits, by worker
 pub record AreStreamsOf (streams : List (List Frame)) (commits : List Commit) : Type 0 where
   pub each : (worker : ℕ) → stream_at streams worker ≡ stream_of commits worker
+
+-- the frames that a commit of this number adds to its worker's stream
+abbrev pub next_frames : List (List Frame) → Commit → ℕ → Next
+next_frames streams commit number =
+    record { worker = commit.worker; frames = frames_of commit number (length (stream_at streams commit.worker)) }
+
+-- the streams with these frames at the end of their worker's
+abbrev pub extended : List (List Frame) → Next → List (List Frame)
+extended streams next = slice_set streams next.worker (stream_at streams next.worker ++ next.frames)
+
+-- these frames can be added without memory
+abbrev pub HasRoom : State → Next → Type 0
+HasRoom state next = length next.frames ≤ unwrap_or (slice_get state.rooms next.worker) 0

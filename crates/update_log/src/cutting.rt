@@ -40,6 +40,23 @@ pub fn cut(
     )
 }
 
+/// How many frames a commit of these entries is cut into, so that a caller can tell whether all have
+/// a seq. Takes no memory.
+pub fn part_count(entries: &[Entry]) -> usize
+    requires { AllByRecursion HasSpelling entries.now }
+    ensures { result ≡ length (parts_of entries.now) }
+{
+    let mut rest = entries;
+    // There are no more parts than entries.
+    for count in 0..entries.len() {
+        if rest.is_empty() {
+            return count;
+        }
+        rest = rest.split_at(part_len(rest)).1;
+    }
+    entries.len()
+}
+
 /// The frames of the entries of a worker's commit.
 fn cut_entries(
     alloc: Global,

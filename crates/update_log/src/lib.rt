@@ -8,19 +8,22 @@
 //!
 //! Promised: `cut` answers the frames of a commit, all of which a datagram spells. `Streams` are
 //! the streams of a list of commits that grows by one commit at a time: `extend` adds a commit's
-//! frames or changes nothing, `count` and `frame` take no memory. `one_cut` says that there is
-//! exactly one way to cut. It stands on `rows` for entries and commits.
+//! frames or changes no stream; in two steps, `reserve` takes all the memory for that and `add`
+//! needs none. `count` and `frame` take no memory. `one_cut` says that there is exactly one way to
+//! cut. It stands on `rows` for entries and commits.
 #![tactic(auto)]
 
 mod cutting;
 mod frame;
 mod laws;
+mod next_frames;
 mod stream;
 mod streams;
 mod worked;
 
-pub use cutting::cut;
+pub use cutting::{cut, part_count};
 pub use frame::Frame;
 pub use laws::one_cut;
+pub use next_frames::NextFrames;
 pub use streams::Streams;
 pub use worked::worked_cuts;

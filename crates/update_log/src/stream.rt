@@ -1,6 +1,7 @@
 //! The stream of one worker.
 
-ghost use Rattle.std.specs.Prelude.{◌≡◌, ◌++◌, [], List, length, slice_get, IfSome, OnOk, OnErr};
+ghost use Rattle.std.specs.Prelude.{◌≡◌, ◌+◌, ◌≤◌, ◌++◌, [], List, length, vec_len, vec_capacity, slice_get, IfOk, IfSome};
+ghost use Rattle.std.specs.List.{AllByRecursion};
 ghost use Rattle.std.specs.Option.{option_map};
 ghost use Rattle.update_log.specs.declared.frame.Frame.{Frame as FrameOf};
 ghost use Rattle.update_log.specs.Frames.{IsCuttable, IsSendable, frames_of};
@@ -14,21 +15,21 @@ use std::marker::Model;
 
 /// The frames of one worker's commits, in order: the frame at an index has it as its seq.
 ///
-/// Contracts see the list of the frames.
+/// Contracts see the list of the frames, and how many more it can take without memory.
 #[derive(Debug, Drop)]
 pub struct Stream {
     frames: Vec<Frame>,
 }
 
 impl Model for Stream {
-    ghost use Rattle.std.specs.Prelude.{List};
+    ghost use Rattle.std.specs.Prelude.{◌-◌, vec_len, vec_capacity};
     ghost use Rattle.std.specs.List.{AllByRecursion};
-    ghost use Rattle.update_log.specs.declared.frame.Frame.{Frame as FrameOf};
     ghost use Rattle.update_log.specs.Frames.{IsSendable};
+    ghost use Rattle.update_log.specs.Inner.Kept.{Kept};
 
-    ghost Value = { List FrameOf };
+    ghost Value = { Kept };
 
-    ghost view = { λ s. s.frames.items };
+    ghost view = { λ s. record { frames = s.frames.items; room = vec_capacity s.frames - vec_len s.frames } };
 
     ghost invariant = { λ s. AllByRecursion IsSendable s.frames.items };
 }
@@ -36,7 +37,7 @@ impl Model for Stream {
 impl Stream {
     /// The stream without frames. Takes no memory.
     pub fn new(alloc: Global) -> Stream
-        ensures { result ≡ [] }
+        ensures { result.frames ≡ [] }
     {
         Stream {
             frames: Vec::new(alloc),
@@ -45,14 +46,14 @@ impl Stream {
 
     /// How many frames there are.
     pub fn len(&self) -> u64
-        ensures { result ≡ length self.now }
+        ensures { result ≡ length self.now.frames }
     {
         self.frames.len() as u64
     }
 
     /// The frame of that seq, where the stream has it. Takes no memory.
     pub fn frame(&self, seq: u64) -> Option<&Frame>
-        ensures found { option_map (λ frame. frame.now) result ≡ slice_get self.now seq }
+        ensures found { option_map (λ frame. frame.now) result ≡ slice_get self.now.frames seq }
         ensures sendable { IfSome result (λ frame. IsSendable frame.now) }
     {
         self.frames.as_slice().get(seq as usize)
@@ -61,20 +62,37 @@ impl Stream {
     /// How many frames are of commits up to that version, where these stand before all others.
     /// Found by halving; takes no memory.
     pub fn count(&self, version: u64) -> u64
-        ensures { (front back : List FrameOf) → IsSplitAt version self.now front back → result ≡ length front }
+        ensures { (front back : List FrameOf) → IsSplitAt version self.now.frames front back → result ≡ length front }
     {
         count_upto(self.frames.as_slice(), version) as u64
     }
 
-    /// Adds the frames of a commit of this number. Fails only where it is out of memory, and then
-    /// nothing has changed.
-    pub fn extend(&mut self, alloc: Global, commit: &Commit, number: u64) -> Result<(), AllocError>
-        requires { IsCuttable commit.now number (length self.old) }
-        ensures ok { OnOk result (self.new ≡ self.old ++ frames_of commit.now number (length self.old)) }
-        ensures err { OnErr result (self.new ≡ self.old) }
+    /// The frames of a commit of this number, which the stream then has room for. Fails only where
+    /// it is out of memory. No frame is added.
+    pub fn reserve(
+        &mut self,
+        alloc: Global,
+        commit: &Commit,
+        number: u64,
+    ) -> Result<Vec<Frame>, AllocError>
+        requires { IsCuttable commit.now number (length self.old.frames) }
+        ensures frames { IfOk result (λ frames. frames.items ≡ frames_of commit.now number (length self.old.frames)) }
+        ensures sendable { IfOk result (λ frames. AllByRecursion IsSendable frames.items) }
+        ensures room { IfOk result (λ frames. length frames.items ≤ self.new.room) }
+        ensures same { self.new.frames ≡ self.old.frames }
     {
         let frames = cut(alloc, commit, number, self.len())?;
-        append(&mut self.frames, frames)
+        self.frames.reserve(frames.len())?;
+        Ok(frames)
+    }
+
+    /// Adds frames that there is room for. Takes no memory.
+    pub fn add(&mut self, more: Vec<Frame>)
+        requires sendable { AllByRecursion IsSendable more.items }
+        requires room { length more.items ≤ self.old.room }
+        ensures { self.new.frames ≡ self.old.frames ++ more.items }
+    {
+        append(&mut self.frames, more);
     }
 }
 
@@ -85,12 +103,14 @@ fn count_upto(frames: &[Frame], version: u64) -> usize
     frames.partition_point(|frame| frame.commit <= version)
 }
 
-/// Moves more frames behind these. Fails only where it is out of memory, and then nothing has
-/// changed.
-fn append(frames: &mut Vec<Frame>, more: Vec<Frame>) -> Result<(), AllocError>
-    ensures ok { OnOk result (frames.new.items ≡ frames.old.items ++ more.items) }
-    ensures err { OnErr result (frames.new.items ≡ frames.old.items) }
+/// Moves more frames behind these, which have room for them.
+fn append(frames: &mut Vec<Frame>, more: Vec<Frame>)
+    requires { vec_len frames.old + vec_len more ≤ vec_capacity frames.old }
+    ensures { frames.new.items ≡ frames.old.items ++ more.items }
 {
     let mut more = more;
-    frames.append(&mut more)
+    match frames.append(&mut more) {
+        Ok(()) => {}
+        Err(_) => unreachable!(),
+    }
 }

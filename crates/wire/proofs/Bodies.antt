@@ -8,9 +8,9 @@ use Rattle.byteorder.specs.Endian.{big_number}
 use Rattle.rows.specs.declared.entry.Entry.{Entry}
 use Rattle.rows.specs.declared.limits.TheConstants.{WORKERS_MAX, REPLICAS_MAX}
 use Rattle.wire.specs.declared.datagram.Datagram.{Datagram}
-use Rattle.wire.specs.declared.datagram.Datagram.TheVariants.{Frame, Ask, Head}
+use Rattle.wire.specs.declared.datagram.Datagram.TheVariants.{Frame, Ask, Head, Want}
 use Rattle.wire.specs.Entries.{entries_filling}
-use Rattle.wire.specs.Reading.{frame_at, ask_at, head_at, counts_at}
+use Rattle.wire.specs.Reading.{frame_at, ask_at, head_at, want_at, counts_at}
 use Rattle.wire.proofs.Passing.{guarded}
 
 -- ---- a Frame
@@ -135,3 +135,35 @@ head_at-only body found e =
     let rest = guarded (refuses_head (get_or body 0 0) (get_or body 25 0) (length body)) (Some (head_of body)) found long.1 in
     let facts = takes_head_only (get_or body 0 0) (get_or body 25 0) (length body) rest.0 in
     (record { long = ltb-false _ _ long.0; replica = facts.0; some = facts.1; few = facts.2; whole = facts.3 }, cc)
+
+-- ---- a Want
+
+pub record IsWantAt (body : List ℕ) : Type 0 where
+  pub whole : length body ≡ 10
+  pub replica : get_or body 0 0 < REPLICAS_MAX
+  pub worker : get_or body 1 0 < WORKERS_MAX
+
+abbrev pub want_of : List ℕ → Datagram
+want_of body = Want (get_or body 0 0) (get_or body 1 0) (big_number 8 (drop 2 body))
+
+abbrev refuses_want : ℕ → ℕ → ℕ → Bool
+refuses_want size replica worker = not (eqb size 10) || not (ltb replica REPLICAS_MAX) || not (ltb worker WORKERS_MAX)
+
+takes_want : (size replica worker : ℕ) → size ≡ 10 → replica < REPLICAS_MAX → worker < WORKERS_MAX
+    → refuses_want size replica worker ≡ false
+takes_want size replica worker whole below within = grind (arith, nat_tests)
+
+takes_want_only : (size replica worker : ℕ) → refuses_want size replica worker ≡ false → (size ≡ 10) × (replica < REPLICAS_MAX)
+    × (worker < WORKERS_MAX)
+takes_want_only size replica worker e = (grind (arith, nat_tests), grind (arith, nat_tests), grind (arith, nat_tests))
+
+pub want_at-is : (body : List ℕ) → IsWantAt body → want_at body ≡ Some (want_of body)
+want_at-is body h =
+    cond-false (refuses_want (length body) (get_or body 0 0) (get_or body 1 0)) None (Some (want_of body))
+    (takes_want _ _ _ h.whole h.replica h.worker)
+
+pub want_at-only : (body : List ℕ) (found : Datagram) → want_at body ≡ Some found → IsWantAt body × (found ≡ want_of body)
+want_at-only body found e =
+    let tested = guarded (refuses_want (length body) (get_or body 0 0) (get_or body 1 0)) (Some (want_of body)) found e in
+    let facts = takes_want_only (length body) (get_or body 0 0) (get_or body 1 0) tested.0 in
+    (record { whole = facts.0; replica = facts.1; worker = facts.2 }, cc)

@@ -7,3 +7,4 @@ pub mod Bodies
 pub mod ReadIsSpelled
 pub mod SpelledIsRead
 pub mod OneSpelling
+pub mod Fronts

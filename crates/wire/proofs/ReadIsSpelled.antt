@@ -13,11 +13,11 @@ use Rattle.rows.specs.Laws.{FoundIsSpelled}
 use Rattle.wire.specs.declared.datagram.Datagram.{Datagram}
 use Rattle.wire.specs.declared.faults.WireFault.{WireFault}
 use Rattle.wire.specs.declared.faults.WireFault.TheVariants.{Short, Magic, Version, Kind, Length, Body}
-use Rattle.wire.specs.Spelling.{datagram_of, frame_head, ask_body, head_head, spelling, HasSpelling, flag}
-use Rattle.wire.specs.Reading.{reading, body_at, frame_at, ask_at, head_at, counts_at}
+use Rattle.wire.specs.Spelling.{datagram_of, frame_head, ask_body, head_head, want_body, spelling, HasSpelling, flag}
+use Rattle.wire.specs.Reading.{reading, body_at, frame_at, ask_at, head_at, want_at, counts_at}
 use Rattle.wire.proofs.Passing.{passed}
 use Rattle.rows.proofs.Bytes.{AreBytes-drop, cut_1, cut_2, cut_8, number_fits}
-use Rattle.wire.proofs.Bodies.{frame_of, frame_at-only, ask_of, ask_at-only, head_of, head_at-only}
+use Rattle.wire.proofs.Bodies.{frame_of, frame_at-only, ask_of, ask_at-only, head_of, head_at-only, want_of, want_at-only}
 use Rattle.wire.proofs.Filling.{filling-spelled, filling-length}
 use Rattle.wire.proofs.Counting.{counts_at-spelled, length-counts_at}
 
@@ -134,6 +134,27 @@ head_at-spelled body found fits e =
     } in
     subst (IsSpelledBody 3 body) (sym only.1) made
 
+want_at-spelled : (body : List ℕ) (found : Datagram) → AreBytes body → want_at body ≡ Some found → IsSpelledBody 4 body found
+want_at-spelled body found fits e =
+    let only = want_at-only body found e in
+    let tested = only.0 in
+    let long = tested.whole in
+    let replica = get_or body 0 0 in
+    let worker = get_or body 1 0 in
+    let from = big_number 8 (drop 2 body) in
+    let none : drop 10 body ≡ [] = nil_from_length (drop 10 body) (omega (arith, length-drop 10 body)) in
+    let at_2 : big_bytes 8 from ++ [] ≡ drop 2 body =
+    ap (λ (t : List ℕ). big_bytes 8 from ++ t) (sym none) ∙ cut_8 2 body (omega arith) fits in
+    let at_1 : worker ∷ drop 2 body ≡ drop 1 body = cut_1 1 body (omega arith) in
+    let at_0 : replica ∷ drop 1 body ≡ body = cut_1 0 body (omega arith) in
+    let parts : want_body replica worker from ≡ body =
+    ap (λ (t : List ℕ). replica ∷ worker ∷ t) at_2 ∙ ap (λ (t : List ℕ). replica ∷ t) at_1 ∙ at_0 in
+    let made : IsSpelledBody 4 body (want_of body) = record {
+      spelled = (tested.replica, tested.worker, number_fits 8 2 body fits);
+      whole = ap (datagram_of 4) (sym parts);
+    } in
+    subst (IsSpelledBody 4 body) (sym only.1) made
+
 -- ---- the six bytes in front
 
 ok_or_ok : (o : Option Datagram) (y : Datagram) → ok_or o Body ≡ Ok y → o ≡ Some y
@@ -141,9 +162,9 @@ ok_or_ok None y e = absurd cc
 ok_or_ok (Some x) y e = cc
 
 abbrev unknown : ℕ → Bool
-unknown kind = not (eqb kind 1) && not (eqb kind 2) && not (eqb kind 3)
+unknown kind = not (eqb kind 1) && not (eqb kind 2) && not (eqb kind 3) && not (eqb kind 4)
 
-known_kind : (n : ℕ) → unknown (suc (suc (suc (suc n)))) ≡ false → ⊥
+known_kind : (n : ℕ) → unknown (suc (suc (suc (suc (suc n))))) ≡ false → ⊥
 known_kind n known = grind (arith, nat_tests)
 
 body_at-spelled : (law : FoundIsSpelled) (kind : ℕ) (body : List ℕ) (found : Datagram) → AreBytes body → 6 + length body ≤ DATAGRAM_MAX
@@ -152,7 +173,8 @@ body_at-spelled law zero body found fits few known e = absurd cc
 body_at-spelled law (suc zero) body found fits few known e = frame_at-spelled law body found fits few e
 body_at-spelled law (suc (suc zero)) body found fits few known e = ask_at-spelled body found fits e
 body_at-spelled law (suc (suc (suc zero))) body found fits few known e = head_at-spelled body found fits e
-body_at-spelled law (suc (suc (suc (suc kind)))) body found fits few known e = absurd (known_kind kind known)
+body_at-spelled law (suc (suc (suc (suc zero)))) body found fits few known e = want_at-spelled body found fits e
+body_at-spelled law (suc (suc (suc (suc (suc kind))))) body found fits few known e = absurd (known_kind kind known)
 
 -- what the tests of the front let through
 record IsFront (bytes : List ℕ) : Type 0 where

@@ -13,9 +13,9 @@ use Rattle.wire.specs.declared.datagram.Datagram.{Datagram}
 use Rattle.wire.specs.declared.datagram.Datagram.TheVariants.{Frame, Ask, Head, Want}
 use Rattle.wire.specs.Entries.{entries_filling}
 use Rattle.update_log.specs.Frames.{IsFrame}
-use Rattle.wire.specs.Spelling.{datagram_of, frame_head, ask_body, head_head, IsAsk, spelling, HasSpelling, flag}
-use Rattle.wire.specs.Reading.{reading, body_at, IsRead, frame_at, ask_at, head_at, counts_at}
-use Rattle.wire.proofs.Bodies.{frame_at-is, ask_at-is, head_at-is}
+use Rattle.wire.specs.Spelling.{datagram_of, frame_head, ask_body, head_head, want_body, IsAsk, spelling, HasSpelling, flag}
+use Rattle.wire.specs.Reading.{reading, body_at, frame_at, ask_at, head_at, want_at, counts_at}
+use Rattle.wire.proofs.Bodies.{frame_at-is, ask_at-is, head_at-is, want_at-is}
 use Rattle.wire.proofs.Filling.{filling-again}
 use Rattle.wire.proofs.Counting.{counts_at-again}
 use Rattle.wire.proofs.Lengths.{entries_few, length-counts, spelling_few}
@@ -84,6 +84,14 @@ head_at-again replica boot request version counts fits =
     ∙ ap (λ (n : ℕ). Some (Head replica boot request n (counts_at (length counts) joined))) version_is
     ∙ ap (λ (t : List ℕ). Some (Head replica boot request version t)) counts_are
 
+want_at-again : (replica worker from : ℕ) → HasSpelling (Want replica worker from)
+    → want_at (want_body replica worker from) ≡ Some (Want replica worker from)
+want_at-again replica worker from fits =
+    let body : List ℕ = want_body replica worker from in
+    let from_is : big_number 8 (drop 2 body) ≡ from = big_number-reads_back 8 from [] fits.2 in
+    want_at-is body (record { whole = refl; replica = fits.0; worker = fits.1 })
+    ∙ ap (λ (n : ℕ). Some (Want replica worker n)) from_is
+
 -- ---- the six bytes in front
 
 module _ (kind : ℕ) (body : List ℕ) where
@@ -100,24 +108,24 @@ module _ (kind : ℕ) (body : List ℕ) where
       big_number-reads_back 2 (6 + length body) body (omega arith) in
       or_from _ _ (not_from_true _ (eq-eqb _ _ (total ∙ omega arith))) (le-ltb _ _ (omega arith))
 
-  reading-front : (found : Datagram) → (not (eqb kind 1) && not (eqb kind 2) && not (eqb kind 3)) ≡ false → 6 + length body ≤ DATAGRAM_MAX
-      → body_at kind body ≡ Some found → reading (datagram_of kind body) ≡ Ok found
+  reading-front : (found : Datagram) → (not (eqb kind 1) && not (eqb kind 2) && not (eqb kind 3) && not (eqb kind 4)) ≡ false
+      → 6 + length body ≤ DATAGRAM_MAX → body_at kind body ≡ Some found → reading (datagram_of kind body) ≡ Ok found
   unfolding refuses_total
   reading-front found known few is =
       let long : ltb (length (datagram_of kind body)) 6 ≡ false = le-ltb _ _ (omega arith) in
       let whole = takes_total few in
       rw (long, known, whole, is) refl
 
-pub reading-again : (law : SpelledIsFound) (datagram : Datagram) → HasSpelling datagram → IsRead datagram
-    → reading (spelling datagram) ≡ Ok datagram
-reading-again law (Frame worker seq commit last entries) fits is_read =
+pub reading-again : (law : SpelledIsFound) (datagram : Datagram) → HasSpelling datagram → reading (spelling datagram) ≡ Ok datagram
+reading-again law (Frame worker seq commit last entries) fits =
     let few = spelling_few (Frame worker seq commit last entries) fits in
     reading-front 1 (frame_head worker seq commit last (length entries) ++ flat_map entry_spelling entries)
     (Frame worker seq commit last entries) refl (omega arith) (frame_at-again law worker seq commit last entries fits)
-reading-again law (Ask replica boot request) fits is_read =
+reading-again law (Ask replica boot request) fits =
     reading-front 2 (ask_body replica boot request) (Ask replica boot request) refl (omega arith) (ask_at-again replica boot request fits)
-reading-again law (Head replica boot request version counts) fits is_read =
+reading-again law (Head replica boot request version counts) fits =
     let few = spelling_few (Head replica boot request version counts) fits in
     reading-front 3 (head_head replica boot request version (length counts) ++ flat_map (big_bytes 8) counts)
     (Head replica boot request version counts) refl (omega arith) (head_at-again replica boot request version counts fits)
-reading-again law (Want replica worker from) fits is_read = absurd is_read
+reading-again law (Want replica worker from) fits =
+    reading-front 4 (want_body replica worker from) (Want replica worker from) refl (omega arith) (want_at-again replica worker from fits)

@@ -1,4 +1,4 @@
--- What bytes read as: a datagram, or the first fault. A Want is spelled and not read.
+-- What bytes read as: a datagram, or the first fault.
 use Rattle.std.specs.Prelude.{ℕ, zero, suc, ◌+◌, ◌*◌, List, [], ◌∷◌, length, drop, Option, None, Some, Result, Err, slice_index, nat_lt}
 use Rattle.std.specs.Prelude.{◌==◌, ◌||◌, ◌&&◌, not, if◌then◌else◌}
 use Rattle.std.specs.Option.{option_map, ok_or}
@@ -9,7 +9,7 @@ use Rattle.wire.specs.declared.datagram.Datagram.TheVariants.{Frame, Ask, Head, 
 use Rattle.wire.specs.declared.faults.WireFault.{WireFault}
 use Rattle.wire.specs.declared.faults.WireFault.TheVariants.{Short, Magic, Version, Kind, Length, Body}
 use Rattle.wire.specs.Entries.{entries_filling}
-use Rattle.wire.specs.Spelling.{frame_kind, ask_kind, head_kind}
+use Rattle.wire.specs.Spelling.{frame_kind, ask_kind, head_kind, want_kind}
 
 -- a Frame's body: the worker is below 16, the commit's number not 0, the flag 0 or 1, the count not 0, and exactly
 -- that many entries fill the rest
@@ -42,9 +42,19 @@ head_at body =
     Some (Head (slice_index body 0) (big_number 8 (drop 1 body)) (big_number 8 (drop 9 body)) (big_number 8 (drop 17 body))
     (counts_at (slice_index body 25) (drop 26 body)))
 
+-- a Want's body: 10 bytes, the replica and the worker below 16
+abbrev pub want_at : List ℕ → Option Datagram
+want_at body =
+    if not (length body == 10) || not (nat_lt (slice_index body 0) replicas_max) || not (nat_lt (slice_index body 1) workers_max)
+    then None else
+    Some (Want (slice_index body 0) (slice_index body 1) (big_number 8 (drop 2 body)))
+
 -- the body of a datagram of this kind
 abbrev pub body_at : ℕ → List ℕ → Option Datagram
-body_at kind body = if kind == frame_kind then frame_at body else if kind == ask_kind then ask_at body else head_at body
+body_at kind body =
+    if kind == frame_kind then frame_at body else
+    if kind == ask_kind then ask_at body else
+    if kind == head_kind then head_at body else want_at body
 
 abbrev pub reading : List ℕ → Result Datagram WireFault
 reading bytes =
@@ -52,13 +62,6 @@ reading bytes =
     if not (big_number 2 bytes == 0x4244) then Err Magic else
     if not (slice_index bytes 2 == 1) then Err Version else
     if not (slice_index bytes 3 == frame_kind) && not (slice_index bytes 3 == ask_kind) && not (slice_index bytes 3 == head_kind)
-    then Err Kind else
+    && not (slice_index bytes 3 == want_kind) then Err Kind else
     if not (big_number 2 (drop 4 bytes) == length bytes) || nat_lt datagram_max (length bytes) then Err Length else
     ok_or (body_at (slice_index bytes 3) (drop 6 bytes)) Body
-
--- which datagrams are read: a Want alone is not
-abbrev pub IsRead : Datagram → Type 0
-IsRead (Frame worker seq commit last entries) = Unit {0}
-IsRead (Ask replica boot request) = Unit {0}
-IsRead (Head replica boot request version counts) = Unit {0}
-IsRead (Want replica worker from) = ⊥

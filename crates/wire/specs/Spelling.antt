@@ -5,7 +5,6 @@
 use Rattle.std.specs.Prelude.{ℕ, ◌+◌, ◌^◌, ◌<◌, ◌≤◌, List, [], ◌∷◌, ◌++◌, length, Bool, true, false}
 use Rattle.std.specs.List.{flat_map, AllByRecursion}
 use Rattle.byteorder.specs.Endian.{big_bytes}
-use Rattle.rows.specs.declared.entry.Entry.{Entry}
 use Rattle.rows.specs.Limits.{workers_max, replicas_max}
 use Rattle.rows.specs.Spelling.{entry_spelling}
 use Rattle.update_log.specs.declared.frame.Frame as frames

@@ -7,8 +7,8 @@
 //! is small enough for one frame (`Streams.antt`).
 //!
 //! Promised: `read` answers what the bytes read as, lending their parts: what is read is spelled
-//! so, and what is spelled so is read, a Want aside. `write` and `write_frame` write the one
-//! spelling or say that the buffer is too small. None of them takes memory. `one_spelling` says
+//! so, and what is spelled so is read. `write` and `write_frame` write the one spelling or say
+//! that the buffer is too small. None of them takes memory. `one_spelling` says
 //! that spellings tell datagrams apart, and that none is the beginning of another.
 //! It stands on `rows` for entries, on `update_log` for frames and on `byteorder` for numbers.
 #![tactic(auto)]

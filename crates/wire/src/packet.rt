@@ -1,7 +1,7 @@
 //! A spelled datagram that is on its way.
 
 ghost use Rattle.std.specs.Prelude.{◌≡◌, ◌≤◌, length, true, Ok};
-ghost use Rattle.wire.specs.Reading.{reading, IsRead};
+ghost use Rattle.wire.specs.Reading.{reading};
 ghost use Rattle.wire.specs.Spelling.{spelling, HasSpelling, datagram_of_frame, frame_spelling, FrameHasSpelling};
 ghost use Rattle.update_log.specs.Frames.{IsFrame};
 
@@ -36,7 +36,7 @@ impl Packet {
     pub fn of(datagram: &Datagram<'_>) -> Packet
         requires { HasSpelling datagram.now }
         ensures spelled { result ≡ spelling datagram.now }
-        ensures reads_back { IsRead datagram.now → reading result ≡ Ok datagram.now }
+        ensures reads_back { reading result ≡ Ok datagram.now }
     {
         laws::entries_are_read_as_spelled();
         let mut buffer = [0u8; DATAGRAM_MAX];

@@ -1,14 +1,14 @@
 //! Reading a datagram from bytes, with the first fault.
 
-ghost use Rattle.std.specs.Prelude.{◌≡◌, ◌≤◌, ◌*◌, length, Ok, IfOk};
+ghost use Rattle.std.specs.Prelude.{◌≡◌, ◌≤◌, ◌*◌, ◌==◌, ◌&&◌, not, length, Ok, IfOk};
 ghost use Rattle.wire.specs.declared.datagram.Datagram.{Datagram};
-ghost use Rattle.wire.specs.Reading.{reading, IsRead, frame_at, ask_at, head_at, counts_at};
-ghost use Rattle.wire.specs.Spelling.{HasSpelling, spelling};
+ghost use Rattle.wire.specs.Reading.{reading, body_at, frame_at, ask_at, head_at, want_at, counts_at};
+ghost use Rattle.wire.specs.Spelling.{HasSpelling, spelling, frame_kind, ask_kind, head_kind, want_kind};
 
 use crate::counts::Counts;
 use crate::datagram::Datagram;
 use crate::faults::WireFault;
-use crate::kinds::{ASK_KIND, FRAME_KIND, HEAD_KIND};
+use crate::kinds::{ASK_KIND, FRAME_KIND, HEAD_KIND, WANT_KIND};
 use crate::lent_entries::LentEntries;
 use byteorder::{BigEndian, ByteOrder};
 use rows::laws;
@@ -22,15 +22,15 @@ pub const VERSION: u8 = 1;
 
 /// The datagram that the bytes spell, its parts lent by them. Otherwise the first of these
 /// faults: `Short`, fewer than 6 bytes; `Magic`, other first bytes than 42 44; `Version`, another
-/// third byte than 01; `Kind`, a fourth byte other than 01 (Frame), 02 (Ask) and 03 (Head);
-/// `Length`, where the total length in bytes 5 and 6 is not that of the bytes or is above 1200;
-/// and `Body`, where the rest is not as its kind wants it. Takes no memory.
+/// third byte than 01; `Kind`, a fourth byte other than 01 (Frame), 02 (Ask), 03 (Head) and 04
+/// (Want); `Length`, where the total length in bytes 5 and 6 is not that of the bytes or is above
+/// 1200; and `Body`, where the rest is not as its kind wants it. Takes no memory.
 pub fn read(bytes: &[u8]) -> Result<Datagram<'_>, WireFault>
     ensures exact { result ≡ reading bytes.now }
 
     // What is read is spelled so, and what is spelled so is read.
     ensures found { IfOk result (λ datagram. HasSpelling datagram × (bytes.now ≡ spelling datagram)) }
-    ensures only { (datagram : Datagram) → HasSpelling datagram → IsRead datagram → bytes.now ≡ spelling datagram → result ≡ Ok datagram }
+    ensures only { (datagram : Datagram) → HasSpelling datagram → bytes.now ≡ spelling datagram → result ≡ Ok datagram }
 {
     laws::entries_are_read_as_spelled();
     read_datagram(bytes)
@@ -51,19 +51,33 @@ fn read_datagram(bytes: &[u8]) -> Result<Datagram<'_>, WireFault>
         return Err(WireFault::Version);
     }
     let kind = head[3];
-    if kind != FRAME_KIND && kind != ASK_KIND && kind != HEAD_KIND {
+    if is_unknown(kind) {
         return Err(WireFault::Kind);
     }
     let total = BigEndian::read_u16(&head[4..]) as usize;
     if total != bytes.len() || total > DATAGRAM_MAX {
         return Err(WireFault::Length);
     }
-    let found = match kind {
+    read_body(kind, body).ok_or(WireFault::Body)
+}
+
+/// Whether no datagrams are of this kind.
+fn is_unknown(kind: u8) -> bool
+    ensures { result ≡ (not (kind == frame_kind) && not (kind == ask_kind) && not (kind == head_kind) && not (kind == want_kind)) }
+{
+    kind != FRAME_KIND && kind != ASK_KIND && kind != HEAD_KIND && kind != WANT_KIND
+}
+
+/// The datagram of this kind that the body spells.
+fn read_body(kind: u8, body: &[u8]) -> Option<Datagram<'_>>
+    ensures { result ≡ body_at kind body.now }
+{
+    match kind {
         FRAME_KIND => read_frame(body),
         ASK_KIND => read_ask(body),
-        _ => read_head(body),
-    };
-    found.ok_or(WireFault::Body)
+        HEAD_KIND => read_head(body),
+        _ => read_want(body),
+    }
 }
 
 fn read_frame(body: &[u8]) -> Option<Datagram<'_>>
@@ -126,6 +140,19 @@ fn read_head(body: &[u8]) -> Option<Datagram<'_>>
         request: BigEndian::read_u64(&body[9..]),
         version: BigEndian::read_u64(&body[17..]),
         counts: read_counts(workers, rest),
+    })
+}
+
+fn read_want(body: &[u8]) -> Option<Datagram<'_>>
+    ensures { result ≡ want_at body.now }
+{
+    if body.len() != 10 || body[0] >= REPLICAS_MAX || body[1] >= WORKERS_MAX {
+        return None;
+    }
+    Some(Datagram::Want {
+        replica: body[0],
+        worker: body[1],
+        from: BigEndian::read_u64(&body[2..]),
     })
 }
 

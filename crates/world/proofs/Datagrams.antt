@@ -58,7 +58,7 @@ frame-read seq commit small below =
       some = small.some;
       spelled = small.spelled;
       few = omega arith;
-    }) tt
+    })
 
 -- a Head of one worker reads as itself
 pub head-read : (replica boot request version : ℕ) → IsAsk replica boot request → version < 2 ^ 64
@@ -66,7 +66,7 @@ pub head-read : (replica boot request version : ℕ) → IsAsk replica boot requ
     (datagrams.Head replica boot request version (version ∷ []))
 head-read replica boot request version ask below =
     reading-again entry_at-again (datagrams.Head replica boot request version (version ∷ []))
-    (ask, below, record { some = omega arith; few = omega arith; below = (below, tt) }) tt
+    (ask, below, record { some = omega arith; few = omega arith; below = (below, tt) })
 
 byte-below : (k n : ℕ) → byte_at k n < 256
 byte-below zero n = omega arith
@@ -95,11 +95,7 @@ pub ask-read : (replica boot request : ℕ) → replica < REPLICAS_MAX → boot 
 ask-read replica boot request replica_below boot_below =
     ap (λ (bytes : List ℕ). reading (datagram_of 2 ((replica ∷ []) ++ big_bytes 8 boot ++ bytes))) (sym (bytes-kept request))
     ∙ reading-again entry_at-again (datagrams.Ask replica boot (request % 2 ^ 64))
-    (ask-kept replica boot request replica_below boot_below) tt
-
--- a Want is not read
-pub want-read : (replica worker from : ℕ) → reading (spelling (datagrams.Want replica worker from)) ≡ Err Kind
-want-read replica worker from = refl
+    (ask-kept replica boot request replica_below boot_below)
 
 -- ---- whatever the numbers
 
@@ -108,7 +104,7 @@ tested : (P : Result Datagram WireFault → Type 0) (bytes : List ℕ) → ((fau
     → P (ok_or (body_at (slice_index bytes 3) (drop 6 bytes)) Body) → P (reading bytes)
 tested P bytes faults read =
     by (nat_lt (length bytes) 6) (not (big_number 2 bytes == 0x4244)) (not (slice_index bytes 2 == 1))
-    (not (slice_index bytes 3 == 1) && not (slice_index bytes 3 == 2) && not (slice_index bytes 3 == 3))
+    (not (slice_index bytes 3 == 1) && not (slice_index bytes 3 == 2) && not (slice_index bytes 3 == 3) && not (slice_index bytes 3 == 4))
     (not (big_number 2 (drop 4 bytes) == length bytes) || nat_lt DATAGRAM_MAX (length bytes))
   where
     by : (a b c d e : Bool) → P (cond a (Err Short)
@@ -185,3 +181,21 @@ head-reads P faults replica boot request version counts request_below version_be
     by true b = faults Body
     by false true = faults Body
     by false false = read
+
+-- a Want, also one of which no spelling is read, reads as no other datagram
+pub want-reads : (P : Result Datagram WireFault → Type 0) → ((fault : WireFault) → P (Err fault))
+    → ((replica worker from : ℕ) → P (Ok (datagrams.Want replica worker from)))
+    → (replica worker from : ℕ) → P (reading (spelling (datagrams.Want replica worker from)))
+want-reads P faults wants replica worker from = tested P (spelling (datagrams.Want replica worker from)) faults (by refused)
+  where
+    body : List ℕ
+    body = drop 6 (spelling (datagrams.Want replica worker from))
+
+    refused : Bool
+    refused =
+        not (length body == 10) || not (nat_lt (slice_index body 0) REPLICAS_MAX) || not (nat_lt (slice_index body 1) WORKERS_MAX)
+
+    by : (a : Bool)
+        → P (ok_or (cond a None (Some (datagrams.Want (slice_index body 0) (slice_index body 1) (big_number 8 (drop 2 body))))) Body)
+    by true = faults Body
+    by false = wants (slice_index body 0) (slice_index body 1) (big_number 8 (drop 2 body))

@@ -24,7 +24,7 @@ use Rattle.world.specs.Steps.{World, Member, Batch, open_draft, happens, with_me
 use Rattle.world.specs.Steps.{ask_bytes, run_happens, wait_happens, want_bytes}
 use Rattle.world.specs.Allowed.{RunIsCut, RunIsCutAt, MayHappen}
 use Rattle.world.proofs.Lists.{get-set_same}
-use Rattle.world.proofs.Datagrams.{ask-read, ask-kept}
+use Rattle.world.proofs.Datagrams.{ask-read, ask-kept, want-reads}
 use Rattle.world.specs.Inner.Fresh.{IsFreshBatch, IsFreshReading, Fresh}
 use Rattle.world.proofs.Fresh.{Fresh-drafts, Fresh-sent, Follows, alike, Fresh-member}
 use Rattle.world.proofs.Serving.{IsNoReport, Serves, quiet, change-serves, look-serves, commit-serves, abort-serves, flush-serves}
@@ -139,7 +139,10 @@ fetched-serves w i m plans asked_at (Some fetched) h here has = by (lacks_frame 
           plans),
       with_member w (record m { version = fetched.version; batch = None }),
     ))
-    by true = quiet w (events.Run i) _ (Fresh-sent w (want_bytes m 0 (first_missing m.known) ∷ []) h (tt, tt)) tt
+    by true = quiet w (events.Run i) _ (Fresh-sent w (want_bytes m 0 (first_missing m.known) ∷ []) h (
+      want-reads (IsFreshReading w.primary.durable w.members) (λ fault. tt) (λ replica worker from. tt) m.number 0 (first_missing m.known),
+      tt,
+    )) tt
     by false =
         let is = ((h.members_are i m here).batch_is batch has).fetched_is fetched refl in
         record {

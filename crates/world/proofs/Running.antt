@@ -30,6 +30,7 @@ use Rattle.world.specs.Allowed.{ready_member, RunIsCut}
 use Rattle.world.proofs.Lists.{set-same}
 use Rattle.world.specs.Inner.Sound.{Sound, Means, awaits_by}
 use Rattle.world.specs.Standing.{world_of, member_of, batch_of}
+use Rattle.world.proofs.Datagrams.{want-reads}
 use Rattle.world.proofs.Worlds.{member-changes}
 use Rattle.world.proofs.Moves.{Goes, Follows, Sound-replica, Sound-one, Follows-same}
 use Rattle.world.proofs.Replicas.{Follows-goes}
@@ -86,7 +87,9 @@ module _ (shape : Shape) (p : Parts) (i : ℕ) (r : Replica) (sound : Sound shap
       let output = outputs.Waiting 0 seq (record { index = length p.sent; len = length bytes }) in
       let same : with_sent p bytes ≡ with_sent (with_replica p i r) bytes =
       ap (λ (replicas : List Replica). with_sent (record p { replicas = replicas }) bytes) (sym (set-same p.replicas i r here)) in
-      let means : Means p.primary.durable p.replicas (reading bytes) = record { tells = tt; requests = tt } in
+      let means : Means p.primary.durable p.replicas (reading bytes) =
+      want-reads (Means p.primary.durable p.replicas) (λ fault. record { tells = tt; requests = tt })
+      (λ replica worker from. record { tells = tt; requests = tt }) r.number 0 seq in
       (ap (λ (p : Parts). (output, world_of p)) same, subst (Sound shape) same (Sound-one shape p bytes sound means))
 
   run-finishes : (queries : ReplicaBatch) (fetched : Fetched) → CanAnswer r queries fetched

@@ -5,4 +5,5 @@ pub mod Worked
 pub mod Parts
 pub mod Standing
 pub mod Theorem
+pub mod Scripts
 pub mod Inner

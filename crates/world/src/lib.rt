@@ -8,8 +8,8 @@
 //!
 //! `specs/` says what may happen: the world as its users see it (`Steps.antt`) and which outputs
 //! are allowed in it (`Allowed.antt`), the cores as parts and the world that they make
-//! (`Parts.antt`, `Standing.antt`), and what a step and a run are (`Theorem.antt`). What only helps
-//! proofs stands in `specs/Inner`.
+//! (`Parts.antt`, `Standing.antt`), what a step and a run are (`Theorem.antt`), and what a script's
+//! run reads and prints (`Scripts.antt`). What only helps proofs stands in `specs/Inner`.
 //!
 //! It stands on `primary` and `dispatcher`, which know nothing of each other, on `mvcc` for
 //! transactions, and on `script` for events and outputs.
@@ -27,7 +27,10 @@ mod worked;
 mod world;
 
 pub use faults::RunFault;
-pub use script::{Event, Node, Output, Reason, ScriptFault, Sent, SentList, Setup, read_script};
+pub use script::{
+    Event, Node, Output, Reason, ScriptFault, Sent, SentList, Setup, read_plan, read_script,
+    read_settings, read_value,
+};
 pub use script_running::{Echo, run_script};
 pub use simulator::run;
 pub use theorem::{allowed_runs_are_exact, runs_keep_promises};

@@ -1,9 +1,18 @@
 //! A script from a reader to a writer.
 
+ghost use Rattle.std.specs.Prelude.{◌≡◌, ◌≢◌, List, ℕ, IfErr, OnOk, OnErr, Err};
+ghost use Rattle.std.specs.Io.KnownBytes.{Appends, Keeps};
+ghost use Rattle.script.specs.Scripts.{IsScriptFault};
+ghost use Rattle.script.specs.Writing.{IsPartlyWritten};
+ghost use Rattle.world.specs.Scripts.{WasRead, IsPrinted, run_text};
+
 use crate::faults::RunFault;
 use crate::simulator::run;
-use script::{ScriptFault, echoed_text_of, read_script, text_of};
-use std::alloc::{AllocError, Global};
+use script::{
+    Event, Output, Reason, ScriptFault, Setup, WriteFault, read_script, write_echoed_text_of,
+    write_text_of,
+};
+use std::alloc::Global;
 use std::io::{ErrorKind, Read, Write};
 
 /// What stands before the lines that an event answers.
@@ -15,13 +24,32 @@ pub enum Echo {
     Events,
 }
 
-/// Reads a script to its end, runs all its events, and then writes the text of what they answer.
+/// Reads a script to its end, runs all its events, and then writes the text of what they answer
+/// and flushes it.
+///
+/// What the reader had and what the writer holds is as far as their types say it. No clause tells
+/// whether they failed: that the answer is `Read` or `Write` only then is tested, and that it is
+/// `Write` where the flush fails.
 pub fn run_script<R: Read, W: Write>(
     alloc: Global,
     echo: Echo,
     reader: &mut R,
     writer: &mut W,
-) -> Result<(), RunFault> {
+) -> Result<(), RunFault>
+    ensures printed { OnOk result ((script text : List ℕ)
+        × WasRead (R.remaining reader.old) (R.remaining reader.new) script
+        × IsPrinted echo script text
+        × Appends (W.contents writer.old) (W.contents writer.new) text) }
+    ensures cut { result ≡ Err RunFault.Write → (script text : List ℕ)
+        × WasRead (R.remaining reader.old) (R.remaining reader.new) script
+        × IsPrinted echo script text
+        × IsPartlyWritten (W.contents writer.old) (W.contents writer.new) text }
+    ensures faulty { (line : ℕ) (reason : Reason) → result ≡ Err (RunFault.Script line reason)
+        → (script : List ℕ) × WasRead (R.remaining reader.old) (R.remaining reader.new) script
+        × IsScriptFault script (ScriptFault.At line reason) }
+    ensures unwritten { IfErr result (λ fault. fault ≢ RunFault.Write
+        → Keeps (W.contents writer.old) (W.contents writer.new)) }
+{
     let mut script = Vec::new(alloc);
     if let Err(fault) = reader.read_to_end(&mut script) {
         return Err(match fault.kind() {
@@ -29,25 +57,42 @@ pub fn run_script<R: Read, W: Write>(
             _ => RunFault::Read,
         });
     }
-    let text = match output_of(alloc, echo, script.as_slice()) {
-        Ok(text) => text,
+    let (setup, events) = match read_script(alloc, script.as_slice()) {
+        Ok(read) => read,
         Err(ScriptFault::At { line, reason }) => return Err(RunFault::Script { line, reason }),
         Err(ScriptFault::Memory) => return Err(RunFault::Memory),
     };
-    if writer.write_all(text.as_slice()).is_err() || writer.flush().is_err() {
-        return Err(RunFault::Write);
+    let events = events.as_slice();
+    let Ok(outputs) = run(alloc, &setup, events) else {
+        return Err(RunFault::Memory);
+    };
+    match write_run(alloc, echo, writer, &setup, events, outputs.as_slice()) {
+        Ok(()) => match writer.flush() {
+            Ok(()) => Ok(()),
+            Err(_) => Err(RunFault::Write),
+        },
+        Err(WriteFault::Write) => Err(RunFault::Write),
+        Err(WriteFault::Memory) => Err(RunFault::Memory),
     }
-    Ok(())
 }
 
-/// The text of what a script's events answer.
-fn output_of(alloc: Global, echo: Echo, script: &[u8]) -> Result<Vec<u8>, ScriptFault> {
-    let (setup, events) = read_script(alloc, script)?;
-    let events = events.as_slice();
-    let outputs = run(alloc, &setup, events)?;
-    let outputs = outputs.as_slice();
+/// Writes the text of a run.
+fn write_run<W: Write>(
+    alloc: Global,
+    echo: Echo,
+    writer: &mut W,
+    setup: &Setup,
+    events: &[Event],
+    outputs: &[Output],
+) -> Result<(), WriteFault>
+    ensures written { OnOk result (Appends (W.contents writer.old) (W.contents writer.new)
+        (run_text echo setup.now events.now outputs.now)) }
+    ensures cut { result ≡ Err WriteFault.Write → IsPartlyWritten (W.contents writer.old) (W.contents writer.new)
+        (run_text echo setup.now events.now outputs.now) }
+    ensures unwritten { result ≡ Err WriteFault.Memory → Keeps (W.contents writer.old) (W.contents writer.new) }
+{
     match echo {
-        Echo::No => Ok(text_of(alloc, outputs)?),
-        Echo::Events => Ok(echoed_text_of(alloc, &setup.schema, events, outputs)?),
+        Echo::No => write_text_of(alloc, writer, outputs),
+        Echo::Events => write_echoed_text_of(alloc, writer, &setup.schema, events, outputs),
     }
 }

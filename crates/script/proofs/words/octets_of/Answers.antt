@@ -1,40 +1,48 @@
--- Two digits make a byte, and zeros are bytes too.
-use Rattle.std.proofs.Common.{ℕ, zero, suc, ◌/◌, ◌<◌, Bool, true, false, cond, List, [], ◌∷◌, length, set, take, replicate, None, Some}
-use Rattle.std.proofs.Common.{IfSome, arith}
-use Rattle.rows.specs.Spelling.{AreBytes}
+-- The bytes are those of the digits: two digits make a byte, as long as there are any.
+use Rattle.std.proofs.Common.{◌≡◌, ◌∙◌, ℕ, ◌+◌, ◌*◌, ◌/◌, ◌<◌, ◌≤◌, List, length, take, drop, subst, sym, None, refl, arith}
+use Rattle.std.proofs.Math.ListN.{length-set}
+use Rattle.script.specs.Inner.Reading.{bytes_of, octets_of}
+use Rattle.script.proofs.Hex.{onto, onto-none, hex-step, hex-stop, octets-none, octets-broken, octets-made}
 use Rattle.script.proofs.words.octets_of.Goals as goal
+use Rattle.script.proofs.words.octets_of.Goals.{then-digits-ne0-via-then-digits-ne0, then-digits-ne0-via-else-digits-ne0+then-len-eq0}
+use Rattle.script.proofs.words.octets_of.Goals.{then-digits-ne0-via-else-digits-ne0+else-len-eq0+then-len-gt-OCTETS_MAX}
 
-AreBytes-zeros : (n : ℕ) → AreBytes (replicate n 0)
-AreBytes-zeros zero i = omega arith
-AreBytes-zeros (suc n) zero = omega arith
-AreBytes-zeros (suc n) (suc i) = AreBytes-zeros n i
-
-AreBytes-set : (bytes : List ℕ) (index byte : ℕ) → byte < 256 → AreBytes bytes → AreBytes (set bytes index byte)
-AreBytes-set [] index byte h are i = omega arith
-AreBytes-set (x ∷ bytes) zero byte h are zero = h
-AreBytes-set (x ∷ bytes) zero byte h are (suc i) = are (suc i)
-AreBytes-set (x ∷ bytes) (suc index) byte h are zero = are 0
-AreBytes-set (x ∷ bytes) (suc index) byte h are (suc i) = AreBytes-set bytes index byte h (λ j. are (suc j)) i
-
-AreBytes-take : (n : ℕ) (bytes : List ℕ) → AreBytes bytes → AreBytes (take n bytes)
-AreBytes-take zero bytes are i = omega arith
-AreBytes-take (suc n) [] are i = omega arith
-AreBytes-take (suc n) (x ∷ bytes) are zero = are 0
-AreBytes-take (suc n) (x ∷ bytes) are (suc i) = AreBytes-take n bytes (λ j. are (suc j)) i
+pub returns-then-digits-ne0 : goal.returns-then-digits-ne0
+returns-then-digits-ne0 c =
+    sym (octets-none c.args.digits.now (λ count some few e. elim c.then-digits-ne0.branch [
+      | then-digits-ne0-via-then-digits-ne0 w ↦ omega arith
+      | then-digits-ne0-via-else-digits-ne0+then-len-eq0 w ↦ omega arith
+      | then-digits-ne0-via-else-digits-ne0+else-len-eq0+then-len-gt-OCTETS_MAX w ↦ omega arith
+    ]))
 
 pub loop-index-init : goal.loop-index-init
-loop-index-init c = AreBytes-zeros 64
+loop-index-init c = record { room = refl; made = sym (onto-none (bytes_of c.args.digits.now)) }
+
+pub returns-in_err-bytes : goal.returns-in_err-bytes
+returns-in_err-bytes c =
+    let digits = c.args.digits.now in
+    let index = c.loop-index.index in
+    let stop = hex-stop digits (take index c.loop-index.bytes) index (omega arith) (sym c.in_err-bytes.ensures) in
+    let none : octets_of digits ≡ None = octets-broken digits (c.loop-index.invariant.made ∙ stop) in
+    cc
 
 pub loop-index-preserved : goal.loop-index-preserved
 loop-index-preserved c =
-    AreBytes-set c.loop-index.bytes c.loop-index.index _
-    (omega (arith, c.in_ok-hex_digit.ensures, c.in_ok-bytes.ensures)) c.loop-index.invariant
-
-kept : (refused : Bool) (bytes : List ℕ) → AreBytes bytes → IfSome (cond refused None (Some bytes)) AreBytes
-kept true bytes are = tt
-kept false bytes are = are
+    let index = c.loop-index.index in
+    record {
+      room = omega (arith, length-set {A = ℕ});
+      made = c.loop-index.invariant.made ∙ hex-step c.args.digits.now c.loop-index.bytes index c.in_ok-bytes.field-0
+          (omega arith) (omega arith) (sym c.in_ok-bytes.ensures);
+    }
 
 pub returns : goal.returns
 returns c =
-    let len = length c.args.digits.now / 2 in
-    rw c.from_slice.ensures (kept _ _ (AreBytes-take len c.loop-index.bytes c.loop-index.invariant))
+    let digits = c.args.digits.now in
+    let bytes = c.loop-index.bytes in
+    let index = c.loop-index.index in
+    let len = length digits / 2 in
+    let same : index ≡ len = omega arith in
+    let P : ℕ → Type 0 = λ k. bytes_of digits ≡ onto (take k bytes) (bytes_of (drop (2 * k) digits)) in
+    c.from_slice.ensures
+    ∙ octets-made digits bytes len (omega arith) (omega arith) (omega arith) c.loop-index.invariant.room
+    (subst P same c.loop-index.invariant.made)

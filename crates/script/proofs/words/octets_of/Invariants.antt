@@ -1,6 +1,11 @@
--- What was written so far are bytes.
-use Rattle.rows.specs.Spelling.{AreBytes}
+-- The bytes so far, and those of the digits that are left, are the bytes of all.
+use Rattle.std.proofs.Common.{◌≡◌, ◌*◌, take, drop, length}
+use Rattle.script.specs.Inner.Reading.{bytes_of}
+use Rattle.script.proofs.Hex.{onto}
 use Rattle.script.proofs.words.octets_of.Given as goal
 
 abbrev pub invariant-loop-index : goal.invariant-loop-index
-invariant-loop-index l = AreBytes l.bytes
+invariant-loop-index l = record {
+  room : length l.bytes ≡ 64;
+  made : bytes_of l.digits ≡ onto (take l.index l.bytes) (bytes_of (drop (2 * l.index) l.digits));
+}

@@ -11,6 +11,6 @@ returns-clause-found c =
     c.read_datagram.ensures
 
 pub returns-clause-only : goal.returns-clause-only
-returns-clause-only c = λ datagram spelled is_read e.
+returns-clause-only c = λ datagram spelled e.
     c.read_datagram.ensures ∙ ap reading e
-    ∙ reading-again c.entries_are_read_as_spelled.ensures.spelled datagram spelled is_read
+    ∙ reading-again c.entries_are_read_as_spelled.ensures.spelled datagram spelled

@@ -1,9 +1,13 @@
--- The map's keys ascend.
-use Rattle.std.proofs.Common.{sym}
+-- The identifiers ascend.
+use Rattle.std.proofs.Common.{sym, ap, ◌∙◌, get_or}
+use Rattle.store.proofs.Ids.{id_in-keys_of}
 use Rattle.store.proofs.Rows.{IsAboveAllBefore-sorted}
 use Rattle.store.proofs.table_map.TableMap.id_at.Goals as goal
 
 pub returns-clause-rises : goal.returns-clause-rises
 returns-clause-rises c =
-    rw (← c.self.view_is) (IsAboveAllBefore-sorted c.self.inside.rows.entries c.args.i c.nth_id.result c.nth_id.ensures.ordered
-    (sym c.nth_id.ensures.value))
+    let rows = c.self.inside.rows.entries in
+    let id = c.index.result.now in
+    let stands = c.index.ensures ∙ ap (λ ids. get_or ids c.args.i id) c.self.invariant.ids in
+    let here = id_in-keys_of rows c.args.i id (rw c.self.view_is c.requires) stands in
+    rw (← c.self.view_is) (IsAboveAllBefore-sorted rows c.args.i id (rw (← c.self.invariant.ids) c.self.invariant.rise) (sym here))

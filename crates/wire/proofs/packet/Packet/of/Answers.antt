@@ -9,6 +9,6 @@ pub unreachable-requires : goal.unreachable-requires
 unreachable-requires c = omega (arith, c.in-Err.ensures.small.0 refl, spelling_few c.args.datagram.now c.requires)
 
 pub returns-clause-reads_back : goal.returns-clause-reads_back
-returns-clause-reads_back c = λ is_read.
+returns-clause-reads_back c =
     ap reading (front_is _ _ c.write.new.buffer c.in-Ok.len c.in-Ok.ensures.ok.0 c.in-Ok.ensures.ok.1)
-    ∙ reading-again c.entries_are_read_as_spelled.ensures.spelled c.args.datagram.now c.requires is_read
+    ∙ reading-again c.entries_are_read_as_spelled.ensures.spelled c.args.datagram.now c.requires

@@ -1,0 +1,5 @@
+pub mod Seqs
+pub mod Holding
+pub mod Keeping
+pub mod Workers
+pub mod Feeding

@@ -1,0 +1,25 @@
+-- How known seqs are held: the first that is missing, and the known ones above it.
+use Rattle.std.specs.Prelude.{ℕ, ◌+◌, ◌-◌, ◌<◌, ◌≤◌, ◌^◌, List, [], ◌∷◌, ◌++◌, Bool, false, ◌==◌}
+use Rattle.std.specs.List.{range_with_len, AllByRecursion}
+
+-- the seqs that are known where this one is the first that is missing, and these are the known ones above it
+abbrev pub seqs_in : ℕ → List ℕ → List ℕ
+seqs_in missing above = range_with_len 0 missing ++ above
+
+-- no seq is below this one
+abbrev pub AreFrom : ℕ → List ℕ → Type 0
+AreFrom first seqs = AllByRecursion (λ seq. first ≤ seq) seqs
+
+-- each seq is below this one
+abbrev pub AreBelow : ℕ → List ℕ → Type 0
+AreBelow end seqs = AllByRecursion (λ seq. seq < end) seqs
+
+-- what holds of both: none of the seqs is the greatest number
+pub record IsHeld (missing : ℕ) (above : List ℕ) : Type 0 where
+  pub from : AreFrom (missing + 1) above
+  pub below : AreBelow (2 ^ 64 - 1) above
+
+-- whether the first seq is this one
+abbrev pub begins_at : List ℕ → ℕ → Bool
+begins_at [] seq = false
+begins_at (first ∷ seqs) seq = first == seq

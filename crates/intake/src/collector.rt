@@ -1,0 +1,122 @@
+//! The arrivals of one worker.
+
+ghost use Rattle.std.specs.Prelude.{◌≡◌, ◌-◌, ◌<◌, ◌^◌, false, true, IfOk, OnOk, OnErr, ◌⊎◌};
+ghost use Rattle.std.specs.Option.{option_map};
+ghost use Rattle.intake.specs.Known.{is_known, first_missing};
+ghost use Rattle.intake.specs.State.{nothing, frame_in};
+ghost use Rattle.intake.specs.Steps.{with_frame, without_below};
+ghost use Rattle.intake.specs.Inner.Collecting.{taken_by, begins_below, NoneBelow};
+
+use crate::known_seqs::KnownSeqs;
+use crate::taken::Taken;
+use std::alloc::{AllocError, Global};
+use std::collections::BTreeMap;
+use std::marker::Model;
+use update_log::Frame;
+
+/// What has come of one worker: the known seqs, and the frames that are kept.
+#[derive(Debug, Drop)]
+pub struct Collector {
+    known: KnownSeqs,
+    kept: BTreeMap<u64, Frame>,
+}
+
+impl Model for Collector {
+    ghost use Rattle.intake.specs.State.{Arrivals};
+    ghost use Rattle.intake.specs.Inner.Collecting.{arrivals_in, AreKnown};
+
+    ghost Value = { Arrivals };
+
+    ghost view = { λ s. arrivals_in s.known s.kept.entries };
+
+    ghost invariant = { λ s. AreKnown s.known s.kept.entries };
+}
+
+impl Collector {
+    /// Nothing has come.
+    pub fn new(alloc: Global) -> Collector
+        ensures { result ≡ nothing }
+    {
+        Collector {
+            known: KnownSeqs::new(alloc),
+            kept: BTreeMap::new(alloc),
+        }
+    }
+
+    /// The first seq that is missing.
+    pub fn first_missing(&self) -> u64
+        ensures { result ≡ first_missing self.now.known }
+    {
+        self.known.first_missing()
+    }
+
+    /// The frame of that seq, where it is kept.
+    pub fn frame(&self, seq: u64) -> Option<&Frame>
+        ensures { option_map (λ frame. frame.now) result ≡ frame_in self.now.kept seq }
+    {
+        self.kept.get(&seq)
+    }
+
+    /// Takes a frame of this worker that came.
+    pub fn take(&mut self, frame: &Frame) -> Taken
+        ensures { ((result ≡ Taken.Memory) × (self.new ≡ self.old) × ((taken_by self.old frame.now).0 ≡ Taken.Stored))
+            ⊎ (taken_by self.old frame.now ≡ (result, self.new)) }
+    {
+        if self.known.contains(frame.seq) {
+            return Taken::Repeat;
+        }
+        if self.known.is_ahead(frame.seq) {
+            return Taken::Ahead;
+        }
+        match self.store(frame) {
+            Ok(()) => Taken::Stored,
+            Err(_) => Taken::Memory,
+        }
+    }
+
+    /// Keeps a copy of a frame that is not known yet. Fails only where it is out of memory, and then
+    /// nothing has changed.
+    fn store(&mut self, frame: &Frame) -> Result<(), AllocError>
+        requires unknown { is_known self.old.known frame.now.seq ≡ false }
+        requires seq { frame.now.seq < 2 ^ 64 - 1 }
+        ensures ok { OnOk result (self.new ≡ with_frame self.old frame.now) }
+        ensures err { OnErr result (self.new ≡ self.old) }
+    {
+        let copy = copy_of(frame)?;
+        self.kept.insert(frame.seq, copy)?;
+        match self.known.insert(frame.seq) {
+            Ok(()) => Ok(()),
+            Err(error) => {
+                self.kept.remove(&frame.seq);
+                Err(error)
+            }
+        }
+    }
+
+    /// Forgets the frames below a seq. They stay known.
+    pub fn drop_below(&mut self, count: u64)
+        ensures { self.new ≡ without_below self.old count }
+    {
+        while first_is_below(&self.kept, count) {
+            self.kept.pop_first();
+        }
+    }
+}
+
+/// Whether there is a frame below that seq. The least seq tells it.
+fn first_is_below(kept: &BTreeMap<u64, Frame>, count: u64) -> bool
+    ensures begins { result ≡ begins_below kept.now.entries count }
+    ensures none { result ≡ false → NoneBelow count kept.now.entries }
+{
+    match kept.first_key_value() {
+        None => false,
+        Some((first, _)) => *first < count,
+    }
+}
+
+/// The same frame once more. Fails only where it is out of memory.
+fn copy_of(frame: &Frame) -> Result<Frame, AllocError>
+    ensures { IfOk result (λ copy. copy ≡ frame.now) }
+{
+    frame.clone()
+}

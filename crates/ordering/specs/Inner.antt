@@ -1,0 +1,2 @@
+-- Only for proofs: how far a merge has come. No public clause names these.
+pub mod Progress

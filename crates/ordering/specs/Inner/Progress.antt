@@ -1,0 +1,40 @@
+-- How far a merge has come, and where it stops.
+use Rattle.std.specs.Prelude.{◌≡◌, ℕ, ◌+◌, ◌≤◌, List, [], ◌∷◌, ◌++◌, length, Bool, false, ◌==◌}
+use Rattle.std.specs.List.{flat_map, AllByRecursion}
+use Rattle.rows.specs.declared.commit.Commit.{Commit}
+use Rattle.rows.specs.declared.entry.Entry.{Entry}
+use Rattle.rows.specs.Limits.{commit_entries_max}
+use Rattle.update_log.specs.declared.frame.Frame.{Frame}
+use Rattle.ordering.specs.Merging.{HoldCommit, AreHeld}
+
+-- whether the first of the frames bears that number
+abbrev pub begins_with : ℕ → List Frame → Bool
+begins_with number [] = false
+begins_with number (frame ∷ frames) = frame.commit == number
+
+-- these frames hold these entries of the commit of that number, and more are to come
+pub record IsBegun (number : ℕ) (entries : List Entry) (frames : List Frame) : Type 0 where
+  pub numbered : AllByRecursion (λ frame. frame.commit ≡ number) frames
+  pub unmarked : AllByRecursion (λ frame. frame.last ≡ false) frames
+  pub joined : flat_map (λ frame. frame.entries) frames ≡ entries
+  pub few : length entries ≤ commit_entries_max
+
+-- no first frames of these hold the commit of that number
+abbrev pub HoldNone : ℕ → List Frame → Type 0
+HoldNone number frames = (entries : List Entry) (own rest : List Frame) → frames ≡ own ++ rest → HoldCommit number entries own → ⊥
+
+-- from the frames that are left, one more commit was taken: it is the next of every list of commits that they hold
+pub record IsStep (before : ℕ) (left : ℕ → List Frame) (commit : Commit) (after : ℕ → List Frame) : Type 0 where
+  pub onto : (more : List Commit) → AreHeld (before + 1) more after → AreHeld before (commit ∷ more) left
+  pub only : (other : Commit) (more : List Commit) → AreHeld before (other ∷ more) left → (other ≡ commit) × AreHeld (before + 1) more after
+
+-- the frames that are left hold no list with one more commit
+abbrev pub IsStuck : ℕ → (ℕ → List Frame) → Type 0
+IsStuck before left = (other : Commit) (more : List Commit) → AreHeld before (other ∷ more) left → ⊥
+
+-- so many commits have been taken: with what the frames that are left hold, they are what all frames hold
+pub record HasCome (frames : ℕ → List Frame) (from before : ℕ) (commits : List Commit) (left : ℕ → List Frame) : Type 0 where
+  pub counted : from + length commits ≡ before
+  pub onto : (more : List Commit) → AreHeld before more left → AreHeld from (commits ++ more) frames
+  pub only : (all : List Commit) → AreHeld from all frames → length commits ≤ length all
+      → (more : List Commit) × (all ≡ commits ++ more) × AreHeld before more left

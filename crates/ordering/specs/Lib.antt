@@ -1,0 +1,4 @@
+pub mod Merging
+pub mod Cutting
+pub mod Laws
+pub mod Inner

@@ -1,0 +1,16 @@
+//! Laws of merging.
+
+ghost use Rattle.ordering.specs.Laws.{MergeIsUnique, CutFramesMerge, KeptFramesMerge};
+
+use intake::arrivals_stay_of_streams;
+
+/// Frames hold one list of commits at the most, and the frames that were cut from a list of commits
+/// hold these; so do the frames that an intake keeps, where all that came to it is of the streams of
+/// these commits. So they are never inconsistent. It does nothing: its contract is the law.
+pub fn one_merge()
+    ensures only { MergeIsUnique }
+    ensures cut { CutFramesMerge }
+    ensures kept { KeptFramesMerge }
+{
+    arrivals_stay_of_streams();
+}

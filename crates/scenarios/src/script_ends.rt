@@ -1,0 +1,319 @@
+//! Scripts at the ends of what they may have: the greatest numbers, the most tables, many events,
+//! and each fault at the top, in the middle and at the end.
+
+use crate::scripts::{SETTINGS, expect, printed, refusal};
+use rows::{ByteList, Kind};
+use script::write_text_of;
+use std::alloc::Global;
+use std::test::Fail;
+use world::{Output, Reason, ScriptFault, read_settings};
+
+/// Each number at the ends of the ranges of 8, 16, 32, 63 and 64 bits. With the events shown, a
+/// number that was read as another one shows.
+const NUMBERS: [(&str, &str); 37] = [
+    ("abort 0", "no tx"),
+    ("abort 255", "no tx"),
+    ("abort 256", "no tx"),
+    ("abort 65535", "no tx"),
+    ("abort 65536", "no tx"),
+    ("abort 4294967295", "no tx"),
+    ("abort 4294967296", "no tx"),
+    ("abort 9223372036854775807", "no tx"),
+    ("abort 9223372036854775808", "no tx"),
+    ("abort 18446744073709551615", "no tx"),
+    ("commit 18446744073709551615 0", "no tx"),
+    ("delete 18446744073709551615 acct 4294967296", "no tx"),
+    ("delete 4294967296 acct 18446744073709551615", "no tx"),
+    ("get 65536 acct 9223372036854775808 255", "no tx"),
+    ("set 256 acct 65536 255 0", "no tx"),
+    ("set 0 acct 0 0 255", "no tx"),
+    ("set 0 acct 0 0 256", "no tx"),
+    ("set 0 acct 0 0 65535", "no tx"),
+    ("set 0 acct 0 0 65536", "no tx"),
+    ("set 0 acct 0 0 4294967295", "no tx"),
+    ("set 0 acct 0 0 4294967296", "no tx"),
+    ("set 0 acct 0 0 9223372036854775807", "no tx"),
+    ("set 0 acct 0 0 -1", "no tx"),
+    ("set 0 acct 0 0 -4294967296", "no tx"),
+    ("set 0 acct 0 0 -9223372036854775808", "no tx"),
+    ("insert 4294967295 acct 256 -65536 4294967296", "no tx"),
+    ("flush 0", "durable 0"),
+    ("flush 255", "durable 0"),
+    ("flush 256", "durable 0"),
+    ("flush 65535", "durable 0"),
+    ("flush 65536", "durable 0"),
+    ("flush 4294967295", "durable 0"),
+    ("push 0 4294967296", "no frame"),
+    ("push 0 18446744073709551615", "no frame"),
+    ("deliver 65536 p", "never sent"),
+    ("deliver 18446744073709551615 r0", "never sent"),
+    ("show 18446744073709551615", "never sent"),
+];
+
+/// Rows and values at the ends of their ranges are kept as they are, and a flush of none makes none
+/// durable.
+const KEPT: [(&str, &str); 12] = [
+    ("begin", "tx 0 at 0"),
+    (
+        "insert 0 acct 18446744073709551615 -9223372036854775808 9223372036854775807",
+        "ok",
+    ),
+    ("insert 0 acct 4294967296 -65536 65536", "ok"),
+    (
+        "get 0 acct 18446744073709551615 0",
+        "value -9223372036854775808",
+    ),
+    (
+        "get 0 acct 18446744073709551615 1",
+        "value 9223372036854775807",
+    ),
+    ("get 0 acct 4294967296 0", "value -65536"),
+    ("get 0 acct 4294967296 1", "value 65536"),
+    ("get 0 acct 0 0", "missing"),
+    ("get 0 acct 4294967295 0", "missing"),
+    ("commit 0 0", "ticket 1"),
+    ("flush 0", "durable 0"),
+    ("flush 1", "durable 1"),
+];
+
+#[test]
+fn numbers_at_the_ends_of_their_ranges_are_read(rt: HostRuntime) -> Result<(), Fail> {
+    expect(&rt, rt.alloc(), SETTINGS, &NUMBERS)?;
+    expect(&rt, rt.alloc(), SETTINGS, &KEPT)
+}
+
+/// Lines with a number one past its range.
+const PAST: [&str; 20] = [
+    "abort 18446744073709551616",
+    "commit 18446744073709551616 0",
+    "commit 0 1",
+    "commit 0 256",
+    "insert 18446744073709551616 acct 0 0 0",
+    "insert 0 acct 18446744073709551616 0 0",
+    "insert 0 acct 0 0 9223372036854775808",
+    "insert 0 acct 0 -9223372036854775809 0",
+    "set 0 acct 0 256 0",
+    "get 0 acct 0 256",
+    "get 0 acct 0 65536",
+    "delete 0 acct 18446744073709551616",
+    "flush 4294967296",
+    "push 256 0",
+    "push 0 18446744073709551616",
+    "deliver 18446744073709551616 p",
+    "deliver 0 r256",
+    "show 18446744073709551616",
+    "ask 256",
+    "run 18446744073709551616",
+];
+
+/// The index of the first of these lines of which something else is said behind the settings.
+fn other_said(alloc: Global, lines: &[&str], said: &str) -> Result<Option<usize>, Fail> {
+    for (index, line) in lines.iter().enumerate() {
+        let script = format!(in alloc; "{SETTINGS}{line}")?;
+        if refusal(alloc, script.as_bytes())?.as_str() != said {
+            return Ok(Some(index));
+        }
+    }
+    Ok(None)
+}
+
+#[test]
+fn numbers_past_their_ranges_are_refused(rt: HostRuntime) -> Result<(), Fail> {
+    let other = other_said(rt.alloc(), &PAST, "line 4: bad words")?;
+    assert_eq!(rt; other, None);
+    Ok(())
+}
+
+/// A line of each fault, behind the settings.
+const FAULTS: [(&str, &str); 5] = [
+    ("begin\t", "not text"),
+    ("replicas 1", "bad setting"),
+    ("beginning", "unknown event"),
+    ("flush", "bad words"),
+    ("get 0 site 7 0", "no table"),
+];
+
+/// What stands before a faulty line and behind it, and the number of the line.
+const PLACES: [(&str, &str, u64); 4] = [
+    ("", "", 4),
+    ("", "\nbegin\nflush 1 1\n", 4),
+    ("begin\n\n# a comment\nflush 1\n", "\n\n\nbegin \n", 8),
+    ("begin\nflush 1\n\n\n#\n", "", 9),
+];
+
+/// The index of the first place at which something else is said of a line.
+fn other_place(alloc: Global, line: &str, reason: &str) -> Result<Option<usize>, Fail> {
+    for (index, (before, behind, number)) in PLACES.iter().enumerate() {
+        let script = format!(in alloc; "{SETTINGS}{before}{line}{behind}")?;
+        let said = format!(in alloc; "line {number}: {reason}")?;
+        if refusal(alloc, script.as_bytes())?.as_str() != said.as_str() {
+            return Ok(Some(index));
+        }
+    }
+    Ok(None)
+}
+
+/// Faults among settings: the script, and what is said of it.
+const BAD_SETTINGS: [(&str, &str); 8] = [
+    ("\n\n# none\n", "line 4: bad setting"),
+    (
+        "#\nworkers 1\n\nreplicas 2\ntable acct int\n",
+        "line 4: bad setting",
+    ),
+    (
+        "workers 1\n#\nworkers 1\nreplicas 1\ntable acct int\n",
+        "line 3: bad setting",
+    ),
+    (
+        "table acct int\nworkers 1\nreplicas 1\n",
+        "line 1: bad setting",
+    ),
+    (
+        "workers 1\nreplicas 1\n\ntable acct int\ntable item bytes65",
+        "line 5: bad setting",
+    ),
+    (
+        "workers 1\nreplicas 1\ntable acct int\n#\u{7f}\nbegin\n",
+        "line 4: not text",
+    ),
+    (
+        "workers 1\nreplicas 1\nbegin\ntable acct int\n",
+        "line 3: bad setting",
+    ),
+    (
+        "workers 1\nreplicas 1\ntable acct int \n",
+        "line 3: bad setting",
+    ),
+];
+
+/// The index of the first of these scripts of which something else is said.
+fn other_script(alloc: Global, scripts: &[(&str, &str)]) -> Result<Option<usize>, Fail> {
+    for (index, (script, said)) in scripts.iter().enumerate() {
+        if refusal(alloc, script.as_bytes())?.as_str() != *said {
+            return Ok(Some(index));
+        }
+    }
+    Ok(None)
+}
+
+#[test]
+fn a_fault_is_named_at_the_top_in_the_middle_and_at_the_end(rt: HostRuntime) -> Result<(), Fail> {
+    for (line, reason) in &FAULTS {
+        assert_eq!(rt; other_place(rt.alloc(), line, reason)?, None);
+    }
+    assert_eq!(rt; other_script(rt.alloc(), &BAD_SETTINGS)?, None);
+    Ok(())
+}
+
+#[test]
+fn each_of_3000_events_is_answered(rt: HostRuntime) -> Result<(), Fail> {
+    let mut script = String::from_str(rt.alloc(), SETTINGS)?;
+    let mut expected = String::new(rt.alloc());
+    for number in 0..3000u64 {
+        script.push_str("begin\n")?;
+        let line = format!(in rt.alloc(); "tx {number} at 0\n")?;
+        expected.push_str(line.as_str())?;
+    }
+    let text = printed(rt.alloc(), script.as_bytes())?;
+    assert_eq!(rt; text.as_slice(), expected.as_bytes());
+    Ok(())
+}
+
+/// Settings of 16 tables with 16 columns each, of which each second one is of bytes, another number
+/// of them in each table.
+fn many_tables(alloc: Global) -> Result<String, Fail> {
+    let mut text = String::from_str(alloc, "workers 1\nreplicas 1\n")?;
+    for number in 0..16u8 {
+        let width = number + 1;
+        let name = format!(in alloc; "table t{number}")?;
+        let two = format!(in alloc; " int bytes{width}")?;
+        text.push_str(name.as_str())?;
+        for _ in 0..8 {
+            text.push_str(two.as_str())?;
+        }
+        text.push_str("\n")?;
+    }
+    Ok(text)
+}
+
+/// Whether a table has such columns.
+fn has_columns(kinds: &[Kind], width: u8) -> bool {
+    let two = [Kind::Int, Kind::Octets(width)];
+    kinds.len() == 16 && kinds.chunks(2).all(|pair| pair == two.as_slice())
+}
+
+#[test]
+fn sixteen_tables_of_sixteen_columns_are_set(rt: HostRuntime) -> Result<(), Fail> {
+    let text = many_tables(rt.alloc())?;
+    let setup = read_settings(rt.alloc(), text.as_bytes())?;
+    assert_eq!(rt;
+        (setup.workers, setup.replicas, setup.schema.len()),
+        (1, 1, 16)
+    );
+    for number in 0..16u8 {
+        let name = format!(in rt.alloc(); "t{number}")?;
+        assert_eq!(rt; setup.schema.name(number as usize), Some(name.as_str()));
+        let kinds = setup.schema.kinds(number as usize);
+        assert!(rt; matches!(kinds, Some(kinds) if has_columns(kinds, number + 1)));
+    }
+    Ok(())
+}
+
+/// Texts that are no schema file, with the line that is not, and why.
+const NO_SCHEMAS: [(&str, u64, Reason); 6] = [
+    ("", 1, Reason::BadSetting),
+    ("workers 1\nreplicas 1\n", 3, Reason::BadSetting),
+    (
+        "workers 1\nreplicas 1\ntable acct int\nbegin\n",
+        4,
+        Reason::BadSetting,
+    ),
+    (
+        "workers 1\nreplicas 1\ntable acct int\n\n# more\nflush",
+        6,
+        Reason::BadSetting,
+    ),
+    (
+        "workers 1\nreplicas 1\ntable acct int\ntable acct int\n",
+        4,
+        Reason::BadSetting,
+    ),
+    (
+        "workers 1\nreplicas 1\ntable acct int\n#\t\n",
+        4,
+        Reason::NotText,
+    ),
+];
+
+#[test]
+fn a_schema_file_has_settings_and_nothing_else(rt: HostRuntime) -> Result<(), Fail> {
+    let text = "# accounts\nworkers 1\n\nreplicas 1\ntable acct int";
+    let setup = read_settings(rt.alloc(), text.as_bytes())?;
+    assert_eq!(rt; setup.schema.name(0), Some("acct"));
+    for (text, line, reason) in &NO_SCHEMAS {
+        let fault = ScriptFault::At {
+            line: *line,
+            reason: *reason,
+        };
+        assert_eq!(rt;
+            read_settings(rt.alloc(), text.as_bytes()).err(),
+            Some(fault)
+        );
+    }
+    Ok(())
+}
+
+#[test]
+fn a_report_of_more_than_4096_bytes_is_written_whole(rt: HostRuntime) -> Result<(), Fail> {
+    let mut lines = Vec::new(rt.alloc());
+    for number in 1000..2000u64 {
+        let line = format!(in rt.alloc(); "{number} 1\n")?;
+        lines.extend_from_slice(line.as_bytes())?;
+    }
+    let report = Output::Report(ByteList::from_vec(lines.clone()?));
+    let mut text = Vec::new(rt.alloc());
+    write_text_of(rt.alloc(), &mut text, &[report])?;
+    assert_eq!(rt; text.len(), 7000);
+    assert_eq!(rt; text.as_slice(), lines.as_slice());
+    Ok(())
+}

@@ -1,0 +1,10 @@
+-- A name is text.
+use Rattle.std.proofs.Common.{◌≡◌, true, ◌∙◌, sym, arith, rules}
+use Rattle.script.specs.Text.{is_name}
+use Rattle.script.proofs.Spaces.{name-text}
+use Rattle.script.proofs.event_reading.named_table.Goals as goal
+
+pub returns-in_default : goal.returns-in_default
+returns-in_default c =
+    let is : is_name c.args.name.now ≡ true = search rules in
+    absurd (c.in_default.ensures (name-text c.args.name.now is))

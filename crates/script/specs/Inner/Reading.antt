@@ -1,0 +1,267 @@
+-- What the words of a line give, step by step, as the code finds it. The lines that are events are said without it, in
+-- `EventLines`; that both agree is proved.
+use Rattle.std.specs.Prelude.{◌≡◌, ℕ, suc, zero, ◌^◌, ◌*◌, ◌+◌, ◌-◌, ◌≤◌, List, [], ◌∷◌, length, drop, Bool, true, false, nat_lt, nat_le}
+use Rattle.std.specs.Prelude.{◌==◌, ◌&&◌}
+use Rattle.std.specs.Prelude.{Option, None, Some, Result, Ok, Err, ℤ, pos, negsuc, if◌then◌else◌, slice_index, codes, decimal}
+use Rattle.std.specs.List.{list_any}
+use Rattle.std.specs.Str.{bytes_eq}
+use Rattle.std.specs.Str.Parse.{digits_value}
+use Rattle.rows.specs.declared.kind.Kind.{Kind}
+use Rattle.rows.specs.declared.row_id.RowId.{RowId}
+use Rattle.rows.specs.declared.value.Value.{Value}
+use Rattle.rows.specs.declared.value.Value.TheVariants.{Int, Octets}
+use Rattle.rows.specs.Limits.{octets_max}
+use Rattle.dispatcher.specs.declared.plan.Plan.{Plan}
+use Rattle.script.specs.declared.event.Event.{Event}
+use Rattle.script.specs.declared.event.Event.TheVariants.{Begin, Insert, Set, Delete, Get, Commit, Abort, Flush, Push, Deliver, Show, Open}
+use Rattle.script.specs.declared.event.Event.TheVariants.{Ask, Run}
+use Rattle.script.specs.declared.event.Node.{Node}
+use Rattle.script.specs.declared.event.Node.TheVariants.{Primary, Replica}
+use Rattle.script.specs.declared.setup.Setup.{Setup}
+use Rattle.script.specs.declared.faults.Reason.{Reason}
+use Rattle.script.specs.declared.faults.Reason.TheVariants.{BadSetting, UnknownEvent, BadWords, NoTable}
+use Rattle.script.specs.Text.{is_name}
+use Rattle.script.specs.EventLines.{table_called, setting_names}
+
+-- the number that a word is in decimal
+unfoldable pub number_of : List ℕ → Option ℕ
+number_of word =
+    let value = digits_value 10 word in
+    if nat_lt value (2 ^ 64) && bytes_eq (decimal value) word then Some value else None
+
+-- a number below a limit
+abbrev pub under : ℕ → Option ℕ → Option ℕ
+under limit None = None
+under limit (Some number) = if nat_lt number limit then Some number else None
+
+-- the number below a limit that a word is
+unfoldable pub below_of : ℕ → List ℕ → Option ℕ
+below_of limit word = under limit (number_of word)
+
+-- a number of 64 bits from how far it is from 0, on either side
+abbrev pub negative : Option ℕ → Option ℤ
+negative None = None
+negative (Some zero) = None
+negative (Some (suc number)) = if nat_lt number (2 ^ 63) then Some (negsuc number) else None
+
+abbrev pub positive : Option ℕ → Option ℤ
+positive None = None
+positive (Some number) = if nat_lt number (2 ^ 63) then Some (pos number) else None
+
+-- the number of 64 bits that a word is, `-` before what is below 0
+unfoldable pub int_of : List ℕ → Option ℤ
+int_of word = if slice_index word 0 == 45 then negative (number_of (drop 1 word)) else positive (number_of word)
+
+-- what two parts make, where both are there
+abbrev pub both : {A B C : Type 0} → Option A → Option B → (A → B → C) → Option C
+both None second make = None
+both (Some first) None make = None
+both (Some first) (Some second) make = Some (make first second)
+
+abbrev pub two : {A B : Type 0} → Option A → Option B → Option (A × B)
+two None second = None
+two (Some first) None = None
+two (Some first) (Some second) = Some (first, second)
+
+-- what a digit of hexadecimal stands for
+abbrev pub digit_of : ℕ → Option ℕ
+digit_of byte =
+    if nat_le 48 byte && nat_le byte 57 then Some (byte - 48) else
+    if nat_le 97 byte && nat_le byte 102 then Some (byte - 87) else None
+
+-- the byte of two digits
+unfoldable pub byte_of : ℕ → ℕ → Option ℕ
+byte_of high low = both (digit_of high) (digit_of low) (λ first second. first * 16 + second)
+
+-- the bytes of pairs of digits
+abbrev pub bytes_of : List ℕ → Option (List ℕ)
+bytes_of [] = Some []
+bytes_of (high ∷ []) = None
+bytes_of (high ∷ low ∷ digits) = both (byte_of high low) (bytes_of digits) (λ byte bytes. byte ∷ bytes)
+
+-- 1 to 64 bytes
+abbrev pub sized : Option (List ℕ) → Option (List ℕ)
+sized None = None
+sized (Some bytes) = if nat_lt 0 (length bytes) && nat_le (length bytes) octets_max then Some bytes else None
+
+unfoldable pub octets_of : List ℕ → Option (List ℕ)
+octets_of digits = sized (bytes_of digits)
+
+abbrev pub made : {A B : Type 0} → (A → B) → Option A → Option B
+made make None = None
+made make (Some part) = Some (make part)
+
+-- the value that a word is
+unfoldable pub value_of : List ℕ → Option Value
+value_of word = if slice_index word 0 == 120 then made Octets (octets_of (drop 1 word)) else made Int (int_of word)
+
+-- the values that words are
+abbrev pub values_of : List (List ℕ) → Option (List Value)
+values_of [] = Some []
+values_of (word ∷ words) = both (value_of word) (values_of words) (λ value values. value ∷ values)
+
+-- the node that a word is
+unfoldable pub node_of : ℕ → List ℕ → Option Node
+node_of replicas word =
+    if bytes_eq word (codes "p") then Some Primary else
+    if slice_index word 0 == 114 then made Replica (below_of replicas (drop 1 word)) else None
+
+-- the number of a table, by the word that names it
+abbrev pub or_no_table : Option ℕ → Result ℕ Reason
+or_no_table None = Err NoTable
+or_no_table (Some table) = Ok table
+
+unfoldable pub table_of : List (List ℕ × List Kind) → List ℕ → Result ℕ Reason
+table_of schema name = if is_name name then or_no_table (table_called schema name) else Err BadWords
+
+-- an event, once its parts are there, on a table
+abbrev pub placed : {A : Type 0} → Option A → Result ℕ Reason → (A → ℕ → Event) → Result Event Reason
+placed None table make = Err BadWords
+placed (Some parts) (Err reason) make = Err reason
+placed (Some parts) (Ok table) make = Ok (make parts table)
+
+-- so many words and no others
+unfoldable pub one_of : List (List ℕ) → Option (List ℕ)
+one_of (a ∷ []) = Some a
+one_of other = None
+
+unfoldable pub two_of : List (List ℕ) → Option (List ℕ × List ℕ)
+two_of (a ∷ b ∷ []) = Some (a, b)
+two_of other = None
+
+unfoldable pub three_of : List (List ℕ) → Option (List ℕ × List ℕ × List ℕ)
+three_of (a ∷ b ∷ c ∷ []) = Some (a, b, c)
+three_of other = None
+
+unfoldable pub four_of : List (List ℕ) → Option (List ℕ × List ℕ × List ℕ × List ℕ)
+four_of (a ∷ b ∷ c ∷ d ∷ []) = Some (a, b, c, d)
+four_of other = None
+
+unfoldable pub five_of : List (List ℕ) → Option (List ℕ × List ℕ × List ℕ × List ℕ × List ℕ)
+five_of (a ∷ b ∷ c ∷ d ∷ e ∷ []) = Some (a, b, c, d, e)
+five_of other = None
+
+-- three words, and one or more behind them
+unfoldable pub three_and_more : List (List ℕ) → Option (List ℕ × List ℕ × List ℕ × List (List ℕ))
+three_and_more (a ∷ b ∷ c ∷ d ∷ more) = Some (a, b, c, d ∷ more)
+three_and_more other = None
+
+-- what words give, where there are as many as wanted
+abbrev pub given : {A B : Type 0} → Option A → (A → Option B) → Option B
+given None read = None
+given (Some words) read = read words
+
+abbrev pub given_or_bad : {A B : Type 0} → Option A → (A → Result B Reason) → Result B Reason
+given_or_bad None read = Err BadWords
+given_or_bad (Some words) read = read words
+
+-- the events of the words behind the first one
+unfoldable pub begin_of : List (List ℕ) → Option Event
+begin_of [] = Some Begin
+begin_of (word ∷ words) = None
+
+unfoldable pub commit_of : ℕ → List (List ℕ) → Option Event
+commit_of workers words = given (two_of words) (λ it. both (number_of it.0) (below_of workers it.1) Commit)
+
+unfoldable pub abort_of : List (List ℕ) → Option Event
+abort_of words = given (one_of words) (λ it. made Abort (number_of it))
+
+unfoldable pub flush_of : List (List ℕ) → Option Event
+flush_of words = given (one_of words) (λ it. made Flush (below_of (2 ^ 32) it))
+
+unfoldable pub push_of : ℕ → List (List ℕ) → Option Event
+push_of workers words = given (two_of words) (λ it. both (below_of workers it.0) (number_of it.1) Push)
+
+unfoldable pub deliver_of : ℕ → List (List ℕ) → Option Event
+deliver_of replicas words = given (two_of words) (λ it. both (number_of it.0) (node_of replicas it.1) Deliver)
+
+unfoldable pub show_of : List (List ℕ) → Option Event
+show_of words = given (one_of words) (λ it. made Show (number_of it))
+
+unfoldable pub replica_of : ℕ → List (List ℕ) → Option ℕ
+replica_of replicas words = given (one_of words) (λ it. below_of replicas it)
+
+abbrev pub row_id : ℕ → RowId
+row_id id = record { 0 = id }
+
+-- the number of a transaction, and that of a row
+unfoldable pub row_of : List ℕ → List ℕ → Option (ℕ × RowId)
+row_of transaction row = two (number_of transaction) (made row_id (number_of row))
+
+unfoldable pub insert_of : List (List ℕ × List Kind) → List (List ℕ) → Result Event Reason
+insert_of schema words =
+    given_or_bad (three_and_more words) (λ it. placed (two (row_of it.0 it.2) (values_of it.3)) (table_of schema it.1)
+    (λ parts table. Insert parts.0.0 table parts.0.1 parts.1))
+
+unfoldable pub set_of : List (List ℕ × List Kind) → List (List ℕ) → Result Event Reason
+set_of schema words =
+    given_or_bad (five_of words) (λ it. placed (two (row_of it.0 it.2) (two (below_of (2 ^ 8) it.3) (value_of it.4)))
+    (table_of schema it.1) (λ parts table. Set parts.0.0 table parts.0.1 parts.1.0 parts.1.1))
+
+unfoldable pub delete_of : List (List ℕ × List Kind) → List (List ℕ) → Result Event Reason
+delete_of schema words =
+    given_or_bad (three_of words) (λ it. placed (row_of it.0 it.2) (table_of schema it.1) (λ at table. Delete at.0 table at.1))
+
+unfoldable pub get_of : List (List ℕ × List Kind) → List (List ℕ) → Result Event Reason
+get_of schema words =
+    given_or_bad (four_of words) (λ it. placed (two (row_of it.0 it.2) (below_of (2 ^ 8) it.3)) (table_of schema it.1)
+    (λ parts table. Get parts.0.0 table parts.0.1 parts.1))
+
+-- a plan on a table
+abbrev pub on_table : Result ℕ Reason → Result Plan Reason
+on_table (Err reason) = Err reason
+on_table (Ok table) = Ok (record { table = table })
+
+-- the plan of words: `query NAME get count`
+unfoldable pub plan_of : List (List ℕ × List Kind) → List (List ℕ) → Result Plan Reason
+plan_of schema words =
+    given_or_bad (four_of words) (λ it.
+    if bytes_eq it.0 (codes "query") && bytes_eq it.2 (codes "get") && bytes_eq it.3 (codes "count") then
+    on_table (table_of schema it.1) else Err BadWords)
+
+abbrev pub opened : Option ℕ → Result Plan Reason → Result Event Reason
+opened None plan = Err BadWords
+opened (Some number) (Err reason) = Err reason
+opened (Some number) (Ok plan) = Ok (Open number plan)
+
+unfoldable pub open_of : List (List ℕ × List Kind) → ℕ → List (List ℕ) → Result Event Reason
+open_of schema replicas (replica ∷ plan) = opened (below_of replicas replica) (plan_of schema plan)
+open_of schema replicas [] = Err BadWords
+
+abbrev pub or_bad_words : Option Event → Result Event Reason
+or_bad_words None = Err BadWords
+or_bad_words (Some event) = Ok event
+
+abbrev pub is_setting : List ℕ → Bool
+is_setting word = list_any (λ name. bytes_eq word name) setting_names
+
+-- the event that asks a replica for its newest version, and the one that has it run its batch
+unfoldable pub replica_event : ℕ → List ℕ → List (List ℕ) → Result Event Reason
+replica_event replicas first words =
+    if bytes_eq first (codes "ask") then or_bad_words (made Ask (replica_of replicas words)) else
+    if bytes_eq first (codes "run") then or_bad_words (made Run (replica_of replicas words)) else
+    if is_setting first then Err BadSetting else Err UnknownEvent
+
+-- events of the network
+unfoldable pub network_event : Setup → List ℕ → List (List ℕ) → Result Event Reason
+network_event setup first words =
+    if bytes_eq first (codes "push") then or_bad_words (push_of setup.workers words) else
+    if bytes_eq first (codes "deliver") then or_bad_words (deliver_of setup.replicas words) else
+    if bytes_eq first (codes "show") then or_bad_words (show_of words) else replica_event setup.replicas first words
+
+-- events of the primary that name no table
+unfoldable pub primary_event : Setup → List ℕ → List (List ℕ) → Result Event Reason
+primary_event setup first words =
+    if bytes_eq first (codes "begin") then or_bad_words (begin_of words) else
+    if bytes_eq first (codes "commit") then or_bad_words (commit_of setup.workers words) else
+    if bytes_eq first (codes "abort") then or_bad_words (abort_of words) else
+    if bytes_eq first (codes "flush") then or_bad_words (flush_of words) else network_event setup first words
+
+-- the event of a line whose first word is this, and the others behind it
+unfoldable pub event_of : Setup → List ℕ → List (List ℕ) → Result Event Reason
+event_of setup first words =
+    if bytes_eq first (codes "insert") then insert_of setup.schema words else
+    if bytes_eq first (codes "set") then set_of setup.schema words else
+    if bytes_eq first (codes "delete") then delete_of setup.schema words else
+    if bytes_eq first (codes "get") then get_of setup.schema words else
+    if bytes_eq first (codes "open") then open_of setup.schema setup.replicas words else primary_event setup first words

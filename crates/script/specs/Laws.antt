@@ -1,0 +1,18 @@
+-- What holds of the text of events and values, whoever reads it.
+use Rattle.std.specs.Prelude.{◌≡◌, ℕ, ◌<◌, ◌^◌, List}
+use Rattle.rows.specs.declared.value.Value.{Value}
+use Rattle.script.specs.declared.event.Event.{Event}
+use Rattle.script.specs.declared.setup.Setup.{Setup}
+use Rattle.script.specs.Text.{value_text}
+use Rattle.script.specs.Events.{HasWord}
+use Rattle.script.specs.EventLines.{IsEventLine}
+
+-- a line is that of one event alone, however many workers and replicas there are below 2 ^ 64
+abbrev pub LinesDetermineEvents : Type 0
+LinesDetermineEvents =
+    (setup : Setup) (line : List ℕ) (one other : Event) → setup.workers < 2 ^ 64 → setup.replicas < 2 ^ 64
+    → IsEventLine setup line one → IsEventLine setup line other → one ≡ other
+
+-- a word is that of one value alone
+abbrev pub WordsDetermineValues : Type 0
+WordsDetermineValues = (one other : Value) → HasWord one → HasWord other → value_text one ≡ value_text other → one ≡ other

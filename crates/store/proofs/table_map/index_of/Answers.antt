@@ -1,0 +1,15 @@
+-- What the halving finds.
+use Rattle.std.proofs.Common.{◌≤◌, length, ltb, arith, rules}
+use Rattle.std.proofs.lemmas.List.Sorted.{IsPartitionPoint-from_clause, IsPartitionedBy-ltb}
+use Rattle.std.proofs.lemmas.Map.Keys.{non_decreasing_from_sorted}
+use Rattle.store.proofs.Ids.{below-partition}
+use Rattle.store.proofs.table_map.index_of.Goals as goal
+
+pub returns : goal.returns
+returns c =
+    let ids = c.args.ids.now.items in
+    let parted = IsPartitionedBy-ltb (λ id. id) ids c.args.row (non_decreasing_from_sorted ids c.requires) in
+    let point =
+    IsPartitionPoint-from_clause (λ id. ltb id c.args.row) _ _ c.partition_point.ensures.partitioned parted (λ a r q k. search rules) in
+    let within : c.partition_point.result ≤ length ids = search rules in
+    below-partition c.args.row ids c.partition_point.result within point
