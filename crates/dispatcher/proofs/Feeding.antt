@@ -1,25 +1,31 @@
 -- What keeps a replica fed.
-use Rattle.std.proofs.Common.{◌≡◌, ℕ, ◌+◌, ◌<◌, ◌≤◌, Bool, true, false, cond, not, ◌||◌, ◌&&◌, ◌==◌, List, [], ◌∷◌, ◌++◌, length, Option}
-use Rattle.std.proofs.Common.{Some, None, Result, Ok, Err, nat_lt, nat_le, slice_index, refl, sym, ap, subst, ◌∙◌, arith}
+use Rattle.std.proofs.Common.{◌≡◌, ℕ, zero, suc, ◌+◌, ◌≤◌, Bool, true, false, cond, not, ◌||◌, ◌&&◌, ◌==◌, List, [], ◌∷◌, ◌++◌}
+use Rattle.std.proofs.Common.{length, Option}
+use Rattle.std.proofs.Common.{Some, None, Result, Ok, Err, nat_lt, nat_le, refl, sym, ap, subst, ◌∙◌, arith}
+use Rattle.std.specs.Cmp.Lexicographic.{pointwise}
 use Rattle.std.specs.List.{slice_get, list_all}
-use Rattle.std.specs.Ordering.{nat_cmp}
-use Rattle.std.specs.BTreeMap.{insert_entry}
 use Rattle.std.specs.Result.{is_ok}
-use Rattle.std.proofs.lemmas.Bool.{true≢false, not-false, ltb-true, ltb-false, cond_both}
-use Rattle.std.proofs.lemmas.List.{length-append}
+use Rattle.std.proofs.lemmas.Bool.{true≢false, cond_both, leb-true, and_parts, eq-eqb, le-leb}
+use Rattle.std.proofs.lemmas.List.{length-append, length-replicate}
 use Rattle.std.proofs.lemmas.Option.{none-some, same_Some}
 use Rattle.rows.specs.declared.commit.Commit.{Commit}
 use Rattle.rows.specs.declared.limits.TheConstants.{WAITING_QUERIES_MAX}
 use Rattle.rows.specs.Shape.{Shape}
 use Rattle.rows.specs.Entries.{fitting}
 use Rattle.rows.specs.Commits.{tables_after}
+use Rattle.update_log.specs.declared.frame.Frame.{Frame}
+use Rattle.update_log.specs.Streams.{stream_of}
+use Rattle.intake.specs.Known.{is_known}
+use Rattle.intake.specs.State.{nothing, known_of}
+use Rattle.intake.specs.Steps.{started as none_came, taken}
+use Rattle.intake.specs.Laws.{NothingIsFrom, CommitsKeepFrom, FramesKeepFrom, DropsKeepFrom}
+use Rattle.intake.specs.Laws.{FramesLeaveWorkers, DropsLeaveWorkers, FramesStayKnown, DropsLeaveKnown, FramesStayKept, DropsStayKept}
+use Rattle.ordering.specs.Cutting.{AreCounts}
 use Rattle.wire.specs.declared.datagram.Datagram.{Datagram}
 use Rattle.wire.specs.declared.datagram.Datagram.TheVariants as datagrams
 use Rattle.wire.specs.declared.faults.WireFault.{WireFault}
-use Rattle.update_log.specs.declared.frame.Frame.{Frame}
 use Rattle.wire.specs.declared.out.Out.{Out}
 use Rattle.wire.specs.Reading.{reading}
-use Rattle.wire.specs.Streams.{stream_of, frame_count}
 use Rattle.dispatcher.specs.declared.outcome.Got.{Got}
 use Rattle.dispatcher.specs.declared.outcome.Got.TheVariants as got
 use Rattle.dispatcher.specs.declared.faults.AskFault.{AskFault}
@@ -28,29 +34,48 @@ use Rattle.dispatcher.specs.declared.faults.OpenFault.{OpenFault}
 use Rattle.dispatcher.specs.declared.faults.OpenFault.TheVariants as opens
 use Rattle.dispatcher.specs.declared.plan.Plan.{Plan}
 use Rattle.dispatcher.specs.declared.faults.PlanFault.{PlanFault}
-use Rattle.dispatcher.specs.Feeding.{IsFetchedFrom, IsFedFrom, Tells, FreshIsFed, CommitsKeepFed, BytesKeepFed, OpenKeepsFed, AskKeepsFed}
-use Rattle.dispatcher.specs.Feeding.{VersionTellsTables}
-use Rattle.dispatcher.specs.Known.{is_known, is_ahead}
+use Rattle.dispatcher.specs.Feeding.{IsFetchedFrom, IsFedFrom, Tells, TruthStays, FreshIsFed, CommitsKeepFed, BytesKeepFed, TrueHeadGoesOn}
+use Rattle.dispatcher.specs.Feeding.{OpenKeepsFed, AskKeepsFed, VersionTellsTables}
 use Rattle.dispatcher.specs.Plans.{checked}
 use Rattle.dispatcher.specs.State.{Replica, Batch, Fetched}
-use Rattle.dispatcher.specs.Steps.{asked_by, ask_for, with_batch, known, frame_comes, own_head_comes, datagram_comes, broken_of}
-use Rattle.dispatcher.proofs.CatchingUp.{CanAnswer, caught, count-fetched}
-use Rattle.dispatcher.proofs.Lists.{All-map}
-use Rattle.dispatcher.proofs.Seqs.{is_known-below}
-use Rattle.dispatcher.proofs.Stored.{known-insert, frames-insert}
-use Rattle.dispatcher.proofs.Streams.{stream-stays, count-stays, count-is}
+use Rattle.dispatcher.specs.Steps.{asked_by, ask_for, with_batch, got_of, frame_comes, goes_on, head_for, head_by_batch, own_head_comes}
+use Rattle.dispatcher.specs.Steps.{datagram_comes, at_fetched, broken_of}
+use Rattle.dispatcher.proofs.CatchingUp.{Merges, is-fetched, each-known}
+use Rattle.dispatcher.proofs.Lists.{le-pointwise, none-counted}
+use Rattle.dispatcher.proofs.Ready.{CanAnswer}
+use Rattle.dispatcher.proofs.Streams.{stream-stays, count-stays, count-grows}
 use Rattle.dispatcher.proofs.Versions.{tables-stay}
+
+-- what the laws say of what has come
+pub record Arriving : Type 0 where
+  pub nothing_from : NothingIsFrom
+  pub commits_from : CommitsKeepFrom
+  pub frames_from : FramesKeepFrom
+  pub drops_from : DropsKeepFrom
+  pub frames_leave : FramesLeaveWorkers
+  pub drops_leave : DropsLeaveWorkers
+  pub frames_known : FramesStayKnown
+  pub drops_known : DropsLeaveKnown
+  pub frames_kept : FramesStayKept
+  pub drops_kept : DropsStayKept
 
 -- ---- the beginning
 
-pub fresh-fed : FreshIsFed
-fresh-fed shape commits number boot legal = record {
+none-known : (workers worker seq : ℕ) → is_known (known_of (none_came workers) worker) seq ≡ false
+none-known zero worker seq = refl
+none-known (suc workers) zero seq = refl
+none-known (suc workers) (suc worker) seq = none-known workers worker seq
+
+pub fresh-fed : Arriving → FreshIsFed
+fresh-fed laws shape commits workers number boot legal = record {
   legal = legal;
   shape_is = refl;
-  workers_are = refl;
-  frames_are = tt;
-  applied_is = refl;
-  applied_known = λ seq below. absurd (omega arith);
+  workers_are = length-replicate workers nothing;
+  frames_are = laws.nothing_from commits workers;
+  counted = length-replicate workers 0;
+  applied_are = none-counted workers;
+  applied_known = λ worker seq below. absurd (omega (arith, below, none-counted workers worker));
+  others_kept = λ worker seq low known. absurd (true≢false (sym known ∙ none-known workers worker seq));
   below = omega arith;
   tables_are = λ whole. refl;
   fetched_is = λ batch fetched there has. absurd (none-some batch there);
@@ -58,95 +83,80 @@ fresh-fed shape commits number boot legal = record {
 
 -- ---- commits
 
-fetched-stays : (commits more : List Commit) (version : ℕ) (fetched : Fetched) → IsFetchedFrom commits version fetched
-    → IsFetchedFrom (commits ++ more) version fetched
-fetched-stays commits more version fetched is =
+counts-stay : (commits more : List Commit) (version : ℕ) (counts : List ℕ) → version ≤ length commits → AreCounts commits version counts
+    → AreCounts (commits ++ more) version counts
+counts-stay commits more version counts below are worker = are worker ∙ sym (count-stays commits more worker version below)
+
+fetched-stays : (commits more : List Commit) (r : Replica) (fetched : Fetched) → IsFetchedFrom commits r fetched
+    → IsFetchedFrom (commits ++ more) r fetched
+fetched-stays commits more r fetched is =
     let below = is.below in
     record {
       above = is.above;
       below = omega (arith, length-append commits more);
-      counts_are = is.counts_are ∙ ap (λ (n : ℕ). n ∷ []) (sym (count-stays commits more 0 fetched.version is.below));
+      counted = is.counted;
+      counts_are = counts-stay commits more fetched.version fetched.counts is.below is.counts_are;
     }
 
-pub commits-feed : CommitsKeepFed
-commits-feed shape commits more r legal fed =
+pub commits-feed : Arriving → CommitsKeepFed
+commits-feed laws shape commits more r legal fed =
     let below = fed.below in
     record {
       legal = legal;
       shape_is = fed.shape_is;
       workers_are = fed.workers_are;
-      frames_are =
-          All-map (λ (entry : ℕ × Frame). slice_get (stream_of commits 0) entry.0 ≡ Some entry.1)
-          (λ (entry : ℕ × Frame). slice_get (stream_of (commits ++ more) 0) entry.0 ≡ Some entry.1)
-          (λ entry is. stream-stays commits more 0 entry.0 entry.1 is) r.frames fed.frames_are;
-      applied_is = fed.applied_is ∙ sym (count-stays commits more 0 r.version fed.below);
+      frames_are = laws.commits_from commits more r.arrivals fed.frames_are;
+      counted = fed.counted;
+      applied_are = counts-stay commits more r.version r.applied fed.below fed.applied_are;
       applied_known = fed.applied_known;
+      others_kept = fed.others_kept;
       below = omega (arith, length-append commits more);
       tables_are = λ whole. fed.tables_are whole ∙ sym (tables-stay shape commits more r.version fed.below);
-      fetched_is = λ batch fetched there has. fetched-stays commits more r.version fetched (fed.fetched_is batch fetched there has);
+      fetched_is = λ batch fetched there has. fetched-stays commits more r fetched (fed.fetched_is batch fetched there has);
     }
 
 -- what is true of a list is true of each that goes on from it
-pub tells-stay : (commits more : List Commit) (datagram : Result Datagram WireFault) → Tells commits datagram
-    → Tells (commits ++ more) datagram
-tells-stay commits more (Err fault) h = tt
-tells-stay commits more (Ok (datagrams.Frame worker seq commit last entries)) h = stream-stays commits more worker seq _ h
-tells-stay commits more (Ok (datagrams.Ask replica boot request)) h = tt
-tells-stay commits more (Ok (datagrams.Head replica boot request version counts)) h =
+pub truth-stays : TruthStays
+truth-stays workers commits more (Err fault) h = tt
+truth-stays workers commits more (Ok (datagrams.Frame worker seq commit last entries)) h = stream-stays commits more worker seq _ h
+truth-stays workers commits more (Ok (datagrams.Ask replica boot request)) h = tt
+truth-stays workers commits more (Ok (datagrams.Head replica boot request version counts)) h =
     let below = h.0 in
-    (omega (arith, length-append commits more), h.1 ∙ ap (λ (n : ℕ). n ∷ []) (sym (count-stays commits more 0 version h.0)))
-tells-stay commits more (Ok (datagrams.Want replica worker from)) h = tt
+    (omega (arith, length-append commits more), h.1, counts-stay commits more version counts h.0 h.2)
+truth-stays workers commits more (Ok (datagrams.Want replica worker from)) h = tt
 
 -- ---- a frame
 
-stored-fed : (shape : Shape) (commits : List Commit) (r : Replica) (frame : Frame) → IsFedFrom shape commits r
-    → slice_get (stream_of commits 0) frame.seq ≡ Some frame
-    → IsFedFrom shape commits (record r { frames = insert_entry nat_cmp r.frames frame.seq frame })
-stored-fed shape commits r frame fed is = record {
+-- with a frame of the list, or one that is not taken
+taken-fed : (laws : Arriving) (shape : Shape) (commits : List Commit) (r : Replica) (frame : Frame) → IsFedFrom shape commits r
+    → slice_get (stream_of commits frame.worker) frame.seq ≡ Some frame
+    → IsFedFrom shape commits (record r { arrivals = (taken r.arrivals frame).1 })
+taken-fed laws shape commits r frame fed is = record {
   legal = fed.legal;
   shape_is = fed.shape_is;
-  workers_are = fed.workers_are;
-  frames_are =
-      frames-insert (λ (entry : ℕ × Frame). slice_get (stream_of commits 0) entry.0 ≡ Some entry.1) r.frames frame.seq frame fed.frames_are
-      is;
-  applied_is = fed.applied_is;
-  applied_known = λ seq below. known-insert r.frames frame.seq frame seq (fed.applied_known seq below);
+  workers_are = laws.frames_leave r.arrivals frame ∙ fed.workers_are;
+  frames_are = laws.frames_from commits r.arrivals frame is fed.frames_are;
+  counted = fed.counted;
+  applied_are = fed.applied_are;
+  applied_known = λ worker seq below. laws.frames_known r.arrivals frame worker seq (fed.applied_known worker seq below);
+  others_kept = laws.frames_kept r.arrivals r.applied frame fed.others_kept;
   below = fed.below;
   tables_are = fed.tables_are;
-  fetched_is = fed.fetched_is;
+  fetched_is = λ batch fetched there has.
+      let was = fed.fetched_is batch fetched there has in
+      record { above = was.above; below = was.below; counted = was.counted; counts_are = was.counts_are };
 }
 
--- a frame of a worker that is there is one of the only worker
-only-stream : (shape : Shape) (commits : List Commit) (r : Replica) (frame : Frame) → IsFedFrom shape commits r
-    → nat_lt frame.worker r.workers ≡ true
-    → slice_get (stream_of commits frame.worker) frame.seq ≡ Some frame → slice_get (stream_of commits 0) frame.seq ≡ Some frame
-only-stream shape commits r frame fed there is =
-    let one = fed.workers_are in
-    let below = ltb-true frame.worker r.workers there in
-    let only : 0 ≡ frame.worker = omega arith in
-    ap (λ (w : ℕ). slice_get (stream_of commits w) frame.seq) only ∙ is
-
-frame-feeds : (shape : Shape) (commits : List Commit) (r : Replica) (frame : Frame) → IsFedFrom shape commits r
+frame-feeds : (laws : Arriving) (shape : Shape) (commits : List Commit) (r : Replica) (frame : Frame) → IsFedFrom shape commits r
     → slice_get (stream_of commits frame.worker) frame.seq ≡ Some frame
     → IsFedFrom shape commits (frame_comes r frame).1
-frame-feeds shape commits r frame fed is =
-    by (not (nat_lt frame.worker r.workers)) (not (list_all (λ entry. is_ok (fitting r.shape entry)) frame.entries))
-    (is_known (known r) frame.seq) (is_ahead (known r) frame.seq) refl
-  where
-    with : Replica
-    with = record r { frames = insert_entry nat_cmp r.frames frame.seq frame }
+frame-feeds laws shape commits r frame fed is =
+    cond_both (not (nat_lt frame.worker r.workers) || not (list_all (λ entry. is_ok (fitting r.shape entry)) frame.entries))
+    (got.Ignored, r) (got_of (taken r.arrivals frame).0, record r { arrivals = (taken r.arrivals frame).1 })
+    (λ (answer : Got × Replica). IsFedFrom shape commits answer.1)
+    (λ not_taken. fed) (λ takes. taken-fed laws shape commits r frame fed is)
 
-    by : (a b c d : Bool) → not (nat_lt frame.worker r.workers) ≡ a
-        → IsFedFrom shape commits (cond {A = Got × Replica} (a || b) (got.Ignored, r)
-        (cond c (got.Repeat, r) (cond d (got.Ahead, r) (got.Stored, with)))).1
-    by true b c d e = fed
-    by false true c d e = fed
-    by false false true d e = fed
-    by false false false true e = fed
-    by false false false false e =
-        stored-fed shape commits r frame fed (only-stream shape commits r frame fed (not-false (nat_lt frame.worker r.workers) e) is)
-
--- ---- a Head
+-- ---- its queries
 
 -- one thing is fetched for a batch
 same-fetched : (batch : Option Batch) (queries other : Batch) (fetched found : Fetched) → batch ≡ Some queries
@@ -155,72 +165,90 @@ same-fetched batch queries other fetched found e f g h =
     let same : queries ≡ other = same_Some queries other (sym e ∙ g) in
     same_Some fetched found (sym f ∙ ap (λ (queries : Batch). queries.fetched) same ∙ h)
 
--- the same replica, for whose batch this was fetched
-fetched-fed : (shape : Shape) (commits : List Commit) (r : Replica) (plans : List Plan) (found : Fetched) → IsFedFrom shape commits r
-    → IsFetchedFrom commits r.version found
-    → IsFedFrom shape commits (record r { batch = Some (record { plans = plans; fetched = Some found }) })
-fetched-fed shape commits r plans found fed is = record {
+-- the same replica with other queries, for whose batch nothing was fetched that is not of the list
+queries-fed : (shape : Shape) (commits : List Commit) (r : Replica) (request : ℕ) (waiting : List Plan) (batch : Option Batch)
+    → IsFedFrom shape commits r
+    → ((queries : Batch) (fetched : Fetched) → batch ≡ Some queries → queries.fetched ≡ Some fetched → IsFetchedFrom commits r fetched)
+    → IsFedFrom shape commits (record r { request = request; waiting = waiting; batch = batch })
+queries-fed shape commits r request waiting batch fed is = record {
   legal = fed.legal;
   shape_is = fed.shape_is;
   workers_are = fed.workers_are;
   frames_are = fed.frames_are;
-  applied_is = fed.applied_is;
+  counted = fed.counted;
+  applied_are = fed.applied_are;
   applied_known = fed.applied_known;
+  others_kept = fed.others_kept;
   below = fed.below;
   tables_are = fed.tables_are;
-  fetched_is = λ batch fetched there has.
-      let made : Batch = record { plans = plans; fetched = Some found } in
-      subst (IsFetchedFrom commits r.version) (same-fetched (Some made) made batch found fetched refl refl there has) is;
+  fetched_is = λ queries fetched there has.
+      let was = is queries fetched there has in
+      record { above = was.above; below = was.below; counted = was.counted; counts_are = was.counts_are };
 }
 
+-- ---- a Head
+
+-- whether it goes on, part by part
+goes-parts : (r : Replica) (version : ℕ) (counts : List ℕ) → goes_on r version counts ≡ true
+    → ((length counts == r.workers) ≡ true) × (r.version ≤ version)
+goes-parts r version counts h =
+    let front = (and_parts ((length counts == r.workers) && nat_le r.version version) (pointwise nat_le r.applied counts) h).0 in
+    let parts = and_parts (length counts == r.workers) (nat_le r.version version) front in
+    (parts.0, leb-true r.version version parts.1)
+
 head-feeds : (shape : Shape) (commits : List Commit) (r : Replica) (version : ℕ) (counts : List ℕ) → IsFedFrom shape commits r
-    → version ≤ length commits → counts ≡ frame_count commits 0 version ∷ [] → IsFedFrom shape commits (own_head_comes r version counts).1
-head-feeds shape commits r version counts fed below are =
-    by (not (length counts == r.workers)) (nat_lt version r.version) (nat_lt (slice_index counts 0) r.applied) r.batch refl
+    → version ≤ length commits → length counts ≡ r.workers → AreCounts commits version counts
+    → IsFedFrom shape commits (own_head_comes r version counts).1
+head-feeds shape commits r version counts fed below many are =
+    cond_both (goes_on r version counts) (head_by_batch r version counts r.batch) (got.Ignored, r)
+    (λ (answer : Got × Replica). IsFedFrom shape commits answer.1)
+    (λ goes. by_batch (goes-parts r version counts goes).1 r.batch) (λ other. fed)
   where
-    taken : Batch → Option Fetched → Got × Replica
-    taken batch None =
-        (got.Head version, record r { batch = Some (record batch { fetched = Some (record { version = version; counts = counts }) }) })
-    taken batch (Some fetched) = (got.Ignored, r)
+    found : Fetched
+    found = record { version = version; counts = counts }
 
-    by_batch : Option Batch → Got × Replica
-    by_batch None = (got.Ignored, r)
-    by_batch (Some batch) = taken batch batch.fetched
+    by_fetched : r.version ≤ version → (plans : List Plan) (fetched : Option Fetched)
+        → IsFedFrom shape commits (head_for r version counts plans fetched).1
+    by_fetched up plans (Some fetched) = fed
+    by_fetched up plans None =
+        let made : Batch = record { plans = plans; fetched = Some found } in
+        queries-fed shape commits r r.request r.waiting (Some made) fed
+        (λ queries other there has. subst (IsFetchedFrom commits r) (same-fetched (Some made) made queries found other refl refl there has)
+        (record { above = up; below = below; counted = many; counts_are = are }))
 
-    by_fetched : (plans : List Plan) (fetched : Option Fetched) → r.version ≤ version
-        → IsFedFrom shape commits (taken (record { plans = plans; fetched = fetched }) fetched).1
-    by_fetched plans (Some fetched) fresh = fed
-    by_fetched plans None fresh =
-        fetched-fed shape commits r plans (record { version = version; counts = counts }) fed
-        (record { above = fresh; below = below; counts_are = are })
+    by_batch : r.version ≤ version → (batch : Option Batch) → IsFedFrom shape commits (head_by_batch r version counts batch).1
+    by_batch up None = fed
+    by_batch up (Some batch) = by_fetched up batch.plans batch.fetched
 
-    by : (a b c : Bool) (batch : Option Batch) → nat_lt version r.version ≡ b
-        → IsFedFrom shape commits (cond {A = Got × Replica} (a || b || c) (got.Ignored, r) (by_batch batch)).1
-    by true b c batch e = fed
-    by false true c batch e = fed
-    by false false true batch e = fed
-    by false false false None e = fed
-    by false false false (Some batch) e = by_fetched batch.plans batch.fetched (ltb-false version r.version e)
+pub head-goes-on : TrueHeadGoesOn
+head-goes-on shape commits r version counts fed below many are up =
+    all (length counts == r.workers) (nat_le r.version version) (pointwise nat_le r.applied counts)
+    (eq-eqb (length counts) r.workers many) (le-leb r.version version up)
+    (le-pointwise r.applied counts (fed.counted ∙ sym many)
+    (λ worker. omega (arith, fed.applied_are worker, are worker, count-grows commits worker r.version version up)))
+  where
+    all : (a b c : Bool) → a ≡ true → b ≡ true → c ≡ true → (a && b && c) ≡ true
+    all a b c e f g = rw (e, f, g) refl
 
 -- ---- bytes
 
-pub datagram-feeds : (shape : Shape) (commits : List Commit) (r : Replica) (datagram : Result Datagram WireFault)
-    → IsFedFrom shape commits r → Tells commits datagram
+datagram-feeds : (laws : Arriving) (shape : Shape) (commits : List Commit) (r : Replica) (datagram : Result Datagram WireFault)
+    → IsFedFrom shape commits r → Tells r.workers commits datagram
     → IsFedFrom shape commits (datagram_comes r datagram).1
-datagram-feeds shape commits r (Err fault) fed tells = fed
-datagram-feeds shape commits r (Ok (datagrams.Frame worker seq commit last entries)) fed tells =
-    frame-feeds shape commits r (record { worker = worker; seq = seq; commit = commit; last = last; entries = entries }) fed tells
-datagram-feeds shape commits r (Ok (datagrams.Ask replica boot request)) fed tells = fed
-datagram-feeds shape commits r (Ok (datagrams.Head replica boot request version counts)) fed tells =
+datagram-feeds laws shape commits r (Err fault) fed tells = fed
+datagram-feeds laws shape commits r (Ok (datagrams.Frame worker seq commit last entries)) fed tells =
+    frame-feeds laws shape commits r (record { worker = worker; seq = seq; commit = commit; last = last; entries = entries }) fed tells
+datagram-feeds laws shape commits r (Ok (datagrams.Ask replica boot request)) fed tells = fed
+datagram-feeds laws shape commits r (Ok (datagrams.Head replica boot request version counts)) fed tells =
     cond_both ((replica == r.number) && (boot == r.boot) && (request == r.request)) (own_head_comes r version counts) (got.Ignored, r)
     (λ (answer : Got × Replica). IsFedFrom shape commits answer.1)
-    (λ own. head-feeds shape commits r version counts fed tells.0 tells.1) (λ other. fed)
-datagram-feeds shape commits r (Ok (datagrams.Want replica worker from)) fed tells = fed
+    (λ own. head-feeds shape commits r version counts fed tells.0 tells.1 tells.2) (λ other. fed)
+datagram-feeds laws shape commits r (Ok (datagrams.Want replica worker from)) fed tells = fed
 
-pub bytes-feed : BytesKeepFed
-bytes-feed shape commits r bytes fed tells =
+pub bytes-feed : Arriving → BytesKeepFed
+bytes-feed laws shape commits r bytes fed tells =
     cond_both r.broken (got.Broken, r) (datagram_comes r (reading bytes)) (λ (answer : Got × Replica). IsFedFrom shape commits answer.1)
-    (λ broken. fed) (λ whole. datagram-feeds shape commits r (reading bytes) fed tells)
+    (λ broken. fed) (λ whole. datagram-feeds laws shape commits r (reading bytes) fed tells)
 
 -- ---- queries
 
@@ -229,21 +257,6 @@ left : {A E : Type 0} (a b : A) (r new : Replica) → ◌≡◌ {A = Result (A �
 left {A = A} a b r new h =
     let same : ◌≡◌ {A = A × Replica} (a, r) (b, new) = cc in
     ap (λ (x : A × Replica). x.1) same
-
--- the replica with one more query that waits
-pub plan-fed : (shape : Shape) (commits : List Commit) (r : Replica) (plan : Plan) → IsFedFrom shape commits r
-    → IsFedFrom shape commits (record r { waiting = r.waiting ++ plan ∷ [] })
-plan-fed shape commits r plan fed = record {
-  legal = fed.legal;
-  shape_is = fed.shape_is;
-  workers_are = fed.workers_are;
-  frames_are = fed.frames_are;
-  applied_is = fed.applied_is;
-  applied_known = fed.applied_known;
-  below = fed.below;
-  tables_are = fed.tables_are;
-  fetched_is = fed.fetched_is;
-}
 
 pub open-feeds : OpenKeepsFed
 open-feeds shape commits r plan count new fed h = by r.broken (nat_le WAITING_QUERIES_MAX (length r.waiting)) (checked r.shape plan) h
@@ -261,21 +274,14 @@ open-feeds shape commits r plan count new fed h = by r.broken (nat_le WAITING_QU
     by false true check h = absurd (cc)
     by false false (Err fault) h = absurd (cc)
     by false false (Ok fits) h =
-        subst (IsFedFrom shape commits) (left (length r.waiting + 1) count with new h) (plan-fed shape commits r plan fed)
+        subst (IsFedFrom shape commits) (left (length r.waiting + 1) count with new h)
+        (queries-fed shape commits r r.request (r.waiting ++ plan ∷ []) r.batch fed fed.fetched_is)
 
 -- a batch is made, for which nothing was fetched
-pub batch-fed : (shape : Shape) (commits : List Commit) (r : Replica) → IsFedFrom shape commits r → IsFedFrom shape commits (with_batch r)
-batch-fed shape commits r fed = record {
-  legal = fed.legal;
-  shape_is = fed.shape_is;
-  workers_are = fed.workers_are;
-  frames_are = fed.frames_are;
-  applied_is = fed.applied_is;
-  applied_known = fed.applied_known;
-  below = fed.below;
-  tables_are = fed.tables_are;
-  fetched_is = λ batch fetched there has. absurd (none-fetched r.waiting batch fetched there has);
-}
+batch-fed : (shape : Shape) (commits : List Commit) (r : Replica) → IsFedFrom shape commits r → IsFedFrom shape commits (with_batch r)
+batch-fed shape commits r fed =
+    queries-fed shape commits r (r.request + 1) [] (Some (record { plans = r.waiting; fetched = None })) fed
+    (λ batch fetched there has. absurd (none-fetched r.waiting batch fetched there has))
   where
     none-fetched : (plans : List Plan) (batch : Batch) (fetched : Fetched)
         → ◌≡◌ {A = Option Batch} (Some (record { plans = plans; fetched = None })) (Some batch) → batch.fetched ≡ Some fetched → ⊥
@@ -312,58 +318,55 @@ broken-fed shape commits r fed = record {
   shape_is = fed.shape_is;
   workers_are = fed.workers_are;
   frames_are = fed.frames_are;
-  applied_is = fed.applied_is;
+  counted = fed.counted;
+  applied_are = fed.applied_are;
   applied_known = fed.applied_known;
+  others_kept = fed.others_kept;
   below = fed.below;
   tables_are = λ whole. absurd (true≢false whole);
-  fetched_is = fed.fetched_is;
+  fetched_is = λ batch fetched there has.
+      let was = fed.fetched_is batch fetched there has in
+      record { above = was.above; below = was.below; counted = was.counted; counts_are = was.counts_are };
 }
 
-module _ (shape : Shape) (commits : List Commit) (r : Replica) (batch : Batch) (fetched : Fetched)
+module _ (laws : Arriving) (merges : Merges) (shape : Shape) (commits : List Commit) (r : Replica) (batch : Batch) (fetched : Fetched)
     (fed : IsFedFrom shape commits r) (can : CanAnswer r batch fetched) where
-  is-fetched : IsFetchedFrom commits r.version fetched
-  is-fetched = fed.fetched_is batch fetched can.there can.has
-
-  caught-known : (seq : ℕ) → seq < fetched.version → is_known (known r) seq ≡ true
-  caught-known seq below =
-      let count = count-fetched shape commits r.version fetched fed.legal is-fetched in
-      let complete = can.complete in
-      is_known-below (length (known r)) 0 seq (known r) (omega arith) (omega arith)
+  fetched_for : IsFetchedFrom commits r fetched
+  fetched_for = is-fetched merges shape commits r batch fetched fed can
 
   -- it stands at the version that was fetched, its batch still there
-  pub caught-fed : IsFedFrom shape commits (caught shape commits fetched r)
-  caught-fed =
-      let is = is-fetched in
-      record {
-        legal = fed.legal;
-        shape_is = fed.shape_is;
-        workers_are = fed.workers_are;
-        frames_are = fed.frames_are;
-        applied_is = sym (count-is commits fetched.version fed.legal.each is.below);
-        applied_known = caught-known;
-        below = is.below;
-        tables_are = λ whole. refl;
-        fetched_is =
-            λ other found e f. subst (IsFetchedFrom commits fetched.version)
-            (same-fetched r.batch batch other fetched found can.there can.has e f)
-            (record { above = omega arith; below = is.below; counts_are = is.counts_are });
-      }
+  abbrev caught : Replica
+  caught = at_fetched r fetched (tables_after shape commits fetched.version)
+
+  pub caught-fed : IsFedFrom shape commits caught
+  caught-fed = record {
+    legal = fed.legal;
+    shape_is = fed.shape_is;
+    workers_are = laws.drops_leave r.arrivals fetched.counts ∙ fed.workers_are;
+    frames_are = laws.drops_from commits r.arrivals fetched.counts fed.frames_are;
+    counted = fetched_for.counted;
+    applied_are = fetched_for.counts_are;
+    applied_known = λ worker seq below.
+        subst (λ (known : List ℕ). is_known known seq ≡ true) (sym (laws.drops_known r.arrivals fetched.counts worker))
+        (each-known merges shape commits r batch fetched fed can worker seq below);
+    others_kept = laws.drops_kept r.arrivals r.applied fetched.counts
+        (λ worker. omega (
+          arith,
+          fed.applied_are worker,
+          fetched_for.counts_are worker,
+          count-grows commits worker r.version fetched.version fetched_for.above,
+        )) fed.others_kept;
+    below = fetched_for.below;
+    tables_are = λ whole. refl;
+    fetched_is =
+        λ other found e f. subst (IsFetchedFrom commits caught)
+        (same-fetched r.batch batch other fetched found can.there can.has e f)
+        (record { above = omega arith; below = fetched_for.below; counted = fetched_for.counted; counts_are = fetched_for.counts_are });
+  }
 
   -- it stands there, its batch answered
-  pub finished-fed : IsFedFrom shape commits (record (caught shape commits fetched r) { batch = None })
-  finished-fed =
-      let is = is-fetched in
-      record {
-        legal = fed.legal;
-        shape_is = fed.shape_is;
-        workers_are = fed.workers_are;
-        frames_are = fed.frames_are;
-        applied_is = sym (count-is commits fetched.version fed.legal.each is.below);
-        applied_known = caught-known;
-        below = is.below;
-        tables_are = λ whole. refl;
-        fetched_is = λ other found e f. absurd (none-some other e);
-      }
+  pub finished-fed : IsFedFrom shape commits (record caught { batch = None })
+  finished-fed = queries-fed shape commits caught r.request r.waiting None caught-fed (λ other found e f. absurd (none-some other e))
 
 -- ---- two replicas
 

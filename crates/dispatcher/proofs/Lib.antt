@@ -1,12 +1,11 @@
-pub mod Seqs
-pub mod Commits
-pub mod Listed
-pub mod Coming
-pub mod Running
 pub mod Lists
 pub mod Streams
-pub mod Stored
 pub mod Versions
+pub mod Ready
+pub mod Standing
+pub mod Coming
+pub mod Applying
+pub mod Running
 pub mod CatchingUp
 pub mod Feeding
 pub mod Reports

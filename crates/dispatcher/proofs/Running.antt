@@ -1,64 +1,67 @@
--- What a run answers where a version was fetched, no frame is missing, and the tables have caught up.
-use Rattle.std.proofs.Common.{◌≡◌, ℕ, ◌≤◌, ◌⊎◌, inl, inr, true, false, cond, List, [], ◌∷◌, length, slice_index, Option, None, Some, Bool}
-use Rattle.std.proofs.Common.{◌+◌, ◌==◌, sym, ap, subst, ◌∙◌, le-ltb}
-use Rattle.std.specs.Option.{option_map, option_and_then}
-use Rattle.std.specs.Result.{result_ok}
-use Rattle.std.proofs.lemmas.Bool.{cond-false}
-use Rattle.std.proofs.lemmas.Option.{none-some, same_Some}
-use Rattle.rows.specs.declared.commit.Commit.{Commit}
+-- What a run answers where a version was fetched and no frame is missing, and where one is.
+use Rattle.std.proofs.Common.{◌≡◌, ℕ, ◌<◌, ◌⊎◌, inl, inr, Bool, false, Option, Some, None, Result, Ok, Err, refl, sym, ap}
+use Rattle.std.proofs.Common.{subst, ◌∙◌, IsOkAnd}
 use Rattle.rows.specs.Commits.{commits_of}
-use Rattle.rows.specs.Tables.{Tables}
-use Rattle.dispatcher.specs.declared.plan.Plan.{Plan}
+use Rattle.rows.specs.Tables.{Tables, Refusal}
+use Rattle.intake.specs.Steps.{lacking}
 use Rattle.dispatcher.specs.declared.outcome.Run.{Run}
 use Rattle.dispatcher.specs.declared.outcome.Run.TheVariants as runs
-use Rattle.dispatcher.specs.Known.{first_missing}
 use Rattle.dispatcher.specs.State.{Replica, Batch, Fetched}
-use Rattle.dispatcher.specs.Steps.{known, unless_lacking, ready_of, ran, ran_by, lacks_frame, commits_above, with_commits}
-use Rattle.dispatcher.specs.Steps.{caught_up, finished, MayRun}
+use Rattle.dispatcher.specs.Steps.{want_for, broken_of, at_fetched, CaughtUp, CannotCatchUp, Ends, RunsFetched, RunsBatch}
+use Rattle.dispatcher.specs.Steps.{RunsWhole, RunsAs}
+use Rattle.dispatcher.specs.Steps.{Runs, MayRun}
 use Rattle.dispatcher.specs.Inner.Parts.{answered_by}
+use Rattle.dispatcher.proofs.Ready.{CanAnswer, ready-can}
 
--- catching up leaves the batch
-same_batch : (r after : Replica) (fetched : Fetched) (listed : Option (List Commit))
-    → option_and_then (with_commits r fetched) listed ≡ Some after → after.batch ≡ r.batch
-same_batch r after fetched None h = cc
-same_batch r after fetched (Some commits) h =
-    by (r.version + length commits == fetched.version) (result_ok (commits_of r.tables commits)) h
-  where
-    at : Tables → Replica
-    at tables = record r { tables = tables; version = fetched.version; applied = slice_index fetched.counts 0 }
+-- catching up leaves all but the tables, the version and the frames
+made-from : (r new : Replica) (fetched : Fetched) (made : Result Tables Refusal)
+    → IsOkAnd made (λ tables. new ≡ at_fetched r fetched tables)
+    → (new.batch ≡ r.batch) × (new.broken ≡ r.broken)
+made-from r new fetched (Ok tables) h = (ap (λ (r : Replica). r.batch) h, ap (λ (r : Replica). r.broken) h)
+made-from r new fetched (Err refusal) h = absurd h
 
-    by : (reached : Bool) (tables : Option Tables) → cond reached (option_map at tables) None ≡ Some after → after.batch ≡ r.batch
-    by false tables h = absurd (none-some after h)
-    by true None h = absurd (none-some after h)
-    by true (Some tables) h = sym (ap (λ (x : Replica). x.batch) (same_Some (at tables) after h))
+pub caught-from : (r new : Replica) (fetched : Fetched) → CaughtUp r fetched new → (new.batch ≡ r.batch) × (new.broken ≡ r.broken)
+caught-from r new fetched caught = made-from r new fetched (commits_of r.tables caught.commits) caught.applied
 
-module _ (r : Replica) (plans : List Plan) (fetched : Fetched) (whole : r.broken ≡ false)
-    (there : r.batch ≡ Some (record { plans = plans; fetched = Some fetched }))
-    (complete : slice_index fetched.counts 0 ≤ first_missing (known r)) where
-  pub ran-ready : ran r ≡ finished r plans (caught_up r fetched)
-  ran-ready =
-      cond-false r.broken (runs.Broken, r) (ran_by r r.batch) whole
-      ∙ ap (ran_by r) there
-      ∙ cond-false (lacks_frame (known r) fetched) _ (finished r plans (caught_up r fetched))
-      (le-ltb (first_missing (known r)) (slice_index fetched.counts 0) complete)
+-- what is answered by the first frame that is missing
+run-lacking : (r : Replica) (batch : Batch) (fetched : Fetched) (missing : Option (ℕ × ℕ)) (answer : Run) (new : Replica)
+    → r.broken ≡ false → r.batch ≡ Some batch → batch.fetched ≡ Some fetched → lacking r.arrivals fetched.counts ≡ missing
+    → RunsFetched r batch.plans fetched missing answer new → Runs r answer new
+run-lacking r batch fetched missing answer new whole there has lacks ran =
+    subst (λ (broken : Bool). RunsAs broken r answer new) (sym whole)
+    (subst (λ (found : Option Batch). RunsWhole r found answer new) (sym there)
+    (subst (λ (found : Option Fetched). RunsBatch r batch.plans found answer new) (sym has)
+    (subst (λ (missing : Option (ℕ × ℕ)). RunsFetched r batch.plans fetched missing answer new) (sym lacks) ran)))
 
-  ready-there : ready_of r ≡ Some fetched
-  ready-there =
-      cond-false r.broken None (unless_lacking (known r) (option_and_then (λ batch. batch.fetched) r.batch)) whole
-      ∙ ap (λ (batch : Option Batch). unless_lacking (known r) (option_and_then (λ batch. batch.fetched) batch)) there
-      ∙ cond-false (lacks_frame (known r) fetched) None (Some fetched)
-      (le-ltb (first_missing (known r)) (slice_index fetched.counts 0) complete)
+-- one is missing
+pub run-waits : (r : Replica) (batch : Batch) (fetched : Fetched) (worker seq : ℕ) → r.broken ≡ false → r.batch ≡ Some batch
+    → batch.fetched ≡ Some fetched → lacking r.arrivals fetched.counts ≡ Some (worker, seq)
+    → MayRun r (runs.Waiting worker seq (want_for r.number worker seq)) r
+run-waits r batch fetched worker seq whole there has lacks =
+    inl (run-lacking r batch fetched (Some (worker, seq)) (runs.Waiting worker seq (want_for r.number worker seq)) r whole there has lacks
+    (refl, refl))
 
-  run_by_parts : (after new : Replica) (answer : Run) → caught_up r fetched ≡ Some after
+module _ (r : Replica) (batch : Batch) (fetched : Fetched) (can : CanAnswer r batch fetched) where
+  run-ends : (answer : Run) (new : Replica) → Ends r batch.plans fetched answer new → MayRun r answer new
+  run-ends answer new ends = inl (run-lacking r batch fetched None answer new can.whole can.there can.has can.complete ends)
+
+  -- the batch is answered on the tables that have caught up, or stays where memory is wanted
+  pub run-answers : (after new : Replica) (answer : Run) → CaughtUp r fetched after
       → ((answer ≡ runs.Memory) × (new ≡ after)) ⊎ (answered_by after after.batch ≡ (answer, new)) → MayRun r answer new
-  run_by_parts after new answer caught (inl memory) = inr (fetched, ready-there, inl (memory.0, inr (rw memory.1 caught)))
-  run_by_parts after new answer caught (inr answered) =
-      let batch = same_batch r after fetched (commits_above r fetched) caught ∙ there in
-      inl (ran-ready ∙ ap (finished r plans) caught ∙ ap (answered_by after) (sym batch) ∙ answered)
+  run-answers after new answer caught (inl memory) =
+      inr (fetched, ready-can r batch fetched can, inl (memory.0, inr (subst (CaughtUp r fetched) (sym memory.1) caught)))
+  run-answers after new answer caught (inr answered) =
+      let same = sym answered ∙ ap (answered_by after) ((caught-from r after fetched caught).0 ∙ can.there) in
+      run-ends answer new (inl (after, caught, ap (λ (x : Run × Replica). x.0) same, ap (λ (x : Run × Replica). x.1) same))
 
-  -- the batch is answered on the tables that have caught up, or stays when out of memory
-  pub run_answers : (old after new : Replica) (answer : Run) (items : List ℕ) → r ≡ old → items ≡ fetched.counts
-      → caught_up old (record { version = fetched.version; counts = slice_index items 0 ∷ [] }) ≡ Some after
-      → ((answer ≡ runs.Memory) × (new ≡ after)) ⊎ (answered_by after after.batch ≡ (answer, new)) → MayRun old answer new
-  run_answers old after new answer items seen same caught answered =
-      subst (λ x. MayRun x answer new) seen (run_by_parts after new answer (rw (seen, ← same) caught) answered)
+  -- it cannot catch up
+  pub run-cannot : (new : Replica) → CannotCatchUp r fetched × (new ≡ broken_of r) → MayRun r runs.Inconsistent new
+  run-cannot new cannot = run-ends runs.Inconsistent new (inr (cannot.0, refl, cannot.1))
+
+  -- memory is wanted before the first change
+  pub run-memory : (new : Replica) → new ≡ r → MayRun r runs.Memory new
+  run-memory new same = inr (fetched, ready-can r batch fetched can, inl (refl, inl same))
+
+  -- or later
+  pub run-broken : (new : Replica) → (new ≡ broken_of r) × (r.version < fetched.version) → MayRun r runs.Broken new
+  run-broken new broken = inr (fetched, ready-can r batch fetched can, inr (refl, broken.0, broken.1))

@@ -1,73 +1,94 @@
 -- A replica that is fed from a list of commits: the list is one that a primary may have, and all that the replica knows is
 -- of it. And the laws of what keeps it so, and of what its runs answer then.
-use Rattle.std.specs.Prelude.{◌≡◌, ℕ, ◌<◌, ◌≤◌, List, [], ◌∷◌, ◌++◌, length, true, false, Some, Result, Ok, Err, slice_get}
-use Rattle.std.specs.List.{AllByRecursion}
+use Rattle.std.specs.Prelude.{◌≡◌, ℕ, ◌<◌, ◌≤◌, List, ◌++◌, length, true, false, None, Some, Result, Ok, Err, slice_get, slice_index}
 use Rattle.rows.specs.declared.commit.Commit.{Commit}
 use Rattle.rows.specs.Shape.{Shape}
 use Rattle.rows.specs.Commits.{IsLegal, tables_after}
+use Rattle.update_log.specs.Streams.{stream_of}
+use Rattle.intake.specs.Known.{is_known}
+use Rattle.intake.specs.State.{known_of}
+use Rattle.intake.specs.Kept.{AreKeptFrom}
+use Rattle.intake.specs.Streams.{AreFrom}
+use Rattle.ordering.specs.Cutting.{AreCounts}
 use Rattle.wire.specs.declared.datagram.Datagram.{Datagram}
 use Rattle.wire.specs.declared.datagram.Datagram.TheVariants as datagrams
 use Rattle.wire.specs.declared.faults.WireFault.{WireFault}
 use Rattle.wire.specs.declared.out.Out.{Out}
 use Rattle.wire.specs.Reading.{reading}
-use Rattle.wire.specs.Streams.{stream_of, frame_count}
 use Rattle.dispatcher.specs.declared.outcome.Run.{Run}
 use Rattle.dispatcher.specs.declared.outcome.Run.TheVariants as runs
 use Rattle.dispatcher.specs.declared.plan.Plan.{Plan}
-use Rattle.dispatcher.specs.Known.{is_known}
 use Rattle.dispatcher.specs.State.{Replica, Batch, Fetched}
 use Rattle.dispatcher.specs.Report.{report_of}
-use Rattle.dispatcher.specs.Steps.{started, known, received, opened, asked, ready_of, ran, MayRun}
+use Rattle.dispatcher.specs.Steps.{started, received, goes_on, opened, asked, at_fetched, ready_of, Runs, MayRun}
 
--- a version of the list, fetched by a replica at this version, with the frame count at it
-pub record IsFetchedFrom (commits : List Commit) (version : ℕ) (fetched : Fetched) : Type 0 where
-  pub above : version ≤ fetched.version
+-- a version of the list, fetched by a replica, with each worker's frame count at it
+pub record IsFetchedFrom (commits : List Commit) (r : Replica) (fetched : Fetched) : Type 0 where
+  pub above : r.version ≤ fetched.version
   pub below : fetched.version ≤ length commits
-  pub counts_are : fetched.counts ≡ frame_count commits 0 fetched.version ∷ []
+  pub counted : length fetched.counts ≡ r.workers
+  pub counts_are : AreCounts commits fetched.version fetched.counts
 
 pub record IsFedFrom (shape : Shape) (commits : List Commit) (r : Replica) : Type 0 where
-  pub legal : IsLegal shape 1 commits
+  pub legal : IsLegal shape r.workers commits
   pub shape_is : r.shape ≡ shape
-  pub workers_are : r.workers ≡ 1
-  -- each known frame is the one of its seq
-  pub frames_are : AllByRecursion (λ entry. slice_get (stream_of commits 0) entry.0 ≡ Some entry.1) r.frames
+  -- what has come of each worker is of its stream
+  pub workers_are : length r.arrivals ≡ r.workers
+  pub frames_are : AreFrom commits r.arrivals
   -- the frames that its tables have are those of the commits up to its version, and all are known
-  pub applied_is : r.applied ≡ frame_count commits 0 r.version
-  pub applied_known : (seq : ℕ) → seq < r.applied → is_known (known r) seq ≡ true
+  pub counted : length r.applied ≡ r.workers
+  pub applied_are : AreCounts commits r.version r.applied
+  pub applied_known : (worker seq : ℕ) → seq < slice_index r.applied worker → is_known (known_of r.arrivals worker) seq ≡ true
+  -- every other known frame is kept
+  pub others_kept : AreKeptFrom r.arrivals r.applied
   pub below : r.version ≤ length commits
   pub tables_are : r.broken ≡ false → r.tables ≡ tables_after shape commits r.version
   pub fetched_is : (batch : Batch) (fetched : Fetched) → r.batch ≡ Some batch → batch.fetched ≡ Some fetched
-      → IsFetchedFrom commits r.version fetched
+      → IsFetchedFrom commits r fetched
 
--- what a datagram says is true of the list; an Ask, a Want and bytes that are no datagram say nothing of it
-abbrev pub Tells : List Commit → Result Datagram WireFault → Type 0
-Tells commits (Err fault) = Unit {0}
-Tells commits (Ok (datagrams.Frame worker seq commit last entries)) =
+-- what a datagram says is true of the list of a primary with so many workers; an Ask, a Want and bytes that are no datagram
+-- say nothing of it
+abbrev pub Tells : ℕ → List Commit → Result Datagram WireFault → Type 0
+Tells workers commits (Err fault) = Unit {0}
+Tells workers commits (Ok (datagrams.Frame worker seq commit last entries)) =
     slice_get (stream_of commits worker) seq ≡ Some (record { worker = worker; seq = seq; commit = commit; last = last; entries = entries })
-Tells commits (Ok (datagrams.Ask replica boot request)) = Unit {0}
-Tells commits (Ok (datagrams.Head replica boot request version counts)) =
-    (version ≤ length commits) × (counts ≡ frame_count commits 0 version ∷ [])
-Tells commits (Ok (datagrams.Want replica worker from)) = Unit {0}
+Tells workers commits (Ok (datagrams.Ask replica boot request)) = Unit {0}
+Tells workers commits (Ok (datagrams.Head replica boot request version counts)) =
+    (version ≤ length commits) × (length counts ≡ workers) × AreCounts commits version counts
+Tells workers commits (Ok (datagrams.Want replica worker from)) = Unit {0}
 
 -- ---- what keeps it fed
 
 -- a fresh replica is fed from every legal list
 abbrev pub FreshIsFed : Type 0
 FreshIsFed =
-    (shape : Shape) (commits : List Commit) (number boot : ℕ) → IsLegal shape 1 commits
-    → IsFedFrom shape commits (started shape 1 number boot)
+    (shape : Shape) (commits : List Commit) (workers number boot : ℕ) → IsLegal shape workers commits
+    → IsFedFrom shape commits (started shape workers number boot)
 
 -- fed from a list, it is fed from each legal list that goes on from it
 abbrev pub CommitsKeepFed : Type 0
 CommitsKeepFed =
-    (shape : Shape) (commits more : List Commit) (r : Replica) → IsLegal shape 1 (commits ++ more) → IsFedFrom shape commits r
+    (shape : Shape) (commits more : List Commit) (r : Replica) → IsLegal shape r.workers (commits ++ more) → IsFedFrom shape commits r
     → IsFedFrom shape (commits ++ more) r
+
+-- and what was true of it is true of each list that goes on from it
+abbrev pub TruthStays : Type 0
+TruthStays =
+    (workers : ℕ) (commits more : List Commit) (datagram : Result Datagram WireFault) → Tells workers commits datagram
+    → Tells workers (commits ++ more) datagram
 
 -- it stays fed by bytes that tell the truth of the list
 abbrev pub BytesKeepFed : Type 0
 BytesKeepFed =
-    (shape : Shape) (commits : List Commit) (r : Replica) (bytes : List ℕ) → IsFedFrom shape commits r → Tells commits (reading bytes)
-    → IsFedFrom shape commits (received r bytes).1
+    (shape : Shape) (commits : List Commit) (r : Replica) (bytes : List ℕ) → IsFedFrom shape commits r
+    → Tells r.workers commits (reading bytes) → IsFedFrom shape commits (received r bytes).1
+
+-- and a Head that tells the truth of the list, and is not older than its version, goes on
+abbrev pub TrueHeadGoesOn : Type 0
+TrueHeadGoesOn =
+    (shape : Shape) (commits : List Commit) (r : Replica) (version : ℕ) (counts : List ℕ) → IsFedFrom shape commits r
+    → version ≤ length commits → length counts ≡ r.workers → AreCounts commits version counts → r.version ≤ version
+    → goes_on r version counts ≡ true
 
 -- it stays fed where a query is opened
 abbrev pub OpenKeepsFed : Type 0
@@ -104,12 +125,13 @@ AnswerIsReport =
     → (batch : Batch) × (fetched : Fetched) × (r.batch ≡ Some batch) × (batch.fetched ≡ Some fetched)
     × (text ≡ report_of (tables_after shape commits fetched.version) fetched.version batch.plans) × (new.version ≡ fetched.version)
 
--- and where a version was fetched and no frame is missing, its run is that report
+-- and where a version was fetched and no frame is missing, that is what every run comes to, being out of memory aside
 abbrev pub ReadyIsAnswered : Type 0
 ReadyIsAnswered =
-    (shape : Shape) (commits : List Commit) (r : Replica) (batch : Batch) (fetched : Fetched) → IsFedFrom shape commits r
-    → r.batch ≡ Some batch → ready_of r ≡ Some fetched
-    → (ran r).0 ≡ runs.Answered (report_of (tables_after shape commits fetched.version) fetched.version batch.plans)
+    (shape : Shape) (commits : List Commit) (r : Replica) (batch : Batch) (fetched : Fetched) (answer : Run) (new : Replica)
+    → IsFedFrom shape commits r → r.batch ≡ Some batch → ready_of r ≡ Some fetched → Runs r answer new
+    → (answer ≡ runs.Answered (report_of (tables_after shape commits fetched.version) fetched.version batch.plans))
+    × (new ≡ record (at_fetched r fetched (tables_after shape commits fetched.version)) { batch = None })
 
 -- ---- what two of them hold
 

@@ -1,7 +1,5 @@
 pub mod Plans
 pub mod Report
-pub mod Known
-pub mod Listing
 pub mod State
 pub mod Steps
 pub mod Feeding

@@ -2,7 +2,7 @@
 use Rattle.std.specs.Prelude.{ℕ, List, Option, Bool}
 use Rattle.rows.specs.Shape.{Shape}
 use Rattle.rows.specs.Tables.{Tables}
-use Rattle.update_log.specs.declared.frame.Frame.{Frame}
+use Rattle.intake.specs.State.{Arrivals}
 use Rattle.dispatcher.specs.declared.plan.Plan.{Plan}
 
 -- the version that was fetched for a batch, and each worker's frame count at it
@@ -22,10 +22,10 @@ pub record Replica : Type 0 where
   pub boot : ℕ
   -- how many requests it has made
   pub request : ℕ
-  -- the known frames of its worker, in rising seq
-  pub frames : List (ℕ × Frame)
-  -- how many of them its tables have
-  pub applied : ℕ
+  -- what has come of each worker
+  pub arrivals : List Arrivals
+  -- how many frames of each worker its tables have
+  pub applied : List ℕ
   -- nothing is said of the tables of a broken replica: they are seen as none
   pub tables : Tables
   pub version : ℕ

@@ -1,21 +1,24 @@
 -- One step of a replica: what each call answers, and what it leaves.
-use Rattle.std.specs.Prelude.{◌≡◌, ℕ, ◌<◌, ◌+◌, ◌-◌, List, [], ◌∷◌, ◌++◌, length, Bool, true, false, Option, None, Some, Result, Ok, Err}
-use Rattle.std.specs.Prelude.{◌==◌, ◌||◌, ◌&&◌, not, nat_lt, nat_le, if◌then◌else◌, is_ok, slice_index, ◌⊎◌}
+use Rattle.std.specs.Prelude.{◌≡◌, ℕ, ◌<◌, ◌+◌, List, [], ◌∷◌, ◌++◌, length, replicate, Bool, true, false, Option, None, Some}
+use Rattle.std.specs.Prelude.{Result, Ok, Err}
+use Rattle.std.specs.Prelude.{◌==◌, ◌||◌, ◌&&◌, not, nat_lt, nat_le, if◌then◌else◌, is_ok, IsOkAnd, IsErr, ◌⊎◌}
+use Rattle.std.specs.Cmp.Lexicographic.{pointwise}
 use Rattle.std.specs.List.{list_all}
-use Rattle.std.specs.Option.{option_map, option_and_then}
-use Rattle.std.specs.Result.{result_ok}
-use Rattle.std.specs.Ordering.{nat_cmp}
-use Rattle.std.specs.BTreeMap.{insert_entry}
+use Rattle.std.specs.Option.{option_and_then, is_none}
 use Rattle.rows.specs.Limits.{waiting_queries_max}
 use Rattle.rows.specs.declared.commit.Commit.{Commit}
 use Rattle.rows.specs.Shape.{Shape}
 use Rattle.rows.specs.Commits.{commits_of}
 use Rattle.rows.specs.Entries.{fitting}
-use Rattle.rows.specs.Tables.{opening}
+use Rattle.rows.specs.Tables.{Tables, opening}
+use Rattle.update_log.specs.declared.frame.Frame.{Frame}
+use Rattle.intake.specs.declared.taken.Taken.{Taken}
+use Rattle.intake.specs.declared.taken.Taken.TheVariants as takens
+use Rattle.intake.specs.Steps.{started as none_came, taken, lacking, dropped}
+use Rattle.ordering.specs.Merging.{IsMerge, frames_in}
 use Rattle.wire.specs.declared.datagram.Datagram.{Datagram}
 use Rattle.wire.specs.declared.datagram.Datagram.TheVariants as datagrams
 use Rattle.wire.specs.declared.faults.WireFault.{WireFault}
-use Rattle.update_log.specs.declared.frame.Frame.{Frame}
 use Rattle.wire.specs.declared.out.Out.{Out}
 use Rattle.wire.specs.declared.out.To.TheVariants.{Primary}
 use Rattle.wire.specs.Spelling.{spelling}
@@ -30,9 +33,7 @@ use Rattle.dispatcher.specs.declared.outcome.Got.{Got}
 use Rattle.dispatcher.specs.declared.outcome.Got.TheVariants as got
 use Rattle.dispatcher.specs.declared.outcome.Run.{Run}
 use Rattle.dispatcher.specs.declared.outcome.Run.TheVariants as runs
-use Rattle.dispatcher.specs.Known.{known_of, is_known, is_ahead, first_missing}
 use Rattle.dispatcher.specs.Plans.{checked}
-use Rattle.dispatcher.specs.Listing.{frames_at, commits_in}
 use Rattle.dispatcher.specs.State.{Replica, Batch, Fetched}
 use Rattle.dispatcher.specs.Report.{report_of}
 
@@ -44,8 +45,8 @@ started shape workers number boot = record {
   number = number;
   boot = boot;
   request = 0;
-  frames = [];
-  applied = 0;
+  arrivals = none_came workers;
+  applied = replicate workers 0;
   tables = opening shape;
   version = 0;
   waiting = [];
@@ -89,34 +90,39 @@ asked_by r (Some batch) = again batch.fetched
 abbrev pub asked : Replica → Result (Out × Replica) AskFault
 asked r = if r.broken then Err asks.Broken else asked_by r r.batch
 
--- the seqs that it knows
-abbrev pub known : Replica → List ℕ
-known r = known_of r.frames
+-- what is answered to a frame, by what the intake makes of it
+abbrev pub got_of : Taken → Got
+got_of takens.Repeat = got.Repeat
+got_of takens.Ahead = got.Ahead
+got_of takens.Memory = got.Memory
+got_of takens.Stored = got.Stored
 
--- a frame that comes
+-- a frame that comes: it goes to the intake where its worker is there and each of its entries fits
 abbrev pub frame_comes : Replica → Frame → Got × Replica
 frame_comes r frame =
     if not (nat_lt frame.worker r.workers)
     || not (list_all (λ entry. is_ok (fitting r.shape entry)) frame.entries) then (got.Ignored, r) else
-    if is_known (known r) frame.seq then (got.Repeat, r) else
-    if is_ahead (known r) frame.seq then (got.Ahead, r) else
-    (got.Stored, record r { frames = insert_entry nat_cmp r.frames frame.seq frame })
+    (got_of (taken r.arrivals frame).0, record r { arrivals = (taken r.arrivals frame).1 })
 
--- a Head of the replica's own number, boot and request that comes: it is taken where the batch waits for one, it has a
--- count for each worker, and neither its version nor its count goes back
+-- whether a Head has a count for each worker, and neither its version nor a count is below what the replica's tables have
+abbrev pub goes_on : Replica → ℕ → List ℕ → Bool
+goes_on r version counts = (length counts == r.workers) && nat_le r.version version && pointwise nat_le r.applied counts
+
+-- a Head that goes on, by what was fetched for the batch: it is taken where the batch waits for one
+abbrev pub head_for : Replica → ℕ → List ℕ → List Plan → Option Fetched → Got × Replica
+head_for r version counts plans (Some fetched) = (got.Ignored, r)
+head_for r version counts plans None = (
+  got.Head version,
+  record r { batch = Some (record { plans = plans; fetched = Some (record { version = version; counts = counts }) }) },
+)
+
+abbrev pub head_by_batch : Replica → ℕ → List ℕ → Option Batch → Got × Replica
+head_by_batch r version counts None = (got.Ignored, r)
+head_by_batch r version counts (Some batch) = head_for r version counts batch.plans batch.fetched
+
+-- a Head of the replica's own number, boot and request that comes
 abbrev pub own_head_comes : Replica → ℕ → List ℕ → Got × Replica
-own_head_comes r version counts =
-    if not (length counts == r.workers) || nat_lt version r.version || nat_lt (slice_index counts 0) r.applied then (got.Ignored, r) else
-    by_batch r.batch
-  where
-    taken : Batch → Option Fetched → Got × Replica
-    taken batch None =
-        (got.Head version, record r { batch = Some (record batch { fetched = Some (record { version = version; counts = counts }) }) })
-    taken batch (Some fetched) = (got.Ignored, r)
-
-    by_batch : Option Batch → Got × Replica
-    by_batch None = (got.Ignored, r)
-    by_batch (Some batch) = taken batch batch.fetched
+own_head_comes r version counts = if goes_on r version counts then head_by_batch r version counts r.batch else (got.Ignored, r)
 
 -- a datagram that comes
 abbrev pub datagram_comes : Replica → Result Datagram WireFault → Got × Replica
@@ -136,68 +142,83 @@ received r bytes = if r.broken then (got.Broken, r) else datagram_comes r (readi
 abbrev pub broken_of : Replica → Replica
 broken_of r = record r { tables = []; broken = true }
 
--- the commits above its version, which its frames up to what was fetched hold; none where these hold no commits in order
-abbrev pub commits_above : Replica → Fetched → Option (List Commit)
-commits_above r fetched = commits_in r.version (frames_at r.frames r.applied (slice_index fetched.counts 0 - r.applied))
+-- these are the commits above its version that its frames up to what was fetched hold, and they hold nothing else
+abbrev pub HoldNext : Replica → Fetched → List Commit → Type 0
+HoldNext r fetched commits = IsMerge (frames_in r.arrivals r.applied fetched.counts) r.version fetched.version commits
 
--- the replica at the version that was fetched, these commits applied; none where they do not lead to it, or are refused
-abbrev pub with_commits : Replica → Fetched → List Commit → Option Replica
-with_commits r fetched commits =
-    if r.version + length commits == fetched.version
-    then option_map (λ tables. record r { tables = tables; version = fetched.version; applied = slice_index fetched.counts 0 })
-    (result_ok (commits_of r.tables commits))
-    else None
+-- the replica with these tables, at the version that was fetched: the frames that they have now are kept no longer
+abbrev pub at_fetched : Replica → Fetched → Tables → Replica
+at_fetched r fetched tables = record r {
+  arrivals = dropped r.arrivals fetched.counts;
+  applied = fetched.counts;
+  tables = tables;
+  version = fetched.version;
+}
 
--- the replica with every commit up to what was fetched applied, its batch still there; none where its frames are not
--- those of one list of commits
-abbrev pub caught_up : Replica → Fetched → Option Replica
-caught_up r fetched = option_and_then (with_commits r fetched) (commits_above r fetched)
+-- the replica once it has caught up with what was fetched, its batch still there: the commits that its frames hold were
+-- applied
+pub record CaughtUp (old : Replica) (fetched : Fetched) (new : Replica) : Type 0 where
+  pub commits : List Commit
+  pub held : HoldNext old fetched commits
+  pub applied : IsOkAnd (commits_of old.tables commits) (λ tables. new ≡ at_fetched old fetched tables)
 
--- the end of a batch
-abbrev pub finished : Replica → List Plan → Option Replica → Run × Replica
-finished r plans None = (runs.Inconsistent, broken_of r)
-finished r plans (Some after) = (runs.Answered (report_of after.tables after.version plans), record after { batch = None })
+-- it never can: its frames hold no commits that are not refused
+abbrev pub CannotCatchUp : Replica → Fetched → Type 0
+CannotCatchUp old fetched = (commits : List Commit) → HoldNext old fetched commits → IsErr (commits_of old.tables commits)
 
--- whether a frame below what was fetched is not known
-abbrev pub lacks_frame : List ℕ → Fetched → Bool
-lacks_frame known fetched = nat_lt (first_missing known) (slice_index fetched.counts 0)
+-- the end of a batch of which no frame is missing: its report, or that its frames are not those of one list of commits
+abbrev pub Ends : Replica → List Plan → Fetched → Run → Replica → Type 0
+Ends old plans fetched answer new =
+    ((after : Replica) × CaughtUp old fetched after
+    × (answer ≡ runs.Answered (report_of after.tables after.version plans)) × (new ≡ record after { batch = None }))
+    ⊎ (CannotCatchUp old fetched × (answer ≡ runs.Inconsistent) × (new ≡ broken_of old))
 
-abbrev pub ran_by : Replica → Option Batch → Run × Replica
-ran_by r None = (runs.NoBatch, r)
-ran_by r (Some batch) = on batch.fetched
-  where
-    on : Option Fetched → Run × Replica
-    on None = (runs.WaitingHead, r)
-    on (Some fetched) =
-        if lacks_frame (known r) fetched
-        then (runs.Waiting 0 (first_missing (known r)) (want_for r.number 0 (first_missing (known r))), r)
-        else finished r batch.plans (caught_up r fetched)
+-- a run by the first frame that is missing below what was fetched
+abbrev pub RunsFetched : Replica → List Plan → Fetched → Option (ℕ × ℕ) → Run → Replica → Type 0
+RunsFetched old plans fetched None answer new = Ends old plans fetched answer new
+RunsFetched old plans fetched (Some missing) answer new =
+    (answer ≡ runs.Waiting missing.0 missing.1 (want_for old.number missing.0 missing.1)) × (new ≡ old)
+
+-- a run by what was fetched for the batch
+abbrev pub RunsBatch : Replica → List Plan → Option Fetched → Run → Replica → Type 0
+RunsBatch old plans None answer new = (answer ≡ runs.WaitingHead) × (new ≡ old)
+RunsBatch old plans (Some fetched) answer new = RunsFetched old plans fetched (lacking old.arrivals fetched.counts) answer new
+
+-- a run by the batch
+abbrev pub RunsWhole : Replica → Option Batch → Run → Replica → Type 0
+RunsWhole old None answer new = (answer ≡ runs.NoBatch) × (new ≡ old)
+RunsWhole old (Some batch) answer new = RunsBatch old batch.plans batch.fetched answer new
+
+-- a run by whether the replica is broken
+abbrev pub RunsAs : Bool → Replica → Run → Replica → Type 0
+RunsAs true old answer new = (answer ≡ runs.Broken) × (new ≡ old)
+RunsAs false old answer new = RunsWhole old old.batch answer new
 
 -- running the batch: what the replica answers, and the replica after it. Being out of memory aside.
-abbrev pub ran : Replica → Run × Replica
-ran r = if r.broken then (runs.Broken, r) else ran_by r r.batch
+abbrev pub Runs : Replica → Run → Replica → Type 0
+Runs old answer new = RunsAs old.broken old answer new
 
--- what was fetched, where no frame below it is missing
-abbrev pub unless_lacking : List ℕ → Option Fetched → Option Fetched
-unless_lacking known None = None
-unless_lacking known (Some fetched) = if lacks_frame known fetched then None else Some fetched
+-- what was fetched, where no frame below it is missing, as `lacks` says of counts
+abbrev pub unless_lacking : (List ℕ → Option (ℕ × ℕ)) → Option Fetched → Option Fetched
+unless_lacking lacks None = None
+unless_lacking lacks (Some fetched) = if is_none (lacks fetched.counts) then Some fetched else None
 
--- what was fetched for a batch that a replica, broken or not, may answer: of these known frames none below it is missing
-abbrev pub ready : Bool → List ℕ → Option Fetched → Option Fetched
-ready broken known fetched = if broken then None else unless_lacking known fetched
+-- what was fetched for a batch that a replica, broken or not, may answer: no frame below it is missing
+abbrev pub ready : Bool → (List ℕ → Option (ℕ × ℕ)) → Option Fetched → Option Fetched
+ready broken lacks fetched = if broken then None else unless_lacking lacks fetched
 
 -- what was fetched for a replica's batch, where it may be answered
 abbrev pub ready_of : Replica → Option Fetched
-ready_of r = ready r.broken (known r) (option_and_then (λ batch. batch.fetched) r.batch)
+ready_of r = ready r.broken (lacking r.arrivals) (option_and_then (λ batch. batch.fetched) r.batch)
 
 -- what a run may answer and leave when out of memory, where a version was fetched and no frame is missing: `Memory`,
 -- the tables at the old version or at the one that was fetched; or `Broken`, only where there was a commit to apply
 abbrev pub WantsMemory : Replica → Run → Replica → Type 0
 WantsMemory old answer new =
     (fetched : Fetched) × (ready_of old ≡ Some fetched)
-    × (((answer ≡ runs.Memory) × ((new ≡ old) ⊎ (caught_up old fetched ≡ Some new))) ⊎
+    × (((answer ≡ runs.Memory) × ((new ≡ old) ⊎ CaughtUp old fetched new)) ⊎
     ((answer ≡ runs.Broken) × (new ≡ broken_of old) × (old.version < fetched.version)))
 
 -- what a run may answer and leave
 abbrev pub MayRun : Replica → Run → Replica → Type 0
-MayRun old answer new = (ran old ≡ (answer, new)) ⊎ WantsMemory old answer new
+MayRun old answer new = Runs old answer new ⊎ WantsMemory old answer new

@@ -2,6 +2,10 @@
 
 ghost use Rattle.dispatcher.specs.Feeding.{FreshIsFed, CommitsKeepFed, BytesKeepFed, OpenKeepsFed, AskKeepsFed, RunKeepsFed};
 ghost use Rattle.dispatcher.specs.Feeding.{RunIsConsistent, AnswerIsReport, ReadyIsAnswered, VersionTellsTables};
+ghost use Rattle.dispatcher.specs.Feeding.{TruthStays, TrueHeadGoesOn};
+
+use intake::{arrivals_stay_of_streams, known_frames_stay_kept};
+use ordering::one_merge;
 
 /// A replica is fed from a legal list of commits where all that it knows is of that list: its
 /// frames, its tables, and the version that it fetched. A fresh one is, each step keeps it so where
@@ -10,7 +14,9 @@ ghost use Rattle.dispatcher.specs.Feeding.{RunIsConsistent, AnswerIsReport, Read
 pub fn fed_replicas_stay_fed()
     ensures fresh { FreshIsFed }
     ensures commits { CommitsKeepFed }
+    ensures truth { TruthStays }
     ensures bytes { BytesKeepFed }
+    ensures head { TrueHeadGoesOn }
     ensures open { OpenKeepsFed }
     ensures ask { AskKeepsFed }
     ensures run { RunKeepsFed }
@@ -18,4 +24,8 @@ pub fn fed_replicas_stay_fed()
     ensures report { AnswerIsReport }
     ensures ready { ReadyIsAnswered }
     ensures tables { VersionTellsTables }
-{}
+{
+    arrivals_stay_of_streams();
+    known_frames_stay_kept();
+    one_merge();
+}

@@ -1,24 +1,24 @@
 //! An analytic replica: it collects frames in any order, takes queries in batches, and answers
 //! each batch on the rows after exactly the version that it fetched for it.
 //!
-//! Its state is what it knows: the frames that came, its tables at one version, the queries that
-//! wait, and at most one batch. Its tables stand in a store that its caller gives it, of any kind
-//! to which lists of commits can be applied. `specs/` says which frames are known and which is the
-//! first that is missing (`Known.antt`), what each call answers and leaves (`Steps.antt`), the
-//! plain answer of a query (`Plans.antt`), the text of a report (`Report.antt`), and when all that
-//! a replica knows is of one list of commits (`Feeding.antt`). `Inner` only helps proofs.
+//! Its state is what it knows: the frames that came of each worker, its tables at one version, the
+//! queries that wait, and at most one batch. Its tables stand in a store that its caller gives it, of
+//! any kind to which lists of commits can be applied. `specs/` says what each call answers and leaves
+//! (`Steps.antt`), the plain answer of a query (`Plans.antt`), the text of a report (`Report.antt`),
+//! and when all that a replica knows is of one list of commits (`Feeding.antt`). `Inner` only helps
+//! proofs.
 //!
 //! Promised: each call is exact, out of memory aside. `fed_replicas_stay_fed` says that a replica
-//! to which only what is true of a legal list of commits comes reports on rows of that list.
-//! It stands on `rows`, `wire` and `store`. For now a replica has one worker's stream.
+//! to which only what is true of a legal list of commits comes reports on rows of that list. It
+//! stands on `intake` for the frames that come, on `ordering` for the commits that they hold, on
+//! `wire`, and on `store`.
 #![tactic(auto)]
 
 mod answering;
 mod batch;
+mod counting;
 mod faults;
-mod frame_map;
 mod laws;
-mod listing;
 mod outcome;
 mod plan;
 mod replica_core;

@@ -1,3 +1,7 @@
+ghost use Rattle.std.specs.Prelude.{◌≡◌};
+ghost use Rattle.dispatcher.specs.Steps.{got_of as got_of_taken};
+
+use intake::Taken;
 use rows::ByteList;
 use wire::Out;
 
@@ -8,7 +12,7 @@ pub enum Got {
     Stored,
     /// A frame that was known.
     Repeat,
-    /// A frame too far past the first that is missing; it was not kept.
+    /// A frame too far past the first that is missing of its worker; it was not kept.
     Ahead,
     /// The Head that the batch waits for, with its version.
     Head(u64),
@@ -37,4 +41,16 @@ pub enum Run {
     Broken,
     /// Out of memory; the batch stands and may be run again.
     Memory,
+}
+
+/// What became of bytes that hold a frame, by what the intake made of it.
+pub fn got_of(taken: Taken) -> Got
+    ensures { result ≡ got_of_taken taken }
+{
+    match taken {
+        Taken::Repeat => Got::Repeat,
+        Taken::Ahead => Got::Ahead,
+        Taken::Memory => Got::Memory,
+        Taken::Stored => Got::Stored,
+    }
 }

@@ -1,22 +1,23 @@
 //! The replica's core: bytes and values in, bytes and values out.
 
-ghost use Rattle.std.specs.Prelude.{◌≡◌, ◌<◌, ◌≤◌, ◌^◌, ◌+◌, ◌-◌, ◌==◌, ◌∷◌, [], Some, true, false, Ok, Err, IfOk, IfErr, IsOk, ◌⊎◌};
+ghost use Rattle.std.specs.Prelude.{◌≡◌, ℕ, ◌<◌, ◌≤◌, ◌^◌, ◌+◌, ◌-◌, [], Some, None, true, false, Ok, Err, IfOk, IfErr, IsOk, ◌⊎◌, nat_le};
+ghost use Rattle.std.specs.Cmp.Lexicographic.{pointwise};
+ghost use Rattle.rows.specs.Limits.{workers_max, replicas_max};
 ghost use Rattle.rows.specs.Shape.{shape_of};
 ghost use Rattle.rows.specs.Tables.{opening};
 ghost use Rattle.dispatcher.specs.State.{Replica};
-ghost use Rattle.dispatcher.specs.Steps.{started, opened, asked, received, frame_comes, own_head_comes, ready_of};
-ghost use Rattle.dispatcher.specs.Steps.{MayRun};
+ghost use Rattle.dispatcher.specs.Steps.{started, opened, asked, received, own_head_comes, ready_of, HoldNext, MayRun};
 ghost use Rattle.dispatcher.specs.Inner.Parts.{TakesFrame, CatchesUp, Applies, answered_by};
-ghost use Rattle.rows.specs.Limits.{replicas_max};
 
 use crate::answering::report;
 use crate::batch::{Batch, Fetched};
+use crate::counting::{are_at_least, copy_of, missing_below, no_counts};
 use crate::faults::{AskFault, CatchUpFault, OpenFault};
-use crate::frame_map::FrameMap;
-use crate::listing::commits_at;
-use crate::outcome::{Got, Run};
+use crate::outcome::{Got, Run, got_of};
 use crate::plan::Plan;
 use crate::sending::{ask_out, want_out};
+use intake::{Intake, Taken, known_frames_stay_kept};
+use ordering::{OrderFault, one_merge, ordered};
 use rows::limits::WAITING_QUERIES_MAX;
 use rows::{Commit, Schema};
 use std::alloc::{AllocError, Global};
@@ -27,7 +28,7 @@ use wire::{Counts, Datagram, LentEntries, Out, read};
 
 /// A replica of one primary, on a store of its own.
 ///
-/// Contracts see its known frames, the tables of its store and their version, the queries that
+/// Contracts see what has come of each worker, the tables of its store and their version, the queries that
 /// wait, and its batch; of the tables of a broken replica they see nothing.
 #[derive(Debug, Drop)]
 pub struct ReplicaCore<S: ApplyStore + Sync> {
@@ -38,8 +39,10 @@ pub struct ReplicaCore<S: ApplyStore + Sync> {
     number: u8,
     boot: u64,
     request: u64,
-    frames: FrameMap,
-    applied: u64,
+    intake: Intake,
+
+    /// How many frames of each worker the tables have.
+    applied: Counts,
     version: u64,
     waiting: Vec<Plan>,
     batch: Option<Batch>,
@@ -59,9 +62,9 @@ impl<S: ApplyStore + Sync> Model for ReplicaCore<S> {
 }
 
 impl<S: ApplyStore + Sync> ReplicaCore<S> {
-    /// A replica without frames or queries, at version 0, for one worker, on a whole store whose
-    /// tables are those of the schema and have no rows. Fails only when out of memory; the store
-    /// is dropped then.
+    /// A replica without frames or queries, at version 0, for so many workers, on a whole store
+    /// whose tables are those of the schema and have no rows. Fails only when out of memory; the
+    /// store is dropped then.
     pub fn start(
         alloc: Global,
         store: S,
@@ -74,7 +77,8 @@ impl<S: ApplyStore + Sync> ReplicaCore<S> {
         S: Drop,
         requires whole { S.is_whole store ≡ true }
         requires tables { S.tables store ≡ opening (shape_of schema.now) }
-        requires workers { workers ≡ 1 }
+        requires some_workers { 1 ≤ workers }
+        requires few_workers { workers ≤ workers_max }
         requires number { number < replicas_max }
         ensures { IfOk result (λ replica. replica ≡ started (shape_of schema.now) workers number boot) }
     {
@@ -86,8 +90,8 @@ impl<S: ApplyStore + Sync> ReplicaCore<S> {
             number,
             boot,
             request: 0,
-            frames: FrameMap::new(alloc),
-            applied: 0,
+            intake: Intake::new(alloc, workers)?,
+            applied: no_counts(workers),
             version: 0,
             waiting: Vec::new(alloc),
             batch: None,
@@ -169,10 +173,10 @@ impl<S: ApplyStore + Sync> ReplicaCore<S> {
     }
 
     /// Takes bytes that came. A frame of a worker that is there, whose entries fit, is kept where
-    /// it is not known and not 4096 or more past the first that is missing. A Head is taken where
-    /// the batch waits for one, replica, boot, request and the number of workers are its own, and
-    /// neither its version nor a count goes back. All else is ignored. `Memory` is answered only
-    /// where a frame would be kept.
+    /// it is not known and not 4096 or more past the first that is missing of its worker; otherwise
+    /// no copy of it is made. A Head is taken where the batch waits for one, replica, boot, request
+    /// and the number of workers are its own, and neither its version nor a count goes back. All
+    /// else is ignored. `Memory` is answered only where a frame would be kept.
     pub fn on_bytes(&mut self, bytes: &[u8]) -> Got
         ensures { ((result ≡ Got.Memory) × (self.new ≡ self.old) × ((received self.old bytes.now).0 ≡ Got.Stored))
             ⊎ (received self.old bytes.now ≡ (result, self.new)) }
@@ -209,7 +213,7 @@ impl<S: ApplyStore + Sync> ReplicaCore<S> {
     }
 
     /// Runs the batch: applies every commit up to the version that was fetched for it, and
-    /// answers all its queries on those rows.
+    /// answers all its queries on those rows. Frames that were applied are kept no longer.
     ///
     /// Where memory is wanted, the answer is `Memory`, and the batch and the known frames stand,
     /// the tables at the old version or at the fetched one; or `Broken`, where changes were being
@@ -226,17 +230,17 @@ impl<S: ApplyStore + Sync> ReplicaCore<S> {
         let Some(fetched) = &batch.fetched else {
             return Run::WaitingHead;
         };
-        let version = fetched.version;
-        let count = fetched.counts.as_slice()[0];
-        let missing = self.frames.first_missing();
-        if missing < count {
+        known_frames_stay_kept();
+        if let Some((worker, seq)) = missing_below(&self.intake, &fetched.counts) {
             return Run::Waiting {
-                worker: 0,
-                seq: missing,
-                want: want_out(self.number, 0, missing),
+                worker,
+                seq,
+                want: want_out(self.number, worker, seq),
             };
         }
-        match self.catch_up(version, count) {
+        let version = fetched.version;
+        let counts = copy_of(&fetched.counts);
+        match self.catch_up(version, counts) {
             Ok(()) => self.answer(),
             Err(CatchUpFault::Inconsistent) => Run::Inconsistent,
             Err(CatchUpFault::Memory) => Run::Memory,
@@ -257,17 +261,16 @@ impl<S: ApplyStore + Sync> ReplicaCore<S> {
         ensures { TakesFrame self.old (record { worker = worker; seq = seq; commit = commit; last = last; entries = entries.now })
             result self.new }
     {
+        known_frames_stay_kept();
         if worker >= self.workers {
             return Got::Ignored;
         }
         if !entries.fit(&self.schema) {
             return Got::Ignored;
         }
-        if self.frames.contains(seq) {
-            return Got::Repeat;
-        }
-        if self.frames.is_ahead(seq) {
-            return Got::Ahead;
+        match self.intake.would_take(worker, seq) {
+            Taken::Stored => {}
+            taken => return got_of(taken),
         }
         let Ok(entries) = entries.to_list(self.alloc) else {
             return Got::Memory;
@@ -279,10 +282,7 @@ impl<S: ApplyStore + Sync> ReplicaCore<S> {
             last,
             entries,
         };
-        match self.frames.insert(seq, frame) {
-            Ok(()) => Got::Stored,
-            Err(_) => Got::Memory,
-        }
+        got_of(self.intake.take_owned(frame))
     }
 
     /// Takes a Head of its own replica, boot and request.
@@ -292,7 +292,7 @@ impl<S: ApplyStore + Sync> ReplicaCore<S> {
     {
         if counts.as_slice().len() != self.workers as usize
             || version < self.version
-            || counts.as_slice()[0] < self.applied
+            || !are_at_least(&self.applied, &counts)
         {
             return Got::Ignored;
         }
@@ -308,39 +308,51 @@ impl<S: ApplyStore + Sync> ReplicaCore<S> {
         }
     }
 
-    /// Applies the commits above its version, of whose frames none below `count` is missing, and
-    /// is at `version` then. They are listed before the first change: where memory is wanted for
-    /// the list nothing has changed.
-    fn catch_up(&mut self, version: u64, count: u64) -> Result<(), CatchUpFault>
-        requires { ready_of self.old ≡ Some (record { version = version; counts = count ∷ [] }) }
-        ensures { CatchesUp self.old (record { version = version; counts = count ∷ [] }) result self.new }
+    /// Applies the commits above its version, of whose frames none below the counts is missing, and
+    /// is at `version` then. They are merged before the first change: where memory is wanted for
+    /// that nothing has changed.
+    fn catch_up(&mut self, version: u64, counts: Counts) -> Result<(), CatchUpFault>
+        requires { ready_of self.old ≡ Some (record { version = version; counts = counts }) }
+        ensures { CatchesUp self.old (record { version = version; counts = counts }) result self.new }
     {
-        if !is_reached(self.version, version, self.applied, count) {
-            self.broken = true;
-            return Err(CatchUpFault::Inconsistent);
-        }
-        match commits_at(self.alloc, &self.frames, self.version, self.applied, count) {
-            Ok(Some(commits)) => self.apply(&commits, version, count),
-            Ok(None) => {
+        known_frames_stay_kept();
+        one_merge();
+        match ordered(
+            self.alloc,
+            &self.intake,
+            self.applied.as_slice(),
+            counts.as_slice(),
+            self.version,
+            version,
+        ) {
+            Ok(commits) => self.apply(&commits, version, counts),
+            Err(OrderFault::Inconsistent) => {
                 self.broken = true;
                 Err(CatchUpFault::Inconsistent)
             }
-            Err(_) => Err(CatchUpFault::Memory),
+            Err(OrderFault::Memory) => Err(CatchUpFault::Memory),
         }
     }
 
-    /// Applies commits, and is at `version` then, with as many frames applied. Where that fails,
-    /// it is broken.
-    fn apply(&mut self, commits: &[Commit], version: u64, count: u64) -> Result<(), CatchUpFault>
-        requires { ready_of self.old ≡ Some (record { version = version; counts = count ∷ [] }) }
-        ensures { Applies self.old commits.now version count result self.new }
+    /// Applies the commits that its frames hold, and is at `version` then, with these frames applied
+    /// and kept no longer. Where that fails, it is broken.
+    fn apply(
+        &mut self,
+        commits: &[Commit],
+        version: u64,
+        counts: Counts,
+    ) -> Result<(), CatchUpFault>
+        requires { ready_of self.old ≡ Some (record { version = version; counts = counts }) }
+        ensures { Applies self.old (record { version = version; counts = counts }) commits.now result self.new }
     {
+        known_frames_stay_kept();
         let applied = self.store.apply_all(commits);
         self.broken = applied.is_err();
         match applied {
             Ok(()) => {
+                self.intake.drop_below(counts.as_slice());
                 self.version = version;
-                self.applied = count;
+                self.applied = counts;
                 Ok(())
             }
             Err(ApplyFault::Inconsistent) => Err(CatchUpFault::Inconsistent),
@@ -365,13 +377,4 @@ impl<S: ApplyStore + Sync> ReplicaCore<S> {
             Err(_) => Run::Memory,
         }
     }
-}
-
-/// Whether as many frames are left to apply as versions, each frame holding one commit.
-fn is_reached(version: u64, wanted: u64, applied: u64, count: u64) -> bool
-    requires versions { version ≤ wanted }
-    requires counts { applied ≤ count }
-    ensures { result ≡ (version + (count - applied) == wanted) }
-{
-    wanted - version == count - applied
 }

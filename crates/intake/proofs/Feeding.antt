@@ -30,7 +30,8 @@ use Rattle.intake.proofs.Keeping.{from_on, same-key}
 -- ---- what one more frame makes known, and what is found then
 
 -- a seq that is known then is that one, or was known
-known-cases : (known : List ℕ) (seq other : ℕ) → is_known (with_seq known seq) other ≡ true → (other ≡ seq) ⊎ (is_known known other ≡ true)
+pub known-cases : (known : List ℕ) (seq other : ℕ) → is_known (with_seq known seq) other ≡ true
+    → (other ≡ seq) ⊎ (is_known known other ≡ true)
 known-cases [] seq other h = elim (or_cases (seq == other) false h) [
   | inl here ↦ inl (sym (eqb-true seq other here))
   | inr none ↦ absurd (false≢true none)
@@ -101,11 +102,11 @@ frame-cases (entry ∷ kept) seq frame other found h = by (frame-cases kept seq 
 
 -- ---- what is found where frames were dropped
 
-from_on-first : (count : ℕ) (entry : ℕ × Frame) (kept : List (ℕ × Frame)) → nat_le count entry.0 ≡ true
+pub from_on-first : (count : ℕ) (entry : ℕ × Frame) (kept : List (ℕ × Frame)) → nat_le count entry.0 ≡ true
     → from_on count (entry ∷ kept) ≡ entry ∷ from_on count kept
 from_on-first count entry kept h = cond-true (nat_le count entry.0) (entry ∷ from_on count kept) (from_on count kept) h
 
-from_on-not : (count : ℕ) (entry : ℕ × Frame) (kept : List (ℕ × Frame)) → nat_le count entry.0 ≡ false
+pub from_on-not : (count : ℕ) (entry : ℕ × Frame) (kept : List (ℕ × Frame)) → nat_le count entry.0 ≡ false
     → from_on count (entry ∷ kept) ≡ from_on count kept
 from_on-not count entry kept h = cond-false (nat_le count entry.0) (entry ∷ from_on count kept) (from_on count kept) h
 

@@ -23,7 +23,7 @@ use Rattle.intake.specs.Inner.Collecting.{AreKnown, begins_below, NoneBelow}
 pub same-key : (seq key : ℕ) → nat_cmp seq key ≡ Equal → seq ≡ key
 same-key seq key h = grind (arith, nat_tests)
 
-is_at-same : (seq : ℕ) → is_at (nat_cmp seq) seq ≡ true
+pub is_at-same : (seq : ℕ) → is_at (nat_cmp seq) seq ≡ true
 is_at-same seq = grind (arith, nat_tests)
 
 is_at-above : (seq key : ℕ) → nat_cmp seq key ≡ Greater → is_at (nat_cmp seq) key ≡ false
@@ -59,7 +59,7 @@ taken-back known kept put left seq frame unknown are put_is left_is =
 -- ---- what is kept is known
 
 -- a seq that is known stays known
-known-with : (known : List ℕ) (seq other : ℕ) → is_known known other ≡ true → is_known (with_seq known seq) other ≡ true
+pub known-with : (known : List ℕ) (seq other : ℕ) → is_known known other ≡ true → is_known (with_seq known seq) other ≡ true
 known-with [] seq other h = absurd (false≢true h)
 known-with (key ∷ known) seq other h = by (known-with known seq other) (nat_cmp seq key)
   where

@@ -3,3 +3,4 @@ pub mod Holding
 pub mod Keeping
 pub mod Workers
 pub mod Feeding
+pub mod Staying

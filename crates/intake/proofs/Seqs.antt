@@ -1,6 +1,7 @@
 -- Which seq is the first that is missing.
-use Rattle.std.proofs.Common.{◌≡◌, ℕ, zero, suc, ◌+◌, ◌-◌, ◌<◌, ◌≤◌, true, false, List, length, refl, ap, ◌∙◌, arith, add-one}
-use Rattle.std.proofs.lemmas.Bool.{cond-true, cond-false}
+use Rattle.std.proofs.Common.{◌≡◌, ℕ, zero, suc, ◌+◌, ◌-◌, ◌<◌, ◌≤◌, true, false, List, length, refl, ap, ◌∙◌, subst, inl, inr}
+use Rattle.std.proofs.Common.{arith, add-one}
+use Rattle.std.proofs.lemmas.Bool.{cond-true, cond-false, cases_Bool, cases_lt}
 use Rattle.intake.specs.Known.{is_known, missing_from, first_missing}
 
 -- the walk stops at a seq that is not known
@@ -28,3 +29,23 @@ pub first_missing-at : (seq : ℕ) (known : List ℕ) → seq ≤ length known �
     → is_known known seq ≡ false → first_missing known ≡ seq
 first_missing-at seq known within below here =
     missing_from-passed (length known) seq known within below ∙ missing_from-unknown (length known - seq) seq known here
+
+-- a seq that is known, where the first is and each behind it up to this one
+known_or_past : (from seq : ℕ) (known : List ℕ) → from ≤ seq → is_known known from ≡ true → (from < seq → is_known known seq ≡ true)
+    → is_known known seq ≡ true
+known_or_past from seq known low here past =
+    elim (cases_lt from seq) [
+      | inl later ↦ past later
+      | inr upto ↦ (let same : from ≡ seq = omega arith in rw same at here)
+    ]
+
+-- each seq before the one where the walk stops is known
+pub is_known-below : (count from seq : ℕ) (known : List ℕ) → from ≤ seq → seq < missing_from count from known → is_known known seq ≡ true
+is_known-below zero from seq known low high = absurd (omega arith)
+is_known-below (suc count) from seq known low high =
+    elim (cases_Bool (is_known known from)) [
+      | inl here ↦ known_or_past from seq known low here
+          (λ later. is_known-below count (from + 1) seq known (omega arith)
+          (subst (λ n. seq < n) (cond-true (is_known known from) (missing_from count (from + 1) known) from here) high))
+      | inr none ↦ absurd (omega (arith, subst (λ n. seq < n) (missing_from-unknown (suc count) from known none) high))
+    ]

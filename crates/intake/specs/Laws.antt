@@ -1,11 +1,13 @@
--- Laws of arrivals: what keeps them of the streams of one list of commits, and which frames are kept then.
-use Rattle.std.specs.Prelude.{◌≡◌, ℕ, ◌-◌, List, ◌++◌, take, drop, Some, slice_get}
+-- Laws of arrivals: what keeps them of the streams of one list of commits, and which frames are kept then; and which stay
+-- known and kept as frames come and are dropped.
+use Rattle.std.specs.Prelude.{◌≡◌, ℕ, ◌-◌, ◌<◌, ◌≤◌, List, length, ◌++◌, take, drop, true, Some, None, slice_get, slice_index}
 use Rattle.rows.specs.declared.commit.Commit.{Commit}
 use Rattle.update_log.specs.declared.frame.Frame.{Frame}
 use Rattle.update_log.specs.Streams.{stream_of}
-use Rattle.intake.specs.State.{Arrivals}
-use Rattle.intake.specs.Steps.{started, taken, dropped}
-use Rattle.intake.specs.Kept.{frames_between, AreKept}
+use Rattle.intake.specs.Known.{is_known}
+use Rattle.intake.specs.State.{Arrivals, known_of}
+use Rattle.intake.specs.Steps.{started, taken, lacking, dropped}
+use Rattle.intake.specs.Kept.{frames_between, AreKept, AreKeptFrom}
 use Rattle.intake.specs.Streams.{AreFrom}
 
 -- where nothing has come, all of it is of any list
@@ -31,3 +33,45 @@ abbrev pub KeptAreOfStream : Type 0
 KeptAreOfStream =
     (commits : List Commit) (all : List Arrivals) (worker low high : ℕ) → AreFrom commits all → AreKept all worker low high
     → frames_between all worker low high ≡ take (high - low) (drop low (stream_of commits worker))
+
+-- ---- what is known, and kept
+
+-- there are as many workers where a frame comes
+abbrev pub FramesLeaveWorkers : Type 0
+FramesLeaveWorkers = (all : List Arrivals) (frame : Frame) → length (taken all frame).1 ≡ length all
+
+-- and where frames are dropped
+abbrev pub DropsLeaveWorkers : Type 0
+DropsLeaveWorkers = (all : List Arrivals) (counts : List ℕ) → length (dropped all counts) ≡ length all
+
+-- what is known stays known where a frame comes
+abbrev pub FramesStayKnown : Type 0
+FramesStayKnown =
+    (all : List Arrivals) (frame : Frame) (worker seq : ℕ) → is_known (known_of all worker) seq ≡ true
+    → is_known (known_of (taken all frame).1 worker) seq ≡ true
+
+-- and nothing else is known where frames are dropped
+abbrev pub DropsLeaveKnown : Type 0
+DropsLeaveKnown = (all : List Arrivals) (counts : List ℕ) (worker : ℕ) → known_of (dropped all counts) worker ≡ known_of all worker
+
+-- where each known frame from its worker's low on is kept, so it is once a frame has come
+abbrev pub FramesStayKept : Type 0
+FramesStayKept =
+    (all : List Arrivals) (lows : List ℕ) (frame : Frame) → AreKeptFrom all lows → AreKeptFrom (taken all frame).1 lows
+
+-- and, from the counts on, once those below are dropped
+abbrev pub DropsStayKept : Type 0
+DropsStayKept =
+    (all : List Arrivals) (lows counts : List ℕ) → ((worker : ℕ) → slice_index lows worker ≤ slice_index counts worker)
+    → AreKeptFrom all lows → AreKeptFrom (dropped all counts) counts
+
+-- where no frame below its count is lacking, each of a worker that is there is known
+abbrev pub NoneLackingAreKnown : Type 0
+NoneLackingAreKnown =
+    (all : List Arrivals) (counts : List ℕ) (worker seq : ℕ) → lacking all counts ≡ None → worker < length all
+    → seq < slice_index counts worker → is_known (known_of all worker) seq ≡ true
+
+-- and one that is lacking is of a worker that is there
+abbrev pub LackingIsOfWorker : Type 0
+LackingIsOfWorker =
+    (all : List Arrivals) (counts : List ℕ) (missing : ℕ × ℕ) → lacking all counts ≡ Some missing → missing.0 < length all

@@ -2,6 +2,7 @@
 
 ghost use Rattle.std.specs.Prelude.{◌≡◌, ◌-◌, ◌<◌, ◌^◌, false, true, IfOk, OnOk, OnErr, ◌⊎◌};
 ghost use Rattle.std.specs.Option.{option_map};
+ghost use Rattle.update_log.specs.declared.frame.Frame.{Frame as FrameOf};
 ghost use Rattle.intake.specs.Known.{is_known, first_missing};
 ghost use Rattle.intake.specs.State.{nothing, frame_in};
 ghost use Rattle.intake.specs.Steps.{with_frame, without_below};
@@ -57,10 +58,25 @@ impl Collector {
         self.kept.get(&seq)
     }
 
-    /// Takes a frame of this worker that came.
+    /// Takes a copy of a frame of this worker that came.
     pub fn take(&mut self, frame: &Frame) -> Taken
         ensures { ((result ≡ Taken.Memory) × (self.new ≡ self.old) × ((taken_by self.old frame.now).0 ≡ Taken.Stored))
             ⊎ (taken_by self.old frame.now ≡ (result, self.new)) }
+    {
+        match self.would_take(frame.seq) {
+            Taken::Stored => {}
+            other => return other,
+        }
+        match copy_of(frame) {
+            Ok(copy) => self.take_owned(copy),
+            Err(_) => Taken::Memory,
+        }
+    }
+
+    /// Takes a frame of this worker that came.
+    pub fn take_owned(&mut self, frame: Frame) -> Taken
+        ensures { ((result ≡ Taken.Memory) × (self.new ≡ self.old) × ((taken_by self.old frame).0 ≡ Taken.Stored))
+            ⊎ (taken_by self.old frame ≡ (result, self.new)) }
     {
         if self.known.contains(frame.seq) {
             return Taken::Repeat;
@@ -74,20 +90,33 @@ impl Collector {
         }
     }
 
-    /// Keeps a copy of a frame that is not known yet. Fails only where it is out of memory, and then
-    /// nothing has changed.
-    fn store(&mut self, frame: &Frame) -> Result<(), AllocError>
-        requires unknown { is_known self.old.known frame.now.seq ≡ false }
-        requires seq { frame.now.seq < 2 ^ 64 - 1 }
-        ensures ok { OnOk result (self.new ≡ with_frame self.old frame.now) }
+    /// What is answered to a frame of that seq, where there is memory.
+    pub fn would_take(&self, seq: u64) -> Taken
+        ensures { (frame : FrameOf) → frame.seq ≡ seq → result ≡ (taken_by self.now frame).0 }
+    {
+        if self.known.contains(seq) {
+            return Taken::Repeat;
+        }
+        if self.known.is_ahead(seq) {
+            return Taken::Ahead;
+        }
+        Taken::Stored
+    }
+
+    /// Keeps a frame that is not known yet. Fails only where it is out of memory, and then nothing
+    /// has changed.
+    fn store(&mut self, frame: Frame) -> Result<(), AllocError>
+        requires unknown { is_known self.old.known frame.seq ≡ false }
+        requires seq { frame.seq < 2 ^ 64 - 1 }
+        ensures ok { OnOk result (self.new ≡ with_frame self.old frame) }
         ensures err { OnErr result (self.new ≡ self.old) }
     {
-        let copy = copy_of(frame)?;
-        self.kept.insert(frame.seq, copy)?;
-        match self.known.insert(frame.seq) {
+        let seq = frame.seq;
+        self.kept.insert(seq, frame)?;
+        match self.known.insert(seq) {
             Ok(()) => Ok(()),
             Err(error) => {
-                self.kept.remove(&frame.seq);
+                self.kept.remove(&seq);
                 Err(error)
             }
         }

@@ -2,6 +2,7 @@
 
 ghost use Rattle.std.specs.Prelude.{◌≡◌, ◌<◌, ◌^◌, length, IfOk, ◌⊎◌};
 ghost use Rattle.std.specs.Option.{option_map};
+ghost use Rattle.update_log.specs.declared.frame.Frame.{Frame as FrameOf};
 ghost use Rattle.intake.specs.Known.{first_missing};
 ghost use Rattle.intake.specs.State.{known_of, frame_of};
 ghost use Rattle.intake.specs.Steps.{started, taken, lacking, dropped};
@@ -53,7 +54,8 @@ impl Intake {
     }
 
     /// Takes a frame that came, of a worker that is there: it is kept, in a copy, where it is not
-    /// known and not too far ahead. It costs a look-up, whatever was taken before. `Memory` is
+    /// known and not too far ahead. It costs a look-up, and a step for each
+    /// known seq that the first missing one passes; each is passed once. `Memory` is
     /// answered only where the frame would be stored. Only `Stored` changes anything.
     pub fn take(&mut self, frame: &Frame) -> Taken
         requires { frame.now.worker < length self.old }
@@ -61,6 +63,24 @@ impl Intake {
             ⊎ (taken self.old frame.now ≡ (result, self.new)) }
     {
         self.workers[frame.worker as usize].take(frame)
+    }
+
+    /// Takes a frame as `take` does, and keeps it itself, not a copy.
+    pub fn take_owned(&mut self, frame: Frame) -> Taken
+        requires { frame.worker < length self.old }
+        ensures { ((result ≡ Taken.Memory) × (self.new ≡ self.old) × ((taken self.old frame).0 ≡ Taken.Stored))
+            ⊎ (taken self.old frame ≡ (result, self.new)) }
+    {
+        self.workers[frame.worker as usize].take_owned(frame)
+    }
+
+    /// What `take` answers to a frame of that seq of a worker that is there, where there is memory:
+    /// so its entries need not be there yet. Takes no memory.
+    pub fn would_take(&self, worker: u8, seq: u64) -> Taken
+        requires { worker < length self.now }
+        ensures { (frame : FrameOf) → frame.worker ≡ worker → frame.seq ≡ seq → result ≡ (taken self.now frame).0 }
+    {
+        self.workers[worker as usize].would_take(seq)
     }
 
     /// The first seq that is missing of a worker: all before it are known. It is 0 where there is no

@@ -1,6 +1,8 @@
 //! Laws of what has come.
 
 ghost use Rattle.intake.specs.Laws.{NothingIsFrom, CommitsKeepFrom, FramesKeepFrom, DropsKeepFrom, KeptAreOfStream};
+ghost use Rattle.intake.specs.Laws.{FramesLeaveWorkers, DropsLeaveWorkers, FramesStayKnown, DropsLeaveKnown};
+ghost use Rattle.intake.specs.Laws.{FramesStayKept, DropsStayKept, NoneLackingAreKnown, LackingIsOfWorker};
 
 /// An intake to which only frames of a list of commits come has frames of that list's streams, as
 /// the list goes on and as frames are dropped; and those that it keeps one behind the other are
@@ -11,4 +13,17 @@ pub fn arrivals_stay_of_streams()
     ensures frames { FramesKeepFrom }
     ensures drops { DropsKeepFrom }
     ensures kept { KeptAreOfStream }
+{}
+
+/// What is known stays known as frames come and are dropped, and what is known and was not dropped
+/// stays kept. Where no frame is lacking, each is known. It does nothing: its contract is the laws.
+pub fn known_frames_stay_kept()
+    ensures frames_leave { FramesLeaveWorkers }
+    ensures drops_leave { DropsLeaveWorkers }
+    ensures known { FramesStayKnown }
+    ensures drops_known { DropsLeaveKnown }
+    ensures kept { FramesStayKept }
+    ensures drops_kept { DropsStayKept }
+    ensures complete { NoneLackingAreKnown }
+    ensures lacking { LackingIsOfWorker }
 {}

@@ -1,8 +1,7 @@
 //! What a journal needs of the file that it stands in.
 
 ghost use Rattle.std.specs.Prelude.{◌≡◌, ℕ, ◌≤◌, List, ◌++◌, length, take, Bool, true, OnOk, OnErr};
-ghost use Rattle.journal.specs.Recovery.{IsBeginning};
-ghost use Rattle.journal.specs.Storing.{IsPartlyCut};
+ghost use Rattle.journal.specs.Storing.{IsPartlyAppended, IsPartlyCut};
 
 use std::fs::File;
 use std::io;
@@ -22,12 +21,12 @@ pub trait Disk {
     /// Whether what stands is what the answers say.
     ghost is_honest: { Bool };
 
-    /// Writes bytes behind those that stand, which are `len`, and syncs them. Where it fails, others
-    /// may stand behind the old ones.
+    /// Writes bytes behind those that stand, which are `len`, and syncs them. Where it fails, some
+    /// beginning of them may stand behind the old ones.
     fn append(&mut self, len: u64, bytes: &[u8]) -> io::Result<()>
         requires { is_honest ≡ true → len ≡ length (content self.old) }
         ensures ok { is_honest ≡ true → OnOk result (content self.new ≡ content self.old ++ bytes.now) }
-        ensures err { is_honest ≡ true → OnErr result (IsBeginning (content self.old) (content self.new)) };
+        ensures err { is_honest ≡ true → OnErr result (IsPartlyAppended (content self.old) bytes.now (content self.new)) };
 
     /// Keeps the first `len` of the bytes that stand, and no other, and syncs that. Where it fails,
     /// some beginning of them stands, which is not shorter.

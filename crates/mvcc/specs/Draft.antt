@@ -5,7 +5,3 @@ use Rattle.rows.specs.declared.entry.Entry.{Entry}
 pub record Draft : Type 0 where
   pub snapshot : ℕ
   pub entries : List Entry
-
--- entries that a transaction may have; one frame holds as many
-abbrev pub transaction_entries_max : ℕ
-transaction_entries_max = 2

@@ -7,6 +7,7 @@ use Rattle.rows.specs.declared.entry.Entry.TheVariants.{Insert, Patch, Delete}
 use Rattle.rows.specs.declared.commit.Commit.{Commit}
 use Rattle.rows.specs.declared.kind.Kind.{Kind}
 use Rattle.rows.specs.declared.value.Value.{Value}
+use Rattle.rows.specs.Limits.{commit_entries_max}
 use Rattle.rows.specs.Shape.{Shape, kinds_in, row_width}
 use Rattle.rows.specs.Values.{value_bytes, bytes_of, is_of_kind, are_of_kinds}
 use Rattle.rows.specs.Tables.{Tables, shape_in, applied, is_row_at}
@@ -14,7 +15,7 @@ use Rattle.rows.specs.Commits.{tables_after}
 use Rattle.mvcc.specs.declared.faults.TxFault.{TxFault}
 use Rattle.mvcc.specs.declared.faults.TxFault.TheVariants.{Exists, Missing, Unfit, TooManyEntries}
 use Rattle.mvcc.specs.Values.{value_in}
-use Rattle.mvcc.specs.Draft.{Draft, transaction_entries_max}
+use Rattle.mvcc.specs.Draft.{Draft}
 
 -- whether the table is there, and these are values of its columns
 abbrev pub match_table : List Value → Option (List Kind) → Bool
@@ -49,7 +50,7 @@ sees shape commits draft table row = is_row_at (seen_by shape commits draft) tab
 -- the transaction with one more entry, where it may have one more
 abbrev pub draft_with : Draft → Entry → Result Draft TxFault
 draft_with draft entry =
-    if nat_lt (length draft.entries) transaction_entries_max
+    if nat_lt (length draft.entries) commit_entries_max
     then Ok (record draft { entries = draft.entries ++ entry ∷ [] })
     else Err TooManyEntries
 

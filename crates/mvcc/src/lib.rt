@@ -25,5 +25,5 @@ mod values;
 mod versions;
 
 pub use faults::TxFault;
-pub use transaction::{TRANSACTION_ENTRIES_MAX, Transaction};
+pub use transaction::Transaction;
 pub use versions::Versions;

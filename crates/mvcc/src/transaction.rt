@@ -5,6 +5,7 @@ ghost use Rattle.std.specs.Prelude.{if◌then◌else◌, slice_get};
 ghost use Rattle.std.specs.Option.{option_map};
 ghost use Rattle.rows.specs.declared.entry.Entry.TheVariants.{Insert, Patch, Delete};
 ghost use Rattle.rows.specs.Faults.{IsFaultOf};
+ghost use Rattle.rows.specs.Limits.{commit_entries_max};
 ghost use Rattle.rows.specs.Shape.{shape_of};
 ghost use Rattle.rows.specs.Values.{bytes_of, value_bytes};
 ghost use Rattle.rows.specs.Tables.{rows_of, row_at};
@@ -19,12 +20,10 @@ use crate::faults::TxFault;
 use crate::own_rows::{OwnRows, indices_with};
 use crate::values::{is_value_of, matches_table};
 use crate::versions::Versions;
+use rows::limits::COMMIT_ENTRIES_MAX;
 use rows::{Entry, EntryList, Kind, RowId, Schema, Value, row_bytes, width_of_row};
 use std::alloc::{AllocError, Global};
 use std::marker::Model;
-
-/// Entries that a transaction may have, at most; one frame holds as many.
-pub const TRANSACTION_ENTRIES_MAX: usize = 2;
 
 /// A transaction: the version that it reads, and its entries in the order of its calls.
 ///
@@ -42,13 +41,13 @@ impl Model for Transaction {
     ghost use Rattle.std.specs.Prelude.{◌≤◌, length};
     ghost use Rattle.mvcc.specs.Draft.{Draft};
     ghost use Rattle.mvcc.specs.Inner.OwnRows.{IsIndexOf};
-    ghost use Rattle.mvcc.specs.declared.transaction.TheConstants.{TRANSACTION_ENTRIES_MAX};
+    ghost use Rattle.rows.specs.Limits.{commit_entries_max};
 
     ghost Value = { Draft };
 
     ghost view = { λ t. record { snapshot = t.snapshot; entries = t.entries.items } };
 
-    ghost invariant = { λ t. (length t.entries.items ≤ TRANSACTION_ENTRIES_MAX) × IsIndexOf t.entries.items t.rows };
+    ghost invariant = { λ t. (length t.entries.items ≤ commit_entries_max) × IsIndexOf t.entries.items t.rows };
 }
 
 impl Transaction {
@@ -74,7 +73,7 @@ impl Transaction {
     /// Its entries, lent.
     pub fn entries(&self) -> &[Entry]
         ensures entries { result.now ≡ self.now.entries }
-        ensures few { length result.now ≤ TRANSACTION_ENTRIES_MAX }
+        ensures few { length result.now ≤ commit_entries_max }
     {
         self.entries.as_slice()
     }
@@ -82,7 +81,7 @@ impl Transaction {
     /// Its entries. Takes no memory.
     pub fn into_entries(self) -> EntryList
         ensures entries { result ≡ self.entries }
-        ensures few { length result ≤ TRANSACTION_ENTRIES_MAX }
+        ensures few { length result ≤ commit_entries_max }
     {
         let Transaction {
             alloc: _,
@@ -120,7 +119,7 @@ impl Transaction {
         if self.sees(versions, table, row) {
             return Err(TxFault::Exists);
         }
-        if self.entries.len() >= TRANSACTION_ENTRIES_MAX {
+        if self.entries.len() >= COMMIT_ENTRIES_MAX {
             return Err(TxFault::TooManyEntries);
         }
         match self.add_insert(table, row, values) {
@@ -157,7 +156,7 @@ impl Transaction {
         if self.cell(versions, table, row, column).is_none() {
             return Err(TxFault::Missing);
         }
-        if self.entries.len() >= TRANSACTION_ENTRIES_MAX {
+        if self.entries.len() >= COMMIT_ENTRIES_MAX {
             return Err(TxFault::TooManyEntries);
         }
         match self.add_patch(table, row, offset, value) {
@@ -185,7 +184,7 @@ impl Transaction {
         if !self.sees(versions, table, row) {
             return Err(TxFault::Missing);
         }
-        if self.entries.len() >= TRANSACTION_ENTRIES_MAX {
+        if self.entries.len() >= COMMIT_ENTRIES_MAX {
             return Err(TxFault::TooManyEntries);
         }
         match self.add(Entry::Delete { table, row }) {
@@ -286,7 +285,7 @@ impl Transaction {
 
     /// Adds an insert at the end. Fails only when out of memory, and then nothing has changed.
     fn add_insert(&mut self, table: u8, row: RowId, values: &[Value]) -> Result<(), AllocError>
-        requires { length self.old.entries < TRANSACTION_ENTRIES_MAX }
+        requires { length self.old.entries < commit_entries_max }
         ensures ok { OnOk result
             (self.new ≡ record self.old { entries = self.old.entries ++ Insert table row (bytes_of values.now) ∷ [] }) }
         ensures err { OnErr result (self.new ≡ self.old) }
@@ -303,7 +302,7 @@ impl Transaction {
         offset: u16,
         value: Value,
     ) -> Result<(), AllocError>
-        requires { length self.old.entries < TRANSACTION_ENTRIES_MAX }
+        requires { length self.old.entries < commit_entries_max }
         ensures ok { OnOk result
             (self.new ≡ record self.old { entries = self.old.entries ++ Patch table row offset (value_bytes value) ∷ [] }) }
         ensures err { OnErr result (self.new ≡ self.old) }
@@ -319,7 +318,7 @@ impl Transaction {
 
     /// Adds an entry at the end. Fails only when out of memory, and then nothing has changed.
     fn add(&mut self, entry: Entry) -> Result<(), AllocError>
-        requires { length self.old.entries < TRANSACTION_ENTRIES_MAX }
+        requires { length self.old.entries < commit_entries_max }
         ensures ok { OnOk result (self.new ≡ record self.old { entries = self.old.entries ++ entry ∷ [] }) }
         ensures err { OnErr result (self.new ≡ self.old) }
     {

@@ -1,13 +1,12 @@
 -- The columns that a plan names are there, where it was checked and the rows have values of their columns' kinds.
-use Rattle.std.proofs.Common.{◌≡◌, ℕ, zero, suc, Bool, true, false, ◌&&◌, ◌||◌, ◌==◌, nat_lt, cond, List, [], ◌∷◌, length, map, Option}
+use Rattle.std.proofs.Common.{◌≡◌, ℕ, zero, suc, Bool, true, false, ◌==◌, cond, List, [], ◌∷◌, length, map, Option}
 use Rattle.std.proofs.Common.{None, Some}
-use Rattle.std.proofs.Common.{Ok, slice_get, IsSome, is_some, refl, sym, ap, ◌∙◌, subst}
+use Rattle.std.proofs.Common.{Ok, slice_get, IsSome, refl, sym, ap, ◌∙◌}
 use Rattle.std.specs.List.{AllByRecursion}
 use Rattle.std.specs.Option.{option_or}
 use Rattle.std.proofs.lemmas.Bool.{and_parts}
 use Rattle.std.proofs.lemmas.Option.{MatchOption-at_some, same_Some}
 use Rattle.rows.specs.declared.kind.Kind.{Kind}
-use Rattle.rows.specs.declared.kind.Kind.TheVariants as kinds
 use Rattle.rows.specs.declared.value.Value.{Value}
 use Rattle.rows.specs.Shape.{Shape, kinds_in}
 use Rattle.rows.specs.Values.{is_of_kind, are_of_kinds}
@@ -16,11 +15,10 @@ use Rattle.plans.specs.declared.aggregate.Aggregate.{Aggregate}
 use Rattle.plans.specs.declared.aggregate.Aggregate.TheVariants.{Count, Sum, Min, Max}
 use Rattle.plans.specs.declared.column.Column.{Column}
 use Rattle.plans.specs.declared.column.Column.TheVariants.{Own, Joined}
-use Rattle.plans.specs.declared.condition.Condition.{Condition}
 use Rattle.plans.specs.declared.plan.Join.{Join}
 use Rattle.plans.specs.declared.plan.Plan.{Plan}
 use Rattle.plans.specs.declared.faults.PlanFault.{PlanFault}
-use Rattle.plans.specs.declared.faults.PlanFault.TheVariants.{NoColumn, WrongKind, TooMany, NoAggregate}
+use Rattle.plans.specs.declared.faults.PlanFault.TheVariants.{TooMany, NoAggregate}
 use Rattle.plans.specs.Checking.{first, column_kind, number_fault, presence_fault, join_fault, value_fault, condition_fault, group_fault}
 use Rattle.plans.specs.Checking.{aggregate_fault}
 use Rattle.plans.specs.Checking.{column_faults, is_too_many, joined_kinds, tables_fault, plan_fault, checked, refused_by}

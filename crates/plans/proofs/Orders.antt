@@ -1,5 +1,5 @@
 -- Values and groups that are in the same place of the order are the same; entries in order with the same look-ups are the same.
-use Rattle.std.proofs.Common.{◌≡◌, ℕ, Bool, true, false, List, [], ◌∷◌, Option, None, Some, Less, Equal, Greater, refl, sym, ap, ◌∙◌, subst}
+use Rattle.std.proofs.Common.{◌≡◌, true, List, [], ◌∷◌, Option, None, Some, Less, Equal, Greater, refl, sym, ap, ◌∙◌}
 use Rattle.std.proofs.Common.{⊎_elim}
 use Rattle.std.specs.BTreeMap.{is_at}
 use Rattle.std.specs.Cmp.{IsTotalOrder, eq_by_cmp_equiv, tied_itself}

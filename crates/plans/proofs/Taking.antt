@@ -1,10 +1,9 @@
 -- A row that a plan looks at has the columns that the plan names.
-use Rattle.std.proofs.Common.{◌≡◌, ℕ, true, List, [], Option, None, Some, Result, Ok, Err, OnOk, slice_get, refl, sym, ap, ◌∙◌, subst}
+use Rattle.std.proofs.Common.{◌≡◌, ℕ, true, List, [], Option, None, Some, Result, Ok, Err, OnOk, slice_get, refl, sym, ap, ◌∙◌}
 use Rattle.std.specs.Option.{option_map, option_and_then}
 use Rattle.std.proofs.lemmas.Option.{same_Some}
 use Rattle.rows.specs.declared.kind.Kind.{Kind}
 use Rattle.rows.specs.declared.value.Value.{Value}
-use Rattle.rows.specs.Shape.{Shape}
 use Rattle.rows.specs.Values.{are_of_kinds}
 use Rattle.rows.specs.Tables.{Tables, Rows, shape_in, rows_of, row_at, RowsAreOfKinds}
 use Rattle.plans.specs.declared.plan.Join.{Join}
@@ -12,7 +11,7 @@ use Rattle.plans.specs.declared.plan.Plan.{Plan}
 use Rattle.plans.specs.Answers.{JoinedRow, id_of, joined_with}
 use Rattle.plans.specs.Checking.{joined_kinds, checked}
 use Rattle.plans.specs.Inner.Kept.{HasJoin, HasColumns}
-use Rattle.plans.proofs.Columns.{Fits, fits, NoFault, no-fault, IsOfKinds, join-there, has-columns, row-of-kinds}
+use Rattle.plans.proofs.Columns.{Fits, fits, NoFault, no-fault, join-there, has-columns, row-of-kinds}
 
 -- a row with another one
 abbrev both : List Value → List Value → JoinedRow

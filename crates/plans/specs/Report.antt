@@ -1,27 +1,10 @@
--- The text of answers. Each line is ended by 0a, its words parted by one space.
-use Rattle.std.specs.Prelude.{ℕ, ◌+◌, ◌/◌, ◌%◌, List, [], ◌∷◌, ◌++◌, length, map, false, codes, decimal}
-use Rattle.std.specs.Fmt.{signed_decimal, digit_glyph}
-use Rattle.std.specs.List.{flat_map, join_with_byte}
-use Rattle.rows.specs.declared.value.Value.{Value}
-use Rattle.rows.specs.declared.value.Value.TheVariants.{Int, Octets}
+-- The text of answers. Numbers are decimal.
+use Rattle.std.specs.Prelude.{ℕ, ◌+◌, List, [], ◌∷◌, ◌++◌, length, map, codes, decimal}
+use Rattle.std.specs.Fmt.{signed_decimal}
+use Rattle.std.specs.List.{flat_map}
+use Rattle.rows.specs.Text.{value_text, line_text}
 use Rattle.plans.specs.declared.field.Field.{Field}
 use Rattle.plans.specs.declared.field.Field.TheVariants.{Stored, Number, Absent}
-
--- a line of these words
-abbrev pub line_text : List (List ℕ) → List ℕ
-line_text words = join_with_byte 32 words ++ 10 ∷ []
-
--- a byte as two lower-case hexadecimal digits
-abbrev pub hex_digits : ℕ → List ℕ
-hex_digits byte = digit_glyph false (byte / 16) ∷ digit_glyph false (byte % 16) ∷ []
-
-abbrev pub hex_text : List ℕ → List ℕ
-hex_text bytes = flat_map hex_digits bytes
-
--- a number in decimal; octets as `x` and their digits
-abbrev pub value_text : Value → List ℕ
-value_text (Int number) = signed_decimal number
-value_text (Octets bytes) = codes "x" ++ hex_text bytes
 
 -- a field; `-` is the least and the greatest of no rows
 abbrev pub field_text : Field → List ℕ

@@ -51,7 +51,7 @@ fn answer<S: Store>(alloc: Global, store: &S, plan: &Plan) -> Result<Answer, All
     groups.answer(alloc)
 }
 
-/// Adds the row at a place of the plan's table, where the plan looks at it, to what is kept of the
+/// Adds the row at an index of the plan's table, where the plan looks at it, to what is kept of the
 /// rows before it. Fails only when out of memory.
 fn take_row<S: Store>(
     alloc: Global,

@@ -9,8 +9,8 @@
 //!
 //! Promised: `Plan::check` answers the first fault; `answer_batch` gives the plain answer of each
 //! plan on the rows of any whole store, out of memory aside; `report` is the text of answers.
-//! It stands on `rows` and `store`. A query reads each row of its table once, by its place, and
-//! looks up the row that it joins; nothing is copied but the groups' values.
+//! It stands on `rows` and `store`. A query finds each row of its table once, and the row that it
+//! joins; it reads their values by these places, and copies nothing but the groups' values.
 #![tactic(auto)]
 
 mod aggregate;

@@ -1,12 +1,12 @@
 //! The text of answers.
 
 ghost use Rattle.std.specs.Prelude.{◌≡◌, ◌++◌, map, IfOk, OnOk};
-ghost use Rattle.std.specs.String.{string_bytes};
-ghost use Rattle.plans.specs.Report.{report_text, query_text, line_text, field_text, value_text, hex_text, hex_digits};
+ghost use Rattle.rows.specs.Text.{line_text};
+ghost use Rattle.plans.specs.Report.{report_text, query_text, field_text};
 
 use crate::answer::Answer;
 use crate::field::Field;
-use rows::Value;
+use rows::{append_number, append_value};
 use std::alloc::{AllocError, Global};
 
 /// The text of answers on the tables at this version: a line `version V queries N`; for each answer
@@ -16,77 +16,54 @@ use std::alloc::{AllocError, Global};
 pub fn report(alloc: Global, version: u64, answers: &[Answer]) -> Result<Vec<u8>, AllocError>
     ensures { IfOk result (λ text. text.items ≡ report_text version answers.now) }
 {
-    let mut text = String::new(alloc);
-    let queries = answers.len();
-    write!(text, "version {version} queries {queries}\n")?;
+    let mut text = Vec::new(alloc);
+    text.extend_from_slice(b"version ")?;
+    append_number(&mut text, version)?;
+    text.extend_from_slice(b" queries ")?;
+    append_number(&mut text, answers.len())?;
+    text.push(b'\n')?;
     for (index, answer) in answers.iter().enumerate() {
-        write_answer(&mut text, index, answer)?;
+        append_answer(&mut text, index, answer)?;
     }
-    Ok(text.into_bytes())
+    Ok(text)
 }
 
-/// Adds the part of a query.
-fn write_answer(text: &mut String, index: usize, answer: &Answer) -> Result<(), AllocError>
-    ensures { OnOk result (string_bytes text.new ≡ string_bytes text.old ++ query_text index answer.now) }
+/// Appends the part of a query.
+fn append_answer(text: &mut Vec<u8>, index: usize, answer: &Answer) -> Result<(), AllocError>
+    ensures { OnOk result (text.new.items ≡ text.old.items ++ query_text index answer.now) }
 {
-    let rows = answer.len();
-    write!(text, "query {index} rows {rows}\n")?;
+    text.extend_from_slice(b"query ")?;
+    append_number(text, index)?;
+    text.extend_from_slice(b" rows ")?;
+    append_number(text, answer.len())?;
+    text.push(b'\n')?;
     for line in answer.as_slice() {
-        write_line(text, line.as_slice())?;
+        append_line(text, line.as_slice())?;
     }
     Ok(())
 }
 
-/// Adds a line of these fields.
-fn write_line(text: &mut String, fields: &[Field]) -> Result<(), AllocError>
-    ensures { OnOk result (string_bytes text.new ≡ string_bytes text.old ++ line_text (map field_text fields.now)) }
+/// Appends a line of these fields.
+fn append_line(text: &mut Vec<u8>, fields: &[Field]) -> Result<(), AllocError>
+    ensures { OnOk result (text.new.items ≡ text.old.items ++ line_text (map field_text fields.now)) }
 {
     for (index, field) in fields.iter().enumerate() {
         if index != 0 {
-            text.push_str(" ")?;
+            text.push(b' ')?;
         }
-        write_field(text, field)?;
+        append_field(text, field)?;
     }
-    text.push_str("\n")
-}
-
-/// Adds a field.
-fn write_field(text: &mut String, field: &Field) -> Result<(), AllocError>
-    ensures { OnOk result (string_bytes text.new ≡ string_bytes text.old ++ field_text field.now) }
-{
-    match field {
-        Field::Stored(value) => write_value(text, value),
-        Field::Number(number) => write!(text, "{number}"),
-        Field::Absent => text.push_str("-"),
-    }
-}
-
-/// Adds a value.
-fn write_value(text: &mut String, value: &Value) -> Result<(), AllocError>
-    ensures { OnOk result (string_bytes text.new ≡ string_bytes text.old ++ value_text value.now) }
-{
-    match value {
-        Value::Int(number) => write!(text, "{number}"),
-        Value::Octets(bytes) => {
-            text.push_str("x")?;
-            write_hex(text, bytes.as_slice())
-        }
-    }
-}
-
-/// Adds bytes as two lower-case hexadecimal digits each.
-fn write_hex(text: &mut String, bytes: &[u8]) -> Result<(), AllocError>
-    ensures { OnOk result (string_bytes text.new ≡ string_bytes text.old ++ hex_text bytes.now) }
-{
-    for byte in bytes {
-        write_byte(text, *byte)?;
-    }
+    text.push(b'\n')?;
     Ok(())
 }
 
-/// Adds a byte as two lower-case hexadecimal digits.
-fn write_byte(text: &mut String, byte: u8) -> Result<(), AllocError>
-    ensures { OnOk result (string_bytes text.new ≡ string_bytes text.old ++ hex_digits byte) }
+/// Appends a field.
+fn append_field(text: &mut Vec<u8>, field: &Field) -> Result<(), AllocError>
+    ensures { OnOk result (text.new.items ≡ text.old.items ++ field_text field.now) }
 {
-    write!(text, "{byte:02x}")
+    match field {
+        Field::Stored(value) => append_value(text, value),
+        Field::Number(number) => append_number(text, *number),
+        Field::Absent => text.extend_from_slice(b"-"),
+    }
 }

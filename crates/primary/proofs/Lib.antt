@@ -1,6 +1,8 @@
 pub mod Definedness
-pub mod Text
-pub mod Flushing
-pub mod Streams
-pub mod Numbering
 pub mod Telling
+pub mod Streams
+pub mod Flushing
+pub mod Rebuilding
+pub mod Wanting
+pub mod Opening
+pub mod Committing

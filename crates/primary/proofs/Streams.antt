@@ -1,97 +1,251 @@
--- A worker's stream: a frame for each of its commits.
-use Rattle.std.proofs.Common.{◌≡◌, ◌+◌, ◌^◌, ◌<◌, ◌≤◌, ◌==◌, ℕ, suc, zero, Bool, true, false, cond, not, List, [], ◌∷◌, ◌++◌, length, take}
-use Rattle.std.proofs.Common.{get_or, refl, sym, ap, subst, arith}
-use Rattle.std.specs.List.{filter, flat_map, AllByRecursion}
-use Rattle.std.proofs.lemmas.List.Filters.{length-filter_both}
-use Rattle.std.proofs.lemmas.List.{length-append, length-take, length_push}
+-- A worker's stream: of the first commits and of those behind, and how long it can be.
+use Rattle.std.proofs.Common.{◌≡◌, ◌+◌, ◌^◌, ◌<◌, ◌≤◌, ◌==◌, ℕ, suc, zero, Bool, true, false, cond, List, [], ◌∷◌, ◌++◌, length, take, drop}
+use Rattle.std.proofs.Common.{get_or, slice_get, refl, sym, ap, ◌∙◌, append_assoc, append-nil, length-append, arith, inl, inr}
+use Rattle.std.specs.List.{flat_map, AllByRecursion}
+use Rattle.std.proofs.lemmas.Bool.{eq-eqb, cases_eq, ne_eqb}
+use Rattle.std.proofs.lemmas.List.{take-append-drop, take_all, length_push, take_more}
 use Rattle.rows.specs.declared.commit.Commit.{Commit}
 use Rattle.rows.specs.declared.entry.Entry.{Entry}
 use Rattle.rows.specs.declared.entry.Entry.TheVariants.{Insert, Patch, Delete}
-use Rattle.rows.specs.Spelling.{HasSpelling, entry_spelling}
-use Rattle.update_log.specs.Frames.{IsFrame}
+use Rattle.rows.specs.Commits.{IsCommit}
+use Rattle.rows.specs.Limits.{workers_max}
+use Rattle.rows.specs.Spelling.{entry_spelling}
+use Rattle.update_log.specs.declared.frame.Frame.{Frame}
+use Rattle.update_log.specs.Frames.{IsSendable, IsCuttable, frames_from, frames_of}
+use Rattle.update_log.specs.Parts.{parts_of}
+use Rattle.update_log.specs.Streams.{stream_from, stream_of, frame_count}
+use Rattle.update_log.proofs.Elements.{all-append}
+use Rattle.update_log.proofs.Framing.{frames-sendable}
+use Rattle.update_log.proofs.Uniqueness.{cut-is_short}
+use Rattle.journal.specs.Recovery.{HasRecord, IsBeginning}
+use Rattle.journal.specs.Text.{record_of, records_from}
 use Rattle.wire.specs.Spelling.{AreCounts}
-use Rattle.wire.specs.Streams.{stream_from, frames_of, frame_count}
-use Rattle.primary.specs.Inner.Kept.{IsKept}
+use Rattle.primary.specs.Journaling.{AreNumbered}
 use Rattle.primary.specs.Sending.{counts_of}
 
--- as many frames as commits of the worker
-pub length_stream : (worker before first : ℕ) (commits : List Commit)
-    → length (stream_from worker before first commits) ≡ length (filter (λ commit. commit.worker == worker) commits)
-length_stream worker before first [] = refl
-length_stream worker before first (commit ∷ commits) =
-    one (commit.worker == worker) (λ first. length_stream worker (before + 1) first commits)
-  where
-    one : (ours : Bool) → ((first : ℕ)
-        → length (stream_from worker (before + 1) first commits) ≡ length (filter (λ commit. commit.worker == worker) commits))
-        → length (cond ours (frames_of commit (before + 1) first) []
-        ++ stream_from worker (before + 1) (first + length (cond ours (frames_of commit (before + 1) first) [])) commits)
-        ≡ length (cond ours (commit ∷ filter (λ commit. commit.worker == worker) commits)
-        (filter (λ commit. commit.worker == worker) commits))
-    one true rest = ap suc (rest (first + 1))
-    one false rest = rest (first + 0)
+-- a frame for each part
+pub frames-length : (worker number seq : ℕ) (parts : List (List Entry)) → length (frames_from worker number seq parts) ≡ length parts
+frames-length worker number seq [] = refl
+frames-length worker number seq (part ∷ parts) = ap suc (frames-length worker number (seq + 1) parts)
 
--- an entry's spelling is short
-short : (entry : Entry) → HasSpelling entry → length (entry_spelling entry) ≤ 524
-short (Insert table row bytes) h = omega (arith, h.few)
-short (Patch table row offset bytes) h = omega (arith, h.few)
-short (Delete table row) h = omega arith
+-- the frames of commits behind others go behind those of these
+pub stream-append : (worker before first : ℕ) (front back : List Commit)
+    → stream_from worker before first (front ++ back) ≡ stream_from worker before first front
+    ++ stream_from worker (before + length front) (first + length (stream_from worker before first front)) back
+stream-append worker before first [] back =
+    let number : before ≡ before + 0 = omega arith in
+    let seq : first ≡ first + 0 = omega arith in
+    ap (λ n. stream_from worker n first back) number ∙ ap (λ n. stream_from worker (before + 0) n back) seq
+stream-append worker before first (commit ∷ front) back =
+    let own : List Frame = cond (commit.worker == worker) (frames_of commit (before + 1) first) [] in
+    let rest : List Frame = stream_from worker (before + 1) (first + length own) front in
+    let number : before + 1 + length front ≡ before + suc (length front) = omega arith in
+    let seq : first + length own + length rest ≡ first + length (own ++ rest) = omega (arith, length-append own rest) in
+    ap (λ (more : List Frame). own ++ more) (stream-append worker (before + 1) (first + length own) front back)
+    ∙ sym (append_assoc own rest (stream_from worker (before + 1 + length front) (first + length own + length rest) back))
+    ∙ ap (λ n. (own ++ rest) ++ stream_from worker n (first + length own + length rest) back) number
+    ∙ ap (λ n. (own ++ rest) ++ stream_from worker (before + suc (length front)) n back) seq
 
--- the few entries of a commit fit into a frame
-few_fit : (entries : List Entry) → length entries ≤ 2 → AllByRecursion HasSpelling entries
-    → 26 + length (flat_map entry_spelling entries) ≤ 1200
-few_fit [] few h = omega arith
-few_fit (one ∷ []) few h = omega (arith, short one h.0, length-append (entry_spelling one) [])
-few_fit (one ∷ two ∷ []) few h =
-    omega (
-      arith,
-      short one h.0,
-      short two h.1.0,
-      length-append (entry_spelling one) (entry_spelling two ++ []),
-      length-append (entry_spelling two) [],
+-- the stream of the first commits begins that of all
+pub stream-front : (worker version : ℕ) (commits : List Commit)
+    → IsBeginning (stream_of (take version commits) worker) (stream_of commits worker)
+stream-front worker version commits =
+    let front : List Frame = stream_of (take version commits) worker in (
+      stream_from worker (0 + length (take version commits)) (0 + length front) (drop version commits),
+      ap (λ cs. stream_of cs worker) (sym (take-append-drop version commits))
+          ∙ stream-append worker 0 0 (take version commits) (drop version commits),
     )
-few_fit (one ∷ two ∷ three ∷ entries) few h = absurd (omega arith)
 
--- a commit that is kept is held by one frame
-pub kept_is_framed : (commit : Commit) (seq number : ℕ) → IsKept commit → seq < 2 ^ 64 → 0 < number → number < 2 ^ 64
-    → IsFrame commit.worker seq number commit.entries
-kept_is_framed commit seq number kept s some n = record {
-  worker_below = kept.worker_below;
-  seq_below = s;
-  commit_numbered = some;
-  commit_below = n;
-  some = kept.some;
-  spelled = kept.spelled;
-  few = few_fit commit.entries kept.few kept.spelled;
+-- the frame of a seq in a list and in its beginning
+pub front-get : {X : Type 0} (front all : List X) (i : ℕ) → IsBeginning front all → i < length front → slice_get all i ≡ slice_get front i
+front-get [] all i begins h = absurd (omega arith)
+front-get (x ∷ front) all zero begins h = ap (λ xs. slice_get xs 0) begins.1
+front-get (x ∷ front) all (suc i) begins h =
+    ap (λ xs. slice_get xs (suc i)) begins.1 ∙ front-get front (front ++ begins.0) i (begins.0, refl) (omega arith)
+
+-- a worker's stream with one commit more
+pub stream-ours : (commits : List Commit) (commit : Commit) (worker : ℕ) → commit.worker ≡ worker
+    → length (stream_of (commits ++ commit ∷ []) worker) ≡ length (stream_of commits worker) + length (parts_of commit.entries)
+stream-ours commits commit worker e =
+    let mine : (commit.worker == worker) ≡ true = eq-eqb commit.worker worker e in
+    let first = 0 + length (stream_of commits worker) in
+    let number = 0 + length commits + 1 in
+    let added : List Frame = frames_of commit number first in
+    ap length
+    (stream-append worker 0 0 commits (commit ∷ [])
+    ∙ ap (λ b. stream_of commits worker ++ (cond b added [] ++ [])) mine)
+    ∙ length-append (stream_of commits worker) (added ++ [])
+    ∙ omega (arith, length-append added [], frames-length commit.worker number first (parts_of commit.entries))
+
+pub stream-others : (commits : List Commit) (commit : Commit) (worker : ℕ) → (commit.worker == worker) ≡ false
+    → length (stream_of (commits ++ commit ∷ []) worker) ≡ length (stream_of commits worker)
+stream-others commits commit worker theirs =
+    let first = 0 + length (stream_of commits worker) in
+    let number = 0 + length commits + 1 in
+    let added : List Frame = frames_of commit number first in
+    ap length
+    (stream-append worker 0 0 commits (commit ∷ [])
+    ∙ ap (λ b. stream_of commits worker ++ (cond b added [] ++ [])) theirs
+    ∙ append-nil (stream_of commits worker))
+
+-- numbers with one commit more
+pub numbered-push : (commits : List Commit) (commit : Commit) → AreNumbered commits → length commits + 1 < 2 ^ 64
+    → length (stream_of commits commit.worker) + length (parts_of commit.entries) < 2 ^ 64 → AreNumbered (commits ++ commit ∷ [])
+numbered-push commits commit numbered more frames = record {
+  commits_below = omega (arith, length-append commits (commit ∷ []));
+  frames_below = below;
+}
+  where
+    below : (worker : ℕ) → length (stream_of (commits ++ commit ∷ []) worker) < 2 ^ 64
+    below worker = elim (cases_eq commit.worker worker) [
+      | inl e ↦
+          let same : length (stream_of commits commit.worker) ≡ length (stream_of commits worker) =
+          ap (λ w. length (stream_of commits w)) e in
+          omega (arith, stream-ours commits commit worker e)
+      | inr other ↦
+          omega (arith, stream-others commits commit worker (ne_eqb commit.worker worker other), numbered.frames_below worker)
+    ]
+
+-- and of the first commits
+pub numbered-front : (commits : List Commit) (version : ℕ) → AreNumbered commits → AreNumbered (take version commits)
+numbered-front commits version numbered = record {
+  commits_below = omega (
+    arith,
+    ap length (take-append-drop version commits),
+    length-append (take version commits) (drop version commits),
+    numbered.commits_below,
+  );
+  frames_below = λ worker.
+      let begins = stream-front worker version commits in
+      omega (arith, ap length begins.1, length-append (stream_of (take version commits) worker) begins.0, numbered.frames_below worker);
 }
 
--- what holds of each commit holds of the one at an index
-pub kept_at : (commits : List Commit) (i : ℕ) (commit : Commit) → AllByRecursion IsKept commits → i < length commits
-    → commit ≡ get_or commits i commit → IsKept commit
-kept_at [] i commit h l e = absurd (omega arith)
-kept_at (first ∷ commits) zero commit h l e = subst IsKept (sym e) h.0
-kept_at (first ∷ commits) (suc i) commit h l e = kept_at commits i commit h.1 (omega arith) e
+-- the next commit's frames are among those of all
+pub next-below : (commits : List Commit) (i : ℕ) (commit : Commit) → i < length commits → commit ≡ get_or commits i commit
+    → AreNumbered commits → length (stream_of (take i commits) commit.worker) + length (parts_of commit.entries) < 2 ^ 64
+next-below commits i commit h e numbered =
+    let more : take (i + 1) commits ≡ take i commits ++ commit ∷ [] =
+    take_more commits i commit h ∙ ap (λ x. take i commits ++ x ∷ []) (sym e) in
+    let below = (numbered-front commits (i + 1) numbered).frames_below commit.worker in
+    omega (arith, stream-ours (take i commits) commit commit.worker refl, ap (λ cs. length (stream_of cs commit.worker)) more)
 
--- a worker has at most as many frames as there are commits
-few_frames : (worker before first : ℕ) (commits : List Commit) → length (stream_from worker before first commits) ≤ length commits
-few_frames worker before first commits =
+-- ---- frames that a datagram spells
+
+sendable-from : (workers worker before first : ℕ) (commits : List Commit) → workers ≤ workers_max
+    → AllByRecursion (IsCommit workers) commits
+    → AllByRecursion HasRecord commits → before + length commits < 2 ^ 64
+    → first + length (stream_from worker before first commits) < 2 ^ 64
+    → AllByRecursion IsSendable (stream_from worker before first commits)
+sendable-from workers worker before first [] few each records numbers seqs = tt
+sendable-from workers worker before first (commit ∷ commits) few each records numbers seqs =
+    one (commit.worker == worker) (λ first. sendable-from workers worker (before + 1) first commits few each.1 records.1 (omega arith)) seqs
+  where
+    one : (ours : Bool)
+        → ((first : ℕ) → first + length (stream_from worker (before + 1) first commits) < 2 ^ 64
+        → AllByRecursion IsSendable (stream_from worker (before + 1) first commits))
+        → first + length (cond ours (frames_of commit (before + 1) first) []
+        ++ stream_from worker (before + 1) (first + length (cond ours (frames_of commit (before + 1) first) [])) commits) < 2 ^ 64
+        → AllByRecursion IsSendable
+        (cond ours (frames_of commit (before + 1) first) []
+        ++ stream_from worker (before + 1) (first + length (cond ours (frames_of commit (before + 1) first) [])) commits)
+    one false rest seqs = rest (first + 0) (omega arith)
+    one true rest seqs =
+        let own : List Frame = frames_of commit (before + 1) first in
+        let behind : List Frame = stream_from worker (before + 1) (first + length own) commits in
+        let joined = length-append own behind in
+        let parts = frames-length commit.worker (before + 1) first (parts_of commit.entries) in
+        let cuttable : IsCuttable commit (before + 1) first = record {
+          worker_below = omega (arith, each.0.worker);
+          numbered = omega arith;
+          spelled = records.0.spelled;
+          seqs_below = omega arith;
+        } in
+        all-append IsSendable own behind
+        (frames-sendable commit (before + 1) first own cuttable (omega arith) refl)
+        (rest (first + length own) (omega arith))
+
+pub stream-sendable : (workers : ℕ) (commits : List Commit) (worker : ℕ) → workers ≤ workers_max → AllByRecursion (IsCommit workers) commits
+    → AllByRecursion HasRecord commits → AreNumbered commits → AllByRecursion IsSendable (stream_of commits worker)
+stream-sendable workers commits worker few each records numbered =
+    sendable-from workers worker 0 0 commits few each records (omega (arith, numbered.commits_below))
+    (omega (arith, numbered.frames_below worker))
+
+-- ---- how long the streams of a text can be
+
+some-bytes : (entry : Entry) → 0 < length (entry_spelling entry)
+some-bytes (Insert table row bytes) = omega arith
+some-bytes (Patch table row offset bytes) = omega arith
+some-bytes (Delete table row) = omega arith
+
+entries-short : (entries : List Entry) → length entries ≤ length (flat_map entry_spelling entries)
+entries-short [] = omega arith
+entries-short (entry ∷ entries) =
     omega (
       arith,
-      length_stream worker before first commits,
-      length-filter_both (λ commit. commit.worker == worker) (λ commit. not (commit.worker == worker)) (λ commit. refl) commits,
+      some-bytes entry,
+      entries-short entries,
+      length-append (entry_spelling entry) (flat_map entry_spelling entries),
     )
+
+record-long : (number : ℕ) (commit : Commit) → 0 < length (record_of number commit)
+    × (length (parts_of commit.entries) ≤ length (record_of number commit))
+record-long number commit =
+    (omega arith, omega (arith, cut-is_short commit.entries, entries-short commit.entries))
+
+stream-short : (worker before first : ℕ) (commits : List Commit)
+    → length (stream_from worker before first commits) ≤ length (records_from before commits)
+stream-short worker before first [] = omega arith
+stream-short worker before first (commit ∷ commits) =
+    one (commit.worker == worker) (λ first. stream-short worker (before + 1) first commits)
+  where
+    one : (ours : Bool)
+        → ((first : ℕ) → length (stream_from worker (before + 1) first commits) ≤ length (records_from (before + 1) commits))
+        → length (cond ours (frames_of commit (before + 1) first) []
+        ++ stream_from worker (before + 1) (first + length (cond ours (frames_of commit (before + 1) first) [])) commits)
+        ≤ length (record_of (before + 1) commit ++ records_from (before + 1) commits)
+    one false rest =
+        omega (arith, rest (first + 0), length-append (record_of (before + 1) commit) (records_from (before + 1) commits))
+    one true rest =
+        let own : List Frame = frames_of commit (before + 1) first in
+        omega (
+          arith,
+          rest (first + length own),
+          length-append own (stream_from worker (before + 1) (first + length own) commits),
+          frames-length commit.worker (before + 1) first (parts_of commit.entries),
+          (record-long (before + 1) commit).1,
+          length-append (record_of (before + 1) commit) (records_from (before + 1) commits),
+        )
+
+commits-short : (before : ℕ) (commits : List Commit) → length commits ≤ length (records_from before commits)
+commits-short before [] = omega arith
+commits-short before (commit ∷ commits) =
+    omega (
+      arith,
+      commits-short (before + 1) commits,
+      (record-long (before + 1) commit).0,
+      length-append (record_of (before + 1) commit) (records_from (before + 1) commits),
+    )
+
+-- commits whose records are within 64 bits are numbered within 64 bits
+pub numbered-short : (commits : List Commit) → length (records_from 0 commits) < 2 ^ 64 → AreNumbered commits
+numbered-short commits h = record {
+  commits_below = omega (arith, commits-short 0 commits);
+  frames_below = λ worker. omega (arith, stream-short worker 0 0 commits);
+}
+
+-- ---- the counts of a Head
 
 -- what holds of each element and of one more
 all_push : (P : ℕ → Type 0) (xs : List ℕ) (x : ℕ) → AllByRecursion P xs → P x → AllByRecursion P (xs ++ x ∷ [])
 all_push P [] x h p = (p, tt)
 all_push P (first ∷ xs) x h p = (h.0, all_push P xs x h.1 p)
 
-counts_below : (commits : List Commit) (version workers : ℕ) → length commits < 2 ^ 64
+counts_below : (commits : List Commit) (version workers : ℕ) → AreNumbered commits
     → AllByRecursion (λ count. count < 2 ^ 64) (counts_of commits version workers)
-counts_below commits version zero h = tt
-counts_below commits version (suc workers) h =
-    let few = few_frames workers 0 0 (take version commits) in
+counts_below commits version zero numbered = tt
+counts_below commits version (suc workers) numbered =
     all_push (λ count. count < 2 ^ 64) (counts_of commits version workers) (frame_count commits workers version)
-    (counts_below commits version workers h) (omega (arith, length-take version commits))
+    (counts_below commits version workers numbered) ((numbered-front commits version numbered).frames_below workers)
 
 length_counts : (commits : List Commit) (version workers : ℕ) → length (counts_of commits version workers) ≡ workers
 length_counts commits version zero = refl
@@ -103,10 +257,21 @@ length_counts commits version (suc workers) =
     )
 
 -- the counts of 1 to 16 workers are those of a Head
-pub counts_for_head : (commits : List Commit) (version workers : ℕ) → length commits < 2 ^ 64 → 0 < workers → workers ≤ 16
+pub counts_for_head : (commits : List Commit) (version workers : ℕ) → AreNumbered commits → 0 < workers → workers ≤ 16
     → AreCounts (counts_of commits version workers)
-counts_for_head commits version workers h some few = record {
+counts_for_head commits version workers numbered some few = record {
   some = omega (arith, length_counts commits version workers);
   few = omega (arith, length_counts commits version workers);
-  below = counts_below commits version workers h;
+  below = counts_below commits version workers numbered;
 }
+
+-- the counts of the durable list are those at its length
+pub counts-durable : (commits : List Commit) (durable workers : ℕ) → durable ≤ length commits
+    → counts_of (take durable commits) (length (take durable commits)) workers ≡ counts_of commits durable workers
+counts-durable commits durable zero h = refl
+counts-durable commits durable (suc workers) h =
+    let all : take (length (take durable commits)) (take durable commits) ≡ take durable commits =
+    take_all (length (take durable commits)) (take durable commits) (omega arith) in
+    ap (λ counts. counts ++ frame_count (take durable commits) workers (length (take durable commits)) ∷ [])
+    (counts-durable commits durable workers h)
+    ∙ ap (λ cs. counts_of commits durable workers ++ length (stream_of cs workers) ∷ []) all

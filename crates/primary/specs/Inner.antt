@@ -1,6 +1,5 @@
--- Only for proofs: the rows that a transaction tells of, the numbers of each worker's commits, and what every primary keeps.
+-- Only for proofs: what a primary keeps of its parts, how a journal is settled at a start, and which rows entries tell of.
 -- No public clause rests on these.
 pub mod RowsTold
-pub mod StreamNumbers
-pub mod Kept
+pub mod Opening
 pub mod Invariant

@@ -1,6 +1,5 @@
 pub mod State
 pub mod Steps
-pub mod Journal
+pub mod Journaling
 pub mod Sending
-pub mod Worked
 pub mod Inner

@@ -1,7 +1,9 @@
--- What a primary sends: the frames of its durable list, and one Head to an Ask.
-use Rattle.std.specs.Prelude.{ℕ, zero, suc, List, [], ◌∷◌, ◌++◌, length, Option, Result, Ok, Err, slice_get}
+-- What a primary sends: the frames of its durable list, some of them to a Want, and one Head to an Ask.
+use Rattle.std.specs.Prelude.{ℕ, zero, suc, List, [], ◌∷◌, ◌++◌, length, map, take, drop, Option, Result, Ok, Err, slice_get}
 use Rattle.std.specs.Option.{option_map}
 use Rattle.rows.specs.declared.commit.Commit.{Commit}
+use Rattle.update_log.specs.declared.frame.Frame as frames
+use Rattle.update_log.specs.Streams.{stream_of, frame_count}
 use Rattle.wire.specs.declared.datagram.Datagram.{Datagram}
 use Rattle.wire.specs.declared.datagram.Datagram.TheVariants.{Frame, Ask, Head, Want}
 use Rattle.wire.specs.declared.faults.WireFault.{WireFault}
@@ -9,7 +11,6 @@ use Rattle.wire.specs.declared.out.Out.{Out}
 use Rattle.wire.specs.declared.out.To.TheVariants.{Replica}
 use Rattle.wire.specs.Spelling.{spelling, frame_spelling}
 use Rattle.wire.specs.Reading.{reading}
-use Rattle.wire.specs.Streams.{stream_of, frame_count}
 use Rattle.primary.specs.State.{Primary}
 
 -- the datagram of that seq of a worker's stream of the durable list, where the stream has it
@@ -26,12 +27,25 @@ abbrev pub head_for : Primary → ℕ → ℕ → ℕ → Datagram
 head_for p replica boot request =
     Head replica boot request (length p.durable) (counts_of p.durable (length p.durable) p.workers)
 
--- what a datagram is answered: an Ask by one Head to its replica, anything else by nothing
+-- frames that answer one Want, at most
+abbrev pub want_frames_max : ℕ
+want_frames_max = 16
+
+-- the durable frames of a worker from that seq on, at most 16; none where there is no such worker
+abbrev pub wanted : Primary → ℕ → ℕ → List frames.Frame
+wanted p worker from = take want_frames_max (drop from (stream_of p.durable worker))
+
+-- a frame on its way to a replica
+abbrev pub frame_to : ℕ → frames.Frame → Out
+frame_to replica frame = record { to = Replica replica; packet = frame_spelling frame }
+
+-- what a datagram is answered: an Ask by one Head and a Want by the frames wanted, to the replica that asks; anything else
+-- by nothing
 abbrev pub answers_to : Primary → Result Datagram WireFault → List Out
 answers_to p (Ok (Ask replica boot request)) = record { to = Replica replica; packet = spelling (head_for p replica boot request) } ∷ []
+answers_to p (Ok (Want replica worker from)) = map (frame_to replica) (wanted p worker from)
 answers_to p (Ok (Frame worker seq commit last entries)) = []
 answers_to p (Ok (Head replica boot request version counts)) = []
-answers_to p (Ok (Want replica worker from)) = []
 answers_to p (Err fault) = []
 
 -- what bytes are answered

@@ -10,3 +10,8 @@ pub record Primary : Type 0 where
   pub durable : List Commit
   pub pending : List Commit
   pub failed : Bool
+
+-- a primary with its journal
+pub record Core (J : Type 0) : Type 0 where
+  pub primary : Primary
+  pub journal : J

@@ -1,6 +1,8 @@
--- One step of a primary: what a commit and a flush answer, and what they leave.
-use Rattle.std.specs.Prelude.{ℕ, ◌+◌, ◌^◌, List, [], ◌∷◌, ◌++◌, length, take, drop, Bool, false, Result, Ok, Err, ◌||◌, not, nat_lt, ◌==◌}
+-- One step of a primary: what a commit answers, and what it, a flush and a failed flush leave.
+use Rattle.std.specs.Prelude.{ℕ, ◌+◌, ◌^◌, List, [], ◌∷◌, ◌++◌, length, take, drop, Bool, true, false, Result, Ok, Err, nat_lt, ◌==◌}
+use Rattle.std.specs.Prelude.{◌||◌, ◌&&◌, not}
 use Rattle.std.specs.Prelude.{if◌then◌else◌}
+use Rattle.rows.specs.declared.commit.Commit.{Commit}
 use Rattle.rows.specs.declared.entry.Entry.{Entry}
 use Rattle.rows.specs.declared.kind.Kind.{Kind}
 use Rattle.rows.specs.Commits.{last_touching}
@@ -8,11 +10,13 @@ use Rattle.primary.specs.declared.faults.CommitFault.{CommitFault}
 use Rattle.primary.specs.declared.faults.CommitFault.TheVariants.{Conflict, ReadOnly, Failed, NumbersUsedUp, Foreign}
 use Rattle.mvcc.specs.Draft.{Draft}
 use Rattle.mvcc.specs.History.{History, defined_at}
+use Rattle.update_log.specs.Parts.{parts_of}
+use Rattle.update_log.specs.Streams.{stream_of}
 use Rattle.primary.specs.State.{Primary}
 
--- a primary without commits
-abbrev pub started : List (List ℕ × List Kind) → ℕ → Primary
-started schema workers = record { schema = schema; workers = workers; durable = []; pending = []; failed = false }
+-- a primary as it starts: these commits are durable, and no other is there
+abbrev pub started : List (List ℕ × List Kind) → ℕ → List Commit → Primary
+started schema workers commits = record { schema = schema; workers = workers; durable = commits; pending = []; failed = false }
 
 -- the versions that a transaction may begin on: those of the durable list
 abbrev pub durable_versions : Primary → History
@@ -28,16 +32,23 @@ is_foreign p draft =
 abbrev pub next_number : Primary → ℕ
 next_number p = length p.durable + length p.pending + 1
 
--- what a commit answers: its number, or the first refusal. The first committer wins: a commit is refused where a row
--- that it writes was written after its snapshot. Being out of memory aside.
-abbrev pub commit_answer : Primary → Draft → Result ℕ CommitFault
-commit_answer p draft =
+-- whether the next commit, of a worker and of these entries, has a number of 64 bits, and its frames seqs and a count of
+-- 64 bits
+abbrev pub has_numbers : Primary → ℕ → List Entry → Bool
+has_numbers p worker entries =
+    nat_lt (next_number p) (2 ^ 64)
+    && nat_lt (length (stream_of (p.durable ++ p.pending) worker) + length (parts_of entries)) (2 ^ 64)
+
+-- what a commit of a worker answers: its number, or the first refusal. The first committer wins: a commit is refused
+-- where a row that it writes was written after its snapshot. Being out of memory aside.
+abbrev pub commit_answer : Primary → ℕ → Draft → Result ℕ CommitFault
+commit_answer p worker draft =
     if p.failed then Err Failed else
     if length draft.entries == 0 then Err ReadOnly else
     if is_foreign p draft then Err Foreign else
     if nat_lt draft.snapshot (last_touching draft.entries 0 (p.durable ++ p.pending))
     then Err (Conflict (last_touching draft.entries 0 (p.durable ++ p.pending))) else
-    if nat_lt (next_number p) (2 ^ 64) then Ok (next_number p) else Err NumbersUsedUp
+    if has_numbers p worker draft.entries then Ok (next_number p) else Err NumbersUsedUp
 
 -- the primary with this commit behind the pending ones
 abbrev pub committed : Primary → ℕ → List Entry → Primary
@@ -46,6 +57,10 @@ committed p worker entries = record p { pending = p.pending ++ record { worker =
 -- the primary with the first `count` pending commits durable (all of them, if there are fewer)
 abbrev pub flushed : Primary → ℕ → Primary
 flushed p count = record p { durable = p.durable ++ take count p.pending; pending = drop count p.pending }
+
+-- the primary whose journal has failed
+abbrev pub broken : Primary → Primary
+broken p = record p { failed = true }
 
 -- the primary of these versions, the first `durable` of them durable and the others pending
 abbrev pub primary_of : History → ℕ → ℕ → Bool → Primary

@@ -1,3 +1,4 @@
+use journal::JournalFault;
 use thiserror::Error;
 
 /// Why a transaction is not committed: the first that stands, in the order `Failed`, `ReadOnly`,
@@ -14,7 +15,7 @@ pub enum CommitFault {
     /// The journal has failed; the primary has to be started again.
     #[error("the journal failed")]
     Failed,
-    /// A number of the commit or its frames would pass 64 bits.
+    /// The number of the commit, or a frame's seq or count, would pass 64 bits.
     #[error("numbers used up")]
     NumbersUsedUp,
     #[error("out of memory")]
@@ -28,9 +29,23 @@ pub enum CommitFault {
 /// Why a flush moved nothing.
 #[derive(Clone, Copy, Debug, PartialEq, Eq, Error)]
 pub enum FlushFault {
+    /// The journal did not take the records. It has failed then, and the primary has to be started
+    /// again.
+    #[error("the journal could not be written")]
+    Journal,
     #[error("out of memory")]
     Memory,
-    /// The journal has failed; the primary has to be started again.
+    /// The journal failed earlier; the primary has to be started again.
     #[error("the journal failed")]
     Failed,
+}
+
+/// Why a primary was not started.
+#[derive(Debug, Drop)]
+pub enum StartFault<F> {
+    /// The journal could not be read, cut or written.
+    Store(F),
+    /// The journal's bytes are refused.
+    Journal(JournalFault),
+    Memory,
 }

@@ -1,6 +1,6 @@
 //! Whether a transaction may be committed.
 
-ghost use Rattle.std.specs.Prelude.{◌≡◌, ◌<◌, ◌≤◌, ◌∷◌, [], ◌++◌, ◌&&◌, length, true, is_ok, nat_lt, IfNone, OnOk, if◌then◌else◌};
+ghost use Rattle.std.specs.Prelude.{◌≡◌, ◌+◌, ◌^◌, ◌<◌, ◌≤◌, ◌∷◌, [], ◌++◌, ◌&&◌, length, true, is_ok, nat_lt, IfNone, OnOk, if◌then◌else◌};
 ghost use Rattle.std.specs.Bool.{OnTrue};
 ghost use Rattle.std.specs.List.{AllByRecursion};
 ghost use Rattle.rows.specs.Tables.{is_row_at};
@@ -10,6 +10,8 @@ ghost use Rattle.rows.specs.Presence.{stands_for, is_there_after};
 ghost use Rattle.rows.specs.Shape.{shape_of};
 ghost use Rattle.rows.specs.Spelling.{HasSpelling};
 ghost use Rattle.mvcc.specs.History.{defined_at, tables_at};
+ghost use Rattle.update_log.specs.Parts.{parts_of};
+ghost use Rattle.update_log.specs.Streams.{AreStreamsOf, stream_at};
 ghost use Rattle.primary.specs.Steps.{commit_answer, primary_of};
 ghost use Rattle.primary.specs.Inner.RowsTold.{there_in};
 
@@ -18,22 +20,29 @@ use crate::rows_told::RowsTold;
 use mvcc::{Transaction, Versions};
 use rows::{Entry, fits, is_there_after};
 use std::alloc::Global;
+use update_log::{Streams, part_count};
 
 /// The number that the transaction's commit would get, or the first refusal, where the first
 /// `durable` of the versions are durable and the others pending.
 pub fn judge(
     alloc: Global,
     versions: &Versions,
+    streams: &Streams,
     durable: usize,
     workers: u8,
     failed: bool,
+    worker: u8,
     transaction: &Transaction,
 ) -> Result<u64, CommitFault>
-    requires { durable ≤ length versions.now.commits }
-    ensures answer { result ≡ commit_answer (primary_of versions.now durable workers failed) transaction.now }
+    requires within { durable ≤ length versions.now.commits }
+    requires framed { AreStreamsOf streams.now.streams versions.now.commits }
+    ensures answer { result ≡ commit_answer (primary_of versions.now durable workers failed) worker transaction.now }
     ensures some { OnOk result (0 < length transaction.now.entries) }
     ensures spelled { OnOk result (AllByRecursion HasSpelling transaction.now.entries) }
     ensures defined { OnOk result (defined_at versions.now (length versions.now.commits) transaction.now.entries ≡ true) }
+    ensures numbered { OnOk result (length versions.now.commits + 1 < 2 ^ 64) }
+    ensures countable { OnOk result
+        (length (stream_at streams.now.streams worker) + length (parts_of transaction.now.entries) < 2 ^ 64) }
 {
     if failed {
         return Err(CommitFault::Failed);
@@ -54,10 +63,22 @@ pub fn judge(
     if let Some(number) = conflict(versions, transaction.snapshot(), transaction.entries()) {
         return Err(CommitFault::Conflict(number));
     }
-    versions
-        .len()
-        .checked_add(1)
-        .ok_or(CommitFault::NumbersUsedUp)
+    next_number(versions, streams, worker, transaction.entries()).ok_or(CommitFault::NumbersUsedUp)
+}
+
+/// The number of the next commit, of a worker and of these entries; `None` where it or a seq or count of
+/// its frames would pass 64 bits.
+fn next_number(versions: &Versions, streams: &Streams, worker: u8, entries: &[Entry]) -> Option<u64>
+    requires { AllByRecursion HasSpelling entries.now }
+    ensures { result ≡ (if nat_lt (length versions.now.commits + 1) (2 ^ 64)
+        && nat_lt (length (stream_at streams.now.streams worker) + length (parts_of entries.now)) (2 ^ 64)
+        then Some (length versions.now.commits + 1) else None) }
+{
+    let number = versions.len().checked_add(1)?;
+    let _ = streams
+        .next_seq(worker)
+        .checked_add(part_count(entries) as u64)?;
+    Some(number)
 }
 
 /// The last commit, durable or pending, that writes a row of the entries, where it stands behind

@@ -1,107 +1,152 @@
 //! The primary's core: bytes and values in, bytes and values out.
 
-ghost use Rattle.std.specs.Prelude.{◌≡◌, ◌<◌, ◌≤◌, length, true, false, take, Ok, IfOk, IfErr, OnOk, OnErr, ◌⊎◌, ◌∷◌, [], ◌++◌, ◌+◌};
-ghost use Rattle.std.specs.Prelude.{◌^◌};
+ghost use Rattle.std.specs.Prelude.{◌≡◌, ◌<◌, ◌≤◌, ℕ, length, take, [], ◌++◌, true, false, Ok, IfOk, IfErr, OnOk, OnErr};
 ghost use Rattle.std.specs.List.{AllByRecursion};
 ghost use Rattle.rows.specs.Faults.{IsFaultOf};
-ghost use Rattle.rows.specs.Shape.{shape_of};
-ghost use Rattle.rows.specs.Commits.{IsLegal};
-ghost use Rattle.mvcc.specs.History.{defined_at};
-ghost use Rattle.primary.specs.Inner.StreamNumbers.{AreStreams};
-ghost use Rattle.primary.specs.State.{Primary};
-ghost use Rattle.primary.specs.Steps.{started, commit_answer, committed, flushed};
-ghost use Rattle.primary.specs.Sending.{pushed, head_for, answers};
-ghost use Rattle.wire.specs.Spelling.{IsAsk, spelling};
-ghost use Rattle.primary.specs.Inner.Kept.{IsKept};
-ghost use Rattle.primary.specs.Journal.{records_from};
 ghost use Rattle.rows.specs.Limits.{workers_max};
+ghost use Rattle.rows.specs.Shape.{shape_of};
+ghost use Rattle.update_log.specs.Frames.{IsSendable};
+ghost use Rattle.update_log.specs.Streams.{stream_of};
+ghost use Rattle.journal.specs.Recovery.{IsJournaled};
+ghost use Rattle.journal.specs.Storing.{faults_max};
+ghost use Rattle.journal.specs.Text.{records_from};
+ghost use Rattle.primary.specs.Journaling.{IsWritten, offered, IsFlushRefusal, StandsAfterFlush, CountsFlushFault};
+ghost use Rattle.primary.specs.Journaling.{IsKeptOf, KeepsSame, IsStartRefusal, CountsStartFault, AreNumbered};
+ghost use Rattle.primary.specs.Sending.{pushed, answers};
+ghost use Rattle.primary.specs.Steps.{started, commit_answer, committed, flushed};
 
-use crate::faults::{CommitFault, FlushFault};
-use crate::journal::{header_bytes, records};
-use crate::judging::judge;
-use crate::sending::{counts, frame_packet};
-use crate::stream_numbers::StreamNumbers;
+use crate::faults::{CommitFault, FlushFault, StartFault};
+use crate::lists::Lists;
+use crate::starting::open;
 use crate::ticket::Ticket;
+use journal::JournalStore;
 use mvcc::{Transaction, Versions};
-use rows::{Commit, Entry, Schema};
+use rows::Schema;
 use std::alloc::{AllocError, Global};
 use std::marker::Model;
-use wire::{Datagram, Out, Packet, To, read};
+use wire::{Out, Packet};
 
-/// A primary: its durable list of commits, its pending list, and whether it has failed.
+/// A primary: its durable list of commits, its pending list, whether it has failed, and its journal.
 ///
-/// Contracts see these lists with the schema and the number of workers. The journal
-/// holds the text of the durable list, and nothing else is ever pushed or counted.
+/// Contracts see these lists with the schema and the number of workers, and the journal. While it is
+/// honest and has not failed, the journal's bytes are the text of the durable list; nothing but what
+/// is durable is ever pushed or counted.
 #[derive(Debug, Drop)]
-pub struct PrimaryCore {
-    alloc: Global,
-    versions: Versions,
-    streams: StreamNumbers,
-    durable: usize,
-    workers: u8,
-    failed: bool,
-    journal: Vec<u8>,
+pub struct PrimaryCore<J: JournalStore> {
+    lists: Lists,
+    journal: J,
 }
 
-impl Model for PrimaryCore {
-    ghost use Rattle.primary.specs.State.{Primary};
-    ghost use Rattle.primary.specs.Steps.{primary_of};
-    ghost use Rattle.primary.specs.Inner.Invariant.{IsCore};
+impl<J: JournalStore> Model for PrimaryCore<J> {
+    ghost use Rattle.primary.specs.State.{Core};
+    ghost use Rattle.primary.specs.Journaling.{IsWritten};
 
-    ghost Value = { Primary };
+    ghost Value = { Core J };
 
-    ghost view = { λ p. primary_of p.versions p.durable p.workers p.failed };
+    ghost view = { λ p. record { primary = p.lists; journal = p.journal } };
 
-    ghost invariant = { λ p. IsCore p.versions p.streams p.durable p.workers p.journal.items };
+    ghost invariant = { λ p. IsWritten J.is_honest J.standing (record { primary = p.lists; journal = p.journal }) };
 }
 
-impl PrimaryCore {
-    /// A primary without commits, for a schema and 1 to 16 workers. Fails only when out of
-    /// memory.
-    pub fn start(alloc: Global, schema: &Schema, workers: u8) -> Result<PrimaryCore, AllocError>
+impl<J: JournalStore> PrimaryCore<J> {
+    /// A primary for a schema and 1 to 16 workers, on a journal: what the journal keeps is durable.
+    /// What a stop left behind that is cut away, and what is missing of the header written, before
+    /// anything else.
+    ///
+    /// Fails with `Store` where the journal could not be read, cut or written, which it has counted
+    /// as a fault; with `Journal` where its bytes are refused; with `Memory`. The journal is handed
+    /// back, and keeps what it kept.
+    pub fn start(
+        alloc: Global,
+        journal: J,
+        schema: &Schema,
+        workers: u8,
+    ) -> Result<PrimaryCore<J>, (J, StartFault<J::Fault>)>
         requires some { 0 < workers }
         requires few { workers ≤ workers_max }
-        ensures { IfOk result (λ primary. primary ≡ started schema.now workers) }
+        requires countable { J.fault_count journal < faults_max }
+        ensures ok { IfOk result (λ core. core.primary ≡ started schema.now workers core.primary.durable) }
+        ensures kept { J.is_honest journal ≡ true
+            → IfOk result (λ core. IsKeptOf workers (shape_of schema.now) (J.standing journal) core.primary.durable) }
+        ensures written { IfOk result (IsWritten J.is_honest J.standing) }
+        ensures journal { IfOk result (λ core. (J.is_honest core.journal ≡ J.is_honest journal)
+            × (J.fault_count core.journal ≡ J.fault_count journal)) }
+        ensures refused { IfErr result (λ refusal.
+            IsStartRefusal workers (shape_of schema.now) (J.is_honest journal) (J.standing journal) refusal.1) }
+        ensures same { J.is_honest journal ≡ true
+            → IfErr result (λ refusal. KeepsSame workers (shape_of schema.now) (J.standing journal) (J.standing refusal.0)) }
+        ensures faults { IfErr result (λ refusal. (J.is_honest refusal.0 ≡ J.is_honest journal)
+            × CountsStartFault refusal.1 (J.fault_count journal) (J.fault_count refusal.0)) }
     {
-        Ok(PrimaryCore {
-            alloc,
-            versions: Versions::new(alloc, schema)?,
-            streams: StreamNumbers::start(alloc, workers)?,
-            durable: 0,
-            workers,
-            failed: false,
-            journal: header_bytes(alloc, workers, schema)?,
-        })
+        let mut journal = journal;
+        match open(alloc, &mut journal, schema, workers) {
+            Ok(lists) => Ok(PrimaryCore { lists, journal }),
+            Err(fault) => Err((journal, fault)),
+        }
     }
 
     /// The durable list followed by the pending one is legal for the primary's schema and workers,
-    /// and so is the durable list alone. It does nothing: its contract is the law.
+    /// and a journal may be of it; so may it be of the durable list alone. A datagram spells each
+    /// frame of the durable list. While it is honest and has not failed, the journal's bytes are the
+    /// text of that list. It does nothing: its contract is the law.
     pub fn keeps_legal(&self)
-        ensures all { IsLegal (shape_of self.now.schema) self.now.workers (self.now.durable ++ self.now.pending) }
-        ensures durable { IsLegal (shape_of self.now.schema) self.now.workers self.now.durable }
+        ensures all { IsJournaled self.now.primary.workers (shape_of self.now.primary.schema)
+            (self.now.primary.durable ++ self.now.primary.pending) }
+        ensures durable { IsJournaled self.now.primary.workers (shape_of self.now.primary.schema) self.now.primary.durable }
+        ensures numbered { AreNumbered (self.now.primary.durable ++ self.now.primary.pending) }
+        ensures sendable { (worker : ℕ) → AllByRecursion IsSendable (stream_of self.now.primary.durable worker) }
+        ensures some_workers { 0 < self.now.primary.workers }
+        ensures few_workers { self.now.primary.workers ≤ workers_max }
+        ensures written { IsWritten J.is_honest J.standing self.now }
     {
-        self.versions.keeps_defined();
+        self.lists.keeps_legal();
     }
 
     /// How many commits are durable, which is the version that a transaction begins on.
     pub fn durable(&self) -> u64
-        ensures { result ≡ length self.now.durable }
+        ensures { result ≡ length self.now.primary.durable }
     {
-        self.durable as u64
+        self.lists.durable()
     }
 
     /// How many commits are pending.
     pub fn pending(&self) -> usize
-        ensures { result ≡ length self.now.pending }
+        ensures { result ≡ length self.now.primary.pending }
     {
-        self.versions.commits().len() - self.durable
+        self.lists.pending()
     }
 
     /// The versions of the durable list followed by the pending one.
     pub fn versions(&self) -> &Versions
-        ensures { result.now ≡ record { schema = self.now.schema; commits = self.now.durable ++ self.now.pending } }
+        ensures { result.now ≡ record {
+          schema = self.now.primary.schema;
+          commits = self.now.primary.durable ++ self.now.primary.pending;
+        } }
     {
-        &self.versions
+        self.lists.versions()
+    }
+
+    /// The journal, lent. Takes no memory.
+    pub fn journal(&self) -> &J
+        ensures { result.now ≡ self.now.journal }
+    {
+        &self.journal
+    }
+
+    /// The journal; the lists are gone. Takes no memory.
+    pub fn into_journal(self) -> J
+        ensures { result ≡ self.journal }
+    {
+        let PrimaryCore { lists: _, journal } = self;
+        journal
+    }
+
+    /// The records of the pending commits, as a flush of all would write them. Fails only where it is
+    /// out of memory.
+    pub fn pending_text(&self) -> Result<Vec<u8>, AllocError>
+        ensures { IfOk result (λ bytes. bytes.items ≡ records_from (length self.now.primary.durable) self.now.primary.pending) }
+    {
+        self.lists.records(self.lists.pending())
     }
 
     /// Commits a transaction for a worker: the commit goes to the end of the pending list, and
@@ -111,170 +156,86 @@ impl PrimaryCore {
     /// was: `Failed`; `ReadOnly`, no entries; `Foreign`, its snapshot is above what is durable or
     /// an entry is not defined where it stands on the rows at the snapshot; `Conflict` with the
     /// number of the last commit after its snapshot, durable or pending, that touches one of its
-    /// rows; `NumbersUsedUp`; `Memory`.
+    /// rows; `NumbersUsedUp`, the commit's number or a seq or count of its frames would pass 64
+    /// bits; `Memory`.
     pub fn commit(
         &mut self,
         transaction: Transaction,
         worker: u8,
     ) -> Result<Ticket, (Transaction, CommitFault)>
-        requires { worker < self.old.workers }
-        ensures ok { IfOk result (λ ticket. (commit_answer self.old transaction ≡ Ok ticket.number) × (ticket.worker ≡ worker)
-            × (ticket.entries ≡ transaction.entries) × (self.new ≡ committed self.old worker transaction.entries)) }
-        ensures refused { IfErr result (λ refusal. (refusal.0 ≡ transaction) × (self.new ≡ self.old)
-            × IsFaultOf (commit_answer self.old transaction) CommitFault.Memory refusal.1) }
+        requires { worker < self.old.primary.workers }
+        ensures ok { IfOk result (λ ticket. (commit_answer self.old.primary worker transaction ≡ Ok ticket.number)
+            × (ticket.worker ≡ worker) × (ticket.entries ≡ transaction.entries)
+            × (self.new.primary ≡ committed self.old.primary worker transaction.entries)) }
+        ensures refused { IfErr result (λ refusal. (refusal.0 ≡ transaction) × (self.new.primary ≡ self.old.primary)
+            × IsFaultOf (commit_answer self.old.primary worker transaction) CommitFault.Memory refusal.1) }
+        ensures journal { self.new.journal ≡ self.old.journal }
+        ensures written { IsWritten J.is_honest J.standing self.new }
     {
-        let number = match judge(
-            self.alloc,
-            &self.versions,
-            self.durable,
-            self.workers,
-            self.failed,
-            &transaction,
-        ) {
-            Ok(number) => number,
-            Err(fault) => return Err((transaction, fault)),
-        };
-        let kept = keep(
-            &mut self.versions,
-            &mut self.streams,
-            worker,
-            transaction.entries(),
-        );
-        match kept {
-            Ok(()) => Ok(Ticket {
-                number,
-                worker,
-                entries: transaction.into_entries(),
-            }),
-            Err(_) => Err((transaction, CommitFault::Memory)),
-        }
+        self.lists.commit(transaction, worker)
     }
 
     /// Moves the first `count` pending commits (all, if there are fewer) to the durable list, and
-    /// answers how many are durable then. Their records go to the journal in one append.
+    /// answers how many are durable then. Their records go to the journal in one append, for which
+    /// all memory is taken first; where there is nothing to move, nothing is written.
     ///
-    /// Fails with `Failed`, or with `Memory` where a commit is to be moved; the primary is then as
-    /// it was.
+    /// Fails with `Failed`, where the journal failed before; with `Memory`; or with `Journal`, where
+    /// the journal did not take the records and has counted a fault. The lists are then as they
+    /// were; after `Journal` some beginning of the records may stand, and each commit and flush
+    /// answers `Failed` until the primary is started again.
     pub fn flush(&mut self, count: usize) -> Result<u64, FlushFault>
-        ensures ok { IfOk result (λ durable. (self.old.failed ≡ false) × (self.new ≡ flushed self.old count)
-            × (durable ≡ length self.new.durable)) }
-        ensures refused { IfErr result (λ fault. (self.new ≡ self.old)
-            × (((fault ≡ FlushFault.Failed) × (self.old.failed ≡ true))
-            ⊎ ((fault ≡ FlushFault.Memory) × (self.old.failed ≡ false) × (0 < length (take count self.old.pending))))) }
+        requires { J.fault_count self.old.journal < faults_max }
+        ensures ok { IfOk result (λ durable. (self.old.primary.failed ≡ false) × (self.new.primary ≡ flushed self.old.primary count)
+            × (durable ≡ length self.new.primary.durable)) }
+        ensures refused { IfErr result (λ fault. IsFlushRefusal self.old.primary count fault self.new.primary) }
+        ensures written { IsWritten J.is_honest J.standing self.new }
+        ensures left { J.is_honest self.old.journal ≡ true → IfErr result (λ fault.
+            StandsAfterFlush fault (offered self.old.primary count) (J.standing self.old.journal) (J.standing self.new.journal)) }
+        ensures nothing { take count self.old.primary.pending ≡ [] → self.new.journal ≡ self.old.journal }
+        ensures faults { CountsFlushFault result (J.fault_count self.old.journal) (J.fault_count self.new.journal) }
+        ensures honest { J.is_honest self.new.journal ≡ J.is_honest self.old.journal }
     {
-        if self.failed {
+        if self.lists.has_failed() {
             return Err(FlushFault::Failed);
         }
-        let moved = count.min(self.pending());
-        let durable = self.durable + moved;
-        let offered = &self.versions.commits()[self.durable..durable];
-        match append(self.alloc, &mut self.journal, self.durable as u64, offered) {
+        if count == 0 || self.lists.pending() == 0 {
+            return Ok(self.lists.durable());
+        }
+        let Ok(records) = self.lists.records(count) else {
+            return Err(FlushFault::Memory);
+        };
+        if self.journal.reserve(records.len()).is_err() {
+            return Err(FlushFault::Memory);
+        }
+        match self.journal.append(&records) {
             Ok(()) => {
-                self.durable = durable;
-                Ok(durable as u64)
+                self.lists.acknowledge(count);
+                Ok(self.lists.durable())
             }
-            Err(_) => Err(FlushFault::Memory),
+            Err(_) => {
+                self.lists.fail();
+                Err(FlushFault::Journal)
+            }
         }
     }
 
     /// The packet of that `seq` of the worker's stream of the durable list, where the stream has
     /// it. Takes no memory.
     pub fn push(&self, worker: u8, seq: u64) -> Option<Packet>
-        requires { worker < self.now.workers }
-        ensures { result ≡ pushed self.now worker seq }
+        ensures { result ≡ pushed self.now.primary worker seq }
     {
-        let durable = self.durable as u64;
-        frame_packet(&self.versions, &self.streams, durable, worker, seq)
+        self.lists.push(worker, seq)
     }
 
     /// What the primary sends for bytes that came: to an Ask, one Head with what is durable and
-    /// each worker's frame count at it; to anything else nothing. Fails only when out of memory,
-    /// and only where something is to be sent.
+    /// each worker's frame count at it; to a Want, the durable frames of the worker from the one that
+    /// it names on, at most 16, none where there is no such worker; to anything else nothing. Each
+    /// goes to the replica that asked. Fails only where it is out of memory, and only where
+    /// something is to be sent.
     pub fn on_bytes(&self, bytes: &[u8]) -> Result<Vec<Out>, AllocError>
-        ensures ok { IfOk result (λ outs. outs.items ≡ answers self.now bytes.now) }
-        ensures err { OnErr result (0 < length (answers self.now bytes.now)) }
+        ensures ok { IfOk result (λ outs. outs.items ≡ answers self.now.primary bytes.now) }
+        ensures err { OnErr result (0 < length (answers self.now.primary bytes.now)) }
     {
-        match read(bytes) {
-            Ok(
-                Datagram::Ask {
-                    replica,
-                    boot,
-                    request,
-                },
-            ) => {
-                let mut outs = Vec::new(self.alloc);
-                outs.push(self.head(replica, boot, request))?;
-                Ok(outs)
-            }
-            Ok(Datagram::Frame { .. } | Datagram::Head { .. } | Datagram::Want { .. }) | Err(_) => {
-                Ok(Vec::new(self.alloc))
-            }
-        }
+        self.lists.on_bytes(bytes)
     }
-
-    /// The Head that answers an Ask. Takes no memory.
-    fn head(&self, replica: u8, boot: u64, request: u64) -> Out
-        requires { IsAsk replica boot request }
-        ensures { result ≡ record { to = To.Replica replica; packet = spelling (head_for self.now replica boot request) } }
-    {
-        let version = self.durable as u64;
-        let head = Datagram::Head {
-            replica,
-            boot,
-            request,
-            version,
-            counts: counts(&self.streams, version, self.workers),
-        };
-        Out {
-            to: To::Replica(replica),
-            packet: Packet::of(&head),
-        }
-    }
-}
-
-/// Adds the next commit, of these entries, to the versions and to its worker's numbers. All memory
-/// is taken before anything changes: fails only when out of memory, and then no commit has been
-/// added.
-fn keep(
-    versions: &mut Versions,
-    streams: &mut StreamNumbers,
-    worker: u8,
-    entries: &[Entry],
-) -> Result<(), AllocError>
-    requires defined { defined_at versions.old (length versions.old.commits) entries.now ≡ true }
-    requires numbered { length versions.old.commits + 1 < 2 ^ 64 }
-    requires there { worker < length streams.old }
-    requires listed { AreStreams streams.old versions.old.commits }
-    ensures workers { length streams.new ≡ length streams.old }
-    ensures listed { AreStreams streams.new versions.new.commits }
-    ensures ok { OnOk result
-        (versions.new ≡ record versions.old { commits = versions.old.commits ++ record { worker = worker; entries = entries.now } ∷ [] }) }
-    ensures err { OnErr result (versions.new ≡ versions.old) }
-{
-    streams.reserve(worker)?;
-    let number = versions.len() + 1;
-    versions.absorb(worker, entries)?;
-    streams.add(worker, number);
-    Ok(())
-}
-
-/// Appends the records of commits that stand behind `before` others. Fails only when out of
-/// memory, and only where there is a commit; then nothing has changed.
-fn append(
-    alloc: Global,
-    journal: &mut Vec<u8>,
-    before: u64,
-    commits: &[Commit],
-) -> Result<(), AllocError>
-    requires kept { AllByRecursion IsKept commits.now }
-    requires numbered { before + length commits.now < 2 ^ 64 }
-    ensures ok { OnOk result (journal.new.items ≡ journal.old.items ++ records_from before commits.now) }
-    ensures err { OnErr result (journal.new.items ≡ journal.old.items) }
-    ensures some { OnErr result (0 < length commits.now) }
-{
-    if commits.is_empty() {
-        return Ok(());
-    }
-    let records = records(alloc, before, commits)?;
-    journal.extend_from_slice(&records)
 }

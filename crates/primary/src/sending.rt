@@ -1,51 +1,72 @@
 //! What is sent of a durable list: its frames, and its frame counts.
 
-ghost use Rattle.std.specs.Prelude.{◌≡◌, ◌<◌, ◌≤◌, List, length, slice_get, take};
+ghost use Rattle.std.specs.Prelude.{◌≡◌, ◌<◌, ◌≤◌, List, length, map, slice_get, take, drop, IfOk, OnErr};
 ghost use Rattle.std.specs.Option.{option_map};
-ghost use Rattle.std.specs.List.{AllByRecursion};
 ghost use Rattle.rows.specs.declared.commit.Commit.{Commit};
-ghost use Rattle.wire.specs.Spelling.{frame_spelling};
-ghost use Rattle.wire.specs.Streams.{stream_of};
-ghost use Rattle.primary.specs.Inner.Kept.{IsKept};
-ghost use Rattle.primary.specs.Inner.StreamNumbers.{AreStreams};
-ghost use Rattle.primary.specs.Sending.{counts_of};
 ghost use Rattle.rows.specs.Limits.{workers_max};
+ghost use Rattle.update_log.specs.Streams.{AreStreamsOf, stream_of};
+ghost use Rattle.wire.specs.Spelling.{frame_spelling};
+ghost use Rattle.primary.specs.Sending.{counts_of, frame_to, want_frames_max};
 
-use crate::stream_numbers::StreamNumbers;
-use mvcc::Versions;
-use wire::{Counts, Packet};
+use std::alloc::{AllocError, Global};
+use update_log::Streams;
+use wire::{Counts, Out, Packet, To};
+
+/// Frames that answer one Want, at most.
+const WANT_FRAMES_MAX: u64 = 16;
 
 /// The packet of that `seq` of a worker's stream of the first `durable` commits, where the stream
-/// has it. One look at the worker's numbers finds it.
-pub fn frame_packet(
-    versions: &Versions,
-    streams: &StreamNumbers,
-    durable: u64,
-    worker: u8,
-    seq: u64,
-) -> Option<Packet>
-    requires kept { AllByRecursion IsKept versions.now.commits }
-    requires listed { AreStreams streams.now versions.now.commits }
-    requires there { worker < length streams.now }
-    ensures { result ≡ option_map frame_spelling (slice_get (stream_of (take durable versions.now.commits) worker) seq) }
+/// has it. Takes no memory.
+pub fn frame_packet(streams: &Streams, durable: u64, worker: u8, seq: u64) -> Option<Packet>
+    ensures { (commits : List Commit) → AreStreamsOf streams.now.streams commits
+        → result ≡ option_map frame_spelling (slice_get (stream_of (take durable commits) worker) seq) }
 {
-    let number = streams.number_at(worker, seq)?;
-    if number > durable {
+    if seq >= streams.count(worker, durable) {
         return None;
     }
-    let commit = versions.commit_at(number)?;
-    Some(Packet::of_commit(commit, number, seq))
+    let frame = streams.frame(worker, seq)?;
+    Some(Packet::of_frame(frame))
+}
+
+/// The frames of a worker from that seq on, at most 16, each on its way to the replica: those of
+/// the first `durable` commits. Fails only where it is out of memory, and only where there is one.
+pub fn wanted_outs(
+    alloc: Global,
+    streams: &Streams,
+    durable: u64,
+    replica: u8,
+    worker: u8,
+    from: u64,
+) -> Result<Vec<Out>, AllocError>
+    ensures ok { (commits : List Commit) → AreStreamsOf streams.now.streams commits
+        → IfOk result (λ outs. outs.items
+        ≡ map (frame_to replica) (take want_frames_max (drop from (stream_of (take durable commits) worker)))) }
+    ensures err { (commits : List Commit) → AreStreamsOf streams.now.streams commits
+        → OnErr result (0 < length (map (frame_to replica) (take want_frames_max (drop from (stream_of (take durable commits) worker))))) }
+{
+    let mut outs = Vec::new(alloc);
+    let end = streams
+        .count(worker, durable)
+        .min(from.saturating_add(WANT_FRAMES_MAX));
+    for seq in from..end {
+        if let Some(frame) = streams.frame(worker, seq) {
+            outs.push(Out {
+                to: To::Replica(replica),
+                packet: Packet::of_frame(frame),
+            })?;
+        }
+    }
+    Ok(outs)
 }
 
 /// How many frames of the first `version` commits each of this many workers has.
-pub fn counts(streams: &StreamNumbers, version: u64, workers: u8) -> Counts
-    requires few { workers ≤ workers_max }
-    requires there { workers ≤ length streams.now }
-    ensures { (commits : List Commit) → AreStreams streams.now commits → result ≡ counts_of commits version workers }
+pub fn counts(streams: &Streams, version: u64, workers: u8) -> Counts
+    requires { workers ≤ workers_max }
+    ensures { (commits : List Commit) → AreStreamsOf streams.now.streams commits → result ≡ counts_of commits version workers }
 {
     let mut counts = Counts::new();
     for worker in 0..workers {
-        counts.push(streams.frame_count(worker, version));
+        counts.push(streams.count(worker, version));
     }
     counts
 }

@@ -11,4 +11,5 @@ pub mod Laws
 pub mod Presence
 pub mod Spelling
 pub mod Reading
+pub mod Text
 pub mod Inner

@@ -3,11 +3,14 @@
 //! A schema is the list of its tables, each with its name and the kinds of its columns. An entry
 //! is one physical change of one row, a commit the entries of one transaction. Definitions on
 //! them stand in `specs/`: what an entry makes of the tables (`Tables.antt`), which lists of
-//! commits are legal (`Commits.antt`), and the one spelling of an entry (`Spelling.antt`).
+//! commits are legal (`Commits.antt`), the one spelling of an entry (`Spelling.antt`), and how values
+//! and lines of words are written (`Text.antt`).
 //!
 //! Promised: `fits` says exactly which entries fit a schema; `write_entry` and `read_entry` are
-//! the spelling and its reading; `row_values` and `row_bytes` are a row's two forms.
-//! It stands on `byteorder` for numbers and on `indexmap` for tables by name.
+//! the spelling and its reading; `row_values` and `row_bytes` are a row's two forms; `append_value`
+//! adds a value's text to what is written.
+//! It stands on `byteorder` for numbers as bytes, on `itoa` for those in decimal, and on `indexmap`
+//! for tables by name.
 #![tactic(auto)]
 
 mod byte_list;
@@ -28,6 +31,7 @@ mod row;
 mod row_id;
 mod row_presence;
 mod schema;
+mod text;
 mod value;
 mod writing;
 
@@ -46,5 +50,6 @@ pub use row::{Row, first_value, row_bytes, row_values};
 pub use row_id::RowId;
 pub use row_presence::is_there_after;
 pub use schema::{Schema, column_at, width_of_row};
+pub use text::{append_hex, append_number, append_value};
 pub use value::Value;
 pub use writing::{entry_len, write_entry};

@@ -100,14 +100,14 @@ const MANY: [Step<'static>; 2] = [
 ];
 
 const STORIES: [Story; 8] = [
-    (&NUMBERS, &REPEATED_ASK),
-    (&NUMBERS, &HEADS),
-    (&NUMBERS, &ANSWERED),
-    (&WITH_BYTES, &COUNTED),
-    (&NUMBERS, &NO_LIST),
-    (&NUMBERS, &NO_FRAMES),
-    (&NUMBERS, &NO_TABLE),
-    (&NUMBERS, &MANY),
+    (1, &NUMBERS, &REPEATED_ASK),
+    (1, &NUMBERS, &HEADS),
+    (1, &NUMBERS, &ANSWERED),
+    (1, &WITH_BYTES, &COUNTED),
+    (1, &NUMBERS, &NO_LIST),
+    (1, &NUMBERS, &NO_FRAMES),
+    (1, &NUMBERS, &NO_TABLE),
+    (1, &NUMBERS, &MANY),
 ];
 
 #[test]
@@ -128,7 +128,7 @@ const RUN_TWICE: [Step<'static>; 5] = [
 /// Whichever allocation is refused: a run that lacks memory can be run again, or breaks the replica.
 #[test]
 fn a_run_without_memory_stands_or_breaks(rt: HostRuntime) -> Result<(), Fail> {
-    let other = other_step(rt.alloc(), &NUMBERS, &RUN_TWICE)?;
+    let other = other_step(rt.alloc(), 1, &NUMBERS, &RUN_TWICE)?;
     // A step before the run is answered otherwise only where memory is refused to it.
     if other.is_some_and(|index| index < 4) {
         return Err("out of memory".into());

@@ -1,13 +1,16 @@
 //! The datagrams to the byte, and each fault.
 
-ghost use Rattle.std.specs.Prelude.{◌≤◌, IfOk};
+ghost use Rattle.std.specs.Prelude.{◌<◌, ◌≤◌, IfOk};
+ghost use Rattle.std.specs.List.{AllByRecursion};
+ghost use Rattle.rows.specs.Limits.{workers_max};
+ghost use Rattle.rows.specs.Spelling.{HasSpelling as EntryHasSpelling};
 ghost use Rattle.wire.specs.Spelling.{HasSpelling, FrameHasSpelling};
 
 use crate::worker_datagrams::{ASK, FRAME, HEAD, HEAD_OF_TWO, WANT, changed, want_from};
 use rows::{Commit, Entry, RowId};
 use std::alloc::Global;
 use std::test::Fail;
-use update_log::Frame;
+use update_log::{Frame, cut, one_cut};
 use wire::{
     Counts, Datagram, LentEntries, Packet, TooSmall, WireFault, one_spelling, read, write,
     write_frame,
@@ -280,15 +283,31 @@ fn are_written() -> bool {
         && is_written(&head_of(1), &HEAD_OF_TWO)
 }
 
-/// Whether the frame that these bytes spell is a packet of them, as a frame and as its commit.
+/// Whether the frame that these bytes spell is a packet of them, and so is the one frame into which
+/// its commit is cut.
 fn is_packet(alloc: Global, bytes: &[u8]) -> Result<bool, Fail> {
     let frame = frame_in(alloc, bytes)?;
     if Packet::of_frame(&frame).bytes() != bytes {
         return Ok(false);
     }
     let Frame { entries, .. } = frame;
-    let commit = Commit { worker: 0, entries };
-    Ok(Packet::of_commit(&commit, 1, 0).bytes() == bytes)
+    is_cut_into(alloc, &Commit { worker: 0, entries }, bytes)
+}
+
+/// Whether a commit is cut, as commit 1, into one frame of these bytes.
+fn is_cut_into(alloc: Global, commit: &Commit, bytes: &[u8]) -> Result<bool, Fail>
+    requires worker { commit.now.worker < workers_max }
+    requires spelled { AllByRecursion EntryHasSpelling commit.now.entries }
+{
+    one_cut();
+    if commit.entries.len() > 4096 {
+        return Err("too many entries".into());
+    }
+    let frames = cut(alloc, commit, 1, 0)?;
+    match frames.as_slice() {
+        [frame] => Ok(Packet::of_frame(frame).bytes() == bytes),
+        _ => Ok(false),
+    }
 }
 
 /// Whether what is read of the frame is a packet of its bytes.

@@ -1,69 +1,15 @@
-//! A journal in a file that cannot be written, and in one that has no room left for a record.
+//! A journal in a file that cannot be written, in one that has no room left for a record, and in one
+//! of which one call fails.
 
+ghost use Rattle.std.specs.Prelude.{◌≡◌, true};
+
+use crate::failing_disk::FailingDisk;
 use crate::journal_bytes::{HEADER_LEN, JOURNAL};
 use crate::journal_files::fresh_path;
-use journal::{FileFault, FileJournal, JournalStore};
-use std::alloc::{Allocator, Global};
-use std::fs::{self, File, Files, Metadata, OpenOptions};
-use std::io::{self, ErrorKind};
+use journal::{Disk, FileFault, FileJournal, JournalStore};
+use std::alloc::Global;
+use std::fs::{self, File, OpenOptions};
 use std::test::Fail;
-
-/// The files of the system, opened for reading alone, whatever is asked for.
-#[derive(Drop)]
-struct ReadOnly<'a> {
-    files: &'a HostRuntime,
-}
-
-/// What is not done to files here.
-fn unsupported<T>() -> io::Result<T> {
-    Err(io::Error::from(ErrorKind::Unsupported))
-}
-
-impl<'a> Files for ReadOnly<'a> {
-    type File = File;
-
-    type Dir = File;
-
-    fn open_file(&self, _how: &OpenOptions, path: &str) -> io::Result<File> {
-        OpenOptions::new().read(true).open(self.files, path)
-    }
-
-    fn open_dir(&self, _path: &str) -> io::Result<File> {
-        unsupported()
-    }
-
-    fn metadata(&self, _path: &str) -> io::Result<Metadata> {
-        unsupported()
-    }
-
-    fn symlink_metadata(&self, _path: &str) -> io::Result<Metadata> {
-        unsupported()
-    }
-
-    fn copy(&self, _from: &str, _to: &str) -> io::Result<u64> {
-        unsupported()
-    }
-
-    fn rename(&self, _from: &str, _to: &str) -> io::Result<()> {
-        unsupported()
-    }
-
-    fn remove_file(&self, _path: &str) -> io::Result<()> {
-        unsupported()
-    }
-
-    fn create_dir(&self, _path: &str) -> io::Result<()> {
-        unsupported()
-    }
-
-    fn remove_dir(&self, _path: &str) -> io::Result<()> {
-        unsupported()
-    }
-
-    fn remove_dir_all<B: Allocator>(&self, _alloc: B, _path: &str) -> io::Result<()> {
-        unsupported()
-    }
-}
 
 /// How a call on a journal ended.
 #[derive(Clone, Copy, Debug, PartialEq)]
@@ -84,7 +30,7 @@ fn end_of(answer: Result<(), FileFault>) -> End {
 }
 
 /// Appends bytes, and answers how that ended.
-fn append(journal: &mut FileJournal, bytes: &[u8]) -> Result<End, Fail> {
+fn append<D: Disk>(journal: &mut FileJournal<D>, bytes: &[u8]) -> Result<End, Fail> {
     if journal.faults() == u64::MAX {
         return Err("too many faults".into());
     }
@@ -92,16 +38,18 @@ fn append(journal: &mut FileJournal, bytes: &[u8]) -> Result<End, Fail> {
     Ok(end_of(journal.append(bytes)))
 }
 
-/// Cuts the journal to its header, and answers how that ended.
-fn cut_to_header(journal: &mut FileJournal) -> Result<End, Fail> {
+/// Cuts the journal to so many bytes, and answers how that ended.
+fn cut_to<D: Disk>(journal: &mut FileJournal<D>, len: usize) -> Result<End, Fail>
+    requires { D.is_honest ≡ true → len ≡ 0 }
+{
     if journal.faults() == u64::MAX {
         return Err("too many faults".into());
     }
-    Ok(end_of(journal.cut_to(HEADER_LEN as u64)))
+    Ok(end_of(journal.cut_to(len as u64)))
 }
 
 /// Reads the journal, and answers how that ended.
-fn read(journal: &mut FileJournal, list: &mut Vec<u8>) -> Result<End, Fail> {
+fn read<D: Disk>(journal: &mut FileJournal<D>, list: &mut Vec<u8>) -> Result<End, Fail> {
     if journal.faults() == u64::MAX {
         return Err("too many faults".into());
     }
@@ -115,7 +63,9 @@ fn read(journal: &mut FileJournal, list: &mut Vec<u8>) -> Result<End, Fail> {
 /// How these calls end on a file that cannot be written, and how many faults there were: it is read,
 /// a record is appended and another, it is cut, and read again.
 fn ends_unwritten(rt: &HostRuntime, path: &str) -> Result<([End; 5], u64), Fail> {
-    let mut journal = FileJournal::open(&ReadOnly { files: rt }, path)?;
+    let file = OpenOptions::new().read(true).open(rt, path)?;
+    let len = file.metadata()?.len();
+    let mut journal = FileJournal::on(file, len);
     let mut list = Vec::new(rt.alloc());
     let before = read(&mut journal, &mut list)?;
     if list.as_slice() != JOURNAL.as_slice() {
@@ -123,7 +73,7 @@ fn ends_unwritten(rt: &HostRuntime, path: &str) -> Result<([End; 5], u64), Fail>
     }
     let first = append(&mut journal, &JOURNAL[HEADER_LEN..])?;
     let second = append(&mut journal, &JOURNAL[HEADER_LEN..])?;
-    let cut = cut_to_header(&mut journal)?;
+    let cut = cut_to(&mut journal, HEADER_LEN)?;
     let after = read(&mut journal, &mut list)?;
     Ok(([before, first, second, cut, after], journal.faults()))
 }
@@ -191,7 +141,7 @@ fn ends_unsettled(
     if left < len || fs::metadata(rt, path)?.len() != left {
         return Err("another length".into());
     }
-    let cut = cut_to_header(&mut journal)?;
+    let cut = cut_to(&mut journal, HEADER_LEN)?;
     let third = append(&mut journal, &JOURNAL[HEADER_LEN..])?;
     let after = read(&mut journal, list)?;
     Ok(([first, second, cut, third, after], journal.faults()))
@@ -211,5 +161,94 @@ fn a_write_that_failed_is_cleared_away(rt: HostRuntime) -> Result<(), Fail> {
         (list.as_slice(), bytes.as_slice()),
         (JOURNAL.as_slice(), JOURNAL.as_slice())
     );
+    Ok(())
+}
+
+/// What a journal does in a file of which one call fails.
+struct Story {
+    /// How many calls go well before that one.
+    calls_before: u64,
+    /// How many bytes it leaves of those to append, or besides those to keep.
+    bytes_left: usize,
+    /// How these end: the journal is appended, its record once more, all is cut away, the journal is
+    /// appended, and all is read.
+    ends: [End; 5],
+    /// Whether the journal stands then, or nothing.
+    stands: bool,
+    faults: u64,
+}
+
+/// No call fails; each append and the cut fail in turn, and leave nothing, a part, or all.
+const STORIES: [Story; 6] = [
+    Story {
+        calls_before: 9,
+        bytes_left: 0,
+        ends: [End::Done, End::Done, End::Done, End::Done, End::Done],
+        stands: true,
+        faults: 0,
+    },
+    Story {
+        calls_before: 0,
+        bytes_left: 20,
+        ends: [End::System, End::Unsettled, End::Done, End::Done, End::Done],
+        stands: true,
+        faults: 2,
+    },
+    Story {
+        calls_before: 1,
+        bytes_left: 0,
+        ends: [End::Done, End::System, End::Done, End::Done, End::Done],
+        stands: true,
+        faults: 1,
+    },
+    Story {
+        calls_before: 1,
+        bytes_left: 43,
+        ends: [End::Done, End::System, End::Done, End::Done, End::Done],
+        stands: true,
+        faults: 1,
+    },
+    Story {
+        calls_before: 2,
+        bytes_left: 5,
+        ends: [End::Done, End::Done, End::System, End::Unsettled, End::Done],
+        stands: false,
+        faults: 2,
+    },
+    Story {
+        calls_before: 3,
+        bytes_left: 52,
+        ends: [End::Done, End::Done, End::Done, End::System, End::Done],
+        stands: false,
+        faults: 1,
+    },
+];
+
+/// How the story's calls end, and how many faults there were. The list is left with what was read.
+fn ends_of(alloc: Global, story: &Story, list: &mut Vec<u8>) -> Result<([End; 5], u64), Fail> {
+    let disk = FailingDisk::new(alloc, story.calls_before, story.bytes_left);
+    let mut journal = FileJournal::on(disk, 0);
+    let first = append(&mut journal, &JOURNAL)?;
+    let second = append(&mut journal, &JOURNAL[HEADER_LEN..])?;
+    let cut = cut_to(&mut journal, 0)?;
+    let third = append(&mut journal, &JOURNAL)?;
+    let after = read(&mut journal, list)?;
+    Ok(([first, second, cut, third, after], journal.faults()))
+}
+
+/// In an honest file too, what a call that failed left is never read as what was acknowledged.
+#[test]
+fn what_a_failed_call_left_is_not_read(rt: HostRuntime) -> Result<(), Fail> {
+    let mut list = Vec::new(rt.alloc());
+    for story in &STORIES {
+        let ended = ends_of(rt.alloc(), story, &mut list)?;
+        assert_eq!(rt; ended, (story.ends, story.faults));
+        let standing = if story.stands {
+            JOURNAL.as_slice()
+        } else {
+            &[]
+        };
+        assert_eq!(rt; list.as_slice(), standing);
+    }
     Ok(())
 }

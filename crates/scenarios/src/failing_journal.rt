@@ -5,14 +5,30 @@ ghost use Rattle.std.specs.Prelude.{◌≡◌, ◌+◌, ◌≤◌, ◌++◌, len
 use journal::JournalStore;
 use std::alloc::{AllocError, Global};
 
-/// A journal in memory whose call of some number fails, counted from 0 among the calls that may.
-/// It is honest in what it leaves: so many bytes of what was to be appended, or more than a cut was
-/// to keep.
+/// The calls that may fail.
+#[derive(Clone, Copy, Debug, PartialEq)]
+pub enum Failing {
+    /// Each of them.
+    Any,
+    Append,
+    CutTo,
+    ReadAll,
+}
+
+/// Which call fails: behind so many of its kind, and what it leaves: so many bytes of what was to be
+/// appended, or more than a cut was to keep.
+#[derive(Clone, Copy, Debug)]
+pub struct Failure {
+    pub call: Failing,
+    pub calls_before: u64,
+    pub bytes_left: usize,
+}
+
+/// A journal in memory of which one call fails, and no other. It is honest in what it leaves.
 #[derive(Debug, Drop)]
 pub struct FailingJournal {
     content: Vec<u8>,
-    calls_before: u64,
-    bytes_left: usize,
+    failure: Failure,
     faults: u64,
 }
 
@@ -21,12 +37,11 @@ pub struct FailingJournal {
 pub struct Refused;
 
 impl FailingJournal {
-    /// A journal without bytes, whose call of that number fails and leaves so many bytes.
-    pub fn new(alloc: Global, calls_before: u64, bytes_left: usize) -> FailingJournal {
+    /// A journal of these bytes, which has that failure. Takes no memory.
+    pub fn of(content: Vec<u8>, failure: Failure) -> FailingJournal {
         FailingJournal {
-            content: Vec::new(alloc),
-            calls_before,
-            bytes_left,
+            content,
+            failure,
             faults: 0,
         }
     }
@@ -37,14 +52,17 @@ impl FailingJournal {
     }
 
     /// Whether this call is to fail.
-    fn is_turn(&mut self) -> bool
+    fn is_turn(&mut self, call: Failing) -> bool
         ensures content { self.new.content ≡ self.old.content }
         ensures faults { self.new.faults ≡ self.old.faults }
     {
-        if self.calls_before == 0 && self.faults == 0 {
+        if self.failure.call != Failing::Any && self.failure.call != call {
+            return false;
+        }
+        if self.failure.calls_before == 0 && self.faults == 0 {
             return true;
         }
-        self.calls_before = self.calls_before.saturating_sub(1);
+        self.failure.calls_before = self.failure.calls_before.saturating_sub(1);
         false
     }
 }
@@ -78,8 +96,8 @@ impl JournalStore for FailingJournal {
     }
 
     fn append(&mut self, bytes: &[u8]) -> Result<(), Refused> {
-        if self.is_turn() {
-            let (front, _) = bytes.split_at(self.bytes_left.min(bytes.len()));
+        if self.is_turn(Failing::Append) {
+            let (front, _) = bytes.split_at(self.failure.bytes_left.min(bytes.len()));
             put(&mut self.content, front);
             self.faults += 1;
             return Err(Refused);
@@ -89,9 +107,9 @@ impl JournalStore for FailingJournal {
     }
 
     fn cut_to(&mut self, len: u64) -> Result<(), Refused> {
-        if self.is_turn() {
+        if self.is_turn(Failing::CutTo) {
             self.content
-                .truncate((len as usize).saturating_add(self.bytes_left));
+                .truncate((len as usize).saturating_add(self.failure.bytes_left));
             self.faults += 1;
             return Err(Refused);
         }
@@ -101,7 +119,7 @@ impl JournalStore for FailingJournal {
 
     fn read_all(&mut self, list: &mut Vec<u8>) -> Result<(), Option<Refused>> {
         list.clear();
-        if self.is_turn() {
+        if self.is_turn(Failing::ReadAll) {
             self.faults += 1;
             return Err(Some(Refused));
         }

@@ -43,9 +43,9 @@ const MISSING: [Step<'static>; 12] = [
 ];
 
 const STORIES: [Story; 3] = [
-    (&NUMBERS, &WINDOW),
-    (&NUMBERS, &UNFIT),
-    (&NUMBERS, &MISSING),
+    (1, &NUMBERS, &WINDOW),
+    (1, &NUMBERS, &UNFIT),
+    (1, &NUMBERS, &MISSING),
 ];
 
 #[test]

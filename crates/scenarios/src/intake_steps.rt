@@ -2,7 +2,7 @@
 //! refused memory leaves.
 
 use crate::wanted::{Wanted, all_made};
-use intake::{Intake, Taken};
+use intake::{Intake, Taken, arrivals_stay_of_streams, known_frames_stay_kept};
 use std::alloc::{AllocError, Global};
 use std::test::Fail;
 use update_log::Frame;
@@ -12,6 +12,8 @@ use update_log::Frame;
 enum Step {
     /// The frame of a worker's seq comes; it is of the commit of that number.
     Take(u8, u64, u64),
+    /// The same, and the frame itself is taken.
+    TakeOwned(u8, u64, u64),
     /// The first seq that is missing of a worker.
     Contiguous(u8),
     /// The first frame that is missing below these counts.
@@ -92,6 +94,20 @@ const DROPPED: [Line; 12] = [
     (Step::Take(0, 2, 9), REPEAT),
 ];
 
+/// A frame that is taken itself is known and kept as one of which a copy is.
+const OWNED: [Line; 10] = [
+    (Step::TakeOwned(0, 4096, 1), AHEAD),
+    (Step::TakeOwned(0, 18446744073709551615, 1), AHEAD),
+    (Step::TakeOwned(0, 1, 7), STORED),
+    (Step::TakeOwned(0, 1, 7), REPEAT),
+    (Step::Take(0, 1, 7), REPEAT),
+    (Step::CommitAt(0, 1), Answer::Commit(Some(7))),
+    (Step::TakeOwned(0, 0, 6), STORED),
+    (Step::Contiguous(0), Answer::Seq(2)),
+    (Step::DropBelow(&[1]), Answer::Workers(2)),
+    (Step::TakeOwned(0, 0, 6), REPEAT),
+];
+
 /// The frame of a worker's seq, with one entry of the commit of that number.
 fn frame_of(alloc: Global, worker: u8, seq: u64, commit: u64) -> Result<Frame, AllocError> {
     Ok(Frame {
@@ -108,7 +124,26 @@ fn take(intake: &mut Intake, frame: &Frame) -> Result<Taken, Fail> {
     if frame.worker >= intake.workers() {
         return Err("no such worker".into());
     }
-    Ok(intake.take(frame))
+    let told = intake.would_take(frame.worker, frame.seq);
+    as_told(intake.take(frame), told)
+}
+
+/// The same, and the frame itself is taken.
+fn take_owned(intake: &mut Intake, frame: Frame) -> Result<Taken, Fail> {
+    if frame.worker >= intake.workers() {
+        return Err("no such worker".into());
+    }
+    let told = intake.would_take(frame.worker, frame.seq);
+    as_told(intake.take_owned(frame), told)
+}
+
+/// What became of a frame, which is what was told before it came; or it was refused for memory,
+/// where it was to be stored.
+fn as_told(taken: Taken, told: Taken) -> Result<Taken, Fail> {
+    if taken == told || (taken == Taken::Memory && told == Taken::Stored) {
+        return Ok(taken);
+    }
+    Err("another answer than was told".into())
 }
 
 /// What a call answers.
@@ -117,6 +152,10 @@ fn answer_of(alloc: Global, intake: &mut Intake, step: Step) -> Result<Answer, F
         Step::Take(worker, seq, commit) => {
             let frame = frame_of(alloc, worker, seq, commit)?;
             Ok(Answer::Taken(take(intake, &frame)?))
+        }
+        Step::TakeOwned(worker, seq, commit) => {
+            let frame = frame_of(alloc, worker, seq, commit)?;
+            Ok(Answer::Taken(take_owned(intake, frame)?))
         }
         Step::Contiguous(worker) => Ok(Answer::Seq(intake.contiguous(worker))),
         Step::FirstMissing(counts) => Ok(Answer::Missing(intake.first_missing(counts))),
@@ -158,6 +197,9 @@ fn frames_are_taken_within_the_window(rt: HostRuntime) -> Result<(), Fail> {
 fn what_is_missing_is_named_and_what_is_dropped_stays_known(rt: HostRuntime) -> Result<(), Fail> {
     assert_eq!(rt; other_answer(rt.alloc(), &MISSING)?, None);
     assert_eq!(rt; other_answer(rt.alloc(), &DROPPED)?, None);
+    assert_eq!(rt; other_answer(rt.alloc(), &OWNED)?, None);
+    arrivals_stay_of_streams();
+    known_frames_stay_kept();
     Ok(())
 }
 
@@ -174,6 +216,21 @@ fn is_stored_at_last(intake: &mut Intake, frame: &Frame) -> Result<bool, Fail> {
     }
 }
 
+/// Whether frame 4 of worker 0 is stored itself; or that was refused for memory, which left it
+/// unknown and not kept, and it is stored when it comes again.
+fn is_owned_at_last(alloc: Global, intake: &mut Intake) -> Result<bool, Fail> {
+    let first = frame_of(alloc, 0, 4, 5)?;
+    match take_owned(intake, first)? {
+        Taken::Stored => Ok(true),
+        Taken::Repeat | Taken::Ahead => Ok(false),
+        Taken::Memory => {
+            let is_kept = intake.frame(0, 4).is_some();
+            let again = frame_of(alloc, 0, 4, 5)?;
+            Ok(!is_kept && take_owned(intake, again)? == Taken::Stored)
+        }
+    }
+}
+
 /// Whichever request for memory is refused: a frame behind a gap that was refused for memory has
 /// changed nothing, and is stored when it comes again.
 #[test]
@@ -183,6 +240,7 @@ fn a_frame_taken_without_memory_changes_nothing(rt: HostRuntime) -> Result<(), F
     let mut intake = Intake::new(rt.alloc(), 2)?;
     assert!(rt; is_stored_at_last(&mut intake, &first)?);
     assert!(rt; is_stored_at_last(&mut intake, &later)?);
+    assert!(rt; is_owned_at_last(rt.alloc(), &mut intake)?);
     assert_eq!(rt;
         (intake.contiguous(0), commit_at(&intake, 0, 2)),
         (1, Some(3))

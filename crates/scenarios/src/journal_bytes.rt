@@ -35,7 +35,7 @@ pub fn outcome(alloc: Global, bytes: &[u8]) -> Result<Outcome, Fail> {
 }
 
 /// The record of commit 2: worker 0 deletes row 7 of table 0.
-const DELETE_7: [u8; 25] = [
+pub const DELETE_7: [u8; 25] = [
     0, 0, 0, 0x15, 0, 0, 0, 0, 0, 0, 0, 0, 2, 0, 1, 3, 0, 0, 0, 0, 0, 0, 0, 0, 7,
 ];
 
@@ -57,11 +57,13 @@ const DELETE_AND_A_BYTE: [u8; 26] = [
 /// A record of no entries.
 const NO_ENTRIES: [u8; 15] = [0, 0, 0, 0x0b, 0, 0, 0, 0, 0, 0, 0, 0, 1, 0, 0];
 
-/// Bytes: so many of the journal's, with others at these offsets, and then these; and what is
-/// recovered of them.
-type Case = (usize, &'static [(usize, u8)], &'static [u8], Outcome);
+/// Bytes: so many of the journal's, with others at these offsets, and then these.
+pub type Bytes = (usize, &'static [(usize, u8)], &'static [u8]);
 
-const CASES: [Case; 29] = [
+/// The same, and what is recovered of them.
+pub type Case = (usize, &'static [(usize, u8)], &'static [u8], Outcome);
+
+pub const CASES: [Case; 29] = [
     (52, &[], &[], Ok((1, 52))),
     // What a stop leaves of the record, and of the header.
     (51, &[], &[], Ok((0, 9))),
@@ -114,9 +116,9 @@ const CASES: [Case; 29] = [
     (52, &[(12, 0x28)], &DELETE_7, Err(JournalFault::Damaged(9))),
 ];
 
-/// The bytes of a case.
-fn bytes_of(alloc: Global, case: &Case) -> Result<Vec<u8>, Fail> {
-    let (len, changes, behind, _) = case;
+/// These bytes.
+pub fn bytes_of(alloc: Global, bytes: &Bytes) -> Result<Vec<u8>, Fail> {
+    let (len, changes, behind) = bytes;
     let (front, _) = JOURNAL.split_at((*len).min(52));
     let mut bytes = Vec::from_slice(alloc, front)?;
     for (index, byte) in *changes {
@@ -130,8 +132,9 @@ fn bytes_of(alloc: Global, case: &Case) -> Result<Vec<u8>, Fail> {
 
 /// Whether that is recovered of a case.
 fn is_recovered(alloc: Global, case: &Case) -> Result<bool, Fail> {
-    let bytes = bytes_of(alloc, case)?;
-    Ok(outcome(alloc, &bytes)? == case.3)
+    let (len, changes, behind, recovered) = case;
+    let bytes = bytes_of(alloc, &(*len, *changes, *behind))?;
+    Ok(outcome(alloc, &bytes)? == *recovered)
 }
 
 /// The index of the first case of which something else is recovered.

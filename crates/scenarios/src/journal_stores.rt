@@ -3,7 +3,7 @@
 ghost use Rattle.std.specs.Prelude.{◌<◌};
 ghost use Rattle.journal.specs.Storing.{faults_max};
 
-use crate::failing_journal::FailingJournal;
+use crate::failing_journal::{Failing, FailingJournal, Failure};
 use crate::journal_bytes::{JOURNAL, Outcome, outcome};
 use journal::{JournalStore, MemJournal};
 use std::alloc::Global;
@@ -31,7 +31,7 @@ const CALLS: [Call; 5] = [
 
 const JOURNAL_HEADER: [u8; 9] = [0x42, 0x44, 0x4a, 0x31, 0x02, 0x01, 0x02, 0x00, 0x00];
 
-const JOURNAL_RECORD: [u8; 43] = [
+pub const JOURNAL_RECORD: [u8; 43] = [
     0x00, 0x00, 0x00, 0x27, 0x00, 0x00, 0x00, 0x00, 0x00, 0x00, 0x00, 0x00, 0x01, 0x00, 0x01, 0x01,
     0x00, 0x00, 0x00, 0x00, 0x00, 0x00, 0x00, 0x00, 0x07, 0x00, 0x10, 0x00, 0x00, 0x00, 0x00, 0x00,
     0x00, 0x00, 0x05, 0xff, 0xff, 0xff, 0xff, 0xff, 0xff, 0xff, 0xff,
@@ -94,7 +94,12 @@ const LEFT: [(u64, usize, u64, Outcome); 7] = [
 /// What a journal whose call of that number fails has after the calls: the bytes, which are a
 /// beginning of the journal's, and the faults.
 fn left_by(alloc: Global, calls_before: u64) -> Result<(usize, u64, Outcome), Fail> {
-    let mut journal = FailingJournal::new(alloc, calls_before, 2);
+    let failure = Failure {
+        call: Failing::Any,
+        calls_before,
+        bytes_left: 2,
+    };
+    let mut journal = FailingJournal::of(Vec::new(alloc), failure);
     let mut list = Vec::new(alloc);
     let done = make_all(&mut journal, &CALLS, &mut list)?;
     let faults = journal.faults();

@@ -18,6 +18,8 @@ mod drawn_queries;
 #[cfg(test)]
 mod entries;
 #[cfg(test)]
+mod failing_disk;
+#[cfg(test)]
 mod failing_files;
 #[cfg(test)]
 mod failing_journal;
@@ -38,6 +40,8 @@ mod merges;
 #[cfg(test)]
 mod plain_queries;
 #[cfg(test)]
+mod primary_starts;
+#[cfg(test)]
 mod primary_steps;
 #[cfg(test)]
 mod queries;
@@ -52,9 +56,15 @@ mod script_ends;
 #[cfg(test)]
 mod script_faults;
 #[cfg(test)]
+mod script_frames;
+#[cfg(test)]
 mod script_memory;
 #[cfg(test)]
+mod script_stops;
+#[cfg(test)]
 mod script_transactions;
+#[cfg(test)]
+mod script_workers;
 #[cfg(test)]
 mod script_writers;
 #[cfg(test)]
@@ -65,6 +75,8 @@ mod stores;
 mod streams;
 #[cfg(test)]
 mod transactions;
+#[cfg(test)]
+mod two_workers;
 #[cfg(test)]
 mod versions;
 #[cfg(test)]

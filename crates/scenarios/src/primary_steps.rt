@@ -1,15 +1,18 @@
 //! A primary of accounts, each two numbers, and steps that it takes.
 
 ghost use Rattle.std.specs.Prelude.{◌≡◌, ◌<◌, ◌≤◌, IfOk};
+ghost use Rattle.rows.specs.Limits.{workers_max};
 
 use crate::accounts::versions_of;
 use crate::wanted::{NUMBERS, Wanted};
+use crate::worker_datagrams::want_of;
+use journal::{JournalStore, MemJournal};
 use mvcc::{Transaction, Versions};
-use primary::{CommitFault, FlushFault, PrimaryCore, Ticket};
+use primary::{CommitFault, FlushFault, PrimaryCore, StartFault, Ticket};
 use rows::{RowId, Schema, Value};
-use std::alloc::Global;
+use std::alloc::{AllocError, Global};
 use std::test::Fail;
-use wire::To;
+use wire::{Datagram, Out, To, read};
 
 /// A change of the row of that identifier in table 0.
 pub enum Change {
@@ -19,6 +22,8 @@ pub enum Change {
     Set(u64),
     /// It is taken out.
     Delete(u64),
+    /// So many rows are put in with the values 5 and -1, from that of identifier 0 on.
+    InsertAll(u64),
 }
 
 /// The commits of another database.
@@ -33,10 +38,17 @@ pub enum Step {
     CommitOf(Elsewhere, &'static [Change]),
     /// So many commits are made durable; so many are durable then.
     Flush(usize, u64),
+    /// So many are to be made durable, and none is.
+    FlushRefused(usize, FlushFault),
+    /// The records of the pending commits are these.
+    PendingText(&'static [u8]),
     /// The frame of a seq of that worker's stream is sent, where there is one.
     Push(u8, u64, Option<&'static [u8]>),
     /// These bytes come, and replica 0 is sent those, or nothing is sent.
     Receive(&'static [u8], Option<&'static [u8]>),
+    /// A replica wants a worker's frames from a seq on. It is sent as many datagrams as there are
+    /// lengths, each of its length, and each with the next frame.
+    Want(u8, u8, u64, &'static [usize]),
 }
 
 /// A line of a story: a step, and how many commits are then to be durable and how many pending.
@@ -65,24 +77,28 @@ fn other_step(alloc: Global, workers: u8, story: &[Line]) -> Result<Option<usize
     other_step_of(alloc, workers, &mut primary, story)
 }
 
-/// A primary without commits.
-fn start(alloc: Global, workers: u8) -> Result<PrimaryCore, Fail>
+/// A primary without commits, whose journal is in memory.
+fn start(alloc: Global, workers: u8) -> Result<PrimaryCore<MemJournal>, Fail>
     requires some { 0 < workers }
-    requires few { workers ≤ 16 }
-    ensures { IfOk result (λ primary. primary.workers ≡ workers) }
+    requires few { workers ≤ workers_max }
+    ensures { IfOk result (λ primary. primary.primary.workers ≡ workers) }
 {
     let schema = Schema::new(alloc, &NUMBERS)?;
-    Ok(PrimaryCore::start(alloc, &schema, workers)?)
+    match PrimaryCore::start(alloc, MemJournal::new(alloc), &schema, workers) {
+        Ok(primary) => Ok(primary),
+        Err((_, StartFault::Memory)) => Err("out of memory".into()),
+        Err(_) => Err("not started".into()),
+    }
 }
 
 /// The index of the first step that a primary answers otherwise.
-fn other_step_of(
+pub fn other_step_of<J: JournalStore>(
     alloc: Global,
     workers: u8,
-    primary: &mut PrimaryCore,
+    primary: &mut PrimaryCore<J>,
     story: &[Line],
 ) -> Result<Option<usize>, Fail>
-    requires { primary.old.workers ≡ workers }
+    requires { primary.old.primary.workers ≡ workers }
 {
     for (index, (step, durable, pending)) in story.iter().enumerate() {
         if !is_answered(alloc, workers, primary, step)? || counts(primary) != (*durable, *pending) {
@@ -93,19 +109,19 @@ fn other_step_of(
 }
 
 /// How many commits are durable, and how many pending. Takes no memory.
-fn counts(primary: &PrimaryCore) -> (u64, usize) {
+fn counts<J: JournalStore>(primary: &PrimaryCore<J>) -> (u64, usize) {
     (primary.durable(), primary.pending())
 }
 
 /// Whether this step answers as it should.
-fn is_answered(
+fn is_answered<J: JournalStore>(
     alloc: Global,
     workers: u8,
-    primary: &mut PrimaryCore,
+    primary: &mut PrimaryCore<J>,
     step: &Step,
 ) -> Result<bool, Fail>
-    requires { primary.old.workers ≡ workers }
-    ensures { primary.new.workers ≡ workers }
+    requires { primary.old.primary.workers ≡ workers }
+    ensures { primary.new.primary.workers ≡ workers }
 {
     match step {
         Step::Commit(worker, version, changes, expected) => {
@@ -113,25 +129,21 @@ fn is_answered(
                 return Err("no such worker".into());
             }
             let transaction = transaction(alloc, primary.versions(), *version, changes)?;
-            let given = (*worker, *version, changes.len());
-            Ok(is_committed(primary, transaction, given, *expected))
+            Ok(is_committed(primary, transaction, *worker, *expected))
         }
         Step::CommitOf(commits, changes) => {
             if workers == 0 {
                 return Err("no such worker".into());
             }
             let transaction = transaction_elsewhere(alloc, commits, changes)?;
-            let given = (0, commits.len() as u64, changes.len());
-            Ok(is_committed(primary, transaction, given, Err(CommitFault::Foreign)))
+            Ok(is_committed(primary, transaction, 0, Err(CommitFault::Foreign)))
         }
-        Step::Flush(count, durable) => Ok(is_flushed(primary, *count, *durable)),
-        Step::Push(worker, seq, expected) => {
-            if *worker >= workers {
-                return Err("no such worker".into());
-            }
-            Ok(is_pushed(primary, *worker, *seq, *expected))
-        }
+        Step::Flush(count, durable) => is_flushed(primary, *count, Ok(*durable)),
+        Step::FlushRefused(count, fault) => is_flushed(primary, *count, Err(*fault)),
+        Step::PendingText(expected) => is_pending_text(primary, expected),
+        Step::Push(worker, seq, expected) => Ok(is_pushed(primary, *worker, *seq, *expected)),
         Step::Receive(bytes, expected) => is_received(primary, bytes, *expected),
+        Step::Want(replica, worker, from, lens) => is_sent(primary, *replica, *worker, *from, lens),
     }
 }
 
@@ -161,6 +173,19 @@ fn make(versions: &Versions, transaction: &mut Transaction, change: &Change) -> 
         }
         Change::Set(row) => transaction.set(versions, 0, RowId(*row), 1, Value::Int(0))?,
         Change::Delete(row) => transaction.delete(versions, 0, RowId(*row))?,
+        Change::InsertAll(count) => insert_all(versions, transaction, *count)?,
+    }
+    Ok(())
+}
+
+/// Puts in so many rows, from that of identifier 0 on.
+fn insert_all(versions: &Versions, transaction: &mut Transaction, count: u64) -> Result<(), Fail> {
+    let values = [Value::Int(5), Value::Int(-1)];
+    for row in 0..count {
+        if transaction.snapshot() > versions.len() {
+            return Err("no such version".into());
+        }
+        transaction.insert(versions, 0, RowId(row), &values)?;
     }
     Ok(())
 }
@@ -175,29 +200,30 @@ fn transaction_elsewhere(
     transaction(alloc, &versions, versions.len(), changes)
 }
 
-/// The worker for which a transaction is committed, its snapshot, and how many entries it has.
-type Given = (u8, u64, usize);
-
-/// Whether the answer to the commit of a transaction is the expected one. Where memory is refused,
-/// that has changed nothing, and it is asked for once more.
-fn is_committed(
-    primary: &mut PrimaryCore,
+/// Whether the answer to the commit of a transaction for a worker is the expected one. Where memory
+/// is refused, that has changed nothing, and it is asked for once more.
+fn is_committed<J: JournalStore>(
+    primary: &mut PrimaryCore<J>,
     transaction: Transaction,
-    given: Given,
+    worker: u8,
     expected: Result<u64, CommitFault>,
 ) -> bool
-    requires { given.0 < primary.old.workers }
-    ensures { primary.new.workers ≡ primary.old.workers }
+    requires { worker < primary.old.primary.workers }
+    ensures { primary.new.primary.workers ≡ primary.old.primary.workers }
 {
+    let given = (worker, transaction.snapshot(), transaction.entries().len());
     let before = counts(primary);
-    match primary.commit(transaction, given.0) {
+    match primary.commit(transaction, worker) {
         Err((transaction, CommitFault::Memory)) => {
             counts(primary) == before
-                && is_expected(primary.commit(transaction, given.0), given, expected)
+                && is_expected(primary.commit(transaction, worker), given, expected)
         }
         outcome => is_expected(outcome, given, expected),
     }
 }
+
+/// The worker for which a transaction is committed, its snapshot, and how many entries it has.
+type Given = (u8, u64, usize);
 
 /// Whether a commit was answered so: the ticket has the number, the worker and the entries, or the
 /// transaction is handed back as it was.
@@ -221,35 +247,121 @@ fn is_expected(
     }
 }
 
-/// Whether so many commits are durable once some were made so. Where memory is refused, that has
-/// moved nothing, and it is asked for once more.
-fn is_flushed(primary: &mut PrimaryCore, count: usize, durable: u64) -> bool
-    ensures { primary.new.workers ≡ primary.old.workers }
+/// Whether a flush of so many commits is answered so. Where memory is refused, that has moved
+/// nothing, and it is asked for once more.
+fn is_flushed<J: JournalStore>(
+    primary: &mut PrimaryCore<J>,
+    count: usize,
+    expected: Result<u64, FlushFault>,
+) -> Result<bool, Fail>
+    ensures { primary.new.primary.workers ≡ primary.old.primary.workers }
 {
     let before = counts(primary);
-    let flushed = primary.flush(count);
+    let flushed = flush(primary, count)?;
     if flushed == Err(FlushFault::Memory) {
-        return counts(primary) == before && primary.flush(count) == Ok(durable);
+        return Ok(counts(primary) == before && flush(primary, count)? == expected);
     }
-    flushed == Ok(durable)
+    Ok(flushed == expected)
+}
+
+/// Flushes so many commits.
+fn flush<J: JournalStore>(
+    primary: &mut PrimaryCore<J>,
+    count: usize,
+) -> Result<Result<u64, FlushFault>, Fail>
+    ensures { primary.new.primary.workers ≡ primary.old.primary.workers }
+{
+    if primary.journal().faults() == u64::MAX {
+        return Err("too many faults".into());
+    }
+    Ok(primary.flush(count))
+}
+
+/// Whether the records of the pending commits are these, at once or where that was refused for
+/// memory and is asked for again.
+fn is_pending_text<J: JournalStore>(
+    primary: &PrimaryCore<J>,
+    expected: &[u8],
+) -> Result<bool, Fail> {
+    match primary.pending_text() {
+        Ok(text) => Ok(text.as_slice() == expected),
+        Err(_) => Ok(primary.pending_text()?.as_slice() == expected),
+    }
 }
 
 /// Whether the frame of that seq is the expected one.
-fn is_pushed(primary: &PrimaryCore, worker: u8, seq: u64, expected: Option<&[u8]>) -> bool
-    requires { worker < primary.now.workers }
-{
+fn is_pushed<J: JournalStore>(
+    primary: &PrimaryCore<J>,
+    worker: u8,
+    seq: u64,
+    expected: Option<&[u8]>,
+) -> bool {
     match primary.push(worker, seq) {
         Some(packet) => expected == Some(packet.bytes()),
         None => expected.is_none(),
     }
 }
 
+/// What is sent for these bytes, once more where that was refused for memory.
+fn sent<J: JournalStore>(primary: &PrimaryCore<J>, bytes: &[u8]) -> Result<Vec<Out>, AllocError> {
+    match primary.on_bytes(bytes) {
+        Ok(outs) => Ok(outs),
+        Err(_) => primary.on_bytes(bytes),
+    }
+}
+
 /// Whether these bytes are answered by the expected ones, to replica 0.
-fn is_received(primary: &PrimaryCore, bytes: &[u8], expected: Option<&[u8]>) -> Result<bool, Fail> {
-    let outs = primary.on_bytes(bytes)?;
+fn is_received<J: JournalStore>(
+    primary: &PrimaryCore<J>,
+    bytes: &[u8],
+    expected: Option<&[u8]>,
+) -> Result<bool, Fail> {
+    let outs = sent(primary, bytes)?;
     match outs.as_slice() {
         [] => Ok(expected.is_none()),
         [out] => Ok(out.to == To::Replica(0) && expected == Some(out.packet.bytes())),
         _ => Ok(false),
+    }
+}
+
+/// Whether a replica that wants a worker's frames from a seq on is sent datagrams of these lengths.
+fn is_sent<J: JournalStore>(
+    primary: &PrimaryCore<J>,
+    replica: u8,
+    worker: u8,
+    from: u64,
+    lens: &[usize],
+) -> Result<bool, Fail> {
+    let outs = sent(primary, &want_of(replica, worker, from))?;
+    Ok(are_frames(outs.as_slice(), replica, worker, from, lens))
+}
+
+/// Whether these are as many datagrams to a replica as there are lengths, each of its length, and
+/// with the frames of a worker from a seq on.
+fn are_frames(outs: &[Out], replica: u8, worker: u8, from: u64, lens: &[usize]) -> bool {
+    if outs.len() != lens.len() {
+        return false;
+    }
+    for (index, len) in lens.iter().enumerate() {
+        let out = &outs[index];
+        let seq = from.wrapping_add(index as u64);
+        if out.to != To::Replica(replica) || !is_frame(out.packet.bytes(), worker, seq, *len) {
+            return false;
+        }
+    }
+    true
+}
+
+/// Whether these are so many bytes, and the frame of that seq of a worker's stream.
+fn is_frame(bytes: &[u8], worker: u8, seq: u64, len: usize) -> bool {
+    match read(bytes) {
+        Ok(
+            Datagram::Frame {
+                worker: found,
+                seq: at,
+                ..
+            },
+        ) => found == worker && at == seq && bytes.len() == len,
+        _ => false,
     }
 }

@@ -1,7 +1,9 @@
 //! What is done with a replica, step by step, and what it answers.
 
 use crate::wanted::Table;
-use crate::worker_datagrams::{ASK, FRAME, HEAD, changed, frame_at, want_from};
+use crate::worker_datagrams::{
+    FRAME, HEAD, Insert, ask_of, changed, frame_at, frame_of, head_of, want_of,
+};
 use dispatcher::{AskFault, Got, OpenFault, Plan, ReplicaCore, Run};
 use rows::Schema;
 use std::alloc::Global;
@@ -9,7 +11,7 @@ use std::test::Fail;
 use store::PlainStore;
 use wire::{Out, To};
 
-/// What is done with replica 0 of one worker, in its boot 1, and last what it answers.
+/// What is done with replica 0, in its boot 1, and last what it answers.
 pub enum Step<'a> {
     /// A query of this table is opened, and so many wait then.
     Open(u8, usize),
@@ -19,6 +21,8 @@ pub enum Step<'a> {
     OpenRefused(u8, OpenFault),
     /// It asks for a version: its first Ask is on the way to the primary.
     Ask,
+    /// It asks for a version, by the request of this number.
+    AskOf(u64),
     /// It asks for none.
     AskRefused(AskFault),
     /// These bytes come.
@@ -29,6 +33,10 @@ pub enum Step<'a> {
     GetFrameWith(usize, u8, Got),
     /// The Head of its request at version 1 comes with another byte at this index.
     GetHeadWith(usize, u8, Got),
+    /// This frame comes.
+    GetInsert(Insert, Got),
+    /// The Head of a request comes, at a version, of two workers with these counts.
+    GetHead(u64, u64, [u64; 2], Got),
     /// The batch is run.
     Run(Ran<'a>),
     /// The batch is run twice, as refused memory leaves it: with this report once.
@@ -52,14 +60,14 @@ pub enum Ran<'a> {
     Broken,
 }
 
-/// The tables of a replica, and what is done with it.
-pub type Story = (&'static [Table], &'static [Step<'static>]);
+/// How many workers there are, the tables of a replica, and what is done with it.
+pub type Story = (u8, &'static [Table], &'static [Step<'static>]);
 
 /// The first of these stories that goes otherwise, and the index of its step; each begins at a
 /// fresh replica.
 pub fn other_story(alloc: Global, stories: &[Story]) -> Result<Option<(usize, usize)>, Fail> {
-    for (number, (tables, story)) in stories.iter().enumerate() {
-        if let Some(index) = other_step(alloc, tables, story)? {
+    for (number, (workers, tables, story)) in stories.iter().enumerate() {
+        if let Some(index) = other_step(alloc, *workers, tables, story)? {
             return Ok(Some((number, index)));
         }
     }
@@ -69,18 +77,22 @@ pub fn other_story(alloc: Global, stories: &[Story]) -> Result<Option<(usize, us
 /// The index of the first step that a fresh replica answers otherwise.
 pub fn other_step(
     alloc: Global,
+    workers: u8,
     tables: &[Table],
     story: &[Step<'_>],
 ) -> Result<Option<usize>, Fail> {
-    let mut replica = fresh(alloc, tables)?;
+    let mut replica = fresh(alloc, workers, tables)?;
     Ok(other_step_of(&mut replica, story))
 }
 
-/// A fresh replica of these tables.
-fn fresh(alloc: Global, tables: &[Table]) -> Result<ReplicaCore<PlainStore>, Fail> {
+/// A fresh replica of so many workers, of these tables.
+fn fresh(alloc: Global, workers: u8, tables: &[Table]) -> Result<ReplicaCore<PlainStore>, Fail> {
+    if workers == 0 || workers > 16 {
+        return Err("no such number of workers".into());
+    }
     let schema = Schema::new(alloc, tables)?;
     let store = PlainStore::new(alloc, &schema)?;
-    Ok(ReplicaCore::start(alloc, store, &schema, 1, 0, 1)?)
+    Ok(ReplicaCore::start(alloc, store, &schema, workers, 0, 1)?)
 }
 
 /// The index of the first step that a replica answers otherwise.
@@ -99,7 +111,8 @@ fn is_answered(replica: &mut ReplicaCore<PlainStore>, step: &Step<'_>) -> bool {
         Step::Open(table, count) => replica.open(Plan { table: *table }) == Ok(*count),
         Step::OpenAll(count) => are_opened(replica, *count),
         Step::OpenRefused(table, fault) => replica.open(Plan { table: *table }) == Err(*fault),
-        Step::Ask => asks(replica),
+        Step::Ask => asks(replica, 1),
+        Step::AskOf(request) => asks(replica, *request),
         Step::AskRefused(fault) => is_ask_refused(replica, *fault),
         Step::Get(bytes, answer) => gets(replica, bytes, *answer),
         Step::GetFrameAt(seq, answer) => gets(replica, &frame_at(*seq), *answer),
@@ -108,6 +121,10 @@ fn is_answered(replica: &mut ReplicaCore<PlainStore>, step: &Step<'_>) -> bool {
         }
         Step::GetHeadWith(index, byte, answer) => {
             gets(replica, &changed(HEAD, *index, *byte), *answer)
+        }
+        Step::GetInsert(insert, answer) => gets(replica, &frame_of(*insert), *answer),
+        Step::GetHead(request, version, counts, answer) => {
+            gets(replica, &head_of(*request, *version, *counts), *answer)
         }
         Step::Run(ran) => runs(replica, ran),
         Step::RunTwice(report) => runs_twice(replica, report),
@@ -131,20 +148,20 @@ fn are_opened(replica: &mut ReplicaCore<PlainStore>, count: usize) -> bool {
     true
 }
 
-/// Whether it sends its first Ask. No replica of these tests makes more than one request.
-fn asks(replica: &mut ReplicaCore<PlainStore>) -> bool {
-    if replica.request() > 1 {
+/// Whether it sends the Ask of that request. No replica of these tests makes more than a few.
+fn asks(replica: &mut ReplicaCore<PlainStore>, request: u64) -> bool {
+    if replica.request() > 9 {
         return false;
     }
     match replica.ask() {
-        Ok(out) => is_to_primary(&out, &ASK),
+        Ok(out) => is_to_primary(&out, &ask_of(request)),
         Err(_) => false,
     }
 }
 
 /// Whether it asks for no version for this reason.
 fn is_ask_refused(replica: &mut ReplicaCore<PlainStore>, fault: AskFault) -> bool {
-    if replica.request() > 1 {
+    if replica.request() > 9 {
         return false;
     }
     match replica.ask() {
@@ -170,7 +187,7 @@ fn runs(replica: &mut ReplicaCore<PlainStore>, ran: &Ran<'_>) -> bool {
 fn is_waiting(ran: &Ran<'_>, worker: u8, seq: u64, want: &Out) -> bool {
     match ran {
         Ran::Waiting(expected, first) => {
-            worker == *expected && seq == *first && is_to_primary(want, &want_from(seq))
+            worker == *expected && seq == *first && is_to_primary(want, &want_of(0, worker, seq))
         }
         _ => false,
     }

@@ -10,7 +10,7 @@ use world::{Output, Reason, ScriptFault, read_settings};
 
 /// Each number at the ends of the ranges of 8, 16, 32, 63 and 64 bits. With the events shown, a
 /// number that was read as another one shows.
-const NUMBERS: [(&str, &str); 37] = [
+const NUMBERS: [(&str, &str); 42] = [
     ("abort 0", "no tx"),
     ("abort 255", "no tx"),
     ("abort 256", "no tx"),
@@ -48,6 +48,11 @@ const NUMBERS: [(&str, &str); 37] = [
     ("deliver 65536 p", "never sent"),
     ("deliver 18446744073709551615 r0", "never sent"),
     ("show 18446744073709551615", "never sent"),
+    ("stop 4294967296", "stopped"),
+    ("start", "durable 0"),
+    ("start", "running"),
+    ("stop 18446744073709551615", "stopped"),
+    ("stop 9223372036854775808", "stopped"),
 ];
 
 /// Rows and values at the ends of their ranges are kept as they are, and a flush of none makes none
@@ -83,7 +88,7 @@ fn numbers_at_the_ends_of_their_ranges_are_read(rt: HostRuntime) -> Result<(), F
 }
 
 /// Lines with a number one past its range.
-const PAST: [&str; 20] = [
+const PAST: [&str; 21] = [
     "abort 18446744073709551616",
     "commit 18446744073709551616 0",
     "commit 0 1",
@@ -102,6 +107,7 @@ const PAST: [&str; 20] = [
     "deliver 18446744073709551616 p",
     "deliver 0 r256",
     "show 18446744073709551616",
+    "stop 18446744073709551616",
     "ask 256",
     "run 18446744073709551616",
 ];
@@ -157,7 +163,7 @@ fn other_place(alloc: Global, line: &str, reason: &str) -> Result<Option<usize>,
 const BAD_SETTINGS: [(&str, &str); 8] = [
     ("\n\n# none\n", "line 4: bad setting"),
     (
-        "#\nworkers 1\n\nreplicas 2\ntable acct int\n",
+        "#\nworkers 1\n\nreplicas 17\ntable acct int\n",
         "line 4: bad setting",
     ),
     (
@@ -219,10 +225,10 @@ fn each_of_3000_events_is_answered(rt: HostRuntime) -> Result<(), Fail> {
     Ok(())
 }
 
-/// Settings of 16 tables with 16 columns each, of which each second one is of bytes, another number
+/// Settings of 16 workers, of 15 replicas, and of 16 tables with 16 columns each, of which each second one is of bytes, another number
 /// of them in each table.
 fn many_tables(alloc: Global) -> Result<String, Fail> {
-    let mut text = String::from_str(alloc, "workers 1\nreplicas 1\n")?;
+    let mut text = String::from_str(alloc, "workers 16\nreplicas 15\n")?;
     for number in 0..16u8 {
         let width = number + 1;
         let name = format!(in alloc; "table t{number}")?;
@@ -248,7 +254,7 @@ fn sixteen_tables_of_sixteen_columns_are_set(rt: HostRuntime) -> Result<(), Fail
     let setup = read_settings(rt.alloc(), text.as_bytes())?;
     assert_eq!(rt;
         (setup.workers, setup.replicas, setup.schema.len()),
-        (1, 1, 16)
+        (16, 15, 16)
     );
     for number in 0..16u8 {
         let name = format!(in rt.alloc(); "t{number}")?;

@@ -13,7 +13,10 @@ const BAD_SETTINGS: [Group; 6] = [
         "line 1: bad setting",
         &[
             "",
-            "workers 2\n",
+            "workers 17\n",
+            "workers 0\n",
+            "workers 256\n",
+            "workers -1\n",
             "workers 01\n",
             " workers 1\n",
             "replicas 1\n",
@@ -21,7 +24,16 @@ const BAD_SETTINGS: [Group; 6] = [
             "WORKERS 1\n",
         ],
     ),
-    ("line 2: bad setting", &["workers 1\n"]),
+    (
+        "line 2: bad setting",
+        &[
+            "workers 1\n",
+            "workers 16\nreplicas 17\n",
+            "workers 16\nreplicas 0\n",
+            "workers 16\nreplicas 016\n",
+            "workers 2\nworkers 2\n",
+        ],
+    ),
     (
         "line 4: bad setting",
         &["workers 1\nreplicas 1\n# no table\n"],
@@ -41,7 +53,16 @@ const BAD_SETTINGS: [Group; 6] = [
 const BAD_EVENTS: [Group; 7] = [
     (
         "line 4: unknown event",
-        &["frobnicate", " begin", "Begin", "BEGIN", "begin;"],
+        &[
+            "frobnicate",
+            " begin",
+            "Begin",
+            "BEGIN",
+            "begin;",
+            "Start",
+            "stopped",
+            "stop;",
+        ],
     ),
     ("line 6: unknown event", &["\n# a comment\nfrobnicate"]),
     ("line 4: not text", &["# caf\u{e9}"]),
@@ -79,6 +100,12 @@ const BAD_EVENTS: [Group; 7] = [
             "get 0 acct 07 0",
             "get 0 acct +7 0",
             "insert 0 acct 7 xAB 0",
+            "stop",
+            "stop -1",
+            "stop 00",
+            "stop 0 0",
+            "start 0",
+            "start ",
         ],
     ),
     (

@@ -7,7 +7,7 @@ use world::{Echo, RunFault, run_script};
 
 /// Changes of the primary, of what was sent, and of a replica, each beside the line that it
 /// answers.
-const STORY: [(&str, &str); 21] = [
+const STORY: [(&str, &str); 27] = [
     ("begin", "tx 0 at 0"),
     ("insert 0 acct 7 5 -1", "ok"),
     ("commit 0 0", "ticket 1"),
@@ -20,12 +20,18 @@ const STORY: [(&str, &str); 21] = [
     ("abort 2", "ok"),
     ("commit 1 0", "ticket 2"),
     ("flush 1", "durable 2"),
+    ("begin", "tx 3 at 2"),
+    ("insert 3 acct 8 5 -1", "ok"),
+    ("commit 3 0", "ticket 3"),
+    ("stop 43", "stopped"),
+    ("push 0 1", "stopped"),
+    ("start", "durable 3"),
     ("push 0 0", "sent 0 54"),
     ("deliver 0 r0", "stored"),
     ("open 0 query acct get count", "opened 1"),
     ("ask 0", "sent 1 23"),
     ("deliver 1 p", "sent 2 40"),
-    ("deliver 2 r0", "head 2"),
+    ("deliver 2 r0", "head 3"),
     ("push 0 1", "sent 3 48"),
     ("deliver 3 r0", "stored"),
     ("deliver 3 r0", "repeat"),
@@ -39,7 +45,7 @@ fn the_story_answers_as_it_should(rt: HostRuntime) -> Result<(), Fail> {
 
 /// The script of the story without the event of that index.
 fn script_without(alloc: Global, index: usize) -> Result<String, AllocError> {
-    let (before, behind) = STORY.split_at(index.min(21));
+    let (before, behind) = STORY.split_at(index.min(27));
     let mut script = script_of(alloc, SETTINGS, before)?;
     let (_, behind) = behind.split_at(behind.len().min(1));
     let rest = script_of(alloc, "", behind)?;

@@ -7,7 +7,7 @@ use std::process::Abort;
 use std::test::Fail;
 use world::{
     Echo, Event, Node, Output, RunFault, Setup, allowed_runs_are_exact, read_script, run,
-    run_script, runs_keep_promises, worked_scripts,
+    run_script, runs_keep_promises, stops_keep_what_stands, worked_scripts,
 };
 
 /// What a script prints.
@@ -25,6 +25,9 @@ fn printed_with(alloc: Global, echo: Echo, script: &[u8]) -> Result<Vec<u8>, Fai
 
 /// One table of two numbers.
 pub const SETTINGS: &str = "workers 1\nreplicas 1\ntable acct int int\n";
+
+/// The same with two workers and two replicas.
+pub const TWO_WORKERS: &str = "workers 2\nreplicas 2\ntable acct int int\n";
 
 /// Two tables, one with a column of bytes.
 pub const TWO_TABLES: &str = "workers 1\nreplicas 1\ntable acct int int\ntable item int bytes2\n";
@@ -104,7 +107,7 @@ pub fn refusal(alloc: Global, script: &[u8]) -> Result<String, Fail> {
 }
 
 /// Events, each beside what it answers.
-const STORY: [(&str, &str); 37] = [
+const STORY: [(&str, &str); 36] = [
     ("begin", "tx 0 at 0"),
     ("insert 0 acct 7 5 -1", "ok"),
     ("insert 0 acct 7 0 0", "exists"),
@@ -113,7 +116,6 @@ const STORY: [(&str, &str); 37] = [
         "insert 0 acct 8 9223372036854775807 -9223372036854775808",
         "ok",
     ),
-    ("insert 0 acct 9 0 0", "too many entries"),
     ("insert 1 acct 9 0 0", "no tx"),
     ("begin", "tx 1 at 0"),
     ("insert 1 acct 7 1 1", "ok"),
@@ -271,6 +273,7 @@ fn answers_each_event(alloc: Global, schema: Schema) -> Result<bool, Fail> {
 fn scripts_are_read_and_events_run(rt: HostRuntime) -> Result<(), Fail> {
     runs_keep_promises();
     allowed_runs_are_exact();
+    stops_keep_what_stands();
     worked_scripts();
     assert!(rt; reads_as_its_events(rt.alloc())?);
     let schema = Schema::new(rt.alloc(), &NUMBERS)?;

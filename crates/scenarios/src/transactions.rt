@@ -20,6 +20,8 @@ enum Call {
     Delete(u8, u64, Result<(), TxFault>),
     Get(u8, u64, usize, Cell),
     GetRefused(u8, u64, usize, TxFault),
+    /// So many accounts are put in, from that of this identifier on, each with -1 and the name.
+    InsertAll(u64, u64),
     Snapshot(u64),
     Count(usize),
 }
@@ -74,9 +76,31 @@ fn is_answered(
         Call::GetRefused(table, row, column, fault) => {
             Ok(transaction.get(versions, *table, RowId(*row), *column) == Err(*fault))
         }
+        Call::InsertAll(first, count) => are_inserted(alloc, versions, transaction, *first, *count),
         Call::Snapshot(version) => Ok(transaction.snapshot() == *version),
         Call::Count(count) => Ok(transaction.entries().len() == *count),
     }
+}
+
+/// Whether so many accounts are put in, from that of an identifier on.
+fn are_inserted(
+    alloc: Global,
+    versions: &Versions,
+    transaction: &mut Transaction,
+    first: u64,
+    count: u64,
+) -> Result<bool, Fail> {
+    let values = values_of(alloc, &[Cell::Number(-1), NAME])?;
+    for index in 0..count {
+        if transaction.snapshot() > versions.len() {
+            return Err("no such version".into());
+        }
+        let row = RowId(first.wrapping_add(index));
+        if transaction.insert(versions, 0, row, &values).is_err() {
+            return Ok(false);
+        }
+    }
+    Ok(true)
 }
 
 /// How many entries there are, and what the first column of a row holds. Takes no memory.
@@ -218,15 +242,25 @@ const ROWS_THERE_OR_NOT: [Call; 6] = [
     Call::Count(1),
 ];
 
-/// A third entry is refused.
-const THIRD_ENTRY: [Call; 7] = [
+/// Of 4096 entries the last is taken, and one past them is refused, of whichever kind; what does
+/// not fit, is there or is missing is told before that.
+const MOST_ENTRIES: [Call; 16] = [
     Call::Set(0, 7, 0, Cell::Number(11), Ok(())),
+    Call::InsertAll(100, 4094),
+    Call::Count(4095),
     Call::Delete(0, 8, Ok(())),
+    Call::Count(4096),
     Call::Insert(0, 8, &[Cell::Number(12), NAME], TOO_MANY),
     Call::Set(0, 7, 0, Cell::Number(12), TOO_MANY),
     Call::Delete(0, 7, TOO_MANY),
     Call::Delete(0, 8, MISSING),
+    Call::Set(0, 9, 0, Cell::Number(12), MISSING),
+    Call::Insert(0, 7, &[Cell::Number(12), NAME], EXISTS),
+    Call::Insert(0, 9, &[Cell::Number(12)], UNFIT),
     Call::Get(0, 7, 0, Cell::Number(11)),
+    Call::Get(0, 4193, 1, NAME),
+    Call::GetRefused(0, 4194, 0, TxFault::Missing),
+    Call::Count(4096),
 ];
 
 /// A version, the calls of a transaction on it, and how many entries it then has.
@@ -271,7 +305,7 @@ const STORIES: [Story; 12] = [
     (4, &DELETED_ROW, 2),
     (4, &UNFIT_CALLS, 0),
     (4, &ROWS_THERE_OR_NOT, 1),
-    (4, &THIRD_ENTRY, 2),
+    (4, &MOST_ENTRIES, 4096),
 ];
 
 /// The first of these stories on those versions that goes otherwise, and its index.

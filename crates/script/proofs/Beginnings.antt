@@ -12,7 +12,7 @@ use Rattle.script.specs.declared.faults.Reason.{Reason}
 use Rattle.script.specs.declared.faults.Reason.TheVariants.{BadSetting}
 use Rattle.script.specs.declared.settings.Settings.{Settings}
 use Rattle.script.specs.Text.{is_text}
-use Rattle.rows.specs.Limits.{replicas_max}
+use Rattle.rows.specs.Limits.{workers_max, replicas_max}
 use Rattle.script.specs.declared.setup.Setup.{Setup}
 use Rattle.script.specs.EventText.{event_text}
 use Rattle.script.specs.EventLines.{IsEventLine}
@@ -119,10 +119,11 @@ possible-events setup (event ∷ events) good = (good.0.possible, possible-event
 
 -- a script's workers and replicas are few, and its events are possible
 pub possible-script : (text : List ℕ) (setup : Setup) (events : List Event) → IsScript text setup events
-    → (setup.workers ≡ 1) × (setup.replicas ≤ replicas_max) × AllByRecursion (IsPossible setup.workers setup.replicas) events
+    → (0 < setup.workers) × (setup.workers ≤ workers_max) × (setup.replicas ≤ replicas_max)
+    × AllByRecursion (IsPossible setup.workers setup.replicas) events
 possible-script text setup events is =
     let some : IsSetup setup = is.good_settings in
-    (omega (arith, some.workers.0, some.workers.1), omega (arith, some.replicas.1), possible-events setup events is.good_events)
+    (some.workers.0, some.workers.1, some.replicas.1, possible-events setup events is.good_events)
 
 -- where no byte is left, no line is
 pub end-reached : (text rest : List ℕ) (count : ℕ) → count ≤ length (lines_of text) → drop count (lines_of text) ≡ lines_of rest

@@ -1,14 +1,13 @@
 -- What is spelled so is read: the words of an event give it.
-use Rattle.std.proofs.Common.{◌≡◌, ℕ, zero, suc, ◌+◌, ◌<◌, ◌≤◌, ◌^◌, List, [], ◌∷◌, map, length, drop, Bool, true, false, cond, Option}
+use Rattle.std.proofs.Common.{◌≡◌, ℕ, ◌<◌, ◌^◌, List, [], ◌∷◌, true, Option}
 use Rattle.std.proofs.Common.{None, Some, Result, Ok, Err}
-use Rattle.std.proofs.Common.{refl, sym, ap, ◌∙◌, subst, arith, IfSome, slice_index, ◌==◌, codes, decimal}
-use Rattle.std.specs.List.{AllByRecursion}
+use Rattle.std.proofs.Common.{refl, arith, IfSome, decimal}
 use Rattle.rows.specs.declared.kind.Kind.{Kind}
 use Rattle.rows.specs.declared.row_id.RowId.{RowId}
 use Rattle.rows.specs.declared.value.Value.{Value}
 use Rattle.script.specs.declared.event.Event.{Event}
 use Rattle.script.specs.declared.event.Event.TheVariants.{Begin, Insert, Set, Delete, Get, Commit, Abort, Flush, Push, Deliver, Show, Open}
-use Rattle.script.specs.declared.event.Event.TheVariants.{Ask, Run}
+use Rattle.script.specs.declared.event.Event.TheVariants.{Ask, Run, Stop, Start}
 use Rattle.script.specs.declared.event.Node.{Node}
 use Rattle.script.specs.declared.event.Node.TheVariants.{Primary, Replica}
 use Rattle.script.specs.declared.setup.Setup.{Setup}
@@ -16,15 +15,15 @@ use Rattle.script.specs.declared.faults.Reason.{Reason}
 use Rattle.script.specs.declared.faults.Reason.TheVariants.{UnknownEvent, NoTable}
 use Rattle.script.specs.Text.{is_name}
 use Rattle.script.specs.EventText.{event_words, table_in, node_text}
-use Rattle.script.specs.Events.{HasLine, HasWord, IsPossible, IsThere}
+use Rattle.script.specs.Events.{HasLine, IsPossible, IsThere}
 use Rattle.script.specs.EventLines.{table_called}
-use Rattle.script.specs.Inner.Reading.{placed, or_no_table, table_of, row_of, row_id, node_of, begin_of, commit_of, abort_of, flush_of}
-use Rattle.script.specs.Inner.Reading.{push_of}
+use Rattle.script.specs.Inner.Reading.{placed, or_no_table, table_of, row_of, node_of, begin_of, commit_of, abort_of, flush_of}
+use Rattle.script.specs.Inner.Reading.{push_of, stop_of, start_of}
 use Rattle.script.specs.Inner.Reading.{deliver_of, show_of, replica_of, insert_of, set_of, delete_of, get_of, plan_of, open_of, on_table}
 use Rattle.script.specs.Inner.Reading.{opened}
 use Rattle.script.specs.Inner.Reading.{one_of, two_of, three_of, four_of, five_of, three_and_more}
 use Rattle.script.specs.Inner.Reading.{replica_event, network_event, primary_event, event_of}
-use Rattle.script.proofs.Numbers.{number_of-decimal, below_of-decimal, first-decimal}
+use Rattle.script.proofs.Numbers.{number_of-decimal, below_of-decimal}
 use Rattle.script.proofs.Values.{value_of-text, values_of-text}
 
 -- an event on the table of a number that was looked up
@@ -78,8 +77,8 @@ opened-tabled replica (Some table) = refl
 pub complete : (setup : Setup) (name : List ℕ) (event : Event) → setup.workers < 2 ^ 64 → setup.replicas < 2 ^ 64
     → IfSome (table_in event) (λ table. is_name name ≡ true) → HasLine event → IsPossible setup.workers setup.replicas event
     → words_event setup (event_words name event) ≡ at_table setup name event
-unfolding event_of primary_event network_event replica_event begin_of commit_of abort_of flush_of push_of deliver_of show_of replica_of
-    insert_of set_of delete_of get_of plan_of open_of one_of two_of three_of four_of five_of three_and_more
+unfolding event_of primary_event network_event replica_event begin_of commit_of abort_of flush_of stop_of start_of push_of deliver_of
+    show_of replica_of insert_of set_of delete_of get_of plan_of open_of one_of two_of three_of four_of five_of three_and_more
 complete setup name Begin w r named form possible = refl
 complete setup name (Insert transaction table row []) w r named form possible = absurd (omega arith)
 complete setup name (Insert transaction table row (value ∷ values)) w r named form possible =
@@ -109,6 +108,8 @@ complete setup name (Commit transaction worker) w r named form possible =
     rw (number_of-decimal transaction form) (rw (below_of-decimal setup.workers worker possible (omega arith)) refl)
 complete setup name (Abort transaction) w r named form possible = rw (number_of-decimal transaction form) refl
 complete setup name (Flush count) w r named form possible = rw (below_of-decimal (2 ^ 32) count form (omega arith)) refl
+complete setup name (Stop bytes) w r named form possible = rw (number_of-decimal bytes form) refl
+complete setup name Start w r named form possible = refl
 complete setup name (Push worker seq) w r named form possible =
     rw (below_of-decimal setup.workers worker possible (omega arith)) (rw (number_of-decimal seq form) refl)
 complete setup name (Deliver index node) w r named form possible =

@@ -2,14 +2,15 @@
 use Rattle.std.proofs.Common.{◌≡◌, ℕ, zero, suc, ◌+◌, ◌-◌, ◌*◌, ◌/◌, ◌%◌, ◌<◌, ◌≤◌, List, [], ◌∷◌, ◌++◌, length, take, drop, set, get_or}
 use Rattle.std.proofs.Common.{Bool, true, false, cond, Option, None, Some, refl, sym, ap, ◌∙◌, subst, arith, nat_lt, nat_le, ◌&&◌}
 use Rattle.std.proofs.Common.{append_assoc, append-nil}
-use Rattle.std.proofs.Common.{slice_index, ◌⊎◌, inl, inr, lit<, length-take-le}
+use Rattle.std.proofs.Common.{lit<, length-take-le}
 use Rattle.std.proofs.lemmas.Bool.{ltb-true, lt-ltb, leb-true, le-leb}
-use Rattle.std.proofs.lemmas.Bool.Decides.{nat_tests, leb_tells}
+use Rattle.std.proofs.lemmas.Bool.Decides.{nat_tests}
 use Rattle.std.proofs.lemmas.List.{take_more_set, drop_all}
 use Rattle.std.proofs.Math.Seq.{drop-cons}
+use Rattle.std.specs.Fmt.{digit_glyph}
 use Rattle.rows.specs.Limits.{octets_max}
 use Rattle.rows.specs.Spelling.{AreBytes}
-use Rattle.script.specs.Text.{hex_digit, hex_text}
+use Rattle.rows.specs.Text.{hex_text}
 use Rattle.script.specs.Inner.Reading.{both, made, two, digit_of, byte_of, bytes_of, sized, octets_of}
 
 -- the parts of what two of them made
@@ -105,7 +106,7 @@ unfolding octets_of
 octets-broken digits e = rw e refl
 
 -- a digit, and what it stands for
-digit_of-hex : (d : ℕ) → d < 16 → digit_of (hex_digit d) ≡ Some d
+digit_of-hex : (d : ℕ) → d < 16 → digit_of (digit_glyph false d) ≡ Some d
 digit_of-hex d h = by (nat_lt d 10) refl
   where
     by : (low : Bool) → nat_lt d 10 ≡ low → digit_of (cond low (48 + d) (87 + d)) ≡ Some d
@@ -115,17 +116,17 @@ digit_of-hex d h = by (nat_lt d 10) refl
         rw (le-leb 48 (48 + d) (omega arith)) (rw (le-leb (48 + d) 57 (omega arith)) (ap (λ (n : ℕ). Some n) exact))
     by false e = grind (arith, nat_tests)
 
-digit_of-some : (byte d : ℕ) → digit_of byte ≡ Some d → (d < 16) × (hex_digit d ≡ byte)
+digit_of-some : (byte d : ℕ) → digit_of byte ≡ Some d → (d < 16) × (digit_glyph false d ≡ byte)
 digit_of-some byte d h = grind (arith, nat_tests)
 
-byte_of-text : (byte : ℕ) → byte < 256 → byte_of (hex_digit (byte / 16)) (hex_digit (byte % 16)) ≡ Some byte
+byte_of-text : (byte : ℕ) → byte < 256 → byte_of (digit_glyph false (byte / 16)) (digit_glyph false (byte % 16)) ≡ Some byte
 unfolding byte_of
 byte_of-text byte h =
     let whole : byte / 16 * 16 + byte % 16 ≡ byte = omega arith in
     rw (digit_of-hex (byte / 16) (omega arith)) (rw (digit_of-hex (byte % 16) (omega arith)) (ap (λ (n : ℕ). Some n) whole))
 
 byte_of-some : (high low byte : ℕ) → byte_of high low ≡ Some byte
-    → (byte < 256) × (hex_digit (byte / 16) ≡ high) × (hex_digit (byte % 16) ≡ low)
+    → (byte < 256) × (digit_glyph false (byte / 16) ≡ high) × (digit_glyph false (byte % 16) ≡ low)
 unfolding byte_of
 byte_of-some high low byte h =
     let p = both-some (digit_of high) (digit_of low) (λ first second. first * 16 + second) byte h in
@@ -134,7 +135,7 @@ byte_of-some high low byte h =
     let whole : p.0 * 16 + p.1 ≡ byte = p.4 in
     let front : byte / 16 ≡ p.0 = omega arith in
     let back : byte % 16 ≡ p.1 = omega arith in
-    (omega arith, ap hex_digit front ∙ a.1, ap hex_digit back ∙ b.1)
+    (omega arith, ap (digit_glyph false) front ∙ a.1, ap (digit_glyph false) back ∙ b.1)
 
 -- the bytes of what they are written as
 bytes_of-text : (bytes : List ℕ) → AreBytes bytes → bytes_of (hex_text bytes) ≡ Some bytes
@@ -160,8 +161,8 @@ bytes_of-some (high ∷ low ∷ digits) bytes h =
     bytes_more byte more small are zero = small
     bytes_more byte more small are (suc i) = are i
 
-    written : (byte : ℕ) (more : List ℕ) (high low : ℕ) (digits : List ℕ) → hex_digit (byte / 16) ≡ high → hex_digit (byte % 16) ≡ low
-        → hex_text more ≡ digits → hex_text (byte ∷ more) ≡ high ∷ low ∷ digits
+    written : (byte : ℕ) (more : List ℕ) (high low : ℕ) (digits : List ℕ) → digit_glyph false (byte / 16) ≡ high
+        → digit_glyph false (byte % 16) ≡ low → hex_text more ≡ digits → hex_text (byte ∷ more) ≡ high ∷ low ∷ digits
     written byte more high low digits a b c = rw a (rw b (rw c refl))
 
 -- octets and their digits

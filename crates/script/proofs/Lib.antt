@@ -10,11 +10,12 @@ pub mod Sound
 pub mod Spaces
 pub mod ReadLines
 pub mod PlanText
-mod SmallNumbers
 mod LentWords
 mod KindReading
 mod TableLines
 mod TableReading
 mod SettingSteps
 mod Beginnings
+mod OneLine
 pub mod Pieces
+mod WholeTexts

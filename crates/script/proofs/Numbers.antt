@@ -1,11 +1,11 @@
 -- Numbers in decimal, and the words that are them.
-use Rattle.std.proofs.Common.{◌≡◌, ◌≢◌, ℕ, zero, suc, ◌+◌, ◌<◌, ◌≤◌, ◌^◌, List, [], ◌∷◌, length, drop, get_or, Bool, true, false, cond}
-use Rattle.std.proofs.Common.{not, ◌&&◌}
+use Rattle.std.proofs.Common.{◌≡◌, ◌≢◌, ℕ, zero, suc, ◌<◌, ◌≤◌, ◌^◌, List, [], ◌∷◌, drop, Bool, true, false, cond}
+use Rattle.std.proofs.Common.{◌&&◌}
 use Rattle.std.proofs.Common.{Option, None, Some, ℤ, pos, negsuc, refl, sym, ap, ◌∙◌, subst, arith, MatchOption, decimal, nat_lt}
-use Rattle.std.proofs.Common.{FitsSigned, slice_index, ◌==◌, ◌⊎◌, inl, inr}
+use Rattle.std.proofs.Common.{FitsSigned, slice_index, ◌==◌, ◌⊎◌, inl}
 use Rattle.std.specs.Int.{w64, IsInRange}
 use Rattle.std.specs.Fmt.{signed_decimal}
-use Rattle.std.specs.Str.{bytes_eq, IsUtf8}
+use Rattle.std.specs.Str.{bytes_eq}
 use Rattle.std.specs.Str.Parse.{digits_value}
 use Rattle.std.proofs.lemmas.Bool.{ltb-true, lt-ltb, eqb-true}
 use Rattle.std.proofs.lemmas.Bool.Decides.{nat_tests}
@@ -160,8 +160,8 @@ int-none word none = by (int_of word) refl
 
 -- the number below a limit of a word, where there is one
 pub below-exact : (limit : ℕ) (word : List ℕ) (found : Option ℕ) → limit ≤ 2 ^ 64 → found ≡ below_of limit word
-    → MatchOption found ((n : ℕ) → n < limit → decimal n ≢ word) (λ n. decimal n ≡ word)
+    → MatchOption found ((n : ℕ) → n < limit → decimal n ≢ word) (λ n. (n < limit) × (decimal n ≡ word))
 below-exact limit word None few e = λ n small is.
     let read : below_of limit word ≡ Some n = ap (below_of limit) (sym is) ∙ below_of-decimal limit n small (omega arith) in
     cc
-below-exact limit word (Some n) few e = (below_of-some limit word n (sym e)).1
+below-exact limit word (Some n) few e = below_of-some limit word n (sym e)

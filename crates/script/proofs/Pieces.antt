@@ -1,13 +1,10 @@
 -- Bytes that are written one behind the other.
-use Rattle.std.proofs.Common.{◌≡◌, ℕ, ◌-◌, List, [], ◌++◌, Option, Result, Ok, Err, OnOk, OnErr, refl, sym, ap, ◌∙◌, subst}
+use Rattle.std.proofs.Common.{◌≡◌, ℕ, ◌-◌, List, [], ◌++◌, Option, Result, Ok, Err, OnOk, OnErr, sym, ap, ◌∙◌, subst}
 use Rattle.std.proofs.Common.{length, take, drop, append_assoc, append-nil, take-append-drop}
 use Rattle.std.proofs.lemmas.List.{take_rest}
 use Rattle.std.specs.Io.KnownBytes.{Appends, Keeps}
-use Rattle.std.proofs.KnownBytes.{Appends-nil, Appends-trans, Appends-kept}
+use Rattle.std.proofs.KnownBytes.{Appends-trans, Appends-kept}
 use Rattle.script.specs.Writing.{IsWrittenBut, IsPartlyWritten}
-
-pub none_written : (old : Option (List ℕ)) (bytes : List ℕ) → IsWrittenBut old old bytes bytes
-none_written old bytes = ([], refl, Appends-nil old)
 
 pub whole_written : (old new : Option (List ℕ)) (bytes : List ℕ) → Appends old new bytes → IsWrittenBut old new bytes []
 whole_written old new bytes appended = (bytes, sym (append-nil bytes), appended)

@@ -18,7 +18,7 @@ use Rattle.script.specs.Text.{is_name, is_letter, is_name_byte}
 use Rattle.script.specs.Settings.{kind_text}
 use Rattle.script.proofs.Splitting.{IsPlain}
 
-abbrev IsNoSpace : ℕ → Type 0
+abbrev pub IsNoSpace : ℕ → Type 0
 IsNoSpace byte = (byte == 32) ≡ false
 
 -- a word that is written out

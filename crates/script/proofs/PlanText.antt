@@ -1,19 +1,20 @@
 -- The text of a plan, and the words that are it.
-use Rattle.std.proofs.Common.{◌≡◌, ℕ, ◌<◌, List, [], ◌∷◌, length, Bool, true, false, cond, Option, None, Some, Result, Ok, Err, refl, sym}
-use Rattle.std.proofs.Common.{ap, ◌∙◌, subst, arith, codes, ◌&&◌, MatchOption}
+use Rattle.std.proofs.Common.{◌≡◌, ℕ, List, [], ◌∷◌, Bool, true, false, cond, Option, None, Some, Ok, Err, refl, sym}
+use Rattle.std.proofs.Common.{ap, ◌∙◌, codes, ◌&&◌, arith}
 use Rattle.std.specs.Str.{bytes_eq}
 use Rattle.std.proofs.lemmas.List.Splits.{join_with_byte-slice_split}
 use Rattle.rows.specs.declared.kind.Kind.{Kind}
+use Rattle.rows.specs.Text.{words_text}
 use Rattle.dispatcher.specs.declared.plan.Plan.{Plan}
-use Rattle.script.specs.declared.faults.Reason.{Reason}
 use Rattle.script.specs.declared.faults.Reason.TheVariants.{BadWords}
-use Rattle.script.specs.Text.{is_name, words_text}
-use Rattle.script.specs.EventText.{plan_words, plan_text, name_in}
+use Rattle.script.specs.Text.{is_name}
+use Rattle.script.specs.EventText.{plan_words, name_in}
 use Rattle.script.specs.EventLines.{table_called, IsPlanText}
 use Rattle.script.specs.Inner.Reading.{or_no_table, table_of, four_of, on_table, plan_of}
 use Rattle.script.proofs.Numbers.{words_same}
 use Rattle.script.proofs.Complete.{table_of-name}
-use Rattle.script.proofs.Spaces.{split-words, name-plain}
+use Rattle.script.proofs.Spaces.{plan-plain}
+use Rattle.script.proofs.Splitting.{split-words}
 use Rattle.script.proofs.ReadLines.{line_words, named_so}
 
 -- the table of a word that gives one
@@ -72,7 +73,7 @@ plan-read schema text plan is =
     let name = name_in schema plan.table in
     let parts : line_words text ≡ plan_words name =
     ap line_words (sym is.written)
-    ∙ split-words (codes "query") (name ∷ codes "get" ∷ codes "count" ∷ []) (refl, (name-plain name is.named, (refl, (refl, tt)))) in
+    ∙ split-words (plan_words name) (omega arith) (plan-plain name is.named) in
     let found : on_table (or_no_table (table_called schema name)) ≡ Ok plan = rw is.found refl in
     ap (plan_of schema) parts ∙ plan_of-words schema name is.named ∙ found
 

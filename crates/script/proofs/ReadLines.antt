@@ -1,31 +1,32 @@
 -- What the words of a line give is what is said of the line.
-use Rattle.std.proofs.Common.{◌≡◌, ℕ, zero, suc, ◌+◌, ◌<◌, ◌≤◌, ◌^◌, List, [], ◌∷◌, length, map, Bool, true, false, cond, Option, None}
+use Rattle.std.proofs.Common.{◌≡◌, ℕ, ◌<◌, ◌^◌, List, [], ◌∷◌, length, true, Option, None}
 use Rattle.std.proofs.Common.{Some, Result, Ok, Err}
-use Rattle.std.proofs.Common.{refl, sym, ap, ◌∙◌, subst, arith, IfSome, IsSome, ◌==◌, codes, get_or, MatchResult, lit<}
-use Rattle.std.specs.List.{slice_split, slice_get, position, before_first}
+use Rattle.std.proofs.Common.{refl, sym, ap, ◌∙◌, subst, arith, IfSome, ◌==◌, get_or, MatchResult}
+use Rattle.std.specs.List.{slice_split}
 use Rattle.std.specs.Str.{bytes_eq}
 use Rattle.std.proofs.lemmas.List.Quantifiers.{position-Some}
 use Rattle.std.proofs.lemmas.Option.{slice_get-get_or}
 use Rattle.std.proofs.lemmas.List.Splits.{join_with_byte-slice_split}
 use Rattle.rows.specs.declared.kind.Kind.{Kind}
+use Rattle.rows.specs.Text.{words_text}
 use Rattle.script.specs.declared.event.Event.{Event}
 use Rattle.script.specs.declared.event.Event.TheVariants.{Begin, Insert, Set, Delete, Get, Commit, Abort, Flush, Push, Deliver, Show, Open}
-use Rattle.script.specs.declared.event.Event.TheVariants.{Ask, Run}
+use Rattle.script.specs.declared.event.Event.TheVariants.{Ask, Run, Stop, Start}
 use Rattle.script.specs.declared.setup.Setup.{Setup}
 use Rattle.script.specs.declared.faults.Reason.{Reason}
 use Rattle.script.specs.declared.faults.Reason.TheVariants.{NotText, BadSetting, UnknownEvent, BadWords, NoTable}
 use Rattle.script.specs.declared.faults.LineFault.{LineFault}
 use Rattle.script.specs.declared.faults.LineFault.TheVariants.{Because, Memory}
-use Rattle.script.specs.Text.{words_text, is_name}
+use Rattle.script.specs.Text.{is_name}
 use Rattle.script.specs.EventText.{event_words, event_name, name_in, table_in}
-use Rattle.script.specs.Events.{HasLine, IsPossible}
-use Rattle.script.specs.EventLines.{IsSpelled, IsEventLine, IsEventFault, table_called, first_word, begins_with, event_names, setting_names}
+use Rattle.script.specs.EventLines.{IsSpelled, IsEventLine, IsEventFault, table_called, first_word, begins_with, event_names}
 use Rattle.script.specs.Inner.LineFaults.{OrMemory, Gives}
 use Rattle.script.specs.Inner.Reading.{event_of}
 use Rattle.script.proofs.Numbers.{words_same}
 use Rattle.script.proofs.Complete.{words_event, at_table, tabled, complete}
 use Rattle.script.proofs.Sound.{IsOf, IsSound, event-sound}
-use Rattle.script.proofs.Spaces.{AreWords, split-words, split-first, event-plain}
+use Rattle.script.proofs.Spaces.{event-plain}
+use Rattle.script.proofs.Splitting.{split-words, split-first}
 
 -- the words of a line
 abbrev pub line_words : List ℕ → List (List ℕ)
@@ -90,6 +91,8 @@ renamed setup name (Commit transaction worker) line at s = record {
 }
 renamed setup name (Abort transaction) line at s = record { named = tt; found = tt; form = s.form; possible = s.possible; text = s.text }
 renamed setup name (Flush count) line at s = record { named = tt; found = tt; form = s.form; possible = s.possible; text = s.text }
+renamed setup name (Stop bytes) line at s = record { named = tt; found = tt; form = s.form; possible = s.possible; text = s.text }
+renamed setup name Start line at s = record { named = tt; found = tt; form = s.form; possible = s.possible; text = s.text }
 renamed setup name (Push worker seq) line at s = record { named = tt; found = tt; form = s.form; possible = s.possible; text = s.text }
 renamed setup name (Deliver index node) line at s = record { named = tt; found = tt; form = s.form; possible = s.possible; text = s.text }
 renamed setup name (Show index) line at s = record { named = tt; found = tt; form = s.form; possible = s.possible; text = s.text }
@@ -108,6 +111,8 @@ some_words name (Get transaction table row column) = omega arith
 some_words name (Commit transaction worker) = omega arith
 some_words name (Abort transaction) = omega arith
 some_words name (Flush count) = omega arith
+some_words name (Stop bytes) = omega arith
+some_words name Start = omega arith
 some_words name (Push worker seq) = omega arith
 some_words name (Deliver index node) = omega arith
 some_words name (Show index) = omega arith
@@ -115,17 +120,13 @@ some_words name (Open replica plan) = omega arith
 some_words name (Ask replica) = omega arith
 some_words name (Run replica) = omega arith
 
-split_again : (words : List (List ℕ)) → 0 < length words → AreWords words → line_words (words_text words) ≡ words
-split_again [] some are = absurd (omega arith)
-split_again (first ∷ words) some are = split-words first words are
-
 -- what the words of a line give, where it is that of an event
 pub given-line : (setup : Setup) (name : List ℕ) (event : Event) (line : List ℕ) → setup.workers < 2 ^ 64 → setup.replicas < 2 ^ 64
     → IsSpelled setup name event line → words_event setup (line_words line) ≡ at_table setup name event
 given-line setup name event line w r s =
     let are = event-plain setup.workers setup.replicas name event w r s.named s.form s.possible in
     let parts : line_words line ≡ event_words name event =
-    ap line_words (sym s.text) ∙ split_again (event_words name event) (some_words name event) are in
+    ap line_words (sym s.text) ∙ split-words (event_words name event) (some_words name event) are in
     ap (words_event setup) parts ∙ complete setup name event w r s.named s.form s.possible
 
 tabled-fine : (found : Option ℕ) (make : ℕ → Event) → tabled found make ≡ Err BadWords → ⊥
@@ -141,6 +142,8 @@ at_table-fine setup name (Get transaction table row column) h = tabled-fine (tab
 at_table-fine setup name (Commit transaction worker) h = cc
 at_table-fine setup name (Abort transaction) h = cc
 at_table-fine setup name (Flush count) h = cc
+at_table-fine setup name (Stop bytes) h = cc
+at_table-fine setup name Start h = cc
 at_table-fine setup name (Push worker seq) h = cc
 at_table-fine setup name (Deliver index node) h = cc
 at_table-fine setup name (Show index) h = cc
@@ -199,6 +202,8 @@ kept_table setup line (Get transaction table row column) s = rw s.found refl
 kept_table setup line (Commit transaction worker) s = refl
 kept_table setup line (Abort transaction) s = refl
 kept_table setup line (Flush count) s = refl
+kept_table setup line (Stop bytes) s = refl
+kept_table setup line Start s = refl
 kept_table setup line (Push worker seq) s = refl
 kept_table setup line (Deliver index node) s = refl
 kept_table setup line (Show index) s = refl
@@ -217,6 +222,8 @@ named_table setup line (Get transaction table row column) s = s.named
 named_table setup line (Commit transaction worker) s = tt
 named_table setup line (Abort transaction) s = tt
 named_table setup line (Flush count) s = tt
+named_table setup line (Stop bytes) s = tt
+named_table setup line Start s = tt
 named_table setup line (Push worker seq) s = tt
 named_table setup line (Deliver index node) s = tt
 named_table setup line (Show index) s = tt

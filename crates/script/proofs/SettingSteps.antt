@@ -1,9 +1,10 @@
 -- Which settings go on with a line, by the words into which it falls.
-use Rattle.std.proofs.Common.{◌≡◌, ◌≢◌, ℕ, true, List, [], ◌∷◌, ◌++◌, map, codes, decimal, None}
+use Rattle.std.proofs.Common.{◌≡◌, ◌≢◌, ◌≤◌, ℕ, true, List, [], ◌∷◌, ◌++◌, map, codes, decimal, None}
 use Rattle.std.proofs.Common.{refl, ap, arith}
 use Rattle.std.specs.List.{list_all, slice_split, AllByRecursion}
 use Rattle.std.proofs.lemmas.Bool.{and_parts}
 use Rattle.rows.specs.declared.kind.Kind.{Kind}
+use Rattle.rows.specs.Limits.{workers_max, replicas_max}
 use Rattle.rows.specs.SchemaFaults.{schema_fault}
 use Rattle.script.specs.declared.setup.Setup.{Setup}
 use Rattle.script.specs.declared.settings.Settings.TheVariants.{Nothing, Workers, Replicas, Ready}
@@ -17,8 +18,9 @@ use Rattle.script.proofs.Splitting.{IsPlain, parts_words, words-of-line, line-of
 use Rattle.script.proofs.Plain.{plain-by-test, decimal-plain}
 use Rattle.script.proofs.TableLines.{HasTableLine, table-plain, schema-has-lines, last-table}
 
-count-plain : (name : List ℕ) (count : ℕ) → IsPlain name → IsCount count → AllByRecursion IsPlain (name ∷ decimal count ∷ [])
-count-plain name count plain is = (plain, (decimal-plain count (omega (arith, is.1)), tt))
+count-plain : (name : List ℕ) (limit count : ℕ) → limit ≤ 16 → IsPlain name → IsCount limit count
+    → AllByRecursion IsPlain (name ∷ decimal count ∷ [])
+count-plain name limit count few plain is = (plain, (decimal-plain count (omega (arith, is.1)), tt))
 
 no-tables : (tables : List (List ℕ × List Kind)) → schema_fault tables ≡ None → map table_line tables ≡ [] → ⊥
 no-tables [] sound none = cc
@@ -29,31 +31,32 @@ some-line [] line none = cc
 some-line (first ∷ front) line none = cc
 
 module _ (line : List ℕ) (words : List (List ℕ)) (split : words ≡ slice_split parts_words line) where
-  workers-set : (count : ℕ) → IsCount count → words ≡ codes "workers" ∷ decimal count ∷ [] → workers_line count ≡ line
+  workers-set : (count : ℕ) → IsCount workers_max count → words ≡ codes "workers" ∷ decimal count ∷ [] → workers_line count ≡ line
   workers-set count is set = line-of-words line words (codes "workers" ∷ decimal count ∷ []) split set
 
-  replicas-set : (count : ℕ) → IsCount count → words ≡ codes "replicas" ∷ decimal count ∷ [] → replicas_line count ≡ line
+  replicas-set : (count : ℕ) → IsCount replicas_max count → words ≡ codes "replicas" ∷ decimal count ∷ [] → replicas_line count ≡ line
   replicas-set count is set = line-of-words line words (codes "replicas" ∷ decimal count ∷ []) split set
 
-  workers-words : (count : ℕ) → IsCount count → workers_line count ≡ line → words ≡ codes "workers" ∷ decimal count ∷ []
+  workers-words : (count : ℕ) → IsCount workers_max count → workers_line count ≡ line → words ≡ codes "workers" ∷ decimal count ∷ []
   workers-words count is same =
       words-of-line line words (codes "workers" ∷ decimal count ∷ []) split (omega arith)
-      (count-plain (codes "workers") count (plain-by-test (codes "workers") refl) is) same
+      (count-plain (codes "workers") workers_max count (omega arith) (plain-by-test (codes "workers") refl) is) same
 
-  replicas-words : (count : ℕ) → IsCount count → replicas_line count ≡ line → words ≡ codes "replicas" ∷ decimal count ∷ []
+  replicas-words : (count : ℕ) → IsCount replicas_max count → replicas_line count ≡ line → words ≡ codes "replicas" ∷ decimal count ∷ []
   replicas-words count is same =
       words-of-line line words (codes "replicas" ∷ decimal count ∷ []) split (omega arith)
-      (count-plain (codes "replicas") count (plain-by-test (codes "replicas") refl) is) same
+      (count-plain (codes "replicas") replicas_max count (omega arith) (plain-by-test (codes "replicas") refl) is) same
 
   table-words : (table : List ℕ × List Kind) → HasTableLine table → table_line table ≡ line → words ≡ table_words table
   table-words table has same =
       words-of-line line words (table_words table) split (omega arith) (table-plain table has) same
 
   -- the workers go first
-  pub workers-next : (count : ℕ) → IsCount count → words ≡ codes "workers" ∷ decimal count ∷ [] → IsNext Nothing line (Workers count)
+  pub workers-next : (count : ℕ) → IsCount workers_max count → words ≡ codes "workers" ∷ decimal count ∷ []
+      → IsNext Nothing line (Workers count)
   workers-next count is set = (is, ap (λ (first : List ℕ). first ∷ []) (workers-set count is set))
 
-  pub workers-none : ((count : ℕ) → IsCount count → words ≢ codes "workers" ∷ decimal count ∷ []) → IsNoSetting Nothing line
+  pub workers-none : ((count : ℕ) → IsCount workers_max count → words ≢ codes "workers" ∷ decimal count ∷ []) → IsNoSetting Nothing line
   workers-none none Nothing next = let lines = next.1 in cc
   workers-none none (Workers count) next =
       let lines = next.1 in
@@ -63,12 +66,13 @@ module _ (line : List ℕ) (words : List (List ℕ)) (split : words ≡ slice_sp
   workers-none none (Ready setup) next = let lines = next.1 in cc
 
   -- then the replicas
-  pub replicas-next : (workers count : ℕ) → IsCount workers → IsCount count → words ≡ codes "replicas" ∷ decimal count ∷ []
+  pub replicas-next : (workers count : ℕ) → IsCount workers_max workers → IsCount replicas_max count
+      → words ≡ codes "replicas" ∷ decimal count ∷ []
       → IsNext (Workers workers) line (Replicas workers count)
   replicas-next workers count before is set =
       ((before, is), ap (λ (second : List ℕ). workers_line workers ∷ second ∷ []) (replicas-set count is set))
 
-  pub replicas-none : (workers : ℕ) → ((count : ℕ) → IsCount count → words ≢ codes "replicas" ∷ decimal count ∷ [])
+  pub replicas-none : (workers : ℕ) → ((count : ℕ) → IsCount replicas_max count → words ≢ codes "replicas" ∷ decimal count ∷ [])
       → IsNoSetting (Workers workers) line
   replicas-none workers none Nothing next = let lines = next.1 in cc
   replicas-none workers none (Workers count) next = let lines = next.1 in cc
@@ -95,7 +99,8 @@ module _ (line : List ℕ) (words : List (List ℕ)) (split : words ≡ slice_sp
   lines-more (one ∷ before) table same = ap (λ (rest : List (List ℕ)). table_line one ∷ rest) (lines-more before table same)
 
   -- then each table
-  tables-next : (workers replicas : ℕ) (before after : List (List ℕ × List Kind)) → IsCount workers → IsCount replicas
+  tables-next : (workers replicas : ℕ) (before after : List (List ℕ × List Kind)) → IsCount workers_max workers
+      → IsCount replicas_max replicas
       → list_all (λ table. is_name table.0) before ≡ true → IsTableMore before words after
       → IsSetup (record { schema = after; workers = workers; replicas = replicas })
       × (map table_line after ≡ map table_line before ++ line ∷ [])
@@ -127,7 +132,7 @@ module _ (line : List ℕ) (words : List (List ℕ)) (split : words ≡ slice_sp
         sound = sound;
       })
 
-  pub first-next : (workers replicas : ℕ) (after : List (List ℕ × List Kind)) → IsCount workers → IsCount replicas
+  pub first-next : (workers replicas : ℕ) (after : List (List ℕ × List Kind)) → IsCount workers_max workers → IsCount replicas_max replicas
       → IsTableMore [] words after
       → IsNext (Replicas workers replicas) line (Ready (record { schema = after; workers = workers; replicas = replicas }))
   first-next workers replicas after some_workers some_replicas more =

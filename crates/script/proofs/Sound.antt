@@ -1,34 +1,33 @@
 -- What is read is spelled so: an event that words give has these words, and what is no event begins as it is said.
-use Rattle.std.proofs.Common.{◌≡◌, ℕ, zero, suc, ◌+◌, ◌<◌, ◌≤◌, ◌^◌, List, [], ◌∷◌, map, length, drop, Bool, true, false, cond, Option}
+use Rattle.std.proofs.Common.{◌≡◌, ℕ, ◌<◌, ◌^◌, List, [], ◌∷◌, map, length, drop, Bool, true, false, cond, Option}
 use Rattle.std.proofs.Common.{None, Some, Result, Ok, Err}
-use Rattle.std.proofs.Common.{refl, sym, ap, ◌∙◌, subst, arith, IfSome, IsSome, slice_index, ◌==◌, codes, decimal, ◌&&◌, ◌||◌}
+use Rattle.std.proofs.Common.{refl, sym, ap, ◌∙◌, subst, arith, IfSome, IsSome, slice_index, ◌==◌, codes, decimal, ◌&&◌}
 use Rattle.std.specs.List.{AllByRecursion, list_any}
 use Rattle.std.specs.Str.{bytes_eq}
-use Rattle.rows.specs.declared.kind.Kind.{Kind}
 use Rattle.rows.specs.declared.row_id.RowId.{RowId}
 use Rattle.rows.specs.declared.value.Value.{Value}
 use Rattle.rows.specs.declared.value.Value.TheVariants.{Int, Octets}
 use Rattle.std.proofs.Math.ListN.{length-map}
-use Rattle.dispatcher.specs.declared.plan.Plan.{Plan}
+use Rattle.rows.specs.Text.{value_text}
 use Rattle.script.specs.declared.event.Event.{Event}
-use Rattle.script.specs.declared.event.Event.TheVariants.{Begin, Insert, Set, Delete, Get, Commit, Abort, Flush, Push, Deliver, Show, Open}
-use Rattle.script.specs.declared.event.Event.TheVariants.{Ask, Run}
+use Rattle.script.specs.declared.event.Event.TheVariants.{Insert, Set, Delete, Get, Commit, Abort, Flush, Push, Deliver, Show, Open}
+use Rattle.script.specs.declared.event.Event.TheVariants.{Ask, Run, Stop}
 use Rattle.script.specs.declared.event.Node.{Node}
 use Rattle.script.specs.declared.event.Node.TheVariants.{Primary, Replica}
 use Rattle.script.specs.declared.setup.Setup.{Setup}
 use Rattle.script.specs.declared.faults.Reason.{Reason}
 use Rattle.script.specs.declared.faults.Reason.TheVariants.{NotText, BadSetting, UnknownEvent, BadWords, NoTable}
-use Rattle.script.specs.Text.{is_name, value_text}
+use Rattle.script.specs.Text.{is_name}
 use Rattle.script.specs.EventText.{event_words, table_in, node_text}
 use Rattle.script.specs.Events.{HasLine, HasWord, IsPossible, IsThere, IsValue}
 use Rattle.script.specs.EventLines.{table_called, event_names, setting_names}
 use Rattle.script.specs.Inner.Reading.{both, two, made, number_of, below_of, value_of, values_of}
 use Rattle.script.specs.Inner.Reading.{placed, or_no_table, or_bad_words, table_of, row_of, row_id, node_of, begin_of, commit_of}
-use Rattle.script.specs.Inner.Reading.{abort_of, flush_of, push_of}
+use Rattle.script.specs.Inner.Reading.{abort_of, flush_of, stop_of, start_of, push_of}
 use Rattle.script.specs.Inner.Reading.{deliver_of, show_of, replica_of, insert_of, set_of, delete_of, get_of, plan_of, open_of, on_table}
 use Rattle.script.specs.Inner.Reading.{opened}
 use Rattle.script.specs.Inner.Reading.{one_of, two_of, three_of, four_of, five_of, three_and_more}
-use Rattle.script.specs.Inner.Reading.{is_setting, replica_event, network_event, primary_event, event_of}
+use Rattle.script.specs.Inner.Reading.{replica_event, network_event, primary_event, event_of}
 use Rattle.script.proofs.Numbers.{number_of-some, below_of-some, first-is, words_same}
 use Rattle.script.proofs.Hex.{both-some, two-some, made-some}
 use Rattle.script.proofs.Values.{value_of-some, values_of-some}
@@ -113,10 +112,6 @@ node_of-some replicas word node h = by (bytes_eq word (codes "p")) refl (slice_i
         subst P p.2 (s.0, ap (λ (rest : List ℕ). 114 ∷ rest) s.1 ∙ first-is 114 word (omega arith) f)
     by false e false f k = absurd (cc)
 
--- equal words, one by one
-same-2 : {A : Type 0} {a b c d : A} → a ≡ c → b ≡ d → a ∷ b ∷ [] ≡ c ∷ d ∷ []
-same-2 p q = cc
-
 begin-sound : (setup : Setup) (words : List (List ℕ)) → IsSound setup (codes "begin") words (or_bad_words (begin_of words))
 unfolding begin_of
 begin-sound setup [] = ([], record { named = tt; form = tt; possible = tt; spelled = refl }, tt)
@@ -160,6 +155,23 @@ flush-sound setup (count ∷ []) =
     let P : Event → Type 0 = λ it. IsSound setup (codes "flush") (count ∷ []) (Ok it) in
     subst P p.2 ([], record { named = tt; form = t.0; possible = tt; spelled = rw t.1 refl }, tt))
 flush-sound setup (count ∷ other ∷ words) = refl
+
+stop-sound : (setup : Setup) (words : List (List ℕ)) → IsSound setup (codes "stop") words (or_bad_words (stop_of words))
+unfolding stop_of one_of
+stop-sound setup [] = refl
+stop-sound setup (bytes ∷ []) =
+    plain setup (codes "stop") (bytes ∷ []) (made Stop (number_of bytes)) refl
+    (λ event e.
+    let p = made-some Stop (number_of bytes) event e in
+    let t = number_of-some bytes p.0 p.1 in
+    let P : Event → Type 0 = λ it. IsSound setup (codes "stop") (bytes ∷ []) (Ok it) in
+    subst P p.2 ([], record { named = tt; form = t.0; possible = tt; spelled = rw t.1 refl }, tt))
+stop-sound setup (bytes ∷ other ∷ words) = refl
+
+start-sound : (setup : Setup) (words : List (List ℕ)) → IsSound setup (codes "start") words (or_bad_words (start_of words))
+unfolding start_of
+start-sound setup [] = ([], record { named = tt; form = tt; possible = tt; spelled = refl }, tt)
+start-sound setup (word ∷ words) = refl
 
 push-sound : (setup : Setup) (words : List (List ℕ)) → IsSound setup (codes "push") words (or_bad_words (push_of setup.workers words))
 unfolding push_of two_of
@@ -376,12 +388,13 @@ chosen setup first name words ours other false e sound rest = rest refl
 unknown : (first : List ℕ) → bytes_eq first (codes "begin") ≡ false → bytes_eq first (codes "insert") ≡ false
     → bytes_eq first (codes "set") ≡ false → bytes_eq first (codes "delete") ≡ false → bytes_eq first (codes "get") ≡ false
     → bytes_eq first (codes "commit") ≡ false → bytes_eq first (codes "abort") ≡ false → bytes_eq first (codes "flush") ≡ false
+    → bytes_eq first (codes "stop") ≡ false → bytes_eq first (codes "start") ≡ false
     → bytes_eq first (codes "push") ≡ false → bytes_eq first (codes "deliver") ≡ false
     → bytes_eq first (codes "show") ≡ false → bytes_eq first (codes "open") ≡ false → bytes_eq first (codes "ask") ≡ false
     → bytes_eq first (codes "run") ≡ false
     → is_known first ≡ false
-unknown first e0 e1 e2 e3 e4 e5 e6 e7 e8 e9 e10 e11 e12 e13 =
-    rw e0 (rw e1 (rw e2 (rw e3 (rw e4 (rw e5 (rw e6 (rw e7 (rw e8 (rw e9 (rw e10 (rw e11 (rw e12 (rw e13 refl)))))))))))))
+unknown first e0 e1 e2 e3 e4 e5 e6 e7 s0 s1 e8 e9 e10 e11 e12 e13 =
+    rw e0 (rw e1 (rw e2 (rw e3 (rw e4 (rw e5 (rw e6 (rw e7 (rw s0 (rw s1 (rw e8 (rw e9 (rw e10 (rw e11 (rw e12 (rw e13 refl)))))))))))))))
 
 no_event : (setup : Setup) (first : List ℕ) (words : List (List ℕ)) → is_known first ≡ false → (is : Bool) → sets first ≡ is
     → IsSound setup first words (cond is (Err BadSetting) (Err UnknownEvent))
@@ -408,6 +421,10 @@ event-sound setup first words =
     (abort-sound setup words) (λ e6.
     chosen setup first (codes "flush") words (or_bad_words (flush_of words)) _ (bytes_eq first (codes "flush")) refl
     (flush-sound setup words) (λ e7.
+    chosen setup first (codes "stop") words (or_bad_words (stop_of words)) _ (bytes_eq first (codes "stop")) refl
+    (stop-sound setup words) (λ s0.
+    chosen setup first (codes "start") words (or_bad_words (start_of words)) _ (bytes_eq first (codes "start")) refl
+    (start-sound setup words) (λ s1.
     chosen setup first (codes "push") words (or_bad_words (push_of setup.workers words)) _ (bytes_eq first (codes "push")) refl
     (push-sound setup words) (λ e8.
     chosen setup first (codes "deliver") words (or_bad_words (deliver_of setup.replicas words)) _ (bytes_eq first
@@ -418,4 +435,4 @@ event-sound setup first words =
     (codes "ask")) refl (ask-sound setup words) (λ e12.
     chosen setup first (codes "run") words (or_bad_words (made Run (replica_of setup.replicas words))) _ (bytes_eq first
     (codes "run")) refl (run-sound setup words) (λ e13.
-    no_event setup first words (unknown first e0 e1 e2 e3 e4 e5 e6 e7 e8 e9 e10 e11 e12 e13) (sets first) refl))))))))))))))
+    no_event setup first words (unknown first e0 e1 e2 e3 e4 e5 e6 e7 s0 s1 e8 e9 e10 e11 e12 e13) (sets first) refl))))))))))))))))

@@ -1,6 +1,6 @@
 -- How a text falls into lines, and a line into words.
-use Rattle.std.proofs.Common.{◌<◌, ◌+◌, ◌-◌, ◌≡◌, ℕ, ◌≤◌, ◌==◌, nat_lt, Bool, true, false, cond, not, List, [], ◌∷◌, length, take, drop}
-use Rattle.std.proofs.Common.{position}
+use Rattle.std.proofs.Common.{suc, ◌<◌, ◌+◌, ◌-◌, ◌≡◌, ℕ, ◌≤◌, ◌==◌, nat_lt, Bool, true, false, cond, not, List, [], ◌∷◌, length}
+use Rattle.std.proofs.Common.{take, drop, position}
 use Rattle.std.proofs.Common.{None, Some, refl, sym, ap, ◌∙◌, arith}
 use Rattle.std.specs.List.{slice_split, onto_first, position_or_len, before_first, after_first, All, AllByRecursion}
 use Rattle.std.proofs.lemmas.Bool.{ltb-true, ltb-false}
@@ -8,7 +8,7 @@ use Rattle.std.proofs.lemmas.Option.{cond_some}
 use Rattle.std.proofs.lemmas.List.{take_all, take_rest}
 use Rattle.std.proofs.lemmas.List.Splits.{slice_split_first, slice_split_none, slice_split_at, length-slice_split}
 use Rattle.std.proofs.lemmas.List.Splits.{join_with_byte-slice_split}
-use Rattle.script.specs.Text.{words_text}
+use Rattle.rows.specs.Text.{words_text}
 use Rattle.script.specs.Scripts.{lines_of, without_empty_end}
 
 abbrev ends_line : ℕ → Bool
@@ -92,3 +92,22 @@ first-word-at line end is =
 pub first-word-all : (line : List ℕ) → None ≡ position parts_words line → line ≡ before_first parts_words line
 first-word-all line is =
     sym (take_all (position_or_len parts_words line) line (ltb-false _ _ (not_found _ (position_or_len parts_words line) is)))
+
+-- the first part of a line is its first word
+pub split-first : (line : List ℕ)
+    → (rest : List (List ℕ)) × (slice_split parts_words line ≡ before_first parts_words line ∷ rest)
+split-first [] = ([], refl)
+split-first (byte ∷ line) = by (parts_words byte) refl (split-first line)
+  where
+    by : (is : Bool) → (parts_words byte) ≡ is
+        → (rest : List (List ℕ)) × (slice_split parts_words line ≡ before_first parts_words line ∷ rest)
+        → (rest : List (List ℕ)) × (cond is ([] ∷ slice_split parts_words line) (onto_first byte (slice_split parts_words line))
+        ≡ take (cond (not is) (1 + position_or_len parts_words line) 0) (byte ∷ line) ∷ rest)
+    by true e p = (slice_split parts_words line, refl)
+    by false e p =
+        let count = position_or_len parts_words line in
+        let one : suc count ≡ 1 + count = omega arith in (
+          p.0,
+          ap (λ (parts : List (List ℕ)). onto_first byte parts) p.1
+              ∙ ap (λ (n : ℕ). take n (byte ∷ line) ∷ p.0) one,
+        )

@@ -38,7 +38,7 @@ words-same (a_name, a_kinds) (b_name, b_kinds) a_good b_good same =
     cc
 
 -- tables with one line are one
-table-same : (a b : List ℕ × List Kind) → HasTableLine a → HasTableLine b → table_line a ≡ table_line b → a ≡ b
+pub table-same : (a b : List ℕ × List Kind) → HasTableLine a → HasTableLine b → table_line a ≡ table_line b → a ≡ b
 table-same a b a_is b_is same =
     words-same a b a_is.good b_is.good (sym (split-table a a_is) ∙ ap (slice_split parts_words) same ∙ split-table b b_is)
 

@@ -1,15 +1,15 @@
 -- Values, and the words that are them.
-use Rattle.std.proofs.Common.{◌≡◌, ℕ, ◌+◌, ◌<◌, ◌≤◌, ◌^◌, List, [], ◌∷◌, map, drop, Bool, true, false, cond, Option, None, Some, ℤ, pos}
+use Rattle.std.proofs.Common.{◌≡◌, ℕ, ◌<◌, ◌^◌, List, [], ◌∷◌, map, drop, Bool, true, false, cond, Option, None, Some, ℤ, pos}
 use Rattle.std.proofs.Common.{negsuc}
-use Rattle.std.proofs.Common.{refl, sym, ap, ◌∙◌, subst, arith, FitsSigned, slice_index, ◌==◌, inl, inr, ◌++◌, append_assoc, MatchOption}
+use Rattle.std.proofs.Common.{refl, sym, ap, ◌∙◌, subst, arith, FitsSigned, slice_index, ◌==◌, inr, ◌++◌, MatchOption}
 use Rattle.std.specs.Int.{w64}
 use Rattle.std.specs.Fmt.{signed_decimal}
 use Rattle.std.specs.List.{AllByRecursion}
 use Rattle.rows.specs.declared.value.Value.{Value}
 use Rattle.rows.specs.declared.value.Value.TheVariants.{Int, Octets}
-use Rattle.script.specs.Text.{value_text, hex_text}
+use Rattle.rows.specs.Text.{value_text}
 use Rattle.script.specs.Events.{HasWord}
-use Rattle.script.specs.Inner.Reading.{both, made, octets_of, int_of, value_of, values_of}
+use Rattle.script.specs.Inner.Reading.{made, octets_of, int_of, value_of, values_of}
 use Rattle.script.proofs.Numbers.{first-decimal, first-is, int_of-signed, int_of-some}
 use Rattle.script.proofs.Hex.{both-some, made-some, octets_of-text, octets_of-some}
 
@@ -87,12 +87,3 @@ values_of-some (word ∷ words) values h =
 -- the values so far, and those that are left
 abbrev pub behind : List Value → Option (List Value) → Option (List Value)
 behind front rest = made (λ (values : List Value). front ++ values) rest
-
-pub behind-none : (rest : Option (List Value)) → behind [] rest ≡ rest
-behind-none None = refl
-behind-none (Some values) = refl
-
-pub behind-one : (front : List Value) (value : Value) (rest : Option (List Value))
-    → behind front (both (Some value) rest (λ first more. first ∷ more)) ≡ behind (front ++ value ∷ []) rest
-behind-one front value None = refl
-behind-one front value (Some rest) = ap (λ (all : List Value). Some all) (sym (append_assoc front (value ∷ []) rest))

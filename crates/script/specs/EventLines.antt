@@ -4,12 +4,13 @@ use Rattle.std.specs.List.{position, list_any, before_first}
 use Rattle.std.specs.Str.{bytes_eq}
 use Rattle.std.specs.Prelude.{codes}
 use Rattle.rows.specs.declared.kind.Kind.{Kind}
+use Rattle.rows.specs.Text.{words_text}
 use Rattle.dispatcher.specs.declared.plan.Plan.{Plan}
 use Rattle.script.specs.declared.event.Event.{Event}
 use Rattle.script.specs.declared.setup.Setup.{Setup}
 use Rattle.script.specs.declared.faults.Reason.{Reason}
 use Rattle.script.specs.declared.faults.Reason.TheVariants.{NotText, BadSetting, UnknownEvent, BadWords, NoTable}
-use Rattle.script.specs.Text.{words_text, is_name}
+use Rattle.script.specs.Text.{is_name}
 use Rattle.script.specs.EventText.{event_words, event_text, plan_text, name_in, table_in}
 use Rattle.script.specs.Events.{IsPossible, HasLine}
 
@@ -43,7 +44,7 @@ pub record IsPlanText (schema : List (List ℕ × List Kind)) (text : List ℕ) 
 abbrev pub event_names : List (List ℕ)
 event_names =
     codes "begin" ∷ codes "insert" ∷ codes "set" ∷ codes "delete" ∷ codes "get" ∷ codes "commit" ∷ codes "abort" ∷ codes "flush"
-    ∷ codes "push" ∷ codes "deliver" ∷ codes "show" ∷ codes "open" ∷ codes "ask" ∷ codes "run" ∷ []
+    ∷ codes "stop" ∷ codes "start" ∷ codes "push" ∷ codes "deliver" ∷ codes "show" ∷ codes "open" ∷ codes "ask" ∷ codes "run" ∷ []
 
 -- what lines of settings begin with
 abbrev pub setting_names : List (List ℕ)

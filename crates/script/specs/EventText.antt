@@ -1,14 +1,14 @@
 -- The line of an event, as a script has it.
 use Rattle.std.specs.Prelude.{ℕ, List, [], ◌∷◌, ◌++◌, map, codes, decimal, Option, None, Some, slice_get}
 use Rattle.rows.specs.declared.kind.Kind.{Kind}
+use Rattle.rows.specs.Text.{value_text, words_text}
 use Rattle.dispatcher.specs.declared.plan.Plan.{Plan}
 use Rattle.script.specs.declared.event.Event.{Event}
 use Rattle.script.specs.declared.event.Event.TheVariants.{Begin, Insert, Set, Delete, Get, Commit, Abort, Flush, Push, Deliver, Show, Open}
-use Rattle.script.specs.declared.event.Event.TheVariants.{Ask, Run}
+use Rattle.script.specs.declared.event.Event.TheVariants.{Ask, Run, Stop, Start}
 use Rattle.script.specs.declared.event.Node.{Node}
 use Rattle.script.specs.declared.event.Node.TheVariants as nodes
 use Rattle.script.specs.declared.output.Output.{Output}
-use Rattle.script.specs.Text.{value_text, words_text}
 use Rattle.script.specs.OutputText.{output_text}
 
 -- a node: `p`, or `r` and a replica's number
@@ -33,6 +33,8 @@ event_words name (Get transaction table row column) =
 event_words name (Commit transaction worker) = codes "commit" ∷ decimal transaction ∷ decimal worker ∷ []
 event_words name (Abort transaction) = codes "abort" ∷ decimal transaction ∷ []
 event_words name (Flush count) = codes "flush" ∷ decimal count ∷ []
+event_words name (Stop bytes) = codes "stop" ∷ decimal bytes ∷ []
+event_words name Start = codes "start" ∷ []
 event_words name (Push worker seq) = codes "push" ∷ decimal worker ∷ decimal seq ∷ []
 event_words name (Deliver index node) = codes "deliver" ∷ decimal index ∷ node_text node ∷ []
 event_words name (Show index) = codes "show" ∷ decimal index ∷ []

@@ -1,11 +1,18 @@
 -- What holds of the text of events and values, whoever reads it.
 use Rattle.std.specs.Prelude.{◌≡◌, ℕ, ◌<◌, ◌^◌, List}
 use Rattle.rows.specs.declared.value.Value.{Value}
+use Rattle.rows.specs.Text.{value_text}
 use Rattle.script.specs.declared.event.Event.{Event}
 use Rattle.script.specs.declared.setup.Setup.{Setup}
-use Rattle.script.specs.Text.{value_text}
 use Rattle.script.specs.Events.{HasWord}
 use Rattle.script.specs.EventLines.{IsEventLine}
+use Rattle.script.specs.Scripts.{IsScript}
+
+-- a text is that of one script alone: it says which settings there are, and which events in which order
+abbrev pub TextsDetermineScripts : Type 0
+TextsDetermineScripts =
+    (text : List ℕ) (one other : Setup) (events others : List Event) → IsScript text one events → IsScript text other others
+    → (one ≡ other) × (events ≡ others)
 
 -- a line is that of one event alone, however many workers and replicas there are below 2 ^ 64
 abbrev pub LinesDetermineEvents : Type 0

@@ -2,17 +2,16 @@
 -- it has for a report.
 use Rattle.std.specs.Prelude.{ℕ, List, [], ◌∷◌, ◌++◌, codes, decimal}
 use Rattle.std.specs.List.{flat_map}
+use Rattle.rows.specs.Text.{hex_text, value_text, line_text}
 use Rattle.dispatcher.specs.declared.faults.PlanFault.{PlanFault}
 use Rattle.dispatcher.specs.declared.faults.PlanFault.TheVariants.{NoTable}
-use Rattle.dispatcher.specs.Report.{line_of}
 use Rattle.script.specs.declared.sent.Sent.{Sent as SentOne}
 use Rattle.script.specs.declared.output.Output.{Output}
 use Rattle.script.specs.declared.output.Output.TheVariants.{Tx, Accepted, Exists, Missing, Unfit, TooManyEntries, NoTx, Value, Ticket}
 use Rattle.script.specs.declared.output.Output.TheVariants.{Conflict, ReadOnly, NumbersUsedUp, Foreign, Failed, Durable, Sent, NoFrame}
 use Rattle.script.specs.declared.output.Output.TheVariants.{NeverSent, Stored, Repeat, Ahead, Head, Ignored, Shown, Opened, BatchFull}
 use Rattle.script.specs.declared.output.Output.TheVariants.{BadPlan, Busy, Empty, NoBatch, WaitingHead, Waiting, Report, Inconsistent}
-use Rattle.script.specs.declared.output.Output.TheVariants.{Broken, Memory}
-use Rattle.script.specs.Text.{hex_text, value_text}
+use Rattle.script.specs.declared.output.Output.TheVariants.{Broken, Memory, Stopped, Running}
 
 -- the number of a plan's fault
 abbrev pub fault_number : PlanFault → ℕ
@@ -30,6 +29,8 @@ word_of ReadOnly = codes "read only"
 word_of NumbersUsedUp = codes "numbers used up"
 word_of Foreign = codes "foreign"
 word_of Failed = codes "failed"
+word_of Stopped = codes "stopped"
+word_of Running = codes "running"
 word_of NoFrame = codes "no frame"
 word_of NeverSent = codes "never sent"
 word_of Stored = codes "stored"
@@ -48,20 +49,20 @@ word_of other = []
 
 -- a line of words and a number
 abbrev pub numbered : List ℕ → ℕ → List ℕ
-numbered word number = line_of (word ∷ decimal number ∷ [])
+numbered word number = line_text (word ∷ decimal number ∷ [])
 
 -- a datagram that was sent: its index, and its length in bytes
 abbrev pub sent_text : SentOne → List ℕ
-sent_text sent = line_of (codes "sent" ∷ decimal sent.index ∷ decimal sent.len ∷ [])
+sent_text sent = line_text (codes "sent" ∷ decimal sent.index ∷ decimal sent.len ∷ [])
 
 -- the frame of a worker that is missing
 abbrev pub waiting_text : ℕ → ℕ → List ℕ
-waiting_text worker seq = line_of (codes "waiting" ∷ decimal worker ∷ decimal seq ∷ [])
+waiting_text worker seq = line_text (codes "waiting" ∷ decimal worker ∷ decimal seq ∷ [])
 
 -- the lines of an output
 abbrev pub output_text : Output → List ℕ
-output_text (Tx number snapshot) = line_of (codes "tx" ∷ decimal number ∷ codes "at" ∷ decimal snapshot ∷ [])
-output_text (Value value) = line_of (codes "value" ∷ value_text value ∷ [])
+output_text (Tx number snapshot) = line_text (codes "tx" ∷ decimal number ∷ codes "at" ∷ decimal snapshot ∷ [])
+output_text (Value value) = line_text (codes "value" ∷ value_text value ∷ [])
 output_text (Ticket number) = numbered (codes "ticket") number
 output_text (Conflict number) = numbered (codes "conflict") number
 output_text (Durable count) = numbered (codes "durable") count
@@ -69,10 +70,10 @@ output_text (Head version) = numbered (codes "head") version
 output_text (Opened count) = numbered (codes "opened") count
 output_text (BadPlan fault) = numbered (codes "bad plan") (fault_number fault)
 output_text (Sent list) = flat_map sent_text list
-output_text (Shown bytes) = line_of (hex_text bytes ∷ [])
+output_text (Shown bytes) = line_text (hex_text bytes ∷ [])
 output_text (Waiting worker seq want) = waiting_text worker seq ++ sent_text want
 output_text (Report text) = text
-output_text other = line_of (word_of other ∷ [])
+output_text other = line_text (word_of other ∷ [])
 
 -- the text of outputs
 abbrev pub outputs_text : List Output → List ℕ

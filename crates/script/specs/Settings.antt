@@ -3,18 +3,17 @@ use Rattle.std.specs.Prelude.{◌≡◌, ℕ, ◌<◌, ◌≤◌, List, [], ◌�
 use Rattle.std.specs.List.{list_all}
 use Rattle.rows.specs.declared.kind.Kind.{Kind}
 use Rattle.rows.specs.declared.kind.Kind.TheVariants.{Int, Octets}
+use Rattle.rows.specs.Limits.{workers_max, replicas_max}
 use Rattle.rows.specs.SchemaFaults.{schema_fault}
+use Rattle.rows.specs.Text.{words_text}
 use Rattle.script.specs.declared.setup.Setup.{Setup}
 use Rattle.script.specs.declared.settings.Settings.{Settings}
 use Rattle.script.specs.declared.settings.Settings.TheVariants.{Nothing, Workers, Replicas, Ready}
-use Rattle.script.specs.Text.{words_text, is_name}
+use Rattle.script.specs.Text.{is_name}
 
--- how many workers, and how many replicas, a script may set at most: for now there is one of each
-abbrev pub count_max : ℕ
-count_max = 1
-
-abbrev pub IsCount : ℕ → Type 0
-IsCount count = (0 < count) × (count ≤ count_max)
+-- how many workers, or replicas, a script may set: one at least
+abbrev pub IsCount : ℕ → ℕ → Type 0
+IsCount limit count = (0 < count) × (count ≤ limit)
 
 abbrev pub kind_text : Kind → List ℕ
 kind_text Int = codes "int"
@@ -36,8 +35,8 @@ setup_lines setup = workers_line setup.workers ∷ replicas_line setup.replicas 
 
 -- a setup that a script can have: at least one table, of which each has a name's form, and which are a schema
 pub record IsSetup (setup : Setup) : Type 0 where
-  pub workers : IsCount setup.workers
-  pub replicas : IsCount setup.replicas
+  pub workers : IsCount workers_max setup.workers
+  pub replicas : IsCount replicas_max setup.replicas
   pub names : list_all (λ table. is_name table.0) setup.schema ≡ true
   pub tables : schema_fault setup.schema ≡ None
 
@@ -51,8 +50,8 @@ settings_lines (Ready setup) = setup_lines setup
 -- settings that a script can begin with
 abbrev pub AreSettings : Settings → Type 0
 AreSettings Nothing = Unit {0}
-AreSettings (Workers workers) = IsCount workers
-AreSettings (Replicas workers replicas) = IsCount workers × IsCount replicas
+AreSettings (Workers workers) = IsCount workers_max workers
+AreSettings (Replicas workers replicas) = IsCount workers_max workers × IsCount replicas_max replicas
 AreSettings (Ready setup) = IsSetup setup
 
 -- whether a table is set, so that nothing is missing

@@ -54,6 +54,13 @@ pub enum Event {
     Flush {
         count: u32,
     },
+    /// The primary stops, and its journal keeps so many bytes more than what it acknowledged: the
+    /// first of the pending commits' records, or all of them where there are fewer.
+    Stop {
+        bytes: u64,
+    },
+    /// A primary that is stopped starts on what its journal keeps.
+    Start,
     /// The primary sends the frame of a worker's stream that has this `seq`.
     Push {
         worker: u8,

@@ -4,7 +4,7 @@ ghost use Rattle.std.specs.Prelude.{◌≡◌, ◌<◌, ◌^◌, map, Some, None
 ghost use Rattle.script.specs.EventLines.{IsEventLine, IsEventFault};
 ghost use Rattle.script.specs.Inner.LineFaults.{Gives, OrMemory, because};
 ghost use Rattle.script.specs.Inner.Reading.{is_setting, below_of, node_of, begin_of, commit_of, abort_of, flush_of, push_of, deliver_of};
-ghost use Rattle.script.specs.Inner.Reading.{show_of};
+ghost use Rattle.script.specs.Inner.Reading.{show_of, stop_of, start_of};
 ghost use Rattle.script.specs.Inner.Reading.{replica_of, row_of, values_of, table_of, insert_of, set_of, delete_of, get_of};
 ghost use Rattle.script.specs.Inner.Reading.{one_of, two_of, three_of, four_of, five_of, three_and_more};
 ghost use Rattle.script.specs.Inner.Reading.{plan_of, open_of, or_bad_words, replica_event, network_event, primary_event, event_of};
@@ -72,6 +72,10 @@ fn read_primary_event(setup: &Setup, first: &[u8], words: &[&[u8]]) -> Result<Ev
         or_bad_words(read_abort(words))
     } else if first == b"flush".as_slice() {
         or_bad_words(read_flush(words))
+    } else if first == b"stop".as_slice() {
+        or_bad_words(read_stop(words))
+    } else if first == b"start".as_slice() {
+        or_bad_words(read_start(words))
     } else {
         read_network_event(setup, first, words)
     }
@@ -99,11 +103,15 @@ fn read_replica_event(setup: &Setup, first: &[u8], words: &[&[u8]]) -> Result<Ev
     ensures { result ≡ because (replica_event setup.now.replicas first.now (map (λ word. word.now) words.now)) }
 {
     if first == b"ask".as_slice() {
-        let replica = read_replica(setup, words);
-        or_bad_words(replica.map(|replica| Event::Ask { replica }))
+        match read_replica(setup, words) {
+            Some(replica) => Ok(Event::Ask { replica }),
+            None => Err(LineFault::Because(Reason::BadWords)),
+        }
     } else if first == b"run".as_slice() {
-        let replica = read_replica(setup, words);
-        or_bad_words(replica.map(|replica| Event::Run { replica }))
+        match read_replica(setup, words) {
+            Some(replica) => Ok(Event::Run { replica }),
+            None => Err(LineFault::Because(Reason::BadWords)),
+        }
     } else if is_setting(first) {
         Err(LineFault::Because(Reason::BadSetting))
     } else {
@@ -164,6 +172,26 @@ fn read_flush(words: &[&[u8]]) -> Option<Event>
     Some(Event::Flush {
         count: count_of(count)?,
     })
+}
+
+#[tactic(auto, unfolding(crate::specs::Inner::Reading::stop_of))]
+fn read_stop(words: &[&[u8]]) -> Option<Event>
+    ensures { result ≡ stop_of (map (λ word. word.now) words.now) }
+{
+    let bytes = one_word(words)?;
+    Some(Event::Stop {
+        bytes: number(bytes)?,
+    })
+}
+
+#[tactic(auto, unfolding(crate::specs::Inner::Reading::start_of))]
+fn read_start(words: &[&[u8]]) -> Option<Event>
+    ensures { result ≡ start_of (map (λ word. word.now) words.now) }
+{
+    match words {
+        [] => Some(Event::Start),
+        _ => None,
+    }
 }
 
 /// A decimal number of 32 bits.

@@ -1,7 +1,7 @@
 //! The lines of events, as a script has them, alone and before those of their outputs.
 
 ghost use Rattle.std.specs.Prelude.{◌≡◌, ◌∷◌, [], ◌++◌, OnOk, codes, decimal};
-ghost use Rattle.script.specs.Text.{words_text};
+ghost use Rattle.rows.specs.Text.{words_text};
 ghost use Rattle.script.specs.Inner.Words.{word_text};
 ghost use Rattle.script.specs.EventText.{event_text, event_words, plan_words, echoed_one, name_in};
 
@@ -78,6 +78,8 @@ fn push_event(text: &mut Vec<u8>, schema: &Schema, event: &Event) -> Result<(), 
         ),
         Event::Abort { transaction } => push_one(text, "abort", *transaction),
         Event::Flush { count } => push_one(text, "flush", u64::from(*count)),
+        Event::Stop { bytes } => push_one(text, "stop", *bytes),
+        Event::Start => push_words(text, "start", &[]),
         Event::Push { worker, seq } => {
             push_two(text, "push", u64::from(*worker), Word::Number(*seq))
         }

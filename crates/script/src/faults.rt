@@ -1,4 +1,3 @@
-use std::alloc::{AllocError, AllocFailed};
 use std::fmt;
 use thiserror::Error;
 
@@ -47,18 +46,6 @@ pub enum ScriptFault {
     Memory,
 }
 
-impl From<AllocError> for ScriptFault {
-    fn from(_fault: AllocError) -> ScriptFault {
-        ScriptFault::Memory
-    }
-}
-
-impl<T: Drop> From<AllocFailed<T>> for ScriptFault {
-    fn from(_fault: AllocFailed<T>) -> ScriptFault {
-        ScriptFault::Memory
-    }
-}
-
 /// Why a text was not written whole.
 #[derive(Clone, Copy, Debug, PartialEq, Eq, Error)]
 pub enum WriteFault {
@@ -71,20 +58,8 @@ pub enum WriteFault {
 }
 
 /// Why one line does not read.
-#[derive(Clone, Copy, Debug, PartialEq, Eq)]
+#[derive(Clone, Copy)]
 pub enum LineFault {
     Because(Reason),
     Memory,
-}
-
-impl From<AllocError> for LineFault {
-    fn from(_fault: AllocError) -> LineFault {
-        LineFault::Memory
-    }
-}
-
-impl<T: Drop> From<AllocFailed<T>> for LineFault {
-    fn from(_fault: AllocFailed<T>) -> LineFault {
-        LineFault::Memory
-    }
 }

@@ -3,14 +3,14 @@
 //! `read_script` reads the settings and the events of a script, or says which line is the first
 //! that does not read, and why; `read_settings` reads a text that has settings alone.
 //! `write_text_of` writes the text of what events answer, and `write_echoed_text_of` puts the line
-//! of each event before it; both do so in pieces. `specs/` says how values, events and outputs are
-//! written (`Text.antt`, `EventText.antt`, `OutputText.antt`), what a writer took (`Writing.antt`),
-//! which events may be asked for (`Events.antt`), which lines are events and settings
+//! of each event before it; both do so in pieces. `specs/` says how events and outputs are written
+//! (`EventText.antt`, `OutputText.antt`), what a writer took (`Writing.antt`), which events may be
+//! asked for (`Events.antt`), which lines are text (`Text.antt`), events and settings
 //! (`EventLines.antt`, `Settings.antt`), and which texts are scripts, and why a text is none
 //! (`Scripts.antt`).
 //!
-//! It stands on `rows` for schemas and values, on `dispatcher` for plans, and on `itoa` for
-//! numbers in decimal.
+//! It stands on `rows` for schemas, values and their text, on `dispatcher` for plans, and on `itoa`
+//! to read numbers, of which each has one spelling.
 #![tactic(auto)]
 
 mod event;
@@ -25,14 +25,15 @@ mod reading;
 mod sent;
 mod settings;
 mod setup;
-mod value_text;
 mod words;
 mod writing;
 
 pub use event::{Event, Node};
 pub use faults::{Reason, ScriptFault, WriteFault};
 pub use output::Output;
-pub use parts::{lines_determine_events, read_plan, read_value, words_determine_values};
+pub use parts::{
+    lines_determine_events, read_plan, read_value, texts_determine_scripts, words_determine_values,
+};
 pub use reading::{read_script, read_settings};
 pub use sent::{Sent, SentList};
 pub use setup::Setup;

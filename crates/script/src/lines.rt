@@ -1,13 +1,11 @@
 //! Lines of words, which one space parts.
 
 ghost use Rattle.std.specs.Prelude.{◌≡◌, ◌∷◌, [], ◌++◌, map, OnOk};
-ghost use Rattle.script.specs.Text.{value_text, words_text};
+ghost use Rattle.rows.specs.Text.{value_text, words_text, line_text};
 ghost use Rattle.script.specs.Inner.Words.{word_text, tail_text};
-ghost use Rattle.dispatcher.specs.Report.{line_of};
 
 use crate::event::Node;
-use crate::value_text::{push_number, push_value};
-use rows::Value;
+use rows::{Value, append_number, append_value};
 use std::alloc::AllocError;
 
 /// A word that is written.
@@ -21,7 +19,7 @@ pub enum Word<'a> {
 
 /// Adds a line of these words, the first of which is a text, with its end.
 pub fn push_line(text: &mut Vec<u8>, first: &str, words: &[Word]) -> Result<(), AllocError>
-    ensures { OnOk result (text.new.items ≡ text.old.items ++ line_of (first.now ∷ map word_text words.now)) }
+    ensures { OnOk result (text.new.items ≡ text.old.items ++ line_text (first.now ∷ map word_text words.now)) }
 {
     push_words(text, first, words)?;
     text.push(b'\n')?;
@@ -46,7 +44,7 @@ pub fn push_values(text: &mut Vec<u8>, values: &[Value]) -> Result<(), AllocErro
 {
     for value in values {
         text.push(b' ')?;
-        push_value(text, value)?;
+        append_value(text, value)?;
     }
     Ok(())
 }
@@ -57,12 +55,12 @@ fn push_word(text: &mut Vec<u8>, word: &Word) -> Result<(), AllocError>
 {
     match word {
         Word::Text(word) => text.extend_from_slice(word.as_bytes()),
-        Word::Number(number) => push_number(text, *number),
-        Word::Value(value) => push_value(text, value),
+        Word::Number(number) => append_number(text, *number),
+        Word::Value(value) => append_value(text, value),
         Word::Node(Node::Primary) => text.extend_from_slice(b"p"),
         Word::Node(Node::Replica(number)) => {
             text.push(b'r')?;
-            push_number(text, u64::from(*number))
+            append_number(text, *number)
         }
     }
 }

@@ -35,6 +35,10 @@ pub enum Output {
     Failed,
     /// So many commits are durable.
     Durable(u64),
+    /// The primary has stopped, or it is stopped and nothing was done.
+    Stopped,
+    /// The primary runs, and so it was not started.
+    Running,
     /// These datagrams were sent.
     Sent(SentList),
     /// The stream has no frame of that `seq`.

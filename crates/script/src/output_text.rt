@@ -7,8 +7,8 @@ ghost use Rattle.script.specs.OutputText.{output_text, sent_text, word_of, numbe
 use crate::lines::{Word, push_line};
 use crate::output::Output;
 use crate::sent::Sent;
-use crate::value_text::push_hex;
 use dispatcher::PlanFault;
+use rows::append_hex;
 use std::alloc::AllocError;
 
 /// Adds the lines of an output.
@@ -26,7 +26,7 @@ pub fn push_output(text: &mut Vec<u8>, output: &Output) -> Result<(), AllocError
         Output::BadPlan(fault) => push_numbered(text, "bad plan", fault_number(*fault)),
         Output::Sent(list) => push_all_sent(text, list.as_slice()),
         Output::Shown(bytes) => {
-            push_hex(text, bytes.as_slice())?;
+            append_hex(text, bytes.as_slice())?;
             text.push(b'\n')?;
             Ok(())
         }
@@ -105,6 +105,8 @@ fn word_of(output: &Output) -> &'static str
         Output::NumbersUsedUp => "numbers used up",
         Output::Foreign => "foreign",
         Output::Failed => "failed",
+        Output::Stopped => "stopped",
+        Output::Running => "running",
         Output::NoFrame => "no frame",
         Output::NeverSent => "never sent",
         Output::Stored => "stored",

@@ -1,10 +1,10 @@
 //! Reading what stands within lines, by itself: a value, and a plan.
 
 ghost use Rattle.std.specs.Prelude.{◌≡◌, IfOk, MatchOption};
-ghost use Rattle.script.specs.Text.{value_text};
+ghost use Rattle.rows.specs.Text.{value_text};
 ghost use Rattle.script.specs.Events.{HasWord};
 ghost use Rattle.script.specs.EventLines.{IsPlanText};
-ghost use Rattle.script.specs.Laws.{LinesDetermineEvents, WordsDetermineValues};
+ghost use Rattle.script.specs.Laws.{LinesDetermineEvents, TextsDetermineScripts, WordsDetermineValues};
 ghost use Rattle.rows.specs.declared.value.Value.{Value};
 
 use crate::event_reading::read_plan_words;
@@ -41,6 +41,12 @@ pub fn read_plan(alloc: Global, text: &[u8], setup: &Setup) -> Result<Option<Pla
 /// whoever reads it.
 pub fn words_determine_values()
     ensures { WordsDetermineValues }
+{}
+
+/// A text is that of one script alone: no two that differ in their settings or in their events have
+/// one text. It does nothing: its contract says so of the text of scripts, whoever reads it.
+pub fn texts_determine_scripts()
+    ensures { TextsDetermineScripts }
 {}
 
 /// A line is that of one event alone. It does nothing: its contract says so of the text of events,

@@ -1,11 +1,12 @@
 //! Reading a script: its settings, and then its events.
 
-ghost use Rattle.std.specs.Prelude.{◌≡◌, ◌∷◌, ◌<◌, ◌≤◌, [], ◌==◌, true, false, length, position, IfOk, MatchOption, MatchResult};
+ghost use Rattle.std.specs.Prelude.{◌≡◌, ◌∷◌, ◌++◌, ◌<◌, ◌≤◌, [], ◌==◌, true, false, length, position, IfOk, IfErr};
+ghost use Rattle.std.specs.Prelude.{MatchOption, MatchResult};
 ghost use Rattle.std.specs.List.{AllByRecursion};
-ghost use Rattle.rows.specs.Limits.{replicas_max};
+ghost use Rattle.rows.specs.Limits.{workers_max, replicas_max};
 ghost use Rattle.script.specs.Text.{is_text};
 ghost use Rattle.script.specs.Events.{IsPossible};
-ghost use Rattle.script.specs.EventLines.{begins_with, first_word, setting_names};
+ghost use Rattle.script.specs.EventLines.{IsEventLine, IsEventFault, begins_with, first_word, setting_names};
 ghost use Rattle.script.specs.Settings.{AreSettings, IsSetup, is_ready};
 ghost use Rattle.script.specs.Scripts.{AreEvents, IsLineFault, IsScript, IsScriptFault, IsSettingsText, IsSettingsFault, lines_of, is_kept};
 ghost use Rattle.script.specs.Inner.LineFaults.{OrMemory};
@@ -24,7 +25,7 @@ use std::alloc::Global;
 /// Fails with the first faulty line and why, or with `Memory`.
 pub fn read_script(alloc: Global, script: &[u8]) -> Result<(Setup, Vec<Event>), ScriptFault>
     ensures exact { MatchResult result (λ read. IsScript script.now read.0 read.1.items) (IsScriptFault script.now) }
-    ensures possible { IfOk result (λ read. (read.0.workers ≡ 1) × (read.0.replicas ≤ replicas_max)
+    ensures possible { IfOk result (λ read. (0 < read.0.workers) × (read.0.workers ≤ workers_max) × (read.0.replicas ≤ replicas_max)
         × AllByRecursion (IsPossible read.0.workers read.0.replicas) read.1.items) }
 {
     let mut settings = Settings::Nothing;
@@ -129,42 +130,34 @@ fn read_line(
     if !is_kept(line) {
         return Ok(settings);
     }
-    match settings {
-        Settings::Ready(setup) => read_behind_tables(alloc, setup, line, events),
-        Settings::Nothing => read_setting(alloc, Settings::Nothing, line),
-        Settings::Workers(workers) => read_setting(alloc, Settings::Workers(workers), line),
-        Settings::Replicas { workers, replicas } => {
-            read_setting(alloc, Settings::Replicas { workers, replicas }, line)
+    if let Settings::Ready(setup) = &settings {
+        // Behind an event no line is a setting.
+        if !events.is_empty() || !begins_as_setting(line) {
+            return match add_event(alloc, setup, line, events) {
+                Ok(()) => Ok(settings),
+                Err(fault) => Err(fault),
+            };
         }
     }
+    read_setting(alloc, settings, line)
 }
 
-/// Reads a line behind the first table: another table before the first event, or an event.
-fn read_behind_tables(
+/// Reads the line of an event, and puts it behind those before it.
+fn add_event(
     alloc: Global,
-    setup: Setup,
+    setup: &Setup,
     line: &[u8],
     events: &mut Vec<Event>,
-) -> Result<Settings, LineFault>
-    requires text { is_text line.now ≡ true }
-    requires kept { is_kept line.now ≡ true }
-    requires setup { IsSetup setup }
-    requires events { AreEvents (Settings.Ready setup) events.old.items }
-    ensures { MatchResult result (λ next. IsLineRead (Settings.Ready setup) events.old.items line.now next events.new.items)
-        (OrMemory (IsLineFault (Settings.Ready setup) events.old.items line.now)) }
+) -> Result<(), LineFault>
+    ensures read { IfOk result (λ done.
+        (event : Event) × IsEventLine setup.now line.now event × (events.new.items ≡ events.old.items ++ event ∷ [])) }
+    ensures fault { IfErr result (OrMemory (IsEventFault setup.now line.now)) }
 {
-    if events.is_empty() && begins_as_setting(line) {
-        return read_setting(alloc, Settings::Ready(setup), line);
+    let event = read_event(alloc, setup, line)?;
+    if events.push(event).is_err() {
+        return Err(LineFault::Memory);
     }
-    match read_event(alloc, &setup, line) {
-        Ok(event) => {
-            if events.push(event).is_err() {
-                return Err(LineFault::Memory);
-            }
-            Ok(Settings::Ready(setup))
-        }
-        Err(fault) => Err(fault),
-    }
+    Ok(())
 }
 
 /// Reads one line of a schema file: a setting. A line that is skipped leaves the settings as they

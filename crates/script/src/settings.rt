@@ -16,20 +16,18 @@ ghost use Rattle.script.specs.Inner.SettingWords.{IsSchemaOf, IsNoSchemaOf};
 use crate::faults::{LineFault, Reason};
 use crate::setup::Setup;
 use crate::words::{is_name, small_number, words_of};
+use rows::limits::{REPLICAS_MAX, WORKERS_MAX};
 use rows::{Kind, Schema, SchemaFault};
 use std::alloc::{AllocError, Global};
 
 /// The settings that have been read so far, in their order.
-#[derive(Debug, Drop)]
+#[derive(Drop)]
 pub enum Settings {
     Nothing,
     Workers(u8),
     Replicas { workers: u8, replicas: u8 },
     Ready(Setup),
 }
-
-/// Workers that a script may set at most, and replicas: for now there is one of each.
-const COUNT_MAX: u8 = 1;
 
 /// Reads the next setting: the workers, then the replicas, then the tables.
 pub fn read_setting(alloc: Global, settings: Settings, line: &[u8]) -> Result<Settings, LineFault>
@@ -41,11 +39,11 @@ pub fn read_setting(alloc: Global, settings: Settings, line: &[u8]) -> Result<Se
     };
     let words = words.as_slice();
     match settings {
-        Settings::Nothing => match count_of(words, b"workers") {
+        Settings::Nothing => match count_of(words, b"workers", WORKERS_MAX) {
             Some(workers) => Ok(Settings::Workers(workers)),
             None => Err(LineFault::Because(Reason::BadSetting)),
         },
-        Settings::Workers(workers) => match count_of(words, b"replicas") {
+        Settings::Workers(workers) => match count_of(words, b"replicas", REPLICAS_MAX) {
             Some(replicas) => Ok(Settings::Replicas { workers, replicas }),
             None => Err(LineFault::Because(Reason::BadSetting)),
         },
@@ -68,26 +66,17 @@ pub fn read_setting(alloc: Global, settings: Settings, line: &[u8]) -> Result<Se
     }
 }
 
-/// The count that the words set, of what has this name.
-fn count_of(words: &[&[u8]], name: &[u8]) -> Option<u8>
+/// The count that the words set, of what has this name: at least 1, and up to a limit.
+fn count_of(words: &[&[u8]], name: &[u8], limit: u8) -> Option<u8>
     ensures { MatchOption result
-        ((count : ℕ) → IsCount count → texts words.now ≢ name.now ∷ decimal count ∷ [])
-        (λ count. IsCount count × (texts words.now ≡ name.now ∷ decimal count ∷ [])) }
+        ((count : ℕ) → IsCount limit count → texts words.now ≢ name.now ∷ decimal count ∷ [])
+        (λ count. IsCount limit count × (texts words.now ≡ name.now ∷ decimal count ∷ [])) }
 {
-    let count = byte_number(word_behind(words, name)?)?;
-    if count == 0 || count > COUNT_MAX {
+    let count = small_number(word_behind(words, name)?)?;
+    if count == 0 || count > limit {
         return None;
     }
     Some(count)
-}
-
-/// The number of 8 bits that a word is.
-fn byte_number(word: &[u8]) -> Option<u8>
-    ensures { MatchOption result
-        ((number : ℕ) → number < 2 ^ 8 → decimal number ≢ word.now)
-        (λ number. (number < 2 ^ 8) × (decimal number ≡ word.now)) }
-{
-    small_number(word)
 }
 
 /// The one word behind a name.
@@ -192,7 +181,7 @@ fn kind_of(word: &[u8]) -> Option<Kind>
         return Some(Kind::Int);
     }
     let width = word.strip_prefix(b"bytes")?;
-    let kind = Kind::Octets(byte_number(width)?);
+    let kind = Kind::Octets(small_number(width)?);
     if kind.is_good() { Some(kind) } else { None }
 }
 

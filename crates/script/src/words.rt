@@ -65,7 +65,9 @@ pub fn number_below(word: &[u8], limit: u8) -> Option<u8>
 #[tactic(auto, unfolding(crate::specs::Inner::Reading::below_of))]
 pub fn small_number(word: &[u8]) -> Option<u8>
     ensures value { result ≡ below_of (2 ^ 8) word.now }
-    ensures exact { MatchOption result ((n : ℕ) → n < 2 ^ 8 → decimal n ≢ word.now) (λ n. decimal n ≡ word.now) }
+    ensures exact { MatchOption result
+        ((number : ℕ) → number < 2 ^ 8 → decimal number ≢ word.now)
+        (λ number. (number < 2 ^ 8) × (decimal number ≡ word.now)) }
 {
     u8::try_from(number(word)?).ok()
 }

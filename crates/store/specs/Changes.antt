@@ -11,11 +11,11 @@ abbrev pub column_of : Option (List Value) → ℕ → Option Value
 column_of None column = None
 column_of (Some values) column = slice_get values column
 
--- the identifier of the row at a place of the table's order
+-- the identifier of the row at an index of the table's order
 abbrev pub id_in : Rows → ℕ → Option ℕ
 id_in rows i = option_map (λ row. row.0) (slice_get rows i)
 
--- each row before that place has an identifier below this one
+-- each row before that index has an identifier below this one
 abbrev pub IsAboveAllBefore : Rows → ℕ → ℕ → Type 0
 IsAboveAllBefore rows i id = (j : ℕ) → j < i → IfSome (id_in rows j) (λ before. before < id)
 

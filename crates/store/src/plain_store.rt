@@ -119,7 +119,7 @@ impl Store for PlainStore {
         }
     }
 
-    /// The identifier of the row at a place of the table's order, counted from 0, in one step.
+    /// The identifier of the row at an index of the table's order, counted from 0, in one step.
     fn id_at(&self, table: u8, i: usize) -> RowId {
         let Some(rows) = self.rows(table) else {
             unreachable!();

@@ -59,7 +59,7 @@ pub trait Store {
     fn len(&self, table: u8) -> usize
         ensures { is_whole self.now ≡ true → result ≡ length (rows_of (tables self.now) table) };
 
-    /// The identifier of the row at a place of the table's order, which rises, counted from 0.
+    /// The identifier of the row at an index of the table's order, which rises, counted from 0.
     fn id_at(&self, table: u8, i: usize) -> RowId
         requires whole { is_whole self.now ≡ true }
         requires within { i < length (rows_of (tables self.now) table) }

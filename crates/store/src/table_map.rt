@@ -1,4 +1,4 @@
-//! The rows of one table, by identifier and by place.
+//! The rows of one table, by identifier and by index.
 
 ghost use Rattle.std.specs.Prelude.{◌≡◌, ◌<◌, [], length, true, false, Some, OnOk, OnErr, nat_lt};
 ghost use Rattle.std.specs.List.{list_all, prefix_len};
@@ -18,7 +18,7 @@ use std::marker::Model;
 #[derive(Debug, Drop)]
 pub struct TableMap {
     rows: BTreeMap<u64, Row>,
-    /// The identifiers of the rows, rising: the map does not tell which row stands at a place.
+    /// The identifiers of the rows, rising: the map does not tell which row stands at an index.
     ids: VecDeque<u64>,
 }
 
@@ -70,7 +70,7 @@ impl TableMap {
         }
     }
 
-    /// The identifier of the row at a place of the order, in one step.
+    /// The identifier of the row at an index of the order, in one step.
     pub fn id_at(&self, i: usize) -> u64
         requires { i < length self.now }
         ensures value { Some result ≡ id_in self.now i }
@@ -80,7 +80,7 @@ impl TableMap {
     }
 
     /// Puts a row in. Fails only when out of memory, and then nothing has changed. Besides the
-    /// row's own place, the identifiers on the shorter side of it move: none for the greatest yet.
+    /// row's own identifier, those on the shorter side of it move: none for the greatest yet.
     pub fn insert(&mut self, row: u64, values: Row) -> Result<(), AllocError>
         ensures ok { OnOk result (self.new ≡ with_row self.old row values) }
         ensures err { OnErr result (self.new ≡ self.old) }
@@ -96,7 +96,7 @@ impl TableMap {
         Ok(())
     }
 
-    /// Puts bytes at one column's place of a row, and answers whether the row is there; where it
+    /// Puts bytes at one column's offset of a row, and answers whether the row is there; where it
     /// is not, nothing changes. Takes no memory.
     pub fn patch(&mut self, kinds: &[Kind], row: u64, offset: u16, bytes: &[u8]) -> bool
         requires { list_all is_good kinds.now ≡ true }

@@ -3,8 +3,7 @@
 //! Four kinds: a Frame carries entries of one commit from the primary, an Ask asks it for the
 //! newest durable version, a Head answers that, and a Want asks for frames that are missing.
 //! `specs/` has their one spelling (`Spelling.antt`), what bytes read as with the first fault
-//! (`Reading.antt`), the laws of the format (`Laws.antt`), and a worker's stream where each commit
-//! is small enough for one frame (`Streams.antt`).
+//! (`Reading.antt`), and the laws of the format (`Laws.antt`).
 //!
 //! Promised: `read` answers what the bytes read as, lending their parts: what is read is spelled
 //! so, and what is spelled so is read. `write` and `write_frame` write the one spelling or say

@@ -1,15 +1,14 @@
 //! A spelled datagram that is on its way.
 
-ghost use Rattle.std.specs.Prelude.{◌≡◌, ◌≤◌, length, true, Ok};
+ghost use Rattle.std.specs.Prelude.{◌≡◌, ◌≤◌, length, Ok};
 ghost use Rattle.wire.specs.Reading.{reading};
 ghost use Rattle.wire.specs.Spelling.{spelling, HasSpelling, datagram_of_frame, frame_spelling, FrameHasSpelling};
-ghost use Rattle.update_log.specs.Frames.{IsFrame};
 
 use crate::datagram::Datagram;
 use crate::faults::TooSmall;
-use crate::writing::{write, write_frame, write_frame_of};
+use crate::writing::{write, write_frame};
+use rows::laws;
 use rows::limits::DATAGRAM_MAX;
-use rows::{Commit, laws};
 use std::marker::Model;
 use update_log::Frame;
 
@@ -55,20 +54,6 @@ impl Packet {
         laws::entries_are_read_as_spelled();
         let mut buffer = [0u8; DATAGRAM_MAX];
         match write_frame(frame, &mut buffer) {
-            Ok(len) => Packet { buffer, len },
-            Err(TooSmall) => unreachable!(),
-        }
-    }
-
-    /// The spelling of the one frame that holds a whole commit, by the commit's number and the
-    /// frame's number in its worker's stream. Takes no memory.
-    pub fn of_commit(commit: &Commit, number: u64, seq: u64) -> Packet
-        requires { IsFrame commit.now.worker seq number commit.now.entries }
-        ensures { result ≡ spelling (Datagram.Frame commit.now.worker seq number true commit.now.entries) }
-    {
-        let mut buffer = [0u8; DATAGRAM_MAX];
-        let entries = commit.entries.as_slice();
-        match write_frame_of(commit.worker, seq, number, true, entries, &mut buffer) {
             Ok(len) => Packet { buffer, len },
             Err(TooSmall) => unreachable!(),
         }

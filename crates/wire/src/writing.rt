@@ -95,7 +95,7 @@ pub fn write_frame(frame: &Frame, buffer: &mut [u8]) -> Result<usize, TooSmall>
 }
 
 /// Writes the spelling of a frame, given by its parts, as `write_frame` does.
-pub fn write_frame_of(
+fn write_frame_of(
     worker: u8,
     seq: u64,
     commit: u64,

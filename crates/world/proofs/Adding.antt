@@ -1,9 +1,8 @@
 -- A change of a transaction that is taken adds one entry, and its row stands as the entry needs it.
-use Rattle.std.proofs.Common.{◌≡◌, ℕ, ◌<◌, Bool, true, false, cond, not, List, [], ◌∷◌, ◌++◌, length, Ok, Err, nat_lt, refl, sym, ap}
+use Rattle.std.proofs.Common.{◌≡◌, ℕ, Bool, true, false, cond, not, List, [], ◌∷◌, ◌++◌, length, Ok, Err, nat_lt, refl, sym, ap}
 use Rattle.std.proofs.Common.{subst, ◌∙◌}
 use Rattle.std.specs.List.{slice_get}
 use Rattle.std.specs.Option.{is_some}
-use Rattle.std.proofs.lemmas.Bool.{ltb-true}
 use Rattle.rows.specs.declared.commit.Commit.{Commit}
 use Rattle.rows.specs.declared.entry.Entry.{Entry}
 use Rattle.rows.specs.declared.entry.Entry.TheVariants.{Insert, Patch, Delete}
@@ -13,7 +12,7 @@ use Rattle.rows.specs.Entries.{table_of, row_of}
 use Rattle.rows.specs.Presence.{stands_for}
 use Rattle.rows.specs.Values.{bytes_of, value_bytes}
 use Rattle.mvcc.specs.declared.faults.TxFault.TheVariants.{Exists, Missing, Unfit, TooManyEntries}
-use Rattle.mvcc.specs.declared.transaction.TheConstants.{TRANSACTION_ENTRIES_MAX}
+use Rattle.rows.specs.declared.limits.TheConstants.{COMMIT_ENTRIES_MAX}
 use Rattle.mvcc.specs.Draft.{Draft}
 use Rattle.mvcc.proofs.Seen.{seen-shape}
 use Rattle.mvcc.specs.Transactions.{match_table, match_column, column_kind, column_offset, seen_shape, sees, draft_with, insert_answer}
@@ -23,7 +22,6 @@ use Rattle.mvcc.specs.Transactions.{delete_answer}
 -- the transaction with this entry behind its others
 pub record IsAdded (shape : Shape) (commits : List Commit) (draft : Draft) (entry : Entry) (new : Draft) : Type 0 where
   pub stands : stands_for entry (sees shape commits draft (table_of entry) (row_of entry)) ≡ true
-  pub few : length draft.entries < TRANSACTION_ENTRIES_MAX
   pub made : new ≡ record draft { entries = draft.entries ++ entry ∷ [] }
 
 pub reads_same : (shape : Shape) (commits : List Commit) (draft : Draft) (entry : Entry) (new : Draft)
@@ -33,17 +31,16 @@ reads_same shape commits draft entry new added = ap (λ (d : Draft). d.snapshot)
 added_to : (shape : Shape) (commits : List Commit) (draft : Draft) (entry : Entry) (new : Draft)
     → stands_for entry (sees shape commits draft (table_of entry) (row_of entry)) ≡ true
     → draft_with draft entry ≡ Ok new → IsAdded shape commits draft entry new
-added_to shape commits draft entry new stands h = by (nat_lt (length draft.entries) TRANSACTION_ENTRIES_MAX) refl h
+added_to shape commits draft entry new stands h = by (nat_lt (length draft.entries) COMMIT_ENTRIES_MAX) h
   where
     with : Draft
     with = record draft { entries = draft.entries ++ entry ∷ [] }
 
-    by : (c : Bool) → nat_lt (length draft.entries) TRANSACTION_ENTRIES_MAX ≡ c → cond c (Ok with) (Err TooManyEntries) ≡ Ok new
-        → IsAdded shape commits draft entry new
-    by false f h = absurd (cc)
-    by true f h =
+    by : (c : Bool) → cond c (Ok with) (Err TooManyEntries) ≡ Ok new → IsAdded shape commits draft entry new
+    by false h = absurd (cc)
+    by true h =
         let same : with ≡ new = cc in
-        record { stands = stands; few = ltb-true (length draft.entries) TRANSACTION_ENTRIES_MAX f; made = sym same }
+        record { stands = stands; made = sym same }
 
 module _ (shape : Shape) (commits : List Commit) (draft : Draft) (table row : ℕ) (new : Draft) where
   pub insert-added : (values : List Value) → insert_answer shape commits draft table row values ≡ Ok new

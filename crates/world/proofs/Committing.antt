@@ -1,41 +1,49 @@
--- What the primary does with transactions, commits and bytes leaves sound parts.
-use Rattle.std.proofs.Common.{◌≡◌, ℕ, ◌^◌, ◌<◌, ◌≤◌, Bool, true, false, cond, ◌==◌, List, [], ◌∷◌, ◌++◌, length, Option, Some, None}
-use Rattle.std.proofs.Common.{Result, Ok, Err, nat_lt, refl, sym, ap, subst, ◌∙◌, inl, inr, arith}
-use Rattle.std.specs.List.{slice_get, slice_set, AllByRecursion}
+-- What the primary does with transactions, commits and bytes leaves sound parts, and what a stop and a start leave.
+use Rattle.std.proofs.Common.{◌≡◌, ℕ, zero, suc, ◌+◌, ◌^◌, ◌<◌, ◌≤◌, Bool, true, false, cond, ◌==◌, List, [], ◌∷◌, ◌++◌}
+use Rattle.std.proofs.Common.{length, take, drop, map}
+use Rattle.std.proofs.Common.{Option, Some, None, Result, Ok, Err, nat_lt, refl, sym, ap, subst, ◌∙◌, inl, inr, arith}
+use Rattle.std.specs.List.{slice_get, slice_set}
 use Rattle.std.specs.Option.{option_map, option_and_then}
-use Rattle.std.proofs.lemmas.Bool.{ltb-true, eqb-false}
-use Rattle.std.proofs.lemmas.List.{append_assoc, length-append}
-use Rattle.std.proofs.lemmas.Option.{none-some, same_Some, slice_get_within}
+use Rattle.std.proofs.lemmas.Bool.{ltb-true, and_parts}
+use Rattle.std.proofs.lemmas.List.{append_assoc, length-append, take-append-drop}
+use Rattle.std.proofs.lemmas.Option.{none-some, same_Some}
 use Rattle.rows.specs.declared.commit.Commit.{Commit}
 use Rattle.rows.specs.declared.value.Value.{Value}
 use Rattle.rows.specs.Shape.{Shape}
 use Rattle.rows.specs.Commits.{IsLegal, last_touching}
+use Rattle.update_log.specs.declared.frame.Frame.{Frame}
+use Rattle.update_log.specs.Frames.{IsSendable}
+use Rattle.update_log.specs.Parts.{parts_of}
+use Rattle.update_log.specs.Streams.{stream_of}
 use Rattle.wire.specs.declared.datagram.Datagram.{Datagram}
 use Rattle.wire.specs.declared.datagram.Datagram.TheVariants as datagrams
 use Rattle.wire.specs.declared.faults.WireFault.{WireFault}
-use Rattle.update_log.specs.declared.frame.Frame.{Frame}
 use Rattle.wire.specs.Reading.{reading}
 use Rattle.wire.specs.Spelling.{spelling, frame_spelling, IsAsk}
-use Rattle.wire.specs.Streams.{stream_of, frame_count}
 use Rattle.mvcc.specs.declared.faults.TxFault.{TxFault}
 use Rattle.primary.specs.declared.faults.CommitFault.{CommitFault}
 use Rattle.primary.specs.declared.faults.CommitFault.TheVariants as faults
 use Rattle.mvcc.specs.Draft.{Draft}
-use Rattle.primary.specs.Steps.{commit_answer, committed, flushed, is_foreign, next_number}
-use Rattle.primary.specs.Sending.{answers, answers_to, head_for, counts_of}
+use Rattle.primary.specs.Steps.{commit_answer, flushed, is_foreign, next_number, has_numbers}
+use Rattle.primary.specs.Sending.{answers, answers_to, head_for, counts_of, wanted, frame_to}
 use Rattle.primary.specs.State.{Primary}
 use Rattle.dispatcher.specs.State.{Replica}
-use Rattle.dispatcher.proofs.Streams.{count-is, frame-commit}
 use Rattle.script.specs.declared.event.Node.TheVariants as nodes
 use Rattle.script.specs.declared.output.Output.{Output}
+use Rattle.script.specs.declared.output.Output.TheVariants as outputs
 use Rattle.world.specs.Outputs.{of_look, packets_of}
 use Rattle.world.specs.Parts.{Parts}
 use Rattle.world.specs.Steps.{World, open_draft, change_happens, commit_happens, abort_happens, on_draft, push_happens, deliver_happens}
-use Rattle.world.proofs.Lists.{get-set, get-append, get-one, All-get, All-left, All-append}
-use Rattle.world.specs.Inner.Sound.{Sound, IsSoundPrimary, IsSmall, IsSmallDraft, Means}
-use Rattle.world.proofs.Datagrams.{frame-read, head-read}
+use Rattle.world.specs.Steps.{stop_happens}
+use Rattle.world.specs.Stops.{stopped_at, whole_in, closed}
+use Rattle.world.specs.Inner.Sound.{Sound, AreLists, Means}
 use Rattle.world.specs.Standing.{world_of}
-use Rattle.world.proofs.Moves.{each-durable, Sound-drafts, Sound-sent, Sound-one, Sound-primary, Sound-flushed}
+use Rattle.world.proofs.Datagrams.{frame-read, head-read}
+use Rattle.world.proofs.Durable.{legal-front, stream-grows}
+use Rattle.world.proofs.FedLaws.{FedLaws}
+use Rattle.world.proofs.Lists.{get-set, get-append, get-one, All-get}
+use Rattle.world.proofs.Moves.{Sound-drafts, Sound-sent, Sound-one, Sound-pending, Sound-grown, Sound-apart}
+use Rattle.world.proofs.Streams.{frame-at, get-take, get-drop, counts-length, counts-are, counts-spelled}
 use Rattle.world.proofs.Worlds.{beside_of}
 
 -- ---- transactions
@@ -54,16 +62,19 @@ drafts-begun shape p sound =
       | inl old ↦ sound.drafts_are i draft old
       | inr new ↦
           let same : draft ≡ fresh = same_Some draft fresh (get-one (Some fresh) new.0 (Some draft) new.1) in
-          subst (IsSmallDraft (length p.primary.durable)) (sym same) (record { known = omega arith; few = omega arith; spelled = tt })
+          let snapshot = ap (λ (d : Draft). d.snapshot) same in
+          omega arith
     ])
 
 -- one transaction changed
-drafts-changed : (shape : Shape) (p : Parts) (number : ℕ) (new : Draft) → Sound shape p → IsSmallDraft (length p.primary.durable) new
+drafts-changed : (shape : Shape) (p : Parts) (number : ℕ) (new : Draft) → Sound shape p → new.snapshot ≤ length p.primary.durable
     → Sound shape (record p { transactions = slice_set p.transactions number (Some new) })
-drafts-changed shape p number new sound small =
+drafts-changed shape p number new sound known =
     Sound-drafts shape p (slice_set p.transactions number (Some new)) sound
     (λ i draft here. elim (get-set p.transactions number (Some new) i (Some draft) here) [
-      | inl same ↦ subst (IsSmallDraft (length p.primary.durable)) (sym (same_Some draft new same.1)) small
+      | inl same ↦
+          let snapshot = ap (λ (d : Draft). d.snapshot) (same_Some draft new same.1) in
+          omega arith
       | inr old ↦ sound.drafts_are i draft old
     ])
 
@@ -77,23 +88,29 @@ drafts-ended shape p number sound =
       | inr old ↦ sound.drafts_are i draft old
     ])
 
+-- none is open
+pub none-open : (transactions : List (Option Draft)) (number : ℕ) (draft : Draft)
+    → ¬ (slice_get (closed transactions) number ≡ Some (Some draft))
+none-open [] number draft h = absurd (none-some (Some draft) h)
+none-open (slot ∷ slots) zero draft h = none-some draft (same_Some None (Some draft) h)
+none-open (slot ∷ slots) (suc number) draft h = none-open slots number draft h
+
 -- ---- changes, looks, and giving up
 
 changed : (shape : Shape) (p : Parts) (number : ℕ) (answer : Result Draft TxFault) → Sound shape p
-    → ((new : Draft) → answer ≡ Ok new → IsSmallDraft (length p.primary.durable) new)
+    → ((new : Draft) → answer ≡ Ok new → new.snapshot ≤ length p.primary.durable)
     → Sound shape (beside_of (change_happens (world_of p) number answer).1 p)
-changed shape p number (Ok new) sound small = drafts-changed shape p number new sound (small new refl)
-changed shape p number (Err fault) sound small = sound
+changed shape p number (Ok new) sound known = drafts-changed shape p number new sound (known new refl)
+changed shape p number (Err fault) sound known = sound
 
 pub change-sound : (shape : Shape) (p : Parts) (number : ℕ) (change : Draft → Result Draft TxFault) (found : Option Draft)
     → Sound shape p
-    → ((draft new : Draft) → IsSmallDraft (length p.primary.durable) draft → change draft ≡ Ok new
-    → IsSmallDraft (length p.primary.durable) new) → open_draft p.transactions number ≡ found
+    → ((draft new : Draft) → change draft ≡ Ok new → new.snapshot ≡ draft.snapshot) → open_draft p.transactions number ≡ found
     → Sound shape (beside_of (on_draft (world_of p) found (λ draft. change_happens (world_of p) number (change draft))).1 p)
-change-sound shape p number change None sound small at = sound
-change-sound shape p number change (Some draft) sound small at =
-    let begun = sound.drafts_are number draft (opened (slice_get p.transactions number) draft at) in
-    changed shape p number (change draft) sound (λ new h. small draft new begun h)
+change-sound shape p number change None sound reads at = sound
+change-sound shape p number change (Some draft) sound reads at =
+    let known = sound.drafts_are number draft (opened (slice_get p.transactions number) draft at) in
+    changed shape p number (change draft) sound (λ new h. let same = reads draft new h in omega arith)
 
 pub look-sound : (shape : Shape) (p : Parts) (look : Draft → Result Value TxFault) (found : Option Draft) → Sound shape p
     → Sound shape (beside_of (on_draft (world_of p) found (λ draft. (of_look (look draft), world_of p))).1 p)
@@ -107,143 +124,174 @@ abort-sound shape p number (Some draft) sound = drafts-ended shape p number soun
 
 -- ---- commits
 
--- what a commit that is answered by its number has
-pub record IsTaken (p : Primary) (draft : Draft) : Type 0 where
-  pub some : 0 < length draft.entries
-  pub numbered : next_number p < 2 ^ 64
-
-pub commit-taken : (p : Primary) (draft : Draft) (number : ℕ) → commit_answer p draft ≡ Ok number → IsTaken p draft
-commit-taken p draft number h =
+-- a commit that is answered by its number has one of 64 bits
+pub commit-numbered : (p : Primary) (worker : ℕ) (draft : Draft) (number : ℕ) → commit_answer p worker draft ≡ Ok number
+    → next_number p < 2 ^ 64
+commit-numbered p worker draft number h =
     by p.failed (length draft.entries == 0) (is_foreign p draft)
     (nat_lt draft.snapshot (last_touching draft.entries 0 (p.durable ++ p.pending)))
-    (nat_lt (next_number p) (2 ^ 64)) refl refl h
+    (has_numbers p worker draft.entries) refl h
   where
-    by : (a b c d e : Bool) → (length draft.entries == 0) ≡ b → nat_lt (next_number p) (2 ^ 64) ≡ e
+    by : (a b c d e : Bool) → has_numbers p worker draft.entries ≡ e
         → cond a (Err faults.Failed) (cond b (Err faults.ReadOnly)
         (cond c (Err faults.Foreign) (cond d (Err (faults.Conflict (last_touching draft.entries 0 (p.durable ++ p.pending))))
         (cond e (Ok (next_number p)) (Err faults.NumbersUsedUp))))) ≡ Ok number
-        → IsTaken p draft
-    by true b c d e q t h = absurd (cc)
-    by false true c d e q t h = absurd (cc)
-    by false false true d e q t h = absurd (cc)
-    by false false false true e q t h = absurd (cc)
-    by false false false false false q t h = absurd (cc)
-    by false false false false true q t h =
-        let there = eqb-false (length draft.entries) 0 q in
-        record { some = omega arith; numbered = ltb-true (next_number p) (2 ^ 64) t }
-
-primary-committed : (shape : Shape) (p : Primary) (worker : ℕ) (draft : Draft) → IsSoundPrimary shape p
-    → IsSmallDraft (length p.durable) draft → worker < 1 → IsTaken p draft → IsSoundPrimary shape (committed p worker draft.entries)
-primary-committed shape p worker draft sound small below taken =
-    let commit : Commit = record { worker = worker; entries = draft.entries } in
-    let numbered = taken.numbered in
-    record {
-      shape_is = sound.shape_is;
-      workers_are = sound.workers_are;
-      small =
-          subst (AllByRecursion IsSmall) (append_assoc p.durable p.pending (commit ∷ []))
-          (All-append IsSmall (p.durable ++ p.pending) (commit ∷ []) sound.small
-          (record { worker = omega arith; some = taken.some; few = small.few; spelled = small.spelled }, tt));
-      numbered = omega (arith, length-append p.pending (commit ∷ []));
-    }
+        → next_number p < 2 ^ 64
+    by true b c d e t h = absurd (cc)
+    by false true c d e t h = absurd (cc)
+    by false false true d e t h = absurd (cc)
+    by false false false true e t h = absurd (cc)
+    by false false false false false t h = absurd (cc)
+    by false false false false true t h =
+        ltb-true (next_number p) (2 ^ 64)
+        (and_parts (nat_lt (next_number p) (2 ^ 64))
+        (nat_lt (length (stream_of (p.durable ++ p.pending) worker) + length (parts_of draft.entries)) (2 ^ 64)) t).0
 
 commits : (shape : Shape) (p : Parts) (number worker : ℕ) (draft : Draft) (answer : Result ℕ CommitFault) → Sound shape p
-    → IsSmallDraft (length p.primary.durable) draft → worker < 1
-    → commit_answer p.primary draft ≡ answer
     → Sound shape (beside_of (commit_happens (world_of p) number worker draft answer).1 p)
-commits shape p number worker draft (Ok ticket) sound small below h =
-    Sound-primary shape (record p { transactions = slice_set p.transactions number None })
+commits shape p number worker draft (Ok ticket) sound =
+    Sound-pending shape (record p { transactions = slice_set p.transactions number None })
     (p.primary.pending ++ record { worker = worker; entries = draft.entries } ∷ []) (drafts-ended shape p number sound)
-    (primary-committed shape p.primary worker draft sound.primary_is small below (commit-taken p.primary draft ticket h))
-commits shape p number worker draft (Err fault) sound small below h = drafts-ended shape p number sound
+commits shape p number worker draft (Err fault) sound = drafts-ended shape p number sound
 
-pub commit-sound : (shape : Shape) (p : Parts) (number worker : ℕ) (found : Option Draft) → Sound shape p → worker < 1
-    → open_draft p.transactions number ≡ found
+pub commit-sound : (shape : Shape) (p : Parts) (number worker : ℕ) (found : Option Draft) → Sound shape p
     → Sound shape (beside_of (on_draft (world_of p) found
-    (λ draft. commit_happens (world_of p) number worker draft (commit_answer p.primary draft))).1 p)
-commit-sound shape p number worker None sound below here = sound
-commit-sound shape p number worker (Some draft) sound below here =
-    commits shape p number worker draft (commit_answer p.primary draft) sound
-    (sound.drafts_are number draft (opened (slice_get p.transactions number) draft here)) below refl
+    (λ draft. commit_happens (world_of p) number worker draft (commit_answer p.primary worker draft))).1 p)
+commit-sound shape p number worker None sound = sound
+commit-sound shape p number worker (Some draft) sound = commits shape p number worker draft (commit_answer p.primary worker draft) sound
 
-pub flush-sound : (shape : Shape) (p : Parts) (count : ℕ) (failed : Bool) (refused answered : Output)
-    → IsLegal shape 1 (p.primary.durable ++ p.primary.pending) → Sound shape p
+-- the legal list of a primary's shape
+own-legal : (shape : Shape) (p : Parts) → AreLists p.primary → Sound shape p
+    → IsLegal shape p.primary.workers (p.primary.durable ++ p.primary.pending)
+own-legal shape p lists sound =
+    subst (λ (s : Shape). IsLegal s p.primary.workers (p.primary.durable ++ p.primary.pending)) sound.primary_is.shape_is lists.all.legal
+
+-- the first of the pending commits behind the durable ones are legal
+legal-taken : (shape : Shape) (p : Parts) (count : ℕ) → AreLists p.primary → Sound shape p
+    → IsLegal shape p.primary.workers (p.primary.durable ++ take count p.primary.pending)
+legal-taken shape p count lists sound =
+    let durable = p.primary.durable in
+    let pending = p.primary.pending in
+    let whole : (durable ++ take count pending) ++ drop count pending ≡ durable ++ pending =
+    append_assoc durable (take count pending) (drop count pending)
+    ∙ ap (λ (l : List Commit). durable ++ l) (take-append-drop count pending) in
+    legal-front shape p.primary.workers (durable ++ take count pending) (drop count pending)
+    (subst (IsLegal shape p.primary.workers) (sym whole) (own-legal shape p lists sound))
+
+pub flush-sound : (laws : FedLaws) (shape : Shape) (p : Parts) (count : ℕ) (failed : Bool) (refused answered : Output)
+    → AreLists p.primary → Sound shape p
     → Sound shape (beside_of (cond {A = Output × World} failed (refused, world_of p)
     (answered, world_of (record p { primary = flushed p.primary count }))).1 p)
-flush-sound shape p count true refused answered legal sound = sound
-flush-sound shape p count false refused answered legal sound = Sound-flushed shape p count legal sound
+flush-sound laws shape p count true refused answered lists sound = sound
+flush-sound laws shape p count false refused answered lists sound =
+    Sound-grown laws shape p (take count p.primary.pending) (drop count p.primary.pending) (legal-taken shape p count lists sound) sound
+
+-- ---- stops and starts
+
+pub stop-sound : (laws : FedLaws) (shape : Shape) (p : Parts) (bytes : ℕ) → AreLists p.primary → Sound shape p
+    → Sound shape (beside_of (stop_happens (world_of p) bytes).1 p)
+stop-sound laws shape p bytes lists sound =
+    let count = whole_in (length p.primary.durable) p.primary.pending bytes in
+    let ended =
+    Sound-drafts shape p (closed p.transactions) sound
+    (λ i draft here. absurd (none-open p.transactions i draft here)) in
+    let grown =
+    Sound-grown laws shape (record p { transactions = closed p.transactions }) (take count p.primary.pending) []
+    (legal-taken shape p count lists sound) ended in
+    Sound-apart shape
+    (record p { primary = record (stopped_at p.primary bytes) { failed = p.primary.failed }; transactions = closed p.transactions })
+    false true p.journal grown
+
+pub start-sound : (shape : Shape) (p : Parts) (stopped : Bool) → Sound shape p
+    → Sound shape (beside_of (cond {A = Output × World} stopped
+    (outputs.Durable (length p.primary.durable), record (world_of p) { stopped = false }) (outputs.Running, world_of p)).1 p)
+start-sound shape p true sound = Sound-apart shape p p.primary.failed false p.journal sound
+start-sound shape p false sound = sound
 
 -- ---- what the primary sends
 
-small-durable : (shape : Shape) (p : Parts) → Sound shape p → AllByRecursion IsSmall p.primary.durable
-small-durable shape p sound = All-left IsSmall p.primary.durable p.primary.pending sound.primary_is.small
-
-frame-means : (shape : Shape) (p : Parts) (seq : ℕ) (frame : Frame) → Sound shape p
-    → slice_get (stream_of p.primary.durable 0) seq ≡ Some frame → Means p.primary.durable p.replicas (reading (frame_spelling frame))
-frame-means shape p seq frame sound h =
+-- a frame of the durable list tells the truth of it
+frame-means : (p : Parts) (worker seq : ℕ) (frame : Frame) → AreLists p.primary
+    → slice_get (stream_of p.primary.durable worker) seq ≡ Some frame
+    → Means p.primary.workers p.primary.durable p.replicas (reading (frame_spelling frame))
+frame-means p worker seq frame lists h =
     let durable = p.primary.durable in
-    let found = frame-commit durable seq frame (each-durable shape p sound) h in
-    let within = slice_get_within durable seq found.0 found.1 in
-    let numbered = sound.primary_is.numbered in
-    let small = All-get IsSmall durable (small-durable shape p sound) seq found.0 found.1 in
-    subst (λ (f : Frame). Means durable p.replicas (reading (frame_spelling f))) found.2
-    (subst (Means durable p.replicas) (sym (frame-read seq found.0 small (omega arith)))
-    (record { tells = ap (λ (w : ℕ). slice_get (stream_of durable w) seq) small.worker ∙ h ∙ ap Some (sym found.2); requests = tt }))
+    let at = frame-at durable worker seq frame h in
+    let sendable = All-get IsSendable (stream_of durable worker) (lists.sendable worker) seq frame h in
+    subst (Means p.primary.workers durable p.replicas) (sym (frame-read frame sendable)) (record {
+      tells =
+          ap (λ (w : ℕ). slice_get (stream_of durable w) frame.seq) at.worker_is
+          ∙ ap (slice_get (stream_of durable worker)) at.seq_is ∙ h;
+      requests = tt;
+    })
 
-pub push-sound : (shape : Shape) (p : Parts) (worker seq : ℕ) (found : Option Frame) → Sound shape p → worker < 1
+pub push-sound : (shape : Shape) (p : Parts) (worker seq : ℕ) (found : Option Frame) → AreLists p.primary → Sound shape p
     → slice_get (stream_of p.primary.durable worker) seq ≡ found
     → Sound shape (beside_of (push_happens (world_of p) (option_map frame_spelling found)).1 p)
-push-sound shape p worker seq None sound below here = sound
-push-sound shape p worker seq (Some frame) sound below here =
-    let only : 0 ≡ worker = omega arith in
-    let at : slice_get (stream_of p.primary.durable 0) seq ≡ Some frame =
-    ap (λ (w : ℕ). slice_get (stream_of p.primary.durable w) seq) only ∙ here in
-    Sound-one shape p (frame_spelling frame) sound (frame-means shape p seq frame sound at)
+push-sound shape p worker seq None lists sound here = sound
+push-sound shape p worker seq (Some frame) lists sound here =
+    Sound-one shape p (frame_spelling frame) sound (frame-means p worker seq frame lists here)
 
--- the count of the only worker
-counts-all : (shape : Shape) (p : Parts) → Sound shape p
-    → frame_count p.primary.durable 0 (length p.primary.durable) ∷ [] ≡ length p.primary.durable ∷ []
-counts-all shape p sound =
-    ap (λ (n : ℕ). n ∷ []) (count-is p.primary.durable (length p.primary.durable) (each-durable shape p sound) (omega arith))
+-- the streams of the durable list have numbers of 64 bits
+durable-below : (p : Primary) → AreLists p → (worker : ℕ) → length (stream_of p.durable worker) < 2 ^ 64
+durable-below p lists worker =
+    let below = lists.numbered.frames_below worker in
+    let grows = stream-grows p.durable p.pending worker in
+    omega arith
 
-head-is : (shape : Shape) (p : Parts) (replica boot request : ℕ) → Sound shape p
-    → head_for p.primary replica boot request ≡ datagrams.Head replica boot request (length p.primary.durable)
-    (length p.primary.durable ∷ [])
-head-is shape p replica boot request sound =
-    let durable = p.primary.durable in
-    ap (λ (w : ℕ). datagrams.Head replica boot request (length durable) (counts_of durable (length durable) w)) sound.primary_is.workers_are
-    ∙ ap (λ (l : List ℕ). datagrams.Head replica boot request (length durable) l) (counts-all shape p sound)
-
-head-means : (shape : Shape) (p : Parts) (replica boot request : ℕ) → Sound shape p → IsAsk replica boot request
+head-means : (shape : Shape) (p : Parts) (replica boot request : ℕ) → AreLists p.primary → Sound shape p → IsAsk replica boot request
     → ((r : Replica) → slice_get p.replicas replica ≡ Some r → request ≤ r.request)
-    → Means p.primary.durable p.replicas (reading (spelling (head_for p.primary replica boot request)))
-head-means shape p replica boot request sound ask asked =
+    → Means p.primary.workers p.primary.durable p.replicas (reading (spelling (head_for p.primary replica boot request)))
+head-means shape p replica boot request lists sound ask asked =
     let durable = p.primary.durable in
-    let numbered = sound.primary_is.numbered in
+    let workers = p.primary.workers in
+    let counts = counts_of durable (length durable) workers in
+    let legal = legal-front shape workers durable p.primary.pending (own-legal shape p lists sound) in
+    let below : length durable < 2 ^ 64 =
+    let all = lists.numbered.commits_below in omega (arith, length-append durable p.primary.pending) in
     let read =
-    ap (λ (d : Datagram). reading (spelling d)) (head-is shape p replica boot request sound)
-    ∙ head-read replica boot request (length durable) ask (omega arith) in
-    subst (Means durable p.replicas) (sym read) (record {
-      tells = (omega arith, sym (counts-all shape p sound));
+    head-read replica boot request (length durable) counts ask below
+    (counts-spelled durable workers sound.primary_is.workers_some sound.primary_is.workers_few (durable-below p.primary lists)) in
+    subst (Means workers durable p.replicas) (sym read) (record {
+      tells = (omega arith, counts-length durable (length durable) workers, counts-are durable workers legal.each);
       requests = λ r here. record { asked = asked r here; fresh = λ waits same. (sound.fed replica r here).feeding.below };
     })
 
-answers-mean : (shape : Shape) (p : Parts) (datagram : Result Datagram WireFault) → Sound shape p
-    → Means p.primary.durable p.replicas datagram
-    → (i : ℕ) (bytes : List ℕ) → slice_get (packets_of (answers_to p.primary datagram)) i ≡ Some bytes
-    → Means p.primary.durable p.replicas (reading bytes)
-answers-mean shape p (Err fault) sound means i bytes h = absurd (none-some bytes h)
-answers-mean shape p (Ok (datagrams.Frame worker seq commit last entries)) sound means i bytes h = absurd (none-some bytes h)
-answers-mean shape p (Ok (datagrams.Ask replica boot request)) sound means i bytes h =
-    subst (λ (b : List ℕ). Means p.primary.durable p.replicas (reading b))
-    (sym (get-one (spelling (head_for p.primary replica boot request)) i bytes h))
-    (head-means shape p replica boot request sound means.requests.0 means.requests.1)
-answers-mean shape p (Ok (datagrams.Head replica boot request version counts)) sound means i bytes h = absurd (none-some bytes h)
-answers-mean shape p (Ok (datagrams.Want replica worker from)) sound means i bytes h = absurd (none-some bytes h)
+-- the bytes that go to a replica, where frames are sent
+packets-at : (replica : ℕ) (frames : List Frame) (i : ℕ) (bytes : List ℕ)
+    → slice_get (packets_of (map (frame_to replica) frames)) i ≡ Some bytes
+    → (frame : Frame) × (slice_get frames i ≡ Some frame) × (frame_spelling frame ≡ bytes)
+packets-at replica [] i bytes h = absurd (none-some bytes h)
+packets-at replica (frame ∷ frames) zero bytes h = (frame, refl, same_Some (frame_spelling frame) bytes h)
+packets-at replica (frame ∷ frames) (suc i) bytes h = packets-at replica frames i bytes h
 
-pub deliver-sound : (shape : Shape) (p : Parts) (index : ℕ) (found : Option (List ℕ)) → Sound shape p → slice_get p.sent index ≡ found
-    → Sound shape (beside_of (deliver_happens (world_of p) nodes.Primary found).1 p)
-deliver-sound shape p index None sound here = sound
-deliver-sound shape p index (Some bytes) sound here =
+want-means : (p : Parts) (replica worker from : ℕ) → AreLists p.primary → (i : ℕ) (bytes : List ℕ)
+    → slice_get (packets_of (map (frame_to replica) (wanted p.primary worker from))) i ≡ Some bytes
+    → Means p.primary.workers p.primary.durable p.replicas (reading bytes)
+want-means p replica worker from lists i bytes h =
+    let stream = stream_of p.primary.durable worker in
+    let found = packets-at replica (wanted p.primary worker from) i bytes h in
+    let at = sym (get-drop from stream i) ∙ get-take 16 (drop from stream) i found.0 found.1 in
+    subst (λ (b : List ℕ). Means p.primary.workers p.primary.durable p.replicas (reading b)) found.2
+    (frame-means p worker (from + i) found.0 lists at)
+
+answers-mean : (shape : Shape) (p : Parts) (datagram : Result Datagram WireFault) → AreLists p.primary → Sound shape p
+    → Means p.primary.workers p.primary.durable p.replicas datagram
+    → (i : ℕ) (bytes : List ℕ) → slice_get (packets_of (answers_to p.primary datagram)) i ≡ Some bytes
+    → Means p.primary.workers p.primary.durable p.replicas (reading bytes)
+answers-mean shape p (Err fault) lists sound means i bytes h = absurd (none-some bytes h)
+answers-mean shape p (Ok (datagrams.Frame worker seq commit last entries)) lists sound means i bytes h = absurd (none-some bytes h)
+answers-mean shape p (Ok (datagrams.Ask replica boot request)) lists sound means i bytes h =
+    subst (λ (b : List ℕ). Means p.primary.workers p.primary.durable p.replicas (reading b))
+    (sym (get-one (spelling (head_for p.primary replica boot request)) i bytes h))
+    (head-means shape p replica boot request lists sound means.requests.0 means.requests.1)
+answers-mean shape p (Ok (datagrams.Head replica boot request version counts)) lists sound means i bytes h = absurd (none-some bytes h)
+answers-mean shape p (Ok (datagrams.Want replica worker from)) lists sound means i bytes h = want-means p replica worker from lists i bytes
+    h
+
+pub deliver-sound : (shape : Shape) (p : Parts) (index : ℕ) (found : Option (List ℕ)) → AreLists p.primary → Sound shape p
+    → slice_get p.sent index ≡ found → Sound shape (beside_of (deliver_happens (world_of p) nodes.Primary found).1 p)
+deliver-sound shape p index None lists sound here = sound
+deliver-sound shape p index (Some bytes) lists sound here =
     Sound-sent shape p (packets_of (answers p.primary bytes)) sound
-    (answers-mean shape p (reading bytes) sound (sound.sent_is index bytes here))
+    (answers-mean shape p (reading bytes) lists sound (sound.sent_is index bytes here))

@@ -1,72 +1,36 @@
 -- What the datagrams that are sent read as.
-use Rattle.std.proofs.Common.{◌≡◌, ℕ, zero, suc, ◌+◌, ◌*◌, ◌^◌, ◌%◌, ◌<◌, ◌≤◌, Bool, true, false, cond, not, ◌||◌, ◌&&◌, ◌==◌, List, []}
+use Rattle.std.proofs.Common.{◌≡◌, ℕ, zero, suc, ◌+◌, ◌*◌, ◌^◌, ◌%◌, ◌<◌, Bool, true, false, cond, not, ◌||◌, ◌&&◌, ◌==◌, List, []}
 use Rattle.std.proofs.Common.{◌∷◌, ◌++◌, length, drop, get_or, Option, Some, None, Result, Ok, Err, nat_lt, refl, sym, ap, subst, ◌∙◌}
 use Rattle.std.proofs.Common.{arith}
-use Rattle.std.specs.List.{AllByRecursion, flat_map, slice_index}
+use Rattle.std.specs.List.{slice_index}
 use Rattle.std.specs.Option.{option_map, ok_or}
 use Rattle.std.specs.Int.{byte_at, w64, from_be_bytes}
 use Rattle.std.proofs.lemmas.Nat.{be_bytes_8}
-use Rattle.std.proofs.lemmas.List.{length-append}
 use Rattle.byteorder.specs.Endian.{big_bytes, big_number}
 use Rattle.byteorder.specs.Numbers.{big_from-bytes, big_number-reads_back}
-use Rattle.rows.specs.declared.commit.Commit.{Commit}
 use Rattle.rows.specs.declared.entry.Entry.{Entry}
-use Rattle.rows.specs.declared.entry.Entry.TheVariants.{Insert, Patch, Delete}
 use Rattle.rows.specs.declared.limits.TheConstants.{DATAGRAM_MAX, REPLICAS_MAX, WORKERS_MAX}
-use Rattle.rows.specs.Spelling.{entry_spelling, HasSpelling as EntryHasSpelling}
 use Rattle.wire.specs.declared.datagram.Datagram.{Datagram}
 use Rattle.wire.specs.declared.datagram.Datagram.TheVariants as datagrams
 use Rattle.wire.specs.declared.faults.WireFault.{WireFault}
 use Rattle.wire.specs.declared.faults.WireFault.TheVariants.{Short, Magic, Version, Kind, Length, Body}
 use Rattle.update_log.specs.declared.frame.Frame.{Frame}
+use Rattle.update_log.specs.Frames.{IsSendable}
 use Rattle.wire.specs.Entries.{entries_filling}
 use Rattle.wire.specs.Reading.{reading, body_at, counts_at}
-use Rattle.wire.specs.Spelling.{datagram_of, spelling, frame_spelling, IsAsk}
+use Rattle.wire.specs.Spelling.{datagram_of, datagram_of_frame, spelling, frame_spelling, IsAsk, AreCounts}
 use Rattle.rows.proofs.EntryReading.{entry_at-again}
 use Rattle.wire.proofs.SpelledIsRead.{reading-again}
-use Rattle.dispatcher.proofs.Streams.{whole_frame}
-use Rattle.world.specs.Inner.Sound.{IsSmall}
 
--- entries of a small commit take few bytes
-entries_few : (entries : List Entry) → AllByRecursion EntryHasSpelling entries
-    → length (flat_map entry_spelling entries) ≤ 524 * length entries
-entries_few [] h = omega arith
-entries_few (Insert table row content ∷ entries) h =
-    let rest = entries_few entries h.1 in
-    let size = h.0.few in
-    omega (arith, length-append content (flat_map entry_spelling entries))
-entries_few (Patch table row offset content ∷ entries) h =
-    let rest = entries_few entries h.1 in
-    let size = h.0.few in
-    omega (arith, length-append content (flat_map entry_spelling entries))
-entries_few (Delete table row ∷ entries) h =
-    let rest = entries_few entries h.1 in
-    omega arith
+-- a frame that is sent reads as itself
+pub frame-read : (frame : Frame) → IsSendable frame → reading (frame_spelling frame) ≡ Ok (datagram_of_frame frame)
+frame-read frame sendable = reading-again entry_at-again (datagram_of_frame frame) sendable
 
--- the frame of a small commit reads as itself
-pub frame-read : (seq : ℕ) (commit : Commit) → IsSmall commit → seq + 1 < 2 ^ 64
-    → reading (frame_spelling (whole_frame seq commit)) ≡ Ok (datagrams.Frame commit.worker seq (seq + 1) true commit.entries)
-frame-read seq commit small below =
-    let bytes = entries_few commit.entries small.spelled in
-    let few = small.few in
-    let worker = small.worker in
-    reading-again entry_at-again (datagrams.Frame commit.worker seq (seq + 1) true commit.entries) (record {
-      worker_below = omega arith;
-      seq_below = omega arith;
-      commit_numbered = omega arith;
-      commit_below = below;
-      some = small.some;
-      spelled = small.spelled;
-      few = omega arith;
-    })
-
--- a Head of one worker reads as itself
-pub head-read : (replica boot request version : ℕ) → IsAsk replica boot request → version < 2 ^ 64
-    → reading (spelling (datagrams.Head replica boot request version (version ∷ []))) ≡ Ok
-    (datagrams.Head replica boot request version (version ∷ []))
-head-read replica boot request version ask below =
-    reading-again entry_at-again (datagrams.Head replica boot request version (version ∷ []))
-    (ask, below, record { some = omega arith; few = omega arith; below = (below, tt) })
+-- a Head reads as itself
+pub head-read : (replica boot request version : ℕ) (counts : List ℕ) → IsAsk replica boot request → version < 2 ^ 64 → AreCounts counts
+    → reading (spelling (datagrams.Head replica boot request version counts)) ≡ Ok (datagrams.Head replica boot request version counts)
+head-read replica boot request version counts ask below spelled =
+    reading-again entry_at-again (datagrams.Head replica boot request version counts) (ask, below, spelled)
 
 byte-below : (k n : ℕ) → byte_at k n < 256
 byte-below zero n = omega arith

@@ -1,5 +1,6 @@
 -- The few moves of a fresh world, each of which leaves it fresh.
-use Rattle.std.proofs.Common.{◌≡◌, ℕ, zero, suc, ◌+◌, ◌^◌, ◌<◌, ◌≤◌, List, [], ◌∷◌, ◌++◌, length, take, drop, Option, Some, Result, Ok, Err}
+use Rattle.std.proofs.Common.{◌≡◌, ℕ, zero, suc, ◌+◌, ◌^◌, ◌<◌, ◌≤◌, false, List, [], ◌∷◌, ◌++◌, length, take, drop, Option}
+use Rattle.std.proofs.Common.{Some, Result, Ok, Err}
 use Rattle.std.proofs.Common.{refl, sym, ap, subst, ◌∙◌, inl, inr, arith}
 use Rattle.std.specs.List.{slice_get, slice_set, AllByRecursion}
 use Rattle.std.proofs.lemmas.List.{length-append, length-set, take-append-drop}
@@ -13,7 +14,8 @@ use Rattle.wire.specs.Reading.{reading}
 use Rattle.mvcc.specs.Draft.{Draft}
 use Rattle.primary.specs.Steps.{committed, flushed}
 use Rattle.script.specs.declared.setup.Setup.{Setup}
-use Rattle.world.specs.Steps.{World, Member, Batch, fresh, fresh_from, opening_world, with_member}
+use Rattle.world.specs.Steps.{World, Member, Batch, fresh, fresh_from, opening_world, with_member, stop_happens}
+use Rattle.world.specs.Stops.{whole_in}
 use Rattle.world.specs.Inner.Fresh.{IsFreshBatch, IsFreshMember, IsFreshHead, IsFreshReading, Fresh}
 use Rattle.world.proofs.Lists.{get-set, get-append, All-get}
 
@@ -71,6 +73,26 @@ Fresh-flushed w count h =
       members_are = λ i m here. member-grows w.primary.durable front i m (h.members_are i m here);
       sent_is = λ i bytes here. reading-grows w.primary.durable front w.members (reading bytes) (h.sent_is i bytes here);
     }
+
+-- the primary stops
+pub Fresh-stopped : (w : World) (bytes : ℕ) → Fresh w → Fresh (stop_happens w bytes).1
+Fresh-stopped w bytes h =
+    let count = whole_in (length w.primary.durable) w.primary.pending bytes in
+    let front = take count w.primary.pending in
+    let back = drop count w.primary.pending in
+    let numbered = h.numbered in
+    let parts : length front + length back ≡ length w.primary.pending =
+    sym (length-append front back) ∙ ap length (take-append-drop count w.primary.pending) in
+    record {
+      numbered = omega (arith, length-append w.primary.durable front);
+      few = h.few;
+      members_are = λ i m here. member-grows w.primary.durable front i m (h.members_are i m here);
+      sent_is = λ i bytes here. reading-grows w.primary.durable front w.members (reading bytes) (h.sent_is i bytes here);
+    }
+
+-- and starts again
+pub Fresh-started : (w : World) → Fresh w → Fresh (record w { stopped = false })
+Fresh-started w h = record { numbered = h.numbered; few = h.few; members_are = h.members_are; sent_is = h.sent_is }
 
 -- ---- more datagrams
 
@@ -165,26 +187,27 @@ Fresh-member w i old new h here follows =
 
 -- ---- the beginning
 
-started-fresh : (number count i : ℕ) (m : Member) → slice_get (fresh_from number count) i ≡ Some m → IsFreshMember [] (number + i) m
-started-fresh number zero i m here = absurd (none-some m here)
-started-fresh number (suc count) zero m here =
-    let same : fresh number ≡ m = same_Some (fresh number) m here in
+started-fresh : (workers number count i : ℕ) (m : Member) → slice_get (fresh_from workers number count) i ≡ Some m
+    → IsFreshMember [] (number + i) m
+started-fresh workers number zero i m here = absurd (none-some m here)
+started-fresh workers number (suc count) zero m here =
+    let same : fresh workers number ≡ m = same_Some (fresh workers number) m here in
     let index : number ≡ number + 0 = omega arith in
     subst (IsFreshMember [] (number + 0)) same
     (record { number_is = index; boot_is = refl; batch_is = λ batch has. absurd (none-some batch has) })
-started-fresh number (suc count) (suc i) m here =
+started-fresh workers number (suc count) (suc i) m here =
     let index : suc number + i ≡ number + suc i = omega arith in
-    subst (λ (n : ℕ). IsFreshMember [] n m) index (started-fresh (suc number) count i m here)
+    subst (λ (n : ℕ). IsFreshMember [] n m) index (started-fresh workers (suc number) count i m here)
 
-length-fresh : (number count : ℕ) → length (fresh_from number count) ≡ count
-length-fresh number zero = refl
-length-fresh number (suc count) = ap suc (length-fresh (suc number) count)
+length-fresh : (workers number count : ℕ) → length (fresh_from workers number count) ≡ count
+length-fresh workers number zero = refl
+length-fresh workers number (suc count) = ap suc (length-fresh workers (suc number) count)
 
 pub opening-fresh : (setup : Setup) → setup.replicas ≤ REPLICAS_MAX → Fresh (opening_world setup)
 opening-fresh setup few = record {
   numbered = omega arith;
-  few = omega (arith, length-fresh 0 setup.replicas);
+  few = omega (arith, length-fresh setup.workers 0 setup.replicas);
   members_are = λ i m here. let index : 0 + i ≡ i =
-      omega arith in subst (λ (n : ℕ). IsFreshMember [] n m) index (started-fresh 0 setup.replicas i m here);
+      omega arith in subst (λ (n : ℕ). IsFreshMember [] n m) index (started-fresh setup.workers 0 setup.replicas i m here);
   sent_is = λ i bytes here. absurd (none-some bytes here);
 }

@@ -1,11 +1,10 @@
 -- What is sent and what a replica takes keep a world fresh.
-use Rattle.std.proofs.Common.{◌≡◌, ℕ, ◌≤◌, Bool, true, false, cond, not, ◌||◌, ◌&&◌, ◌==◌, List, [], ◌∷◌, length, Option, Some, None}
+use Rattle.std.proofs.Common.{◌≡◌, ℕ, ◌≤◌, Bool, true, false, cond, not, ◌||◌, ◌&&◌, ◌==◌, List, [], ◌∷◌, length, map, Option, Some, None}
 use Rattle.std.proofs.Common.{Result, Ok, Err, nat_lt, refl, ap, subst, ◌∙◌, arith}
 use Rattle.std.specs.List.{slice_get, AllByRecursion, list_all}
 use Rattle.std.specs.Option.{option_map}
 use Rattle.std.specs.Result.{is_ok}
-use Rattle.std.specs.BTreeSet.{insert_key}
-use Rattle.std.specs.Ordering.{nat_cmp}
+use Rattle.intake.specs.Known.{is_known, is_ahead}
 use Rattle.std.proofs.lemmas.Bool.{and_parts, eqb-true}
 use Rattle.std.proofs.lemmas.Option.{same_Some}
 use Rattle.rows.specs.declared.commit.Commit.{Commit}
@@ -18,9 +17,8 @@ use Rattle.update_log.specs.declared.frame.Frame.{Frame}
 use Rattle.wire.specs.declared.out.Out.{Out}
 use Rattle.wire.specs.Reading.{reading}
 use Rattle.wire.specs.Spelling.{frame_spelling}
-use Rattle.primary.specs.Sending.{counts_of, answers, answers_to}
+use Rattle.primary.specs.Sending.{counts_of, answers, answers_to, wanted, frame_to}
 use Rattle.dispatcher.specs.declared.plan.Plan.{Plan}
-use Rattle.dispatcher.specs.Known.{is_known, is_ahead}
 use Rattle.dispatcher.specs.State.{Fetched}
 use Rattle.script.specs.declared.event.Event.{Event}
 use Rattle.script.specs.declared.event.Node.{Node}
@@ -29,7 +27,7 @@ use Rattle.script.specs.declared.output.Output.{Output}
 use Rattle.script.specs.declared.output.Output.TheVariants as outputs
 use Rattle.world.specs.Outputs.{of_answers, packets_of}
 use Rattle.world.specs.Steps.{World, Member, Batch, send, push_happens, head_happens, datagram_happens, on_member, member_output}
-use Rattle.world.specs.Steps.{deliver_happens, shown}
+use Rattle.world.specs.Steps.{deliver_happens, shown, known_of, with_known}
 use Rattle.world.proofs.Datagrams.{frame-reads, head-reads}
 use Rattle.world.specs.Inner.Fresh.{IsFreshBatch, IsFreshMember, IsFreshHead, IsFreshReading, Fresh}
 use Rattle.world.proofs.Fresh.{Fresh-sent, Follows, alike, Fresh-member}
@@ -51,6 +49,15 @@ answers-silent : (index : ℕ) (outs : List Out) → IsNoReport (of_answers inde
 answers-silent index [] = tt
 answers-silent index (out ∷ outs) = tt
 
+-- frames tell of no request
+frames-fresh : (w : World) (replica : ℕ) (frames : List Frame)
+    → AllByRecursion (λ bytes. IsFreshReading w.primary.durable w.members (reading bytes)) (packets_of (map (frame_to replica) frames))
+frames-fresh w replica [] = tt
+frames-fresh w replica (frame ∷ frames) = (
+  frame-reads (IsFreshReading w.primary.durable w.members) (λ fault. tt) (λ worker seq commit last entries. tt) frame,
+  frames-fresh w replica frames,
+)
+
 -- the Head of an Ask has what is durable now, and no batch asked later
 answers-fresh : (w : World) (read : Result Datagram WireFault) → Fresh w → IsFreshReading w.primary.durable w.members read
     → AllByRecursion (λ bytes. IsFreshReading w.primary.durable w.members (reading bytes)) (packets_of (answers_to w.primary read))
@@ -71,7 +78,7 @@ answers-fresh w (Ok (datagrams.Ask replica boot request)) h told =
       tt,
     )
 answers-fresh w (Ok (datagrams.Head replica boot request version counts)) h told = tt
-answers-fresh w (Ok (datagrams.Want replica worker from)) h told = tt
+answers-fresh w (Ok (datagrams.Want replica worker from)) h told = frames-fresh w replica (wanted w.primary worker from)
 
 -- what a replica makes of a datagram
 record Takes (durable : List Commit) (m : Member) (answer : Output × Member) : Type 0 where
@@ -83,14 +90,14 @@ keeps : (durable : List Commit) (i : ℕ) (m : Member) (output : Output) → IsF
     → Takes durable m (output, m)
 keeps durable i m output is silent = record { follows = alike durable i m m is refl refl refl refl; silent = silent }
 
-frame-takes : (durable : List Commit) (i : ℕ) (m : Member) (seq : ℕ) (a b c : Bool) → IsFreshMember durable i m
+frame-takes : (durable : List Commit) (i : ℕ) (m : Member) (worker seq : ℕ) (a b c : Bool) → IsFreshMember durable i m
     → Takes durable m (cond a (outputs.Ignored, m)
-    (cond b (outputs.Repeat, m) (cond c (outputs.Ahead, m) (outputs.Stored, record m { known = insert_key nat_cmp m.known seq }))))
-frame-takes durable i m seq true b c is = keeps durable i m outputs.Ignored is tt
-frame-takes durable i m seq false true c is = keeps durable i m outputs.Repeat is tt
-frame-takes durable i m seq false false true is = keeps durable i m outputs.Ahead is tt
-frame-takes durable i m seq false false false is =
-    record { follows = alike durable i m (record m { known = insert_key nat_cmp m.known seq }) is refl refl refl refl; silent = tt }
+    (cond b (outputs.Repeat, m) (cond c (outputs.Ahead, m) (outputs.Stored, record m { known = with_known m.known worker seq }))))
+frame-takes durable i m worker seq true b c is = keeps durable i m outputs.Ignored is tt
+frame-takes durable i m worker seq false true c is = keeps durable i m outputs.Repeat is tt
+frame-takes durable i m worker seq false false true is = keeps durable i m outputs.Ahead is tt
+frame-takes durable i m worker seq false false false is =
+    record { follows = alike durable i m (record m { known = with_known m.known worker seq }) is refl refl refl refl; silent = tt }
 
 -- a Head of the batch's own request
 fetched-takes : (durable : List Commit) (i : ℕ) (m : Member) (version : ℕ) (counts : List ℕ) (plans : List Plan) (asked_at : ℕ)
@@ -151,8 +158,8 @@ datagram-takes : (durable : List Commit) (shape : Shape) (workers : ℕ) (member
     → IsFreshReading durable members read → Takes durable m (datagram_happens shape workers m read)
 datagram-takes durable shape workers members i m here is (Err fault) told = keeps durable i m outputs.Ignored is tt
 datagram-takes durable shape workers members i m here is (Ok (datagrams.Frame worker seq commit last entries)) told =
-    frame-takes durable i m seq (not (nat_lt worker workers) || not (list_all (λ entry. is_ok (fitting shape entry)) entries))
-    (is_known m.known seq) (is_ahead m.known seq) is
+    frame-takes durable i m worker seq (not (nat_lt worker workers) || not (list_all (λ entry. is_ok (fitting shape entry)) entries))
+    (is_known (known_of m.known worker) seq) (is_ahead (known_of m.known worker) seq) is
 datagram-takes durable shape workers members i m here is (Ok (datagrams.Ask replica boot request)) told =
     keeps durable i m outputs.Ignored is tt
 datagram-takes durable shape workers members i m here is (Ok (datagrams.Head replica boot request version counts)) told =

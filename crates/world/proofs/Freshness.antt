@@ -6,28 +6,26 @@ use Rattle.std.proofs.lemmas.Option.{none-some, same_Some, slice_get_within}
 use Rattle.rows.specs.declared.limits.TheConstants.{REPLICAS_MAX, WAITING_QUERIES_MAX}
 use Rattle.rows.specs.Shape.{shape_of}
 use Rattle.wire.specs.Reading.{reading}
-use Rattle.wire.specs.Streams.{stream_of}
+use Rattle.update_log.specs.Streams.{stream_of}
 use Rattle.dispatcher.specs.declared.plan.Plan.{Plan}
 use Rattle.dispatcher.specs.declared.faults.PlanFault.{PlanFault}
 use Rattle.mvcc.specs.Transactions.{insert_answer, set_answer, delete_answer, get_answer}
-use Rattle.dispatcher.specs.Known.{first_missing}
 use Rattle.dispatcher.specs.Plans.{checked}
-use Rattle.dispatcher.specs.Report.{report_of}
-use Rattle.dispatcher.specs.Steps.{lacks_frame}
-use Rattle.rows.specs.Commits.{tables_after}
 use Rattle.dispatcher.specs.State.{Fetched}
 use Rattle.script.specs.declared.event.Event.{Event}
 use Rattle.script.specs.declared.event.Event.TheVariants as events
+use Rattle.script.specs.declared.event.Node.TheVariants as nodes
 use Rattle.script.specs.declared.output.Output.{Output}
 use Rattle.script.specs.declared.output.Output.TheVariants as outputs
 use Rattle.world.specs.Steps.{World, Member, Batch, open_draft, happens, with_member, send, on_member, open_happens, ask_happens, new_batch}
-use Rattle.world.specs.Steps.{ask_bytes, run_happens, wait_happens, want_bytes}
+use Rattle.world.specs.Steps.{ask_bytes, run_happens, fetched_happens, answer_happens, lacking, want_bytes}
 use Rattle.world.specs.Allowed.{RunIsCut, RunIsCutAt, MayHappen}
 use Rattle.world.proofs.Lists.{get-set_same}
 use Rattle.world.proofs.Datagrams.{ask-read, ask-kept, want-reads}
 use Rattle.world.specs.Inner.Fresh.{IsFreshBatch, IsFreshReading, Fresh}
 use Rattle.world.proofs.Fresh.{Fresh-drafts, Fresh-sent, Follows, alike, Fresh-member}
 use Rattle.world.proofs.Serving.{IsNoReport, Serves, quiet, change-serves, look-serves, commit-serves, abort-serves, flush-serves}
+use Rattle.world.proofs.Serving.{stop-serves, start-serves, unless-serves}
 use Rattle.world.proofs.FreshDatagrams.{send-serves, push-serves, deliver-serves, show-serves}
 
 -- ---- batches
@@ -124,31 +122,30 @@ done-follows w i m version = record {
   heads = λ request other head. record { asked = head.asked; above = λ batch has same. absurd (none-some batch has) };
 }
 
+lacking-serves : (w : World) (i : ℕ) (m : Member) (plans : List Plan) (asked_at : ℕ) (fetched : Fetched) (missing : Option (ℕ × ℕ))
+    → Fresh w → slice_get w.members i ≡ Some m
+    → m.batch ≡ Some (record { plans = plans; asked_at = asked_at; fetched = Some fetched })
+    → Serves w (events.Run i) (answer_happens w m plans fetched missing)
+lacking-serves w i m plans asked_at fetched (Some missing) h here has =
+    quiet w (events.Run i) _ (Fresh-sent w (want_bytes m missing.0 missing.1 ∷ []) h (
+      want-reads (IsFreshReading w.primary.durable w.members) (λ fault. tt) (λ replica worker from. tt) m.number missing.0 missing.1,
+      tt,
+    )) tt
+lacking-serves w i m plans asked_at fetched None h here has =
+    let batch : Batch = record { plans = plans; asked_at = asked_at; fetched = Some fetched } in
+    let is = ((h.members_are i m here).batch_is batch has).fetched_is fetched refl in
+    record {
+      fresh = Fresh-member w i m _ h here (done-follows w i m fetched.version);
+      reports = (i, m, batch, refl, here, has, (fetched, refl, is.0, is.1, refl));
+    }
+
 fetched-serves : (w : World) (i : ℕ) (m : Member) (plans : List Plan) (asked_at : ℕ) (fetched : Option Fetched) → Fresh w
     → slice_get w.members i ≡ Some m
     → m.batch ≡ Some (record { plans = plans; asked_at = asked_at; fetched = fetched })
-    → Serves w (events.Run i) (run_happens w m (Some (record { plans = plans; asked_at = asked_at; fetched = fetched })))
+    → Serves w (events.Run i) (fetched_happens w m plans fetched)
 fetched-serves w i m plans asked_at None h here has = quiet w (events.Run i) (outputs.WaitingHead, w) h tt
-fetched-serves w i m plans asked_at (Some fetched) h here has = by (lacks_frame m.known fetched)
-  where
-    batch : Batch
-    batch = record { plans = plans; asked_at = asked_at; fetched = Some fetched }
-
-    by : (b : Bool) → Serves w (events.Run i) (cond b (wait_happens w 0 (first_missing m.known) (want_bytes m 0 (first_missing m.known))) (
-      outputs.Report (report_of (tables_after (shape_of w.primary.schema) w.primary.durable fetched.version) fetched.version
-          plans),
-      with_member w (record m { version = fetched.version; batch = None }),
-    ))
-    by true = quiet w (events.Run i) _ (Fresh-sent w (want_bytes m 0 (first_missing m.known) ∷ []) h (
-      want-reads (IsFreshReading w.primary.durable w.members) (λ fault. tt) (λ replica worker from. tt) m.number 0 (first_missing m.known),
-      tt,
-    )) tt
-    by false =
-        let is = ((h.members_are i m here).batch_is batch has).fetched_is fetched refl in
-        record {
-          fresh = Fresh-member w i m _ h here (done-follows w i m fetched.version);
-          reports = (i, m, batch, refl, here, has, (fetched, refl, is.0, is.1, refl));
-        }
+fetched-serves w i m plans asked_at (Some fetched) h here has =
+    lacking-serves w i m plans asked_at fetched (lacking m.known fetched.counts) h here has
 
 runs : (w : World) (i : ℕ) (m : Member) (batch : Option Batch) → Fresh w → slice_get w.members i ≡ Some m → m.batch ≡ batch
     → Serves w (events.Run i) (run_happens w m batch)
@@ -182,24 +179,32 @@ cut-serves w event i (Some m) output new h here cut = elim cut.2 [
 -- ---- any step
 
 happens-serves : (w : World) (event : Event) → Fresh w → Serves w event (happens w event)
-happens-serves w events.Begin h = quiet w events.Begin _ (Fresh-drafts w _ h) tt
+happens-serves w events.Begin h = unless-serves w _ _ h (quiet w events.Begin _ (Fresh-drafts w _ h) tt)
 happens-serves w (events.Insert transaction table row values) h =
-    change-serves w _ transaction (open_draft w.transactions transaction)
-    (λ draft. insert_answer (shape_of w.primary.schema) w.primary.durable draft table row.0 values) h
+    unless-serves w _ _ h (change-serves w _ transaction (open_draft w.transactions transaction)
+    (λ draft. insert_answer (shape_of w.primary.schema) w.primary.durable draft table row.0 values) h)
 happens-serves w (events.Set transaction table row column value) h =
-    change-serves w _ transaction (open_draft w.transactions transaction)
-    (λ draft. set_answer (shape_of w.primary.schema) w.primary.durable draft table row.0 column value) h
+    unless-serves w _ _ h (change-serves w _ transaction (open_draft w.transactions transaction)
+    (λ draft. set_answer (shape_of w.primary.schema) w.primary.durable draft table row.0 column value) h)
 happens-serves w (events.Delete transaction table row) h =
-    change-serves w _ transaction (open_draft w.transactions transaction)
-    (λ draft. delete_answer (shape_of w.primary.schema) w.primary.durable draft table row.0) h
+    unless-serves w _ _ h (change-serves w _ transaction (open_draft w.transactions transaction)
+    (λ draft. delete_answer (shape_of w.primary.schema) w.primary.durable draft table row.0) h)
 happens-serves w (events.Get transaction table row column) h =
-    look-serves w _ (open_draft w.transactions transaction)
-    (λ draft. get_answer (shape_of w.primary.schema) w.primary.durable draft table row.0 column) h
-happens-serves w (events.Commit transaction worker) h = commit-serves w _ transaction worker (open_draft w.transactions transaction) h
-happens-serves w (events.Abort transaction) h = abort-serves w _ transaction (open_draft w.transactions transaction) h
-happens-serves w (events.Flush count) h = flush-serves w _ count w.primary.failed h
-happens-serves w (events.Push worker seq) h = push-serves w _ (slice_get (stream_of w.primary.durable worker) seq) h
-happens-serves w (events.Deliver index node) h = deliver-serves w _ index node (slice_get w.sent index) h refl
+    unless-serves w _ _ h (look-serves w _ (open_draft w.transactions transaction)
+    (λ draft. get_answer (shape_of w.primary.schema) w.primary.durable draft table row.0 column) h)
+happens-serves w (events.Commit transaction worker) h =
+    unless-serves w _ _ h (commit-serves w _ transaction worker (open_draft w.transactions transaction) h)
+happens-serves w (events.Abort transaction) h =
+    unless-serves w _ _ h (abort-serves w _ transaction (open_draft w.transactions transaction) h)
+happens-serves w (events.Flush count) h = unless-serves w _ _ h (flush-serves w _ count w.primary.failed h)
+happens-serves w (events.Stop bytes) h = unless-serves w _ _ h (stop-serves w _ bytes h)
+happens-serves w events.Start h = start-serves w _ w.stopped h
+happens-serves w (events.Push worker seq) h =
+    unless-serves w _ _ h (push-serves w _ (slice_get (stream_of w.primary.durable worker) seq) h)
+happens-serves w (events.Deliver index nodes.Primary) h =
+    unless-serves w _ _ h (deliver-serves w _ index nodes.Primary (slice_get w.sent index) h refl)
+happens-serves w (events.Deliver index (nodes.Replica number)) h =
+    deliver-serves w _ index (nodes.Replica number) (slice_get w.sent index) h refl
 happens-serves w (events.Show index) h = show-serves w _ (slice_get w.sent index) h
 happens-serves w (events.Open replica plan) h = open-serves w _ plan replica (slice_get w.members replica) h refl
 happens-serves w (events.Ask replica) h = ask-serves w _ replica (slice_get w.members replica) h refl

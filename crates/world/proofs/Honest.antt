@@ -1,10 +1,9 @@
 -- In the world what is durable stays, and nothing is damaged.
-use Rattle.std.proofs.Common.{◌≡◌, ℕ, ◌+◌, ◌^◌, Bool, true, false, cond, not, ◌||◌, ◌&&◌, ◌==◌, List, [], ◌∷◌, length, take}
+use Rattle.std.proofs.Common.{◌≡◌, ℕ, ◌+◌, Bool, true, false, cond, not, ◌||◌, ◌&&◌, ◌==◌, List, [], ◌∷◌, length, take}
 use Rattle.std.proofs.Common.{◌++◌, Option, Some, None, Result, Ok, Err, nat_lt, nat_le, refl, sym, ap, subst, ◌∙◌, inl, inr, arith}
 use Rattle.std.specs.List.{slice_get, slice_set, list_all}
 use Rattle.std.specs.Result.{is_ok}
-use Rattle.std.specs.BTreeSet.{insert_key}
-use Rattle.std.specs.Ordering.{nat_cmp}
+use Rattle.intake.specs.Known.{is_known, is_ahead}
 use Rattle.std.proofs.lemmas.Bool.{true≢false, le-ltb, or_from, not_from_true}
 use Rattle.std.proofs.lemmas.List.{append-nil, length-append}
 use Rattle.std.proofs.lemmas.Option.{none-some, same_Some}
@@ -26,17 +25,14 @@ use Rattle.primary.specs.declared.faults.CommitFault.{CommitFault}
 use Rattle.primary.specs.declared.faults.CommitFault.TheVariants as faults
 use Rattle.mvcc.specs.Draft.{Draft}
 use Rattle.mvcc.specs.Transactions.{insert_answer, set_answer, delete_answer, get_answer}
-use Rattle.primary.specs.Steps.{commit_answer, committed, flushed, is_foreign, next_number}
+use Rattle.primary.specs.Steps.{commit_answer, committed, flushed, is_foreign, next_number, has_numbers}
 use Rattle.primary.specs.Sending.{pushed, answers}
 use Rattle.primary.specs.State.{Primary}
 use Rattle.dispatcher.specs.declared.plan.Plan.{Plan}
 use Rattle.dispatcher.specs.declared.faults.PlanFault.{PlanFault}
-use Rattle.dispatcher.specs.Known.{is_known, is_ahead, first_missing}
 use Rattle.dispatcher.specs.Plans.{checked}
-use Rattle.dispatcher.specs.Report.{report_of}
-use Rattle.dispatcher.specs.Steps.{lacks_frame}
 use Rattle.dispatcher.specs.State.{Fetched}
-use Rattle.dispatcher.proofs.Versions.{tables-stay}
+use Rattle.world.proofs.Durable.{tables-stay}
 use Rattle.script.specs.declared.event.Event.{Event}
 use Rattle.script.specs.declared.event.Event.TheVariants as events
 use Rattle.script.specs.declared.event.Node.{Node}
@@ -49,12 +45,13 @@ use Rattle.world.specs.Theorem.{IsBeginning, IsFaultless}
 use Rattle.world.specs.Steps.{World, Member, Batch, open_draft, happens, opening_world, with_member, send, on_draft, change_happens}
 use Rattle.world.specs.Steps.{commit_happens, abort_happens, push_happens, head_happens, datagram_happens, on_member, member_output}
 use Rattle.world.specs.Steps.{deliver_happens, shown, open_happens, ask_happens, new_batch, ask_bytes, run_happens}
-use Rattle.world.specs.Steps.{wait_happens, want_bytes}
+use Rattle.world.specs.Steps.{answer_happens, fetched_happens, lacking, known_of, with_known, unless_stopped, stop_happens}
+use Rattle.world.specs.Stops.{whole_in}
 use Rattle.world.specs.Inner.Honest.{IsBegun, IsHonest}
 use Rattle.world.specs.Allowed.{RunIsCut, RunIsCutAt, MayHappen}
 use Rattle.world.proofs.Lists.{get-set, get-append, get-one}
 use Rattle.world.proofs.Defined.{IsDefined, insert-defined, set-defined, delete-defined}
-use Rattle.world.proofs.Committing.{opened}
+use Rattle.world.proofs.Committing.{opened, none-open}
 
 -- what a step is to be
 pub record IsFine (old : World) (answer : Output × World) : Type 0 where
@@ -94,7 +91,10 @@ ended-begun p transactions number begun i draft here = elim (get-set transaction
   | inr old ↦ begun i draft old
 ]
 
-begins : (w : World) → IsFine w (happens w events.Begin)
+begins : (w : World) → IsFine w (
+  outputs.Tx (length w.transactions) (length w.primary.durable),
+  record w { transactions = w.transactions ++ Some (record { snapshot = length w.primary.durable; entries = [] }) ∷ [] },
+)
 begins w =
     let fresh : Draft = record { snapshot = length w.primary.durable; entries = [] } in
     record {
@@ -178,12 +178,12 @@ not-foreign p draft begun =
     (le-ltb (length p.durable) draft.snapshot begun.known) (not_from_true _ begun.defined)
 
 -- a refused commit, where the journal is whole and the transaction was begun here
-commit-faultless : (p : Primary) (draft : Draft) (fault : CommitFault) → p.failed ≡ false → is_foreign p draft ≡ false
-    → commit_answer p draft ≡ Err fault → IsFaultless (of_commit fault)
-commit-faultless p draft fault whole known h =
+commit-faultless : (p : Primary) (worker : ℕ) (draft : Draft) (fault : CommitFault) → p.failed ≡ false → is_foreign p draft ≡ false
+    → commit_answer p worker draft ≡ Err fault → IsFaultless (of_commit fault)
+commit-faultless p worker draft fault whole known h =
     by p.failed (length draft.entries == 0) (is_foreign p draft)
     (nat_lt draft.snapshot (last_touching draft.entries 0 (p.durable ++ p.pending)))
-    (nat_lt (next_number p) (2 ^ 64)) whole known h
+    (has_numbers p worker draft.entries) whole known h
   where
     is : (other : CommitFault) → IsFaultless (of_commit other) → ◌≡◌ {A = Result ℕ CommitFault} (Err other) (Err fault)
         → IsFaultless (of_commit fault)
@@ -225,11 +225,11 @@ commits w number worker draft (Err fault) faultless = record {
 }
 
 commit-fine : (w : World) (number worker : ℕ) (found : Option Draft) → open_draft w.transactions number ≡ found
-    → IsFine w (on_draft w found (λ draft. commit_happens w number worker draft (commit_answer w.primary draft)))
+    → IsFine w (on_draft w found (λ draft. commit_happens w number worker draft (commit_answer w.primary worker draft)))
 commit-fine w number worker None here = plain w w outputs.NoTx refl refl tt
 commit-fine w number worker (Some draft) here =
-    commits w number worker draft (commit_answer w.primary draft) (λ fault h honest.
-    commit-faultless w.primary draft fault honest.whole
+    commits w number worker draft (commit_answer w.primary worker draft) (λ fault h honest.
+    commit-faultless w.primary worker draft fault honest.whole
     (not-foreign w.primary draft (honest.begun number draft (opened (slice_get w.transactions number) draft here))) h)
 
 flushed-begun : (p : Primary) (count : ℕ) (draft : Draft) → IsBegun p draft → IsBegun (flushed p count) draft
@@ -289,9 +289,9 @@ datagram-faultless : (shape : Shape) (workers : ℕ) (m : Member) (datagram : Re
     → IsFaultless (datagram_happens shape workers m datagram).0
 datagram-faultless shape workers m (Err fault) = tt
 datagram-faultless shape workers m (Ok (datagrams.Frame worker seq commit last entries)) =
-    frame-faultless m (record m { known = insert_key nat_cmp m.known seq })
-    (not (nat_lt worker workers) || not (list_all (λ entry. is_ok (fitting shape entry)) entries)) (is_known m.known seq)
-    (is_ahead m.known seq)
+    frame-faultless m (record m { known = with_known m.known worker seq })
+    (not (nat_lt worker workers) || not (list_all (λ entry. is_ok (fitting shape entry)) entries)) (is_known (known_of m.known worker) seq)
+    (is_ahead (known_of m.known worker) seq)
 datagram-faultless shape workers m (Ok (datagrams.Ask replica boot request)) = tt
 datagram-faultless shape workers m (Ok (datagrams.Head replica boot request version counts)) =
     head-faultless m version counts m.batch ((replica == m.number) && (boot == m.boot) && (request == m.request))
@@ -361,22 +361,18 @@ ask-fine w (Some m) = by m.broken
     by true = plain w w outputs.Broken refl refl tt
     by false = ask-batch w m m.batch
 
-run-fetched : (w : World) (m : Member) (plans : List Plan) (asked_at : ℕ) (fetched : Option Fetched)
-    → IsFine w (run_happens w m (Some (record { plans = plans; asked_at = asked_at; fetched = fetched })))
-run-fetched w m plans asked_at None = plain w w outputs.WaitingHead refl refl tt
-run-fetched w m plans asked_at (Some fetched) = by (lacks_frame m.known fetched)
-  where
-    by : (b : Bool) → IsFine w (cond b (wait_happens w 0 (first_missing m.known) (want_bytes m 0 (first_missing m.known))) (
-      outputs.Report (report_of (tables_after (shape_of w.primary.schema) w.primary.durable fetched.version) fetched.version
-          plans),
-      with_member w (record m { version = fetched.version; batch = None }),
-    ))
-    by true = plain w _ _ refl refl tt
-    by false = plain w _ _ refl refl tt
+run-lacking : (w : World) (m : Member) (plans : List Plan) (fetched : Fetched) (missing : Option (ℕ × ℕ))
+    → IsFine w (answer_happens w m plans fetched missing)
+run-lacking w m plans fetched None = plain w _ _ refl refl tt
+run-lacking w m plans fetched (Some missing) = plain w _ _ refl refl tt
+
+run-fetched : (w : World) (m : Member) (plans : List Plan) (fetched : Option Fetched) → IsFine w (fetched_happens w m plans fetched)
+run-fetched w m plans None = plain w w outputs.WaitingHead refl refl tt
+run-fetched w m plans (Some fetched) = run-lacking w m plans fetched (lacking m.known fetched.counts)
 
 run-batch : (w : World) (m : Member) (batch : Option Batch) → IsFine w (run_happens w m batch)
 run-batch w m None = plain w w outputs.NoBatch refl refl tt
-run-batch w m (Some batch) = run-fetched w m batch.plans batch.asked_at batch.fetched
+run-batch w m (Some batch) = run-fetched w m batch.plans batch.fetched
 
 run-fine : (w : World) (found : Option Member)
     → IsFine w (on_member w found (λ m. cond m.broken (outputs.Broken, w) (run_happens w m m.batch)))
@@ -387,30 +383,58 @@ run-fine w (Some m) = by m.broken
     by true = plain w w outputs.Broken refl refl tt
     by false = run-batch w m m.batch
 
+-- ---- stops and starts
+
+stop-fine : (w : World) (bytes : ℕ) → IsFine w (stop_happens w bytes)
+stop-fine w bytes = record {
+  grows = (take (whole_in (length w.primary.durable) w.primary.pending bytes) w.primary.pending, refl);
+  output = λ honest. tt;
+  honest = λ honest. record { whole = refl; begun = λ i draft here. absurd (none-open w.transactions i draft here) };
+}
+
+start-fine : (w : World) (stopped : Bool)
+    → IsFine w (cond stopped (outputs.Durable (length w.primary.durable), record w { stopped = false }) (outputs.Running, w))
+start-fine w true = plain w _ _ refl refl tt
+start-fine w false = plain w w outputs.Running refl refl tt
+
+-- an event of the primary, which may be stopped
+served : (w : World) (next : Output × World) → IsFine w next → IsFine w (unless_stopped w next)
+served w next fine = by w.stopped
+  where
+    by : (stopped : Bool) → IsFine w (cond stopped (outputs.Stopped, w) next)
+    by true = plain w w outputs.Stopped refl refl tt
+    by false = fine
+
 -- ---- any step
 
 happens-fine : (w : World) (event : Event) → IsFine w (happens w event)
-happens-fine w events.Begin = begins w
+happens-fine w events.Begin = served w _ (begins w)
 happens-fine w (events.Insert transaction table row values) =
-    change-fine w transaction (λ draft. insert_answer (shape_of w.primary.schema) w.primary.durable draft table row.0 values)
+    served w _ (change-fine w transaction
+    (λ draft. insert_answer (shape_of w.primary.schema) w.primary.durable draft table row.0 values)
     (open_draft w.transactions transaction) refl
-    (λ draft new h defined. insert-defined (shape_of w.primary.schema) w.primary.durable draft new defined table row.0 values h)
+    (λ draft new h defined. insert-defined (shape_of w.primary.schema) w.primary.durable draft new defined table row.0 values h))
 happens-fine w (events.Set transaction table row column value) =
-    change-fine w transaction (λ draft. set_answer (shape_of w.primary.schema) w.primary.durable draft table row.0 column value)
+    served w _ (change-fine w transaction
+    (λ draft. set_answer (shape_of w.primary.schema) w.primary.durable draft table row.0 column value)
     (open_draft w.transactions transaction) refl
-    (λ draft new h defined. set-defined (shape_of w.primary.schema) w.primary.durable draft new defined table row.0 column value h)
+    (λ draft new h defined. set-defined (shape_of w.primary.schema) w.primary.durable draft new defined table row.0 column value h))
 happens-fine w (events.Delete transaction table row) =
-    change-fine w transaction (λ draft. delete_answer (shape_of w.primary.schema) w.primary.durable draft table row.0)
+    served w _ (change-fine w transaction (λ draft. delete_answer (shape_of w.primary.schema) w.primary.durable draft table row.0)
     (open_draft w.transactions transaction) refl
-    (λ draft new h defined. delete-defined (shape_of w.primary.schema) w.primary.durable draft new defined table row.0 h)
+    (λ draft new h defined. delete-defined (shape_of w.primary.schema) w.primary.durable draft new defined table row.0 h))
 happens-fine w (events.Get transaction table row column) =
-    look-fine w (λ draft. get_answer (shape_of w.primary.schema) w.primary.durable draft table row.0 column)
-    (open_draft w.transactions transaction)
-happens-fine w (events.Commit transaction worker) = commit-fine w transaction worker (open_draft w.transactions transaction) refl
-happens-fine w (events.Abort transaction) = abort-fine w transaction (open_draft w.transactions transaction)
-happens-fine w (events.Flush count) = flush-fine w count w.primary.failed refl
-happens-fine w (events.Push worker seq) = push-fine w (pushed w.primary worker seq)
-happens-fine w (events.Deliver index node) = deliver-fine w node (slice_get w.sent index)
+    served w _ (look-fine w (λ draft. get_answer (shape_of w.primary.schema) w.primary.durable draft table row.0 column)
+    (open_draft w.transactions transaction))
+happens-fine w (events.Commit transaction worker) =
+    served w _ (commit-fine w transaction worker (open_draft w.transactions transaction) refl)
+happens-fine w (events.Abort transaction) = served w _ (abort-fine w transaction (open_draft w.transactions transaction))
+happens-fine w (events.Flush count) = served w _ (flush-fine w count w.primary.failed refl)
+happens-fine w (events.Stop bytes) = served w _ (stop-fine w bytes)
+happens-fine w events.Start = start-fine w w.stopped
+happens-fine w (events.Push worker seq) = served w _ (push-fine w (pushed w.primary worker seq))
+happens-fine w (events.Deliver index nodes.Primary) = served w _ (deliver-fine w nodes.Primary (slice_get w.sent index))
+happens-fine w (events.Deliver index (nodes.Replica number)) = deliver-fine w (nodes.Replica number) (slice_get w.sent index)
 happens-fine w (events.Show index) = show-fine w (slice_get w.sent index)
 happens-fine w (events.Open replica plan) = open-fine w plan (slice_get w.members replica)
 happens-fine w (events.Ask replica) = ask-fine w (slice_get w.members replica)

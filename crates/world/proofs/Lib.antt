@@ -1,4 +1,7 @@
 pub mod Lists
+pub mod FedLaws
+pub mod Durable
+pub mod Streams
 pub mod Worlds
 pub mod Datagrams
 pub mod Moves
@@ -24,3 +27,6 @@ pub mod Requested
 pub mod Slots
 pub mod Starting
 pub mod Continuing
+pub mod StopTexts
+pub mod Stops
+pub mod Nodes

@@ -48,3 +48,9 @@ pub get-set_same : {A : Type 0} (xs : List A) (i : ℕ) (x y : A) → slice_get 
 get-set_same [] i x y h = absurd cc
 get-set_same (z ∷ xs) zero x y h = cc
 get-set_same (z ∷ xs) (suc i) x y h = get-set_same xs i x y h
+
+-- what stood at an index stays there
+pub get-append_left : {A : Type 0} (xs ys : List A) (i : ℕ) (x : A) → slice_get xs i ≡ Some x → slice_get (xs ++ ys) i ≡ Some x
+get-append_left [] ys i x h = absurd cc
+get-append_left (y ∷ xs) ys zero x h = h
+get-append_left (y ∷ xs) ys (suc i) x h = get-append_left xs ys i x h

@@ -1,6 +1,7 @@
 -- What the calls of the cores answer and leave is what an event may.
 use Rattle.std.proofs.Common.{◌≡◌, ℕ, ◌⊎◌, inl, inr, List, Option, None, Some, Result, Ok, Err, IsOk, slice_get, slice_set, refl, ap, sym}
-use Rattle.std.proofs.Common.{subst, ◌∙◌, OnOk, IfErr}
+use Rattle.std.proofs.Common.{subst, ◌∙◌, Bool, false, cond, OnOk, IfErr}
+use Rattle.std.proofs.lemmas.Bool.{false≢true}
 use Rattle.std.proofs.lemmas.List.{set-set}
 use Rattle.rows.specs.declared.value.Value.{Value}
 use Rattle.mvcc.specs.declared.faults.TxFault.{TxFault}
@@ -22,26 +23,42 @@ use Rattle.script.specs.declared.output.Output.TheVariants as outputs
 use Rattle.world.specs.Outputs.{of_change, of_changed, of_commit, of_look, of_open, of_ask}
 use Rattle.world.specs.Parts.{Parts}
 use Rattle.world.specs.Standing.{world_of}
-use Rattle.world.specs.Steps.{World, open_draft, happens, on_draft, change_happens, commit_happens, abort_happens}
+use Rattle.world.specs.Steps.{World, unless_stopped, open_draft, happens, on_draft, change_happens, commit_happens, abort_happens}
 use Rattle.world.specs.Inner.CoreSteps.{HappensBeside, MayStep, with_replica, opening_query, open_by, asking, ask_by}
 use Rattle.world.proofs.Slots.{set_same, slot_same}
 
 -- ---- beside the replicas
 
--- what happens in the world, where the replicas stay
+-- what happens in the world, where the replicas stay and the primary runs
 pub beside : (p old new : Parts) (event : Event) (output : Output) → p ≡ old → happens (world_of p) event ≡ (output, world_of new)
-    → new.replicas ≡ p.replicas → new.asked_at ≡ p.asked_at → HappensBeside old event output new
-beside p old new event output seen is replicas asked_at =
-    subst (λ x. HappensBeside x event output new) seen (record { happens = inl is; replicas = replicas; asked_at = asked_at })
+    → new.stopped ≡ false → new.setup ≡ p.setup → new.replicas ≡ p.replicas → new.asked_at ≡ p.asked_at
+    → HappensBeside old event output new
+beside p old new event output seen is running setup replicas asked_at =
+    subst (λ x. HappensBeside x event output new) seen (record {
+      happens = inl is;
+      setup = setup;
+      replicas = replicas;
+      asked_at = asked_at;
+      kept = λ keeps stopped. absurd (false≢true (sym running ∙ stopped));
+    })
+
+-- nothing changes
+pub beside_same : (p old : Parts) (event : Event) (output : Output) → p ≡ old → happens (world_of p) event ≡ (output, world_of p)
+    → HappensBeside old event output old
+beside_same p old event output seen is =
+    subst (λ x. HappensBeside x event output x) seen
+    (record { happens = inl is; setup = refl; replicas = refl; asked_at = refl; kept = λ keeps. keeps })
 
 -- memory is wanted, and nothing has changed
 pub beside_memory : (old new : Parts) (event : Event) (output : Output) → output ≡ outputs.Memory → new ≡ old
     → HappensBeside old event output new
-beside_memory old new event output memory same = record {
-  happens = inr (inl (memory, ap world_of same));
-  replicas = ap (λ (x : Parts). x.replicas) same;
-  asked_at = ap (λ (x : Parts). x.asked_at) same;
-}
+beside_memory old new event output memory same =
+    subst (λ x. HappensBeside old event output x) (sym same)
+    (record { happens = inr (inl (memory, refl)); setup = refl; replicas = refl; asked_at = refl; kept = λ keeps. keeps })
+
+-- a primary that runs serves
+runs_on : (p : Parts) (next : Output × World) → p.stopped ≡ false → unless_stopped (world_of p) next ≡ next
+runs_on p next running = ap (λ (stopped : Bool). cond stopped (outputs.Stopped, world_of p) next) running
 
 -- the parts with these transactions
 abbrev with_slots : Parts → List (Option Draft) → Parts
@@ -56,7 +73,7 @@ put_same p number slot left at is = ap (with_slots p) (sym (is ∙ slot_same p.t
 abbrev change_in : World → ℕ → (Draft → Result Draft TxFault) → Option Draft → Output × World
 change_in w number change slot = on_draft w slot (λ draft. change_happens w number (change draft))
 
-module _ (p old : Parts) (seen : p ≡ old) (number : ℕ) where
+module _ (p old : Parts) (seen : p ≡ old) (running : p.stopped ≡ false) (number : ℕ) where
   -- a change of a transaction, which is taken out of its slot, changed or not, and put back
   module _ (event : Event) (change : Draft → Result Draft TxFault)
       (is_change : happens (world_of p) event ≡ change_in (world_of p) number change (open_draft p.transactions number)) where
@@ -64,7 +81,8 @@ module _ (p old : Parts) (seen : p ≡ old) (number : ℕ) where
         → change_in (world_of p) number change slot ≡ (output, world_of (with_slots p left))
         → HappensBeside old event output (with_slots p left)
     by_slot slot output left at is =
-        beside p old (with_slots p left) event output seen (is_change ∙ ap (change_in (world_of p) number change) at ∙ is) refl refl
+        beside p old (with_slots p left) event output seen (is_change ∙ ap (change_in (world_of p) number change) at
+        ∙ is) running refl refl refl
 
     pub change_nothing : (left : List (Option Draft)) → open_draft p.transactions number ≡ None
         → left ≡ slice_set p.transactions number None
@@ -112,9 +130,8 @@ module _ (p old : Parts) (seen : p ≡ old) (number : ℕ) where
       → on_draft (world_of p) slot (λ draft. (of_look (look draft), world_of p)) ≡ (output, world_of p)
       → HappensBeside old event output old
   look_done event look is_look slot output at is =
-      subst (λ (x : Parts). HappensBeside old event output x) seen
-      (beside p old p event output seen
-      (is_look ∙ ap (λ slot. on_draft (world_of p) slot (λ draft. (of_look (look draft), world_of p))) at ∙ is) refl refl)
+      beside_same p old event output seen
+      (is_look ∙ ap (λ slot. on_draft (world_of p) slot (λ draft. (of_look (look draft), world_of p))) at ∙ is)
 
   pub look_nothing : (event : Event) (look : Draft → Result Value TxFault)
       → happens (world_of p) event
@@ -138,7 +155,7 @@ module _ (p old : Parts) (seen : p ≡ old) (number : ℕ) where
   gave_up slot left at is =
       let world = world_of p in
       beside p old (with_slots p left) (events.Abort number) (on_draft world slot (λ draft. abort_happens world number)).0 seen
-      (ap (λ slot. on_draft world slot (λ draft. abort_happens world number)) at ∙ by slot at) refl refl
+      (runs_on p _ running ∙ ap (λ slot. on_draft world slot (λ draft. abort_happens world number)) at ∙ by slot at) running refl refl refl
     where
       by : (slot : Option Draft) → open_draft p.transactions number ≡ slot
           → on_draft (world_of p) slot (λ draft. abort_happens (world_of p) number)
@@ -149,40 +166,45 @@ module _ (p old : Parts) (seen : p ≡ old) (number : ℕ) where
 
   module _ (worker : ℕ) where
     commit_by : (slot : Option Draft) (output : Output) (new : Parts) → open_draft p.transactions number ≡ slot
-        → on_draft (world_of p) slot (λ draft. commit_happens (world_of p) number worker draft (commit_answer p.primary draft))
+        → on_draft (world_of p) slot (λ draft. commit_happens (world_of p) number worker draft (commit_answer p.primary worker draft))
         ≡ (output, world_of new)
-        → new.replicas ≡ p.replicas → new.asked_at ≡ p.asked_at → HappensBeside old (events.Commit number worker) output new
-    commit_by slot output new at is replicas asked_at =
+        → new.stopped ≡ false → new.setup ≡ p.setup → new.replicas ≡ p.replicas → new.asked_at ≡ p.asked_at
+        → HappensBeside old (events.Commit number worker) output new
+    commit_by slot output new at is runs setup replicas asked_at =
         beside p old new (events.Commit number worker) output seen
-        (ap (λ slot. on_draft (world_of p) slot
-        (λ draft. commit_happens (world_of p) number worker draft (commit_answer p.primary draft))) at ∙ is) replicas asked_at
+        (runs_on p _ running ∙ ap (λ slot. on_draft (world_of p) slot
+        (λ draft. commit_happens (world_of p) number worker draft (commit_answer p.primary worker draft))) at ∙ is)
+        runs setup replicas asked_at
 
     pub commit_nothing : (left : List (Option Draft)) → open_draft p.transactions number ≡ None
         → left ≡ slice_set p.transactions number None
         → HappensBeside old (events.Commit number worker) outputs.NoTx (with_slots p left)
     commit_nothing left at is =
-        commit_by None outputs.NoTx (with_slots p left) at (ap (λ x. (outputs.NoTx, world_of x)) (put_same p number None left at is)) refl
-        refl
+        commit_by None outputs.NoTx (with_slots p left) at (ap (λ x. (outputs.NoTx, world_of x)) (put_same p number None left at is))
+        running refl refl refl
 
-    pub commit_taken : (draft : Draft) (ticket : ℕ) (primary : Primary) (left : List (Option Draft))
+    pub commit_taken : (draft : Draft) (ticket : ℕ) (primary : Primary) (journal : List ℕ) (left : List (Option Draft))
         → open_draft p.transactions number ≡ Some draft → left ≡ slice_set p.transactions number None
-        → commit_answer p.primary draft ≡ Ok ticket → primary ≡ committed p.primary worker draft.entries
-        → HappensBeside old (events.Commit number worker) (outputs.Ticket ticket) (record p { primary = primary; transactions = left })
-    commit_taken draft ticket primary left at is ok made =
-        commit_by (Some draft) (outputs.Ticket ticket) (record p { primary = primary; transactions = left }) at
+        → commit_answer p.primary worker draft ≡ Ok ticket → primary ≡ committed p.primary worker draft.entries
+        → HappensBeside old (events.Commit number worker) (outputs.Ticket ticket)
+        (record p { primary = primary; journal = journal; transactions = left })
+    commit_taken draft ticket primary journal left at is ok made =
+        commit_by (Some draft) (outputs.Ticket ticket) (record p { primary = primary; journal = journal; transactions = left }) at
         (ap (commit_happens (world_of p) number worker draft) ok
         ∙ ap (λ (x : Primary × List (Option Draft)).
-        (outputs.Ticket ticket, world_of (record p { primary = x.0; transactions = x.1 }))) (sym cc)) refl refl
+        (outputs.Ticket ticket, world_of (record p { primary = x.0; journal = journal; transactions = x.1 })))
+        (sym cc)) running refl refl refl
 
-    pub commit_refused : (draft : Draft) (fault : CommitFault) (primary : Primary) (left : List (Option Draft))
+    pub commit_refused : (draft : Draft) (fault : CommitFault) (primary : Primary) (journal : List ℕ) (left : List (Option Draft))
         → open_draft p.transactions number ≡ Some draft → left ≡ slice_set p.transactions number None
-        → commit_answer p.primary draft ≡ Err fault → primary ≡ p.primary
-        → HappensBeside old (events.Commit number worker) (of_commit fault) (record p { primary = primary; transactions = left })
-    commit_refused draft fault primary left at is refused same =
-        commit_by (Some draft) (of_commit fault) (record p { primary = primary; transactions = left }) at
+        → commit_answer p.primary worker draft ≡ Err fault → primary ≡ p.primary
+        → HappensBeside old (events.Commit number worker) (of_commit fault)
+        (record p { primary = primary; journal = journal; transactions = left })
+    commit_refused draft fault primary journal left at is refused same =
+        commit_by (Some draft) (of_commit fault) (record p { primary = primary; journal = journal; transactions = left }) at
         (ap (commit_happens (world_of p) number worker draft) refused
         ∙ ap (λ (x : Primary × List (Option Draft)).
-        (of_commit fault, world_of (record p { primary = x.0; transactions = x.1 }))) (sym cc)) refl refl
+        (of_commit fault, world_of (record p { primary = x.0; journal = journal; transactions = x.1 }))) (sym cc)) running refl refl refl
 
   -- a transaction that is put back leaves all as it was
   pub put_back_same : (draft after : Draft) (left : List (Option Draft)) → open_draft p.transactions number ≡ Some draft
@@ -191,8 +213,9 @@ module _ (p old : Parts) (seen : p ≡ old) (number : ℕ) where
       sym (put_same p number (Some draft) left at
       (is ∙ set-set p.transactions number None (Some after) ∙ ap (λ x. slice_set p.transactions number (Some x)) same)) ∙ seen
 
-  -- ---- calls on a replica
+-- ---- calls on a replica
 
+module _ (p old : Parts) (seen : p ≡ old) (number : ℕ) where
   module _ (before after : Replica) (at : slice_get p.replicas number ≡ Some before) where
     pub replica_same : after ≡ before → p ≡ with_replica p number after
     replica_same same =

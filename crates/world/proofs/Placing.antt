@@ -1,22 +1,20 @@
 -- The column that a value is for: its kind, and where it is among its row's bytes.
-use Rattle.std.proofs.Common.{◌≡◌, ℕ, zero, suc, ◌+◌, ◌-◌, ◌<◌, ◌≤◌, Bool, true, false, cond, ◌==◌, ◌&&◌, List, [], ◌∷◌, length, take}
+use Rattle.std.proofs.Common.{◌≡◌, ℕ, zero, suc, ◌+◌, ◌-◌, Bool, true, false, cond, ◌==◌, ◌&&◌, List, [], ◌∷◌, length, take}
 use Rattle.std.proofs.Common.{Option, Some, None, Ok, Err, nat_lt, refl, sym, ap, ◌∙◌, arith}
-use Rattle.std.specs.List.{slice_get, list_all}
+use Rattle.std.specs.List.{slice_get}
 use Rattle.std.specs.Option.{is_some}
 use Rattle.std.specs.Result.{is_ok}
-use Rattle.std.proofs.lemmas.Bool.{false≢true, and_parts, eqb-true, eq-eqb, le-ltb}
-use Rattle.std.proofs.lemmas.Bool.Decides.{nat_tests}
+use Rattle.std.proofs.lemmas.Bool.{false≢true, eqb-true, eq-eqb, le-ltb}
 use Rattle.std.proofs.lemmas.List.Sums.{sum_by-cons}
 use Rattle.std.proofs.lemmas.Option.{none-some, same_Some}
 use Rattle.rows.specs.declared.faults.EntryFault.TheVariants.{NotAColumn}
 use Rattle.rows.specs.declared.entry.Entry.TheVariants.{Patch}
 use Rattle.rows.specs.declared.kind.Kind.{Kind}
 use Rattle.rows.specs.declared.kind.Kind.TheVariants.{Int as IntKind, Octets as OctetsKind}
-use Rattle.rows.specs.declared.limits.TheConstants.{OCTETS_MAX}
 use Rattle.rows.specs.declared.row_id.RowId.{RowId}
 use Rattle.rows.specs.declared.value.Value.{Value}
 use Rattle.rows.specs.declared.value.Value.TheVariants.{Int as IntValue, Octets as OctetsValue}
-use Rattle.rows.specs.Shape.{Shape, row_width, width_of, is_good, column_from, column_at}
+use Rattle.rows.specs.Shape.{Shape, row_width, width_of, column_from, column_at}
 use Rattle.rows.specs.Entries.{placed, fitting}
 use Rattle.rows.specs.Values.{value_bytes, is_of_kind}
 use Rattle.mvcc.specs.Transactions.{match_column, column_kind, column_offset}
@@ -27,21 +25,6 @@ length-value (IntValue number) IntKind h = refl
 length-value (IntValue number) (OctetsKind width) h = absurd (false≢true h)
 length-value (OctetsValue bytes) IntKind h = absurd (false≢true h)
 length-value (OctetsValue bytes) (OctetsKind width) h = eqb-true (length bytes) width h
-
-pub width-some : (kind : Kind) → is_good kind ≡ true → 0 < width_of kind
-width-some IntKind good = omega arith
-width-some (OctetsKind width) good = grind (arith, nat_tests)
-
-pub width-few : (kind : Kind) → is_good kind ≡ true → width_of kind ≤ OCTETS_MAX
-width-few IntKind good = omega arith
-width-few (OctetsKind width) good = grind (arith, nat_tests)
-
-pub good-at : (kinds : List Kind) (column : ℕ) (kind : Kind) → list_all is_good kinds ≡ true → slice_get kinds column ≡ Some kind
-    → is_good kind ≡ true
-good-at [] column kind good h = absurd (none-some kind h)
-good-at (first ∷ kinds) zero kind good h =
-    ap is_good (sym (same_Some first kind h)) ∙ (and_parts (is_good first) (list_all is_good kinds) good).0
-good-at (first ∷ kinds) (suc column) kind good h = good-at kinds column kind (and_parts (is_good first) (list_all is_good kinds) good).1 h
 
 -- a column that is there is found where it begins
 found-at : (before : ℕ) (kinds : List Kind) (column : ℕ) (kind : Kind) → slice_get kinds column ≡ Some kind

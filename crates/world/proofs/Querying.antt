@@ -16,12 +16,13 @@ use Rattle.dispatcher.specs.declared.plan.Plan.{Plan}
 use Rattle.dispatcher.specs.declared.faults.PlanFault.TheVariants.{NoTable}
 use Rattle.dispatcher.specs.declared.faults.OpenFault.{OpenFault}
 use Rattle.dispatcher.specs.declared.faults.OpenFault.TheVariants as opens
+use Rattle.dispatcher.specs.declared.faults.AskFault.{AskFault}
 use Rattle.dispatcher.specs.declared.faults.AskFault.TheVariants as asks
+use Rattle.wire.specs.declared.out.Out.{Out}
 use Rattle.dispatcher.specs.Plans.{checked}
 use Rattle.dispatcher.specs.Feeding.{IsFedFrom}
 use Rattle.dispatcher.specs.State.{Replica, Batch as ReplicaBatch, Fetched}
 use Rattle.dispatcher.specs.Steps.{opened, asked, asked_by, ask_for, with_batch}
-use Rattle.dispatcher.proofs.Feeding.{plan-fed, batch-fed}
 use Rattle.script.specs.declared.output.Output.{Output}
 use Rattle.script.specs.declared.output.Output.TheVariants as outputs
 use Rattle.world.specs.Parts.{Parts}
@@ -29,6 +30,7 @@ use Rattle.world.specs.Inner.CoreSteps.{with_replica, with_sent, open_by, openin
 use Rattle.world.specs.Steps.{World, Member, open_happens, ask_happens, new_batch, send, ask_bytes, with_member, on_member}
 use Rattle.world.proofs.Lists.{set-same, get-set_same}
 use Rattle.world.specs.Inner.Sound.{Sound, IsFed, Means}
+use Rattle.world.proofs.FedLaws.{FedLaws}
 use Rattle.world.proofs.Datagrams.{ask-read, ask-kept}
 use Rattle.world.specs.Standing.{world_of, member_of, batch_of, members_of}
 use Rattle.world.proofs.Worlds.{members-asked}
@@ -46,26 +48,33 @@ opened-is : (r : Replica) (plan : Plan) → opened r plan ≡
     (cond (nat_lt plan.table (length r.shape)) (Ok (length r.waiting + 1, with_plan r plan)) (Err (opens.BadPlan NoTable))))
 opened-is r plan = elim (cases_Bool (nat_lt plan.table (length r.shape))) [ inl e ↦ rw e refl | inr e ↦ rw e refl ]
 
-plan-goes : (shape : Shape) (durable : List Commit) (r : Replica) (plan : Plan) → IsFedFrom shape durable r
-    → Goes shape durable r (with_plan r plan)
-plan-goes shape durable r plan fed = record {
-  feeding = plan-fed shape durable r plan fed;
-  moves = record { number_stays = refl; boot_stays = refl; request_grows = omega arith; waits = λ waits same. (waits, refl) };
+plan-goes : (laws : FedLaws) (shape : Shape) (durable : List Commit) (r : Replica) (plan : Plan) → IsFedFrom shape durable r
+    → opened r plan ≡ Ok (length r.waiting + 1, with_plan r plan) → Goes shape durable r (with_plan r plan)
+plan-goes laws shape durable r plan fed taken = record {
+  feeding = laws.opening shape durable r plan (length r.waiting + 1) (with_plan r plan) fed taken;
+  moves = record {
+    workers_stay = refl;
+    number_stays = refl;
+    boot_stays = refl;
+    request_grows = omega arith;
+    waits = λ waits same.
+        (waits, refl);
+  };
 }
 
-pub query-opens : (shape : Shape) (p : Parts) (i : ℕ) (plan : Plan) (found : Option Replica) → Sound shape p
+pub query-opens : (laws : FedLaws) (shape : Shape) (p : Parts) (i : ℕ) (plan : Plan) (found : Option Replica) → Sound shape p
     → slice_get p.replicas i ≡ found
     → Follows shape
     (on_member (world_of p) (option_map (member_of (slice_index p.asked_at i)) found) (λ m.
     cond m.broken (outputs.Broken, world_of p) (cond (nat_le WAITING_QUERIES_MAX (length m.waiting)) (outputs.BatchFull, world_of p)
     (open_happens (world_of p) m plan (checked (shape_of p.primary.schema) plan)))))
     (open_by p i plan found)
-query-opens shape p i plan None sound here = (refl, sound)
-query-opens shape p i plan (Some r) sound here =
+query-opens laws shape p i plan None sound here = (refl, sound)
+query-opens laws shape p i plan (Some r) sound here =
     subst (λ (o : Result (ℕ × Replica) OpenFault). Follows shape there (opening_query p i o)) (sym (opened-is r plan))
     (by r.broken (nat_le WAITING_QUERIES_MAX (length r.waiting)) (nat_lt plan.table (length (shape_of p.primary.schema)))
     (nat_lt plan.table (length r.shape))
-    (ap (λ (shape : Shape). nat_lt plan.table (length shape)) (sound.primary_is.shape_is ∙ sym fed.feeding.shape_is)))
+    (ap (λ (shape : Shape). nat_lt plan.table (length shape)) (sound.primary_is.shape_is ∙ sym fed.feeding.shape_is)) (opened-is r plan))
   where
     w : World
     w = world_of p
@@ -79,30 +88,34 @@ query-opens shape p i plan (Some r) sound here =
         (cond (nat_le WAITING_QUERIES_MAX (length r.waiting)) (outputs.BatchFull, w)
         (open_happens w m plan (checked (shape_of p.primary.schema) plan)))
 
-    fed : IsFed shape p.primary.durable i r
+    fed : IsFed shape p.primary.workers p.primary.durable i r
     fed = sound.fed i r here
 
-    by : (a b c d : Bool) → c ≡ d → Follows shape
+    by : (a b c d : Bool) → c ≡ d
+        → opened r plan ≡ cond a (Err opens.Broken)
+        (cond b (Err opens.BatchFull) (cond d (Ok (length r.waiting + 1, with_plan r plan)) (Err (opens.BadPlan NoTable))))
+        → Follows shape
         (cond a (outputs.Broken, w) (cond b (outputs.BatchFull, w) (open_happens w m plan (cond c (Ok tt) (Err NoTable)))))
         (opening_query p i (cond a (Err opens.Broken)
         (cond b (Err opens.BatchFull) (cond d (Ok (length r.waiting + 1, with_plan r plan)) (Err (opens.BadPlan NoTable))))))
-    by true b c d e = (refl, sound)
-    by false true c d e = (refl, sound)
-    by false false true false e = absurd (true≢false e)
-    by false false false true e = absurd (false≢true e)
-    by false false false false e = (refl, sound)
-    by false false true true e =
+    by true b c d e is = (refl, sound)
+    by false true c d e is = (refl, sound)
+    by false false true false e is = absurd (true≢false e)
+    by false false false true e is = absurd (false≢true e)
+    by false false false false e is = (refl, sound)
+    by false false true true e is =
         Follows-goes shape p i r (outputs.Opened (length r.waiting + 1), member_of (slice_index p.asked_at i) (with_plan r plan))
         (outputs.Opened (length r.waiting + 1)) (with_plan r plan)
-        sound here refl (plan-goes shape p.primary.durable r plan fed.feeding)
+        sound here refl (plan-goes laws shape p.primary.durable r plan fed.feeding is)
 
 -- ---- asking
 
-ask-means : (durable : List Commit) (replicas : List Replica) (number boot request : ℕ) → number < REPLICAS_MAX → boot < 2 ^ 64
+ask-means : (workers : ℕ) (durable : List Commit) (replicas : List Replica) (number boot request : ℕ) → number < REPLICAS_MAX
+    → boot < 2 ^ 64
     → ((r : Replica) → slice_get replicas number ≡ Some r → request ≤ r.request)
-    → Means durable replicas (reading (spelling (datagrams.Ask number boot request)))
-ask-means durable replicas number boot request number_below boot_below asked =
-    subst (Means durable replicas) (sym (ask-read number boot request number_below boot_below))
+    → Means workers durable replicas (reading (spelling (datagrams.Ask number boot request)))
+ask-means workers durable replicas number boot request number_below boot_below asked =
+    subst (Means workers durable replicas) (sym (ask-read number boot request number_below boot_below))
     (record {
       tells = tt;
       requests = (
@@ -124,18 +137,26 @@ boot-below : (shape : Shape) (p : Parts) (i : ℕ) (r : Replica) → Sound shape
 boot-below shape p i r sound here = let boot = (sound.fed i r here).boot_is in omega arith
 
 -- a batch is made
-batch-goes : (shape : Shape) (durable : List Commit) (r : Replica) → IsFedFrom shape durable r → Goes shape durable r (with_batch r)
-batch-goes shape durable r fed = record {
-  feeding = batch-fed shape durable r fed;
-  moves = record { number_stays = refl; boot_stays = refl; request_grows = omega arith; waits = λ waits same. absurd (omega arith) };
+batch-goes : (laws : FedLaws) (shape : Shape) (durable : List Commit) (r : Replica) → IsFedFrom shape durable r
+    → asked r ≡ Ok (ask_for r.number r.boot (r.request + 1), with_batch r) → Goes shape durable r (with_batch r)
+batch-goes laws shape durable r fed taken = record {
+  feeding = laws.asking shape durable r (ask_for r.number r.boot (r.request + 1)) (with_batch r) fed taken;
+  moves = record {
+    workers_stay = refl;
+    number_stays = refl;
+    boot_stays = refl;
+    request_grows = omega arith;
+    waits = λ waits same. absurd (omega arith);
+  };
 }
 
-asks-anew : (shape : Shape) (p : Parts) (i : ℕ) (r : Replica) → Sound shape p → slice_get p.replicas i ≡ Some r
+asks-anew : (laws : FedLaws) (shape : Shape) (p : Parts) (i : ℕ) (r : Replica) → Sound shape p → slice_get p.replicas i ≡ Some r
+    → asked r ≡ Ok (ask_for r.number r.boot (r.request + 1), with_batch r)
     → Follows shape
     (send (with_member (world_of p) (new_batch (world_of p) (member_of (slice_index p.asked_at i) r)))
     (ask_bytes (member_of (slice_index p.asked_at i) r) (r.request + 1)))
     (asking p i None (Ok (ask_for r.number r.boot (r.request + 1), with_batch r)))
-asks-anew shape p i r sound here =
+asks-anew laws shape p i r sound here taken =
     let bytes = spelling (datagrams.Ask r.number r.boot (r.request + 1)) in
     let w = world_of p in
     let fed = sound.fed i r here in
@@ -149,9 +170,9 @@ asks-anew shape p i r sound here =
           ∙ ap made (sym (members-asked p.replicas p.asked_at i (with_batch r) (length p.primary.durable) sound.asked_there)),
       Sound-one shape (record begun { asked_at = noted }) bytes
           (Sound-noted shape begun noted
-          (Sound-replica shape p i r (with_batch r) sound here (batch-goes shape p.primary.durable r fed.feeding))
+          (Sound-replica shape p i r (with_batch r) sound here (batch-goes laws shape p.primary.durable r fed.feeding taken))
           (length-set p.asked_at i (length p.primary.durable)))
-          (ask-means p.primary.durable (slice_set p.replicas i (with_batch r)) r.number r.boot (r.request + 1)
+          (ask-means p.primary.workers p.primary.durable (slice_set p.replicas i (with_batch r)) r.number r.boot (r.request + 1)
           (number-below shape p i r sound here) (boot-below shape p i r sound here)
           (λ s there.
           let same : s ≡ with_batch r =
@@ -171,7 +192,7 @@ asks-again shape p i r queries sound here =
     ap (λ (replicas : List Replica). with_sent (record p { replicas = replicas }) bytes) (sym (set-same p.replicas i r here)) in (
       ap (λ (p' : Parts). (sent_one p bytes, world_of p')) same,
       subst (Sound shape) same (Sound-one shape p bytes sound
-          (ask-means p.primary.durable p.replicas r.number r.boot r.request (number-below shape p i r sound here)
+          (ask-means p.primary.workers p.primary.durable p.replicas r.number r.boot r.request (number-below shape p i r sound here)
           (boot-below shape p i r sound here)
           (λ s there.
           let e : r ≡ s = same_Some r s (sym here ∙ ap (slice_get p.replicas) (sym fed.number_is) ∙ there) in
@@ -187,31 +208,35 @@ asks-fetched : (shape : Shape) (p : Parts) (i : ℕ) (r : Replica) (plans : List
 asks-fetched shape p i r plans None sound here = asks-again shape p i r (record { plans = plans; fetched = None }) sound here
 asks-fetched shape p i r plans (Some fetched) sound here = (refl, sound)
 
-asks-by : (shape : Shape) (p : Parts) (i : ℕ) (r : Replica) (batch : Option ReplicaBatch) → Sound shape p → slice_get p.replicas i ≡ Some r
+asks-by : (laws : FedLaws) (shape : Shape) (p : Parts) (i : ℕ) (r : Replica) (batch : Option ReplicaBatch) → Sound shape p
+    → slice_get p.replicas i ≡ Some r → asked r ≡ asked_by r batch
     → Follows shape (ask_happens (world_of p) (member_of (slice_index p.asked_at i) r)
     (option_map (batch_of (slice_index p.asked_at i)) batch)) (asking p i batch (asked_by r batch))
-asks-by shape p i r (Some queries) sound here = asks-fetched shape p i r queries.plans queries.fetched sound here
-asks-by shape p i r None sound here = by (length r.waiting == 0)
+asks-by laws shape p i r (Some queries) sound here is = asks-fetched shape p i r queries.plans queries.fetched sound here
+asks-by laws shape p i r None sound here is = by (length r.waiting == 0) is
   where
-    by : (b : Bool) → Follows shape
+    by : (b : Bool) → asked r ≡ cond b (Err asks.Empty) (Ok (ask_for r.number r.boot (r.request + 1), with_batch r)) → Follows shape
         (cond b (outputs.Empty, world_of p)
         (send (with_member (world_of p) (new_batch (world_of p) (member_of (slice_index p.asked_at i) r)))
         (ask_bytes (member_of (slice_index p.asked_at i) r) (r.request + 1))))
         (asking p i None (cond b (Err asks.Empty) (Ok (ask_for r.number r.boot (r.request + 1), with_batch r))))
-    by true = (refl, sound)
-    by false = asks-anew shape p i r sound here
+    by true is = (refl, sound)
+    by false is = asks-anew laws shape p i r sound here is
 
-pub version-asked : (shape : Shape) (p : Parts) (i : ℕ) (found : Option Replica) → Sound shape p → slice_get p.replicas i ≡ found
+pub version-asked : (laws : FedLaws) (shape : Shape) (p : Parts) (i : ℕ) (found : Option Replica) → Sound shape p
+    → slice_get p.replicas i ≡ found
     → Follows shape
     (on_member (world_of p) (option_map (member_of (slice_index p.asked_at i)) found)
     (λ m. cond m.broken (outputs.Broken, world_of p) (ask_happens (world_of p) m m.batch)))
     (ask_by p i found)
-version-asked shape p i None sound here = (refl, sound)
-version-asked shape p i (Some r) sound here = by r.broken
+version-asked laws shape p i None sound here = (refl, sound)
+version-asked laws shape p i (Some r) sound here = by r.broken refl
   where
-    by : (b : Bool) → Follows shape
+    by : (b : Bool) → r.broken ≡ b → Follows shape
         (cond b (outputs.Broken, world_of p)
         (ask_happens (world_of p) (member_of (slice_index p.asked_at i) r) (option_map (batch_of (slice_index p.asked_at i)) r.batch)))
         (asking p i r.batch (cond b (Err asks.Broken) (asked_by r r.batch)))
-    by true = (refl, sound)
-    by false = asks-by shape p i r r.batch sound here
+    by true e = (refl, sound)
+    by false e =
+        asks-by laws shape p i r r.batch sound here
+        (ap (λ (b : Bool). cond {A = Result (Out × Replica) AskFault} b (Err asks.Broken) (asked_by r r.batch)) e)

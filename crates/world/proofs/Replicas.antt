@@ -1,15 +1,10 @@
 -- What comes to a replica of sound parts does to it what it does to its member.
-use Rattle.std.proofs.Common.{◌≡◌, ℕ, ◌≤◌, Bool, true, false, cond, not, ◌||◌, ◌&&◌, ◌==◌, List, [], ◌∷◌, length, Option, Some, None}
-use Rattle.std.proofs.Common.{Result, Ok, Err, nat_lt, refl, sym, ap, subst, ◌∙◌, arith}
-use Rattle.std.specs.List.{slice_get, slice_index, list_all}
-use Rattle.std.specs.Option.{option_map}
-use Rattle.std.specs.Ordering.{nat_cmp}
-use Rattle.std.specs.Map.{keys_of}
-use Rattle.std.specs.BTreeMap.{insert_entry}
-use Rattle.std.specs.BTreeSet.{insert_key}
+use Rattle.std.proofs.Common.{◌≡◌, ℕ, zero, suc, Bool, true, false, cond, not, ◌||◌, ◌&&◌, ◌==◌, List, [], ◌∷◌, Option, Some}
+use Rattle.std.proofs.Common.{None, Result, Ok, Err, nat_lt, refl, sym, ap, subst, ◌∙◌, arith}
+use Rattle.std.specs.List.{slice_get, slice_set, slice_index, list_all}
+use Rattle.std.specs.Option.{option_map, is_none}
 use Rattle.std.specs.Result.{is_ok}
-use Rattle.std.specs.Option.{is_none}
-use Rattle.std.proofs.lemmas.Bool.{false≢true, and_parts, eqb-true, le-ltb, eq-eqb}
+use Rattle.std.proofs.lemmas.Bool.{false≢true, and_parts, eqb-true}
 use Rattle.rows.specs.declared.commit.Commit.{Commit}
 use Rattle.rows.specs.Shape.{Shape, shape_of}
 use Rattle.rows.specs.Entries.{fitting}
@@ -18,26 +13,26 @@ use Rattle.wire.specs.declared.datagram.Datagram.TheVariants as datagrams
 use Rattle.wire.specs.declared.faults.WireFault.{WireFault}
 use Rattle.update_log.specs.declared.frame.Frame.{Frame}
 use Rattle.wire.specs.Reading.{reading}
-use Rattle.wire.specs.Streams.{frame_count}
+use Rattle.intake.specs.declared.taken.Taken.{Taken}
+use Rattle.intake.specs.declared.taken.Taken.TheVariants as takens
+use Rattle.intake.specs.Known.{is_known, is_ahead, with_seq}
+use Rattle.intake.specs.State.{Arrivals, arrivals_of}
+use Rattle.intake.specs.Steps.{with_frame}
 use Rattle.dispatcher.specs.declared.outcome.Got.{Got}
 use Rattle.dispatcher.specs.declared.outcome.Got.TheVariants as got
 use Rattle.dispatcher.specs.declared.plan.Plan.{Plan}
-use Rattle.dispatcher.specs.Known.{is_known, is_ahead}
-use Rattle.dispatcher.specs.Feeding.{IsFedFrom}
+use Rattle.dispatcher.specs.Feeding.{IsFedFrom, Tells}
 use Rattle.dispatcher.specs.State.{Replica, Batch as ReplicaBatch, Fetched}
-use Rattle.dispatcher.specs.Steps.{frame_comes, own_head_comes, datagram_comes, known}
-use Rattle.dispatcher.proofs.CatchingUp.{applied-version}
-use Rattle.dispatcher.proofs.Feeding.{datagram-feeds}
-use Rattle.dispatcher.proofs.Stored.{keys-insert}
-use Rattle.dispatcher.proofs.Streams.{count-is}
+use Rattle.dispatcher.specs.Steps.{frame_comes, own_head_comes, goes_on, got_of, datagram_comes}
 use Rattle.script.specs.declared.output.Output.{Output}
 use Rattle.script.specs.declared.output.Output.TheVariants as outputs
 use Rattle.world.specs.Outputs.{of_got}
 use Rattle.world.specs.Parts.{Parts}
 use Rattle.world.specs.Inner.CoreSteps.{with_replica, got_by, to_replica}
-use Rattle.world.specs.Steps.{World, Member, frame_happens, head_happens, datagram_happens, member_output, on_member}
+use Rattle.world.specs.Steps.{World, Member, frame_happens, head_happens, datagram_happens, member_output, on_member, known_of, with_known}
 use Rattle.world.specs.Inner.Sound.{Sound, IsFed, Means, awaits}
-use Rattle.world.specs.Standing.{world_of, member_of, batch_of}
+use Rattle.world.specs.Standing.{world_of, member_of, batch_of, known_in}
+use Rattle.world.proofs.FedLaws.{FedLaws}
 use Rattle.world.proofs.Worlds.{member-changes}
 use Rattle.world.proofs.Moves.{Moves, Goes, Follows, Sound-replica, Follows-same, Moves-same}
 
@@ -54,28 +49,68 @@ Comes-same at r answer = (refl, Moves-same r)
 
 -- ---- a frame
 
+-- the known seqs of a worker are those of its arrivals
+known-at : (arrivals : List Arrivals) (worker : ℕ) → known_of (known_in arrivals) worker ≡ (arrivals_of arrivals worker).known
+known-at [] worker = refl
+known-at (first ∷ arrivals) zero = refl
+known-at (first ∷ arrivals) (suc worker) = known-at arrivals worker
+
+known-set : (arrivals : List Arrivals) (worker : ℕ) (one : Arrivals)
+    → known_in (slice_set arrivals worker one) ≡ slice_set (known_in arrivals) worker one.known
+known-set [] worker one = refl
+known-set (first ∷ arrivals) zero one = refl
+known-set (first ∷ arrivals) (suc worker) one = ap (λ l. first.known ∷ l) (known-set arrivals worker one)
+
+-- one more frame of a worker is known
+known-stored : (arrivals : List Arrivals) (frame : Frame)
+    → known_in (slice_set arrivals frame.worker (with_frame (arrivals_of arrivals frame.worker) frame))
+    ≡ with_known (known_in arrivals) frame.worker frame.seq
+known-stored arrivals frame =
+    known-set arrivals frame.worker (with_frame (arrivals_of arrivals frame.worker) frame)
+    ∙ ap (λ (known : List ℕ). slice_set (known_in arrivals) frame.worker (with_seq known frame.seq))
+    (sym (known-at arrivals frame.worker))
+
 frame-comes : (at : ℕ) (r : Replica) (frame : Frame)
     → Comes at r (frame_happens r.shape r.workers (member_of at r) frame.worker frame.seq frame.entries) (frame_comes r frame)
 frame-comes at r frame =
-    by (not (nat_lt frame.worker r.workers) || not (list_all (λ entry. is_ok (fitting r.shape entry)) frame.entries))
-    (is_known (known r) frame.seq) (is_ahead (known r) frame.seq)
+    subst (λ (known : List ℕ). Comes at r
+    (cond (not (nat_lt frame.worker r.workers) || not (list_all (λ entry. is_ok (fitting r.shape entry)) frame.entries))
+    (outputs.Ignored, m)
+    (cond (is_known known frame.seq) (outputs.Repeat, m)
+    (cond (is_ahead known frame.seq) (outputs.Ahead, m)
+    (outputs.Stored, record m { known = with_known (known_in r.arrivals) frame.worker frame.seq }))))
+    (frame_comes r frame)) (sym (known-at r.arrivals frame.worker))
+    (by (not (nat_lt frame.worker r.workers) || not (list_all (λ entry. is_ok (fitting r.shape entry)) frame.entries))
+    (is_known one.known frame.seq) (is_ahead one.known frame.seq))
   where
-    with : Replica
-    with = record r { frames = insert_entry nat_cmp r.frames frame.seq frame }
+    one : Arrivals
+    one = arrivals_of r.arrivals frame.worker
+
+    stored : List Arrivals
+    stored = slice_set r.arrivals frame.worker (with_frame one frame)
 
     m : Member
     m = member_of at r
 
+    takes : Bool → Bool → Taken × List Arrivals
+    takes b c = cond b (takens.Repeat, r.arrivals) (cond c (takens.Ahead, r.arrivals) (takens.Stored, stored))
+
     by : (a b c : Bool) → Comes at r
         (cond a (outputs.Ignored, m) (cond b (outputs.Repeat, m)
-        (cond c (outputs.Ahead, m) (outputs.Stored, record m { known = insert_key nat_cmp (keys_of r.frames) frame.seq }))))
-        (cond a (got.Ignored, r) (cond b (got.Repeat, r) (cond c (got.Ahead, r) (got.Stored, with))))
+        (cond c (outputs.Ahead, m) (outputs.Stored, record m { known = with_known (known_in r.arrivals) frame.worker frame.seq }))))
+        (cond a (got.Ignored, r) (got_of (takes b c).0, record r { arrivals = (takes b c).1 }))
     by true b c = Comes-same at r got.Ignored
     by false true c = Comes-same at r got.Repeat
     by false false true = Comes-same at r got.Ahead
     by false false false = (
-      ap (λ (keys : List ℕ). (outputs.Stored, record m { known = keys })) (sym (keys-insert r.frames frame.seq frame)),
-      record { number_stays = refl; boot_stays = refl; request_grows = omega arith; waits = λ waits same. (waits, refl) },
+      ap (λ (known : List (List ℕ)). (outputs.Stored, record m { known = known })) (sym (known-stored r.arrivals frame)),
+      record {
+        workers_stay = refl;
+        number_stays = refl;
+        boot_stays = refl;
+        request_grows = omega arith;
+        waits = λ waits same. (waits, refl);
+      },
     )
 
 -- ---- a Head of the replica's own request
@@ -84,60 +119,52 @@ frame-comes at r frame =
 abbrev pub batched : Replica → Option ReplicaBatch → Replica
 batched r batch = record r { batch = batch }
 
--- whether a Head goes back, or is not of its number of workers
-abbrev refused : Replica → ℕ → List ℕ → Bool
-refused r version counts = not (length counts == r.workers) || nat_lt version r.version || nat_lt (slice_index counts 0) r.applied
-
-takes : (a b c : Bool) → a ≡ true → b ≡ false → c ≡ false → (not a || b || c) ≡ false
-takes a b c e f g = rw (e, f, g) refl
-
--- one that tells the truth of the list and is no older than the replica does not
-not-refused : (shape : Shape) (durable : List Commit) (r : Replica) (version : ℕ) (counts : List ℕ) → IsFedFrom shape durable r
-    → version ≤ length durable → counts ≡ frame_count durable 0 version ∷ [] → r.version ≤ version → refused r version counts ≡ false
-not-refused shape durable r version counts fed below are fresh =
-    let count : slice_index counts 0 ≡ version = ap (λ (l : List ℕ). slice_index l 0) are ∙ count-is durable version fed.legal.each below in
-    let applied = applied-version shape durable r fed in
-    takes (length counts == r.workers) (nat_lt version r.version) (nat_lt (slice_index counts 0) r.applied)
-    (eq-eqb (length counts) r.workers (ap length are ∙ sym fed.workers_are)) (le-ltb version r.version fresh)
-    (le-ltb (slice_index counts 0) r.applied (omega arith))
-
 ignored : (at : ℕ) (r : Replica) (b : Bool) → Comes at r (outputs.Ignored, member_of at r) (cond b (got.Ignored, r) (got.Ignored, r))
 ignored at r true = Comes-same at r got.Ignored
 ignored at r false = Comes-same at r got.Ignored
 
 head-batch : (at : ℕ) (r : Replica) (version : ℕ) (counts : List ℕ) (plans : List Plan) (fetched : Option Fetched)
-    → (is_none fetched ≡ true → refused r version counts ≡ false)
+    → (is_none fetched ≡ true → goes_on r version counts ≡ true)
     → Comes at (batched r (Some (record { plans = plans; fetched = fetched })))
     (head_happens (member_of at (batched r (Some (record { plans = plans; fetched = fetched })))) version counts
     (Some (record { plans = plans; asked_at = at; fetched = fetched })))
     (own_head_comes (batched r (Some (record { plans = plans; fetched = fetched }))) version counts)
 head-batch at r version counts plans (Some fetched) passes =
-    ignored at (batched r (Some (record { plans = plans; fetched = Some fetched }))) (refused r version counts)
+    ignored at (batched r (Some (record { plans = plans; fetched = Some fetched }))) (goes_on r version counts)
 head-batch at r version counts plans None passes =
     let old = batched r (Some (record { plans = plans; fetched = None })) in
     let new = batched r (Some (record { plans = plans; fetched = Some (record { version = version; counts = counts }) })) in
-    subst (λ (b : Bool). Comes at old (outputs.Head version, member_of at new) (cond b (got.Ignored, old) (got.Head version, new)))
-    (sym (passes refl))
-    (refl, record { number_stays = refl; boot_stays = refl; request_grows = omega arith; waits = λ waits same. absurd (false≢true waits) })
+    subst (λ (b : Bool). Comes at old (outputs.Head version, member_of at new) (cond b (got.Head version, new) (got.Ignored, old)))
+    (sym (passes refl)) (
+      refl,
+      record {
+        workers_stay = refl;
+        number_stays = refl;
+        boot_stays = refl;
+        request_grows = omega arith;
+        waits = λ waits same. absurd (false≢true waits);
+      },
+    )
 
 head-comes : (at : ℕ) (r : Replica) (version : ℕ) (counts : List ℕ) (batch : Option ReplicaBatch)
-    → (awaits (batched r batch) ≡ true → refused r version counts ≡ false)
+    → (awaits (batched r batch) ≡ true → goes_on r version counts ≡ true)
     → Comes at (batched r batch) (head_happens (member_of at (batched r batch)) version counts (option_map (batch_of at) batch))
     (own_head_comes (batched r batch) version counts)
-head-comes at r version counts None passes = ignored at (batched r None) (refused r version counts)
+head-comes at r version counts None passes = ignored at (batched r None) (goes_on r version counts)
 head-comes at r version counts (Some queries) passes = head-batch at r version counts queries.plans queries.fetched passes
 
 -- ---- any datagram
 
-datagram-comes : (shape : Shape) (durable : List Commit) (replicas : List Replica) (i at : ℕ) (r : Replica)
-    (datagram : Result Datagram WireFault) → IsFed shape durable i r
-    → slice_get replicas i ≡ Some r → Means durable replicas datagram
+datagram-comes : (laws : FedLaws) (shape : Shape) (workers : ℕ) (durable : List Commit) (replicas : List Replica) (i at : ℕ) (r : Replica)
+    (datagram : Result Datagram WireFault) → IsFed shape workers durable i r
+    → slice_get replicas i ≡ Some r → Means workers durable replicas datagram
     → Comes at r (datagram_happens r.shape r.workers (member_of at r) datagram) (datagram_comes r datagram)
-datagram-comes shape durable replicas i at r (Err fault) fed here means = Comes-same at r got.Ignored
-datagram-comes shape durable replicas i at r (Ok (datagrams.Frame worker seq commit last entries)) fed here means =
+datagram-comes laws shape workers durable replicas i at r (Err fault) fed here means = Comes-same at r got.Ignored
+datagram-comes laws shape workers durable replicas i at r (Ok (datagrams.Frame worker seq commit last entries)) fed here means =
     frame-comes at r (record { worker = worker; seq = seq; commit = commit; last = last; entries = entries })
-datagram-comes shape durable replicas i at r (Ok (datagrams.Ask replica boot request)) fed here means = Comes-same at r got.Ignored
-datagram-comes shape durable replicas i at r (Ok (datagrams.Head replica boot request version counts)) fed here means =
+datagram-comes laws shape workers durable replicas i at r (Ok
+    (datagrams.Ask replica boot request)) fed here means = Comes-same at r got.Ignored
+datagram-comes laws shape workers durable replicas i at r (Ok (datagrams.Head replica boot request version counts)) fed here means =
     by ((replica == r.number) && (boot == r.boot) && (request == r.request)) refl
   where
     by : (own : Bool) → ((replica == r.number) && (boot == r.boot) && (request == r.request)) ≡ own → Comes at r
@@ -149,9 +176,10 @@ datagram-comes shape durable replicas i at r (Ok (datagrams.Head replica boot re
         let front = and_parts (replica == r.number) (boot == r.boot) parts.0 in
         let answer = means.requests r (ap (slice_get replicas) (eqb-true replica r.number front.0 ∙ fed.number_is) ∙ here) in
         head-comes at r version counts r.batch
-        (λ waits. not-refused shape durable r version counts fed.feeding means.tells.0 means.tells.1
+        (λ waits. laws.head shape durable r version counts fed.feeding means.tells.0 (means.tells.1 ∙ sym fed.workers_are) means.tells.2
         (answer.fresh waits (eqb-true request r.request parts.1)))
-datagram-comes shape durable replicas i at r (Ok (datagrams.Want replica worker from)) fed here means = Comes-same at r got.Ignored
+datagram-comes laws shape workers durable replicas i at r (Ok
+    (datagrams.Want replica worker from)) fed here means = Comes-same at r got.Ignored
 
 -- ---- bytes
 
@@ -166,24 +194,24 @@ Follows-goes shape p i r there output new sound here same goes =
       Sound-replica shape p i r new sound here goes,
     )
 
-pub bytes-come : (shape : Shape) (p : Parts) (i : ℕ) (bytes : List ℕ) (found : Option Replica) → Sound shape p
-    → Means p.primary.durable p.replicas (reading bytes) → slice_get p.replicas i ≡ found
+pub bytes-come : (laws : FedLaws) (shape : Shape) (p : Parts) (i : ℕ) (bytes : List ℕ) (found : Option Replica) → Sound shape p
+    → Means p.primary.workers p.primary.durable p.replicas (reading bytes) → slice_get p.replicas i ≡ found
     → Follows shape
     (on_member (world_of p) (option_map (member_of (slice_index p.asked_at i)) found)
     (λ m. cond m.broken (outputs.Broken, world_of p)
     (member_output (world_of p) (datagram_happens (shape_of p.primary.schema) p.primary.workers m (reading bytes)))))
     (to_replica p i bytes found)
-bytes-come shape p i bytes None sound means here = (refl, sound)
-bytes-come shape p i bytes (Some r) sound means here = by r.broken
+bytes-come laws shape p i bytes None sound means here = (refl, sound)
+bytes-come laws shape p i bytes (Some r) sound means here = by r.broken refl
   where
     at : ℕ
     at = slice_index p.asked_at i
 
-    fed : IsFed shape p.primary.durable i r
+    fed : IsFed shape p.primary.workers p.primary.durable i r
     fed = sound.fed i r here
 
     came : Comes at r (datagram_happens r.shape r.workers (member_of at r) (reading bytes)) (datagram_comes r (reading bytes))
-    came = datagram-comes shape p.primary.durable p.replicas i at r (reading bytes) fed here means
+    came = datagram-comes laws shape p.primary.workers p.primary.durable p.replicas i at r (reading bytes) fed here means
 
     same : datagram_happens (shape_of p.primary.schema) p.primary.workers (member_of at r) (reading bytes) ≡ answered at
         (datagram_comes r (reading bytes))
@@ -191,13 +219,21 @@ bytes-come shape p i bytes (Some r) sound means here = by r.broken
         ap (λ (shape : Shape). datagram_happens shape p.primary.workers (member_of at r) (reading bytes))
         (sound.primary_is.shape_is ∙ sym fed.feeding.shape_is)
         ∙ ap (λ (workers : ℕ). datagram_happens r.shape workers (member_of at r) (reading bytes))
-        (sound.primary_is.workers_are ∙ sym fed.feeding.workers_are)
+        (sym fed.workers_are)
         ∙ came.0
 
-    by : (b : Bool) → Follows shape
+    -- the replica stays fed by what it makes of the datagram
+    feeds : r.broken ≡ false → IsFedFrom shape p.primary.durable (datagram_comes r (reading bytes)).1
+    feeds whole =
+        subst (λ (b : Bool). IsFedFrom shape p.primary.durable (cond b (got.Broken, r) (datagram_comes r (reading bytes))).1) whole
+        (laws.bytes shape p.primary.durable r bytes fed.feeding
+        (subst (λ (n : ℕ). Tells n p.primary.durable (reading bytes)) (sym fed.workers_are) means.tells))
+
+    by : (b : Bool) → r.broken ≡ b → Follows shape
         (cond b (outputs.Broken, world_of p)
         (member_output (world_of p) (datagram_happens (shape_of p.primary.schema) p.primary.workers (member_of at r) (reading bytes))))
         (got_by p i (cond b (got.Broken, r) (datagram_comes r (reading bytes))))
-    by true = Follows-same shape p i r outputs.Broken sound here
-    by false = Follows-goes shape p i r _ (of_got (datagram_comes r (reading bytes)).0) (datagram_comes r (reading bytes)).1 sound here same
-        (record { feeding = datagram-feeds shape p.primary.durable r (reading bytes) fed.feeding means.tells; moves = came.1 })
+    by true whole = Follows-same shape p i r outputs.Broken sound here
+    by false whole =
+        Follows-goes shape p i r _ (of_got (datagram_comes r (reading bytes)).0) (datagram_comes r (reading bytes)).1 sound here same
+        (record { feeding = feeds whole; moves = came.1 })

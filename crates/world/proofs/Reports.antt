@@ -8,7 +8,7 @@ use Rattle.rows.specs.Tables.{Tables}
 use Rattle.rows.specs.Commits.{tables_after}
 use Rattle.dispatcher.specs.Feeding.{IsFedFrom}
 use Rattle.dispatcher.specs.Report.{report_of}
-use Rattle.dispatcher.proofs.Versions.{tables-stay}
+use Rattle.world.proofs.Durable.{tables-stay}
 use Rattle.script.specs.declared.event.Event.{Event}
 use Rattle.script.specs.declared.output.Output.{Output}
 use Rattle.script.specs.declared.output.Output.TheVariants as outputs
@@ -180,6 +180,6 @@ run-stands setup todo done run = (
   world-started setup,
   run.end,
   run-seen (λ (p : Parts). p) (IsCoreStep run.end.primary.durable) _
-      (λ old event output new step. (step.0.happens, step.1, agree new step.1))
+      (λ old event output new step. (step.0.happens, step.1, step.2, agree new step.1))
       (parts_started setup) run.end todo done run.steps,
 )

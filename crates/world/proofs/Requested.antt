@@ -18,11 +18,8 @@ use Rattle.primary.specs.Steps.{commit_answer, flushed}
 use Rattle.primary.specs.Sending.{pushed, answers}
 use Rattle.dispatcher.specs.declared.plan.Plan.{Plan}
 use Rattle.dispatcher.specs.declared.faults.PlanFault.{PlanFault}
-use Rattle.dispatcher.specs.Known.{is_known, is_ahead, first_missing}
+use Rattle.intake.specs.Known.{is_known, is_ahead}
 use Rattle.dispatcher.specs.Plans.{checked}
-use Rattle.dispatcher.specs.Report.{report_of}
-use Rattle.dispatcher.specs.Steps.{lacks_frame}
-use Rattle.rows.specs.Commits.{tables_after}
 use Rattle.dispatcher.specs.State.{Replica, Fetched}
 use Rattle.script.specs.declared.event.Event.{Event}
 use Rattle.script.specs.declared.event.Event.TheVariants as events
@@ -36,10 +33,9 @@ use Rattle.world.specs.Parts.{Parts}
 use Rattle.world.specs.Steps.{World, Member, Batch, fresh_from, opening_world, open_draft, happens, with_member, on_draft}
 use Rattle.world.specs.Steps.{change_happens, commit_happens, push_happens, head_happens, datagram_happens, on_member}
 use Rattle.world.specs.Steps.{deliver_happens, open_happens, ask_happens, new_batch, ask_bytes, run_happens}
-use Rattle.world.specs.Steps.{want_bytes}
+use Rattle.world.specs.Steps.{want_bytes, fetched_happens, answer_happens, lacking, known_of, unless_stopped}
 use Rattle.world.specs.Allowed.{RunIsCut, MayHappen}
 use Rattle.world.specs.Standing.{world_of, members_of}
-use Rattle.world.specs.Inner.Sound.{IsSmallDraft}
 use Rattle.world.specs.Inner.Invariant.{IsReady, IsRequested, IsKept}
 use Rattle.world.proofs.Slots.{all_at, all_set, all_weaker}
 
@@ -150,7 +146,8 @@ module _ (w : World) where
   datagram_stays shape workers m (Ok (datagrams.Frame worker seq commit last entries)) =
       either_way
       (not (nat_lt worker workers) || not (list_all (λ entry. is_ok (fitting shape entry)) entries)) _ _ _ refl
-      (either_way (is_known m.known seq) _ _ _ refl (either_way (is_ahead m.known seq) _ _ _ refl refl))
+      (either_way (is_known (known_of m.known worker) seq) _ _ _ refl
+      (either_way (is_ahead (known_of m.known worker) seq) _ _ _ refl refl))
   datagram_stays shape workers m (Ok (datagrams.Head replica boot request version counts)) =
       either_way ((replica == m.number) && (boot == m.boot) && (request == m.request)) _ _ _ (head_stays m version counts m.batch) refl
   datagram_stays shape workers m (Ok (datagrams.Ask replica boot request)) = refl
@@ -188,24 +185,20 @@ module _ (w : World) where
       by None = counts_sent _ _ (ask_bytes m m.request ∷ []) (refl, refl) refl refl
       by (Some fetched) = unchanged _
 
+  run_lacking : (i : ℕ) (m : Member) (plans : List Plan) (fetched : Fetched) (missing : Option (ℕ × ℕ)) → slice_get w.members i ≡ Some m
+      → Counts w (answer_happens w m plans fetched missing)
+  run_lacking i m plans fetched (Some missing) here =
+      counts_sent _ _ (want_bytes m missing.0 missing.1 ∷ []) (refl, refl) refl refl
+  run_lacking i m plans fetched None here = counts_stays i m _ _ here refl
+
+  run_fetched : (i : ℕ) (m : Member) (plans : List Plan) (fetched : Option Fetched) → slice_get w.members i ≡ Some m
+      → Counts w (fetched_happens w m plans fetched)
+  run_fetched i m plans None here = unchanged _
+  run_fetched i m plans (Some fetched) here = run_lacking i m plans fetched (lacking m.known fetched.counts) here
+
   running : (i : ℕ) (m : Member) (batch : Option Batch) → slice_get w.members i ≡ Some m → Counts w (run_happens w m batch)
   running i m None here = unchanged _
-  running i m (Some batch) here = by batch.fetched
-    where
-      on : (lacks : Bool) (fetched : Fetched) → Counts w (cond lacks (
-        outputs.Waiting 0 (first_missing m.known)
-            (record { index = length w.sent; len = length (want_bytes m 0 (first_missing m.known)) }),
-        record w { sent = w.sent ++ want_bytes m 0 (first_missing m.known) ∷ [] },
-      ) (
-        outputs.Report (report_of (tables_after (shape_of w.primary.schema) w.primary.durable fetched.version) fetched.version batch.plans),
-        with_member w (record m { version = fetched.version; batch = None }),
-      ))
-      on true fetched = counts_sent _ _ (want_bytes m 0 (first_missing m.known) ∷ []) (refl, refl) refl refl
-      on false fetched = counts_stays i m _ _ here refl
-
-      by : (fetched : Option Fetched) → Counts w (run_happens w m (Some (record batch { fetched = fetched })))
-      by None = unchanged _
-      by (Some fetched) = on (lacks_frame m.known fetched) fetched
+  running i m (Some batch) here = run_fetched i m batch.plans batch.fetched here
 
   cutting : (i : ℕ) (found : Option Member) (output : Output) (new : World) → slice_get w.members i ≡ found → RunIsCut w found output new
       → Counts w (output, new)
@@ -215,25 +208,44 @@ module _ (w : World) where
     | inr broken ↦ subst (λ (v : World). Counts w (output, v)) (sym broken.1) (counts_stays i m _ output here refl)
   ]
 
+  -- ---- stops and starts
+
+  starting : (stopped : Bool)
+      → Counts w (cond stopped (outputs.Durable (length w.primary.durable), record w { stopped = false }) (outputs.Running, w))
+  starting true = counts_same _ _ (refl, refl) refl refl
+  starting false = unchanged _
+
+  -- an event of the primary, which may be stopped
+  serving : (next : Output × World) → Counts w next → Counts w (unless_stopped w next)
+  serving next counts = by w.stopped
+    where
+      by : (stopped : Bool) → Counts w (cond stopped (outputs.Stopped, w) next)
+      by true = unchanged _
+      by false = counts
+
   -- ---- any event
 
   happening : (event : Event) → Counts w (happens w event)
-  happening events.Begin = counts_same _ _ (refl, refl) refl refl
+  happening events.Begin = serving _ (counts_same _ _ (refl, refl) refl refl)
   happening (events.Insert transaction table row values) =
-      on_drafts (open_draft w.transactions transaction) _ (λ draft. changing transaction _)
+      serving _ (on_drafts (open_draft w.transactions transaction) _ (λ draft. changing transaction _))
   happening (events.Set transaction table row column value) =
-      on_drafts (open_draft w.transactions transaction) _ (λ draft. changing transaction _)
+      serving _ (on_drafts (open_draft w.transactions transaction) _ (λ draft. changing transaction _))
   happening (events.Delete transaction table row) =
-      on_drafts (open_draft w.transactions transaction) _ (λ draft. changing transaction _)
+      serving _ (on_drafts (open_draft w.transactions transaction) _ (λ draft. changing transaction _))
   happening (events.Get transaction table row column) =
-      on_drafts (open_draft w.transactions transaction) _ (λ draft. unchanged _)
+      serving _ (on_drafts (open_draft w.transactions transaction) _ (λ draft. unchanged _))
   happening (events.Commit transaction worker) =
-      on_drafts (open_draft w.transactions transaction) _ (λ draft. committing transaction worker draft (commit_answer w.primary draft))
+      serving _ (on_drafts (open_draft w.transactions transaction) _
+      (λ draft. committing transaction worker draft (commit_answer w.primary worker draft)))
   happening (events.Abort transaction) =
-      on_drafts (open_draft w.transactions transaction) _ (λ draft. counts_same _ _ (refl, refl) refl refl)
-  happening (events.Flush count) = flushing count w.primary.failed _ _
-  happening (events.Push worker seq) = pushing (pushed w.primary worker seq)
-  happening (events.Deliver index node) = delivering node (slice_get w.sent index)
+      serving _ (on_drafts (open_draft w.transactions transaction) _ (λ draft. counts_same _ _ (refl, refl) refl refl))
+  happening (events.Flush count) = serving _ (flushing count w.primary.failed _ _)
+  happening (events.Stop bytes) = serving _ (counts_same _ _ (refl, refl) refl refl)
+  happening events.Start = starting w.stopped
+  happening (events.Push worker seq) = serving _ (pushing (pushed w.primary worker seq))
+  happening (events.Deliver index nodes.Primary) = serving _ (delivering nodes.Primary (slice_get w.sent index))
+  happening (events.Deliver index (nodes.Replica number)) = delivering (nodes.Replica number) (slice_get w.sent index)
   happening (events.Show index) = unchanged _
   happening (events.Open replica plan) =
       on_members replica (slice_get w.members replica) _ refl
@@ -251,12 +263,12 @@ module _ (w : World) where
 
 -- ---- the beginning
 
-none_asked : (number count : ℕ) → AllByRecursion (λ (m : Member). m.request ≤ 0) (fresh_from number count)
-none_asked number zero = tt
-none_asked number (suc count) = (omega arith, none_asked (suc number) count)
+none_asked : (workers number count : ℕ) → AllByRecursion (λ (m : Member). m.request ≤ 0) (fresh_from workers number count)
+none_asked workers number zero = tt
+none_asked workers number (suc count) = (omega arith, none_asked workers (suc number) count)
 
 pub opening-requested : (setup : Setup) → IsRequested (opening_world setup)
-opening-requested setup = none_asked 0 setup.replicas
+opening-requested setup = none_asked setup.workers 0 setup.replicas
 
 -- ---- the parts
 
@@ -277,16 +289,21 @@ requests-made (r ∷ replicas) [] count all = (all.0, requests-made replicas [] 
 requests-made (r ∷ replicas) (at ∷ asked_at) count all = (all.0, requests-made replicas asked_at count all.1)
 
 snapshots-known : (durable : ℕ) (transactions : List (Option Draft))
-    → ((i : ℕ) (draft : Draft) → slice_get transactions i ≡ Some (Some draft) → IsSmallDraft durable draft)
+    → ((i : ℕ) (draft : Draft) → slice_get transactions i ≡ Some (Some draft) → draft.snapshot ≤ durable)
     → AllByRecursion (λ slot. IfSome slot (λ draft. draft.snapshot ≤ durable)) transactions
 snapshots-known durable [] are = tt
 snapshots-known durable (None ∷ slots) are = (tt, snapshots-known durable slots (λ i draft here. are (suc i) draft here))
 snapshots-known durable (Some draft ∷ slots) are =
-    ((are 0 draft refl).known, snapshots-known durable slots (λ i other here. are (suc i) other here))
+    (are 0 draft refl, snapshots-known durable slots (λ i other here. are (suc i) other here))
 
 -- the parts of a world are ready for its calls
 pub kept-ready : (p : Parts) → IsKept p → IsReady p
 kept-ready p kept = record {
+  setup_is = kept.sound.setup_is;
+  workers_some = kept.sound.primary_is.workers_some;
+  workers_few = kept.sound.primary_is.workers_few;
+  whole = kept.honest.whole;
+  kept = kept.journal;
   asked_there = kept.sound.asked_there;
   snapshots = snapshots-known (length p.primary.durable) p.transactions kept.sound.drafts_are;
   requests = requests-made p.replicas p.asked_at (length p.sent) kept.requested;

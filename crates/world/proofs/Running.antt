@@ -1,179 +1,246 @@
 -- Running a batch does at a replica of sound parts what it does at its member, also where it is cut short.
-use Rattle.std.proofs.Common.{◌≡◌, ℕ, Bool, true, false, cond, List, length, Option, Some, None, refl, sym, ap, subst, ◌∙◌, ◌⊎◌, inl}
-use Rattle.std.proofs.Common.{inr, arith, ◌<◌}
+use Rattle.std.proofs.Common.{◌≡◌, ℕ, ◌+◌, ◌<◌, Bool, true, false, cond, nat_lt, List, [], ◌∷◌, length, Option, Some, None, Result, Ok, Err}
+use Rattle.std.proofs.Common.{refl, sym, ap, subst, ◌∙◌, ◌⊎◌, inl, inr, arith}
+use Rattle.std.specs.Prelude.{IsOkAnd}
 use Rattle.std.specs.List.{slice_get, slice_index}
 use Rattle.std.specs.Option.{option_map, option_and_then, is_none}
-use Rattle.std.proofs.lemmas.Bool.{false≢true, true≢false, ltb-false}
-use Rattle.std.proofs.lemmas.Option.{same_Some}
-use Rattle.rows.specs.declared.commit.Commit.{Commit}
+use Rattle.std.proofs.lemmas.Bool.{false≢true, true≢false}
+use Rattle.std.proofs.lemmas.Option.{none-some}
 use Rattle.rows.specs.Shape.{Shape, shape_of}
-use Rattle.rows.specs.Commits.{tables_after}
+use Rattle.rows.specs.Tables.{Tables, Refusal}
+use Rattle.rows.specs.Commits.{tables_after, commits_of}
 use Rattle.wire.specs.declared.datagram.Datagram.TheVariants as datagrams
 use Rattle.wire.specs.Reading.{reading}
 use Rattle.wire.specs.Spelling.{spelling}
+use Rattle.intake.specs.Known.{first_missing}
+use Rattle.intake.specs.State.{Arrivals}
+use Rattle.intake.specs.Steps.{dropped, lacking as arrivals_lacking, lacking_from as arrivals_lacking_from}
 use Rattle.dispatcher.specs.declared.outcome.Run.{Run}
 use Rattle.dispatcher.specs.declared.outcome.Run.TheVariants as runs
 use Rattle.dispatcher.specs.declared.plan.Plan.{Plan}
 use Rattle.dispatcher.specs.Feeding.{IsFedFrom}
-use Rattle.dispatcher.specs.Known.{first_missing}
 use Rattle.dispatcher.specs.State.{Replica, Batch as ReplicaBatch, Fetched}
 use Rattle.dispatcher.specs.Report.{report_of}
-use Rattle.dispatcher.specs.Steps.{known, broken_of, caught_up, finished, lacks_frame, ran_by, ready, ready_of, want_for, WantsMemory}
-use Rattle.dispatcher.proofs.CatchingUp.{CanAnswer, ready-parts, caught, catches-up}
-use Rattle.dispatcher.proofs.Feeding.{broken-fed, caught-fed, finished-fed}
+use Rattle.dispatcher.specs.Steps.{at_fetched, broken_of, want_for, ready, ready_of, unless_lacking, CaughtUp, WantsMemory}
+use Rattle.dispatcher.specs.Steps.{Runs as ReplicaRuns, RunsAs, RunsWhole, RunsBatch, RunsFetched}
 use Rattle.script.specs.declared.output.Output.{Output}
 use Rattle.script.specs.declared.output.Output.TheVariants as outputs
 use Rattle.world.specs.Parts.{Parts}
-use Rattle.world.specs.Inner.CoreSteps.{with_replica, with_sent, run_output, run_by, CallIsCut}
-use Rattle.world.specs.Steps.{World, Member, run_happens, wait_happens, want_bytes, with_member, on_member, Batch}
+use Rattle.world.specs.Inner.CoreSteps.{with_replica, with_sent, run_output}
+use Rattle.world.specs.Steps.{World, Member, Batch, run_happens, fetched_happens, answer_happens, wait_happens, want_bytes, with_member}
+use Rattle.world.specs.Steps.{lacking, lacking_from}
 use Rattle.world.specs.Allowed.{ready_member, RunIsCut}
-use Rattle.world.proofs.Lists.{set-same}
-use Rattle.world.specs.Inner.Sound.{Sound, Means, awaits_by}
-use Rattle.world.specs.Standing.{world_of, member_of, batch_of}
+use Rattle.world.specs.Inner.Sound.{Sound, Means, awaits, awaits_by}
+use Rattle.world.specs.Standing.{world_of, member_of, batch_of, known_in}
 use Rattle.world.proofs.Datagrams.{want-reads}
+use Rattle.world.proofs.FedLaws.{FedLaws}
+use Rattle.world.proofs.Lists.{set-same}
 use Rattle.world.proofs.Worlds.{member-changes}
-use Rattle.world.proofs.Moves.{Goes, Follows, Sound-replica, Sound-one, Follows-same}
+use Rattle.world.proofs.Moves.{Moves, Follows, Sound-replica, Sound-one, Follows-same}
 use Rattle.world.proofs.Replicas.{Follows-goes}
+
+-- ---- what is known and what is missing
+
+-- what is dropped stays known
+known-dropped : (arrivals : List Arrivals) (counts : List ℕ) → known_in (dropped arrivals counts) ≡ known_in arrivals
+known-dropped [] counts = refl
+known-dropped (first ∷ arrivals) [] = refl
+known-dropped (first ∷ arrivals) (count ∷ counts) = ap (λ l. first.known ∷ l) (known-dropped arrivals counts)
+
+lacking-from : (worker : ℕ) (arrivals : List Arrivals) (counts : List ℕ)
+    → lacking_from worker (known_in arrivals) counts ≡ arrivals_lacking_from worker arrivals counts
+lacking-from worker [] counts = refl
+lacking-from worker (first ∷ arrivals) [] = refl
+lacking-from worker (first ∷ arrivals) (count ∷ counts) =
+    ap (λ (rest : Option (ℕ × ℕ)). cond (nat_lt (first_missing first.known) count) (Some (worker, first_missing first.known)) rest)
+    (lacking-from (worker + 1) arrivals counts)
+
+lacking-same : (arrivals : List Arrivals) (counts : List ℕ) → lacking (known_in arrivals) counts ≡ arrivals_lacking arrivals counts
+lacking-same arrivals counts = lacking-from 0 arrivals counts
 
 -- ---- what a run makes of a replica
 
--- a batch for which something was fetched waits for nothing
-waits-not : (batch : Option ReplicaBatch) (queries : ReplicaBatch) (fetched : Fetched) → batch ≡ Some queries → queries.fetched
-    ≡ Some fetched
-    → awaits_by batch ≡ false
-waits-not batch queries fetched e f = ap awaits_by e ∙ ap is_none f
+-- a replica whose batch may be answered waits for no Head
+ready-waits : (r : Replica) (fetched : Fetched) → ready_of r ≡ Some fetched → awaits r ≡ false
+ready-waits r fetched h = by r.broken r.batch h
+  where
+    on : (plans : List Plan) (held : Option Fetched)
+        → unless_lacking (arrivals_lacking r.arrivals) held ≡ Some fetched
+        → awaits_by (Some (record { plans = plans; fetched = held })) ≡ false
+    on plans None h = absurd (none-some fetched h)
+    on plans (Some held) h = refl
 
-module _ (shape : Shape) (durable : List Commit) (r : Replica) (queries : ReplicaBatch) (fetched : Fetched)
-    (fed : IsFedFrom shape durable r)
-    (can : CanAnswer r queries fetched) where
-  -- it stands at the version that was fetched, its batch still there
-  caught-goes : Goes shape durable r (caught shape durable fetched r)
-  caught-goes = record {
-    feeding = caught-fed shape durable r queries fetched fed can;
-    moves = record {
-      number_stays = refl;
-      boot_stays = refl;
-      request_grows = omega arith;
-      waits = λ waits same. absurd (true≢false (sym waits ∙ waits-not r.batch queries fetched can.there can.has));
-    };
-  }
+    by : (broken : Bool) (batch : Option ReplicaBatch)
+        → ready broken (arrivals_lacking r.arrivals) (option_and_then (λ (b : ReplicaBatch). b.fetched) batch) ≡ Some fetched
+        → awaits_by batch ≡ false
+    by true batch h = absurd (none-some fetched h)
+    by false None h = refl
+    by false (Some queries) h = on queries.plans queries.fetched h
 
-  -- it stands there, its batch answered
-  finished-goes : Goes shape durable r (record (caught shape durable fetched r) { batch = None })
-  finished-goes = record {
-    feeding = finished-fed shape durable r queries fetched fed can;
-    moves = record { number_stays = refl; boot_stays = refl; request_grows = omega arith; waits = λ waits same. absurd (false≢true waits) };
-  }
+-- it stands at the version that was fetched, its batch still there
+caught-moves : (r : Replica) (fetched : Fetched) (tables : Tables) → awaits r ≡ false → Moves r (at_fetched r fetched tables)
+caught-moves r fetched tables none = record {
+  workers_stay = refl;
+  number_stays = refl;
+  boot_stays = refl;
+  request_grows = omega arith;
+  waits = λ waits same. absurd (true≢false (sym waits ∙ none));
+}
 
-  -- it is broken
-  broken-goes : Goes shape durable r (broken_of r)
-  broken-goes = record {
-    feeding = broken-fed shape durable r fed;
-    moves = record {
-      number_stays = refl;
-      boot_stays = refl;
-      request_grows = omega arith;
-      waits = λ waits same. absurd (true≢false (sym waits ∙ waits-not r.batch queries fetched can.there can.has));
-    };
-  }
+-- it stands there, its batch answered
+finished-moves : (r : Replica) (fetched : Fetched) (tables : Tables) → Moves r (record (at_fetched r fetched tables) { batch = None })
+finished-moves r fetched tables = record {
+  workers_stay = refl;
+  number_stays = refl;
+  boot_stays = refl;
+  request_grows = omega arith;
+  waits = λ waits same. absurd (false≢true waits);
+}
+
+-- it is broken
+broken-moves : (r : Replica) → awaits r ≡ false → Moves r (broken_of r)
+broken-moves r none = record {
+  workers_stay = refl;
+  number_stays = refl;
+  boot_stays = refl;
+  request_grows = omega arith;
+  waits = λ waits same. absurd (true≢false (sym waits ∙ none));
+}
+
+-- its member at the version that was fetched
+caught-member : (at : ℕ) (r : Replica) (fetched : Fetched) (tables : Tables)
+    → member_of at (at_fetched r fetched tables) ≡ record (member_of at r) { version = fetched.version }
+caught-member at r fetched tables =
+    let m = member_of at r in
+    ap (λ (known : List (List ℕ)). record m { known = known; version = fetched.version }) (known-dropped r.arrivals fetched.counts)
+
+finished-member : (at : ℕ) (r : Replica) (fetched : Fetched) (tables : Tables)
+    → member_of at (record (at_fetched r fetched tables) { batch = None })
+    ≡ record (member_of at r) { version = fetched.version; batch = None }
+finished-member at r fetched tables =
+    let m = member_of at r in
+    ap (λ (known : List (List ℕ)). record m { known = known; version = fetched.version; batch = None })
+    (known-dropped r.arrivals fetched.counts)
 
 -- ---- the run
 
-module _ (shape : Shape) (p : Parts) (i : ℕ) (r : Replica) (sound : Sound shape p) (here : slice_get p.replicas i ≡ Some r) where
-  run-waits : (seq : ℕ) → Follows shape (wait_happens (world_of p) 0 seq (want_bytes (member_of (slice_index p.asked_at i) r) 0 seq))
-      (run_output p i (runs.Waiting 0 seq (want_for r.number 0 seq), r))
-  run-waits seq =
-      let bytes = spelling (datagrams.Want r.number 0 seq) in
-      let output = outputs.Waiting 0 seq (record { index = length p.sent; len = length bytes }) in
-      let same : with_sent p bytes ≡ with_sent (with_replica p i r) bytes =
-      ap (λ (replicas : List Replica). with_sent (record p { replicas = replicas }) bytes) (sym (set-same p.replicas i r here)) in
-      let means : Means p.primary.durable p.replicas (reading bytes) =
-      want-reads (Means p.primary.durable p.replicas) (λ fault. record { tells = tt; requests = tt })
-      (λ replica worker from. record { tells = tt; requests = tt }) r.number 0 seq in
-      (ap (λ (p : Parts). (output, world_of p)) same, subst (Sound shape) same (Sound-one shape p bytes sound means))
-
-  run-finishes : (queries : ReplicaBatch) (fetched : Fetched) → CanAnswer r queries fetched
-      → Follows shape (
-        outputs.Report (report_of (tables_after (shape_of p.primary.schema) p.primary.durable fetched.version) fetched.version
-            queries.plans),
-        with_member (world_of p) (record (member_of (slice_index p.asked_at i) r) { version = fetched.version; batch = None }),
-      )
-      (run_output p i (finished r queries.plans (caught_up r fetched)))
-  run-finishes queries fetched can =
-      let fed = (sound.fed i r here).feeding in
-      let durable = p.primary.durable in
-      let at = slice_index p.asked_at i in
-      let after = record (caught shape durable fetched r) { batch = None } in
-      let text =
-      λ (shape : Shape). report_of (tables_after shape durable fetched.version) fetched.version queries.plans in
-      let there : Output × World = (
-        outputs.Report (report_of (tables_after (shape_of p.primary.schema) p.primary.durable fetched.version) fetched.version
-            queries.plans),
-        with_member (world_of p) (record (member_of at r) { version = fetched.version; batch = None }),
-      ) in
-      subst (λ (o : Option Replica). Follows shape there (run_output p i (finished r queries.plans o)))
-      (sym (catches-up shape durable r queries fetched fed can))
-      (Follows-goes shape p i r (outputs.Report (text (shape_of p.primary.schema)), member_of at after)
-      (outputs.Report (text shape)) after sound here
-      (ap (λ (s : Shape). (outputs.Report (text s), member_of at after)) sound.primary_is.shape_is)
-      (finished-goes shape durable r queries fetched fed can))
-
-  run-fetched : (plans : List Plan) (fetched : Option Fetched) → r.broken ≡ false
-      → r.batch ≡ Some (record { plans = plans; fetched = fetched })
-      → Follows shape (run_happens (world_of p) (member_of (slice_index p.asked_at i) r)
-      (Some (record { plans = plans; asked_at = slice_index p.asked_at i; fetched = fetched })))
-      (run_output p i (ran_by r (Some (record { plans = plans; fetched = fetched }))))
-  run-fetched plans None whole batch = Follows-same shape p i r outputs.WaitingHead sound here
-  run-fetched plans (Some fetched) whole batch = by (lacks_frame (known r) fetched) refl
-    where
-      by : (b : Bool) → lacks_frame (known r) fetched ≡ b → Follows shape
-          (cond b (wait_happens (world_of p) 0 (first_missing (known r))
-          (want_bytes (member_of (slice_index p.asked_at i) r) 0 (first_missing (known r)))) (
-            outputs.Report (report_of (tables_after (shape_of p.primary.schema) p.primary.durable fetched.version) fetched.version plans),
-            with_member (world_of p) (record (member_of (slice_index p.asked_at i) r) { version = fetched.version; batch = None }),
-          ))
-          (run_output p i (cond b (runs.Waiting 0 (first_missing (known r)) (want_for r.number 0 (first_missing (known r))), r)
-          (finished r plans (caught_up r fetched))))
-      by true e = run-waits (first_missing (known r))
-      by false e = run-finishes (record { plans = plans; fetched = Some fetched }) fetched
-          (record {
-            whole = whole;
-            there = batch;
-            has = refl;
-            complete = ltb-false (first_missing (known r)) (slice_index fetched.counts 0) e;
-          })
-
-  run-batch : (batch : Option ReplicaBatch) → r.broken ≡ false → r.batch ≡ batch
-      → Follows shape (run_happens (world_of p) (member_of (slice_index p.asked_at i) r)
-      (option_map (batch_of (slice_index p.asked_at i)) batch)) (run_output p i (ran_by r batch))
-  run-batch None whole e = Follows-same shape p i r outputs.NoBatch sound here
-  run-batch (Some queries) whole e = run-fetched queries.plans queries.fetched whole e
-
-pub batch-run : (shape : Shape) (p : Parts) (i : ℕ) (found : Option Replica) → Sound shape p → slice_get p.replicas i ≡ found
-    → Follows shape
-    (on_member (world_of p) (option_map (member_of (slice_index p.asked_at i)) found)
-    (λ m. cond m.broken (outputs.Broken, world_of p) (run_happens (world_of p) m m.batch)))
-    (run_by p i found)
-batch-run shape p i None sound here = (refl, sound)
-batch-run shape p i (Some r) sound here = by r.broken refl
+module _ (laws : FedLaws) (shape : Shape) (p : Parts) (i : ℕ) (r : Replica) (sound : Sound shape p) (here : slice_get p.replicas i ≡ Some r)
   where
-    by : (b : Bool) → r.broken ≡ b → Follows shape
-        (cond b (outputs.Broken, world_of p)
+    -- a run that leaves the replica as it was
+    run-same : (there : Output × World) (answer : Run) (after : Replica) (known : Run) → after ≡ r → answer ≡ known
+        → Follows shape there (run_output p i (known, r)) → Follows shape there (run_output p i (answer, after))
+    run-same there answer after known same is follows =
+        let pair : (answer, after) ≡ (known, r) = cc in
+        subst (λ (x : Run × Replica). Follows shape there (run_output p i x)) (sym pair) follows
+
+    run-waits : (worker seq : ℕ)
+        → Follows shape (wait_happens (world_of p) worker seq (want_bytes (member_of (slice_index p.asked_at i) r) worker seq))
+        (run_output p i (runs.Waiting worker seq (want_for r.number worker seq), r))
+    run-waits worker seq =
+        let bytes = spelling (datagrams.Want r.number worker seq) in
+        let output = outputs.Waiting worker seq (record { index = length p.sent; len = length bytes }) in
+        let same : with_sent p bytes ≡ with_sent (with_replica p i r) bytes =
+        ap (λ (replicas : List Replica). with_sent (record p { replicas = replicas }) bytes) (sym (set-same p.replicas i r here)) in
+        let means : Means p.primary.workers p.primary.durable p.replicas (reading bytes) =
+        want-reads (Means p.primary.workers p.primary.durable p.replicas) (λ fault. record { tells = tt; requests = tt })
+        (λ replica worker from. record { tells = tt; requests = tt }) r.number worker seq in
+        (ap (λ (p : Parts). (output, world_of p)) same, subst (Sound shape) same (Sound-one shape p bytes sound means))
+
+    run-finishes : (plans : List Plan) (fetched : Fetched) (answer : Run) (after : Replica)
+        → r.batch ≡ Some (record { plans = plans; fetched = Some fetched }) → ready_of r ≡ Some fetched → ReplicaRuns r answer after
+        → Follows shape (answer_happens (world_of p) (member_of (slice_index p.asked_at i) r) plans fetched None)
+        (run_output p i (answer, after))
+    run-finishes plans fetched answer after batch is_ready run =
+        let fed = (sound.fed i r here).feeding in
+        let durable = p.primary.durable in
+        let at = slice_index p.asked_at i in
+        let tables = tables_after shape durable fetched.version in
+        let end = record (at_fetched r fetched tables) { batch = None } in
+        let text =
+        λ (shape : Shape). report_of (tables_after shape durable fetched.version) fetched.version plans in
+        let done =
+        laws.ready shape durable r (record { plans = plans; fetched = Some fetched }) fetched answer after fed batch is_ready run in
+        let m = record (member_of at r) { version = fetched.version; batch = None } in
+        let there : Output × World = answer_happens (world_of p) (member_of at r) plans fetched None in
+        let pair : (answer, after) ≡ (runs.Answered (text shape), end) = cc in
+        subst (λ (x : Run × Replica). Follows shape there (run_output p i x)) (sym pair)
+        (Follows-goes shape p i r (outputs.Report (text (shape_of p.primary.schema)), m) (outputs.Report (text shape)) end sound here
+        (ap (λ (s : Shape). (outputs.Report (text s), m)) sound.primary_is.shape_is
+        ∙ ap (λ (x : Member). (outputs.Report (text shape), x)) (sym (finished-member at r fetched tables)))
+        (record {
+          feeding = subst (IsFedFrom shape durable) done.1 (laws.running shape durable r answer after fed (inl run));
+          moves = finished-moves r fetched tables;
+        }))
+
+    run-lacking : (plans : List Plan) (fetched : Fetched) (missing : Option (ℕ × ℕ)) (answer : Run) (after : Replica)
+        → r.broken ≡ false → r.batch ≡ Some (record { plans = plans; fetched = Some fetched })
+        → arrivals_lacking r.arrivals fetched.counts ≡ missing → RunsFetched r plans fetched missing answer after
+        → ReplicaRuns r answer after
+        → Follows shape (answer_happens (world_of p) (member_of (slice_index p.asked_at i) r) plans fetched missing)
+        (run_output p i (answer, after))
+    run-lacking plans fetched (Some missing) answer after whole batch is told run =
+        run-same _ answer after (runs.Waiting missing.0 missing.1 (want_for r.number missing.0 missing.1)) told.1 told.0
+        (run-waits missing.0 missing.1)
+    run-lacking plans fetched None answer after whole batch is told run =
+        run-finishes plans fetched answer after batch is_ready run
+      where
+        is_ready : ready_of r ≡ Some fetched
+        is_ready =
+            ap (λ (b : Bool). ready b (arrivals_lacking r.arrivals) (option_and_then (λ (b : ReplicaBatch). b.fetched) r.batch)) whole
+            ∙ ap (λ (b : Option ReplicaBatch). unless_lacking (arrivals_lacking r.arrivals)
+            (option_and_then (λ (b : ReplicaBatch). b.fetched) b)) batch
+            ∙ ap (λ (o : Option (ℕ × ℕ)). cond (is_none o) (Some fetched) None) is
+
+    run-fetched : (plans : List Plan) (fetched : Option Fetched) (answer : Run) (after : Replica) → r.broken ≡ false
+        → r.batch ≡ Some (record { plans = plans; fetched = fetched }) → RunsBatch r plans fetched answer after → ReplicaRuns r answer after
+        → Follows shape (fetched_happens (world_of p) (member_of (slice_index p.asked_at i) r) plans fetched)
+        (run_output p i (answer, after))
+    run-fetched plans None answer after whole batch told run =
+        run-same _ answer after runs.WaitingHead told.1 told.0 (Follows-same shape p i r outputs.WaitingHead sound here)
+    run-fetched plans (Some fetched) answer after whole batch told run =
+        let m = member_of (slice_index p.asked_at i) r in
+        subst (λ (o : Option (ℕ × ℕ)). Follows shape (answer_happens (world_of p) m plans fetched o) (run_output p i (answer, after)))
+        (sym (lacking-same r.arrivals fetched.counts))
+        (run-lacking plans fetched (arrivals_lacking r.arrivals fetched.counts) answer after whole batch refl told run)
+
+    run-batch : (batch : Option ReplicaBatch) (answer : Run) (after : Replica) → r.broken ≡ false → r.batch ≡ batch
+        → RunsWhole r batch answer after → ReplicaRuns r answer after
+        → Follows shape (run_happens (world_of p) (member_of (slice_index p.asked_at i) r)
+        (option_map (batch_of (slice_index p.asked_at i)) batch)) (run_output p i (answer, after))
+    run-batch None answer after whole e told run =
+        run-same _ answer after runs.NoBatch told.1 told.0 (Follows-same shape p i r outputs.NoBatch sound here)
+    run-batch (Some queries) answer after whole e told run = run-fetched queries.plans queries.fetched answer after whole e told run
+
+    pub replica-runs : (answer : Run) (after : Replica) → ReplicaRuns r answer after → Follows shape
+        (cond r.broken (outputs.Broken, world_of p)
         (run_happens (world_of p) (member_of (slice_index p.asked_at i) r) (option_map (batch_of (slice_index p.asked_at i)) r.batch)))
-        (run_output p i (cond b (runs.Broken, r) (ran_by r r.batch)))
-    by true e = Follows-same shape p i r outputs.Broken sound here
-    by false e = run-batch shape p i r sound here r.batch e refl
+        (run_output p i (answer, after))
+    replica-runs answer after run = by r.broken refl run
+      where
+        by : (b : Bool) → r.broken ≡ b → RunsAs b r answer after → Follows shape
+            (cond b (outputs.Broken, world_of p)
+            (run_happens (world_of p) (member_of (slice_index p.asked_at i) r) (option_map (batch_of (slice_index p.asked_at i)) r.batch)))
+            (run_output p i (answer, after))
+        by true e told = run-same _ answer after runs.Broken told.1 told.0 (Follows-same shape p i r outputs.Broken sound here)
+        by false e told = run-batch r.batch answer after e refl told run
 
 -- ---- a run that is cut short
 
-batch-fetched : (at : ℕ) (batch : Option ReplicaBatch)
-    → option_and_then (λ (b : Batch). b.fetched) (option_map (batch_of at) batch)
-    ≡ option_and_then (λ (b : ReplicaBatch). b.fetched) batch
-batch-fetched at None = refl
-batch-fetched at (Some batch) = refl
-
 ready-same : (at : ℕ) (r : Replica) → ready_member (member_of at r) ≡ ready_of r
-ready-same at r = ap (λ (o : Option Fetched). ready r.broken (known r) o) (batch-fetched at r.batch)
+ready-same at r = by r.broken r.batch
+  where
+    on : (held : Option Fetched)
+        → unless_lacking (lacking (known_in r.arrivals)) held ≡ unless_lacking (arrivals_lacking r.arrivals) held
+    on None = refl
+    on (Some held) =
+        ap (λ (o : Option (ℕ × ℕ)). cond (is_none o) (Some held) None) (lacking-same r.arrivals held.counts)
+
+    by : (broken : Bool) (batch : Option ReplicaBatch)
+        → ready broken (lacking (known_in r.arrivals)) (option_and_then (λ (b : Batch). b.fetched) (option_map (batch_of at) batch))
+        ≡ ready broken (arrivals_lacking r.arrivals) (option_and_then (λ (b : ReplicaBatch). b.fetched) batch)
+    by true batch = refl
+    by false None = refl
+    by false (Some queries) = on queries.fetched
 
 -- what a cut run is in the world
 abbrev pub Cuts : World → Option Member → Output → World → Type 0
@@ -183,57 +250,70 @@ Cuts w found output new = ((output ≡ outputs.Memory) × (new ≡ w)) ⊎ RunIs
 abbrev Ends : Shape → Parts → Member → Output × Parts → Type 0
 Ends shape p m answer = Cuts (world_of p) (Some m) answer.0 (world_of answer.1) × Sound shape answer.1
 
-module _ (shape : Shape) (p : Parts) (i : ℕ) (r : Replica) (sound : Sound shape p) (here : slice_get p.replicas i ≡ Some r) where
-  memory-same : Ends shape p (member_of (slice_index p.asked_at i) r) (outputs.Memory, with_replica p i r)
-  memory-same =
-      let follows = Follows-same shape p i r outputs.Memory sound here in
-      (inl (refl, ap (λ (x : Output × World). x.1) (sym follows.0)), follows.1)
+-- the tables of a replica that has caught up
+caught-up : (old : Replica) (fetched : Fetched) (new : Replica) → CaughtUp old fetched new
+    → (tables : Tables) × (new ≡ at_fetched old fetched tables)
+caught-up old fetched new caught = by (commits_of old.tables caught.commits) caught.applied
+  where
+    by : (made : Result Tables Refusal) → IsOkAnd made (λ tables. new ≡ at_fetched old fetched tables)
+        → (tables : Tables) × (new ≡ at_fetched old fetched tables)
+    by (Ok tables) h = (tables, h)
+    by (Err refusal) h = absurd h
 
-  memory-caught : (queries : ReplicaBatch) (fetched : Fetched) → ready_member (member_of (slice_index p.asked_at i) r) ≡ Some fetched
-      → CanAnswer r queries fetched
-      → Ends shape p (member_of (slice_index p.asked_at i) r) (outputs.Memory, with_replica p i (caught shape p.primary.durable fetched r))
-  memory-caught queries fetched is_ready can =
-      let fed = sound.fed i r here in
-      let after = caught shape p.primary.durable fetched r in (
-        inr (fetched, is_ready, inl (refl, sym (member-changes p i after fed.number_is))),
-        Sound-replica shape p i r after sound here
-            (caught-goes shape p.primary.durable r queries fetched fed.feeding can),
-      )
+module _ (laws : FedLaws) (shape : Shape) (p : Parts) (i : ℕ) (r : Replica) (sound : Sound shape p) (here : slice_get p.replicas i ≡ Some r)
+  where
+    memory-same : Ends shape p (member_of (slice_index p.asked_at i) r) (outputs.Memory, with_replica p i r)
+    memory-same =
+        let follows = Follows-same shape p i r outputs.Memory sound here in
+        (inl (refl, ap (λ (x : Output × World). x.1) (sym follows.0)), follows.1)
 
-  cut-broken : (queries : ReplicaBatch) (fetched : Fetched) → ready_member (member_of (slice_index p.asked_at i) r) ≡ Some fetched
-      → CanAnswer r queries fetched → r.version < fetched.version
-      → Ends shape p (member_of (slice_index p.asked_at i) r) (outputs.Broken, with_replica p i (broken_of r))
-  cut-broken queries fetched is_ready can below =
-      let fed = sound.fed i r here in (
-        inr (fetched, is_ready, inr (refl, sym (member-changes p i (broken_of r) fed.number_is), below)),
-        Sound-replica shape p i r (broken_of r) sound here
-            (broken-goes shape p.primary.durable r queries fetched fed.feeding can),
-      )
+    memory-caught : (fetched : Fetched) (tables : Tables) → ready_of r ≡ Some fetched
+        → IsFedFrom shape p.primary.durable (at_fetched r fetched tables)
+        → Ends shape p (member_of (slice_index p.asked_at i) r) (outputs.Memory, with_replica p i (at_fetched r fetched tables))
+    memory-caught fetched tables is_ready feeding =
+        let at = slice_index p.asked_at i in
+        let after = at_fetched r fetched tables in (
+          inr (
+            fetched,
+            ready-same at r ∙ is_ready,
+            inl (
+              refl,
+              sym (member-changes p i after (sound.fed i r here).number_is)
+                  ∙ ap (with_member (world_of p)) (caught-member at r fetched tables),
+            ),
+          ),
+          Sound-replica shape p i r after sound here
+              (record { feeding = feeding; moves = caught-moves r fetched tables (ready-waits r fetched is_ready) }),
+        )
 
-  cut-ends : (answer : Run) (after : Replica) → WantsMemory r answer after
-      → Ends shape p (member_of (slice_index p.asked_at i) r) (run_output p i (answer, after))
-  cut-ends answer after wants =
-      let m = member_of (slice_index p.asked_at i) r in
-      let fetched = wants.0 in
-      let is_ready = ready-same (slice_index p.asked_at i) r ∙ wants.1 in
-      let parts = ready-parts r fetched wants.1 in
-      let made = catches-up shape p.primary.durable r parts.0 fetched (sound.fed i r here).feeding parts.1 in
-      elim wants.2 [
-        | inl memory ↦ subst (λ (a : Run). Ends shape p m (run_output p i (a, after))) (sym memory.0) (elim memory.1 [
-          | inl same ↦ subst (λ (s : Replica). Ends shape p m (run_output p i (runs.Memory, s))) (sym same) memory-same
-          | inr reached ↦ subst (λ (s : Replica). Ends shape p m (run_output p i (runs.Memory, s)))
-              (same_Some (caught shape p.primary.durable fetched r) after (sym made ∙ reached))
-              (memory-caught parts.0 fetched is_ready parts.1)
-        ])
-        | inr broken ↦ subst (λ (a : Run). Ends shape p m (run_output p i (a, after))) (sym broken.0)
-            (subst (λ (s : Replica). Ends shape p m (run_output p i (runs.Broken, s))) (sym broken.1)
-            (cut-broken parts.0 fetched is_ready parts.1 broken.2))
-      ]
+    cut-broken : (fetched : Fetched) → ready_of r ≡ Some fetched → r.version < fetched.version
+        → IsFedFrom shape p.primary.durable (broken_of r)
+        → Ends shape p (member_of (slice_index p.asked_at i) r) (outputs.Broken, with_replica p i (broken_of r))
+    cut-broken fetched is_ready below feeding =
+        let at = slice_index p.asked_at i in (
+          inr (
+            fetched,
+            ready-same at r ∙ is_ready,
+            inr (refl, sym (member-changes p i (broken_of r) (sound.fed i r here).number_is), below),
+          ),
+          Sound-replica shape p i r (broken_of r) sound here
+              (record { feeding = feeding; moves = broken-moves r (ready-waits r fetched is_ready) }),
+        )
 
-pub run-cut : (shape : Shape) (p : Parts) (i : ℕ) (found : Option Replica) (output : Output) (new : Parts) → Sound shape p
-    → slice_get p.replicas i ≡ found → CallIsCut p i found output new
-    → Cuts (world_of p) (option_map (member_of (slice_index p.asked_at i)) found) output (world_of new) × Sound shape new
-run-cut shape p i None output new sound here cut = absurd cut
-run-cut shape p i (Some r) output new sound here cut =
-    subst (λ (x : Output × Parts). Ends shape p (member_of (slice_index p.asked_at i) r) x) cut.3
-    (cut-ends shape p i r sound here cut.0 cut.1 cut.2)
+    pub cut-ends : (answer : Run) (after : Replica) → WantsMemory r answer after
+        → Ends shape p (member_of (slice_index p.asked_at i) r) (run_output p i (answer, after))
+    cut-ends answer after wants =
+        let m = member_of (slice_index p.asked_at i) r in
+        let fed = laws.running shape p.primary.durable r answer after (sound.fed i r here).feeding (inr wants) in
+        elim wants.2 [
+          | inl memory ↦ subst (λ (a : Run). Ends shape p m (run_output p i (a, after))) (sym memory.0) (elim memory.1 [
+            | inl same ↦ subst (λ (s : Replica). Ends shape p m (run_output p i (runs.Memory, s))) (sym same) memory-same
+            | inr reached ↦
+                let up = caught-up r wants.0 after reached in
+                subst (λ (s : Replica). Ends shape p m (run_output p i (runs.Memory, s))) (sym up.1)
+                (memory-caught wants.0 up.0 wants.1 (subst (IsFedFrom shape p.primary.durable) up.1 fed))
+          ])
+          | inr broken ↦ subst (λ (a : Run). Ends shape p m (run_output p i (a, after))) (sym broken.0)
+              (subst (λ (s : Replica). Ends shape p m (run_output p i (runs.Broken, s))) (sym broken.1)
+              (cut-broken wants.0 wants.1 broken.2 (subst (IsFedFrom shape p.primary.durable) broken.1 fed)))
+        ]

@@ -14,10 +14,10 @@ use Rattle.script.specs.declared.output.Output.{Output}
 use Rattle.script.specs.declared.output.Output.TheVariants as outputs
 use Rattle.world.specs.Outputs.{of_change, of_look, of_commit}
 use Rattle.world.specs.Theorem.{ReportsItsBatch}
-use Rattle.world.specs.Steps.{World, on_draft, change_happens, commit_happens, abort_happens}
+use Rattle.world.specs.Steps.{World, on_draft, change_happens, commit_happens, abort_happens, stop_happens, unless_stopped}
 use Rattle.world.specs.Inner.Fresh.{Fresh}
-use Rattle.world.proofs.Fresh.{Fresh-drafts, Fresh-committed, Fresh-flushed}
-use Rattle.world.proofs.Committing.{commit-taken}
+use Rattle.world.proofs.Fresh.{Fresh-drafts, Fresh-committed, Fresh-flushed, Fresh-stopped, Fresh-started}
+use Rattle.world.proofs.Committing.{commit-numbered}
 
 -- what a step is to be
 pub record Serves (old : World) (event : Event) (answer : Output × World) : Type 0 where
@@ -79,15 +79,15 @@ commit-silent faults.Memory = tt
 commit-silent faults.Foreign = tt
 
 pub commit-serves : (w : World) (event : Event) (number worker : ℕ) (found : Option Draft) → Fresh w
-    → Serves w event (on_draft w found (λ draft. commit_happens w number worker draft (commit_answer w.primary draft)))
+    → Serves w event (on_draft w found (λ draft. commit_happens w number worker draft (commit_answer w.primary worker draft)))
 commit-serves w event number worker None h = quiet w event (outputs.NoTx, w) h tt
-commit-serves w event number worker (Some draft) h = by (commit_answer w.primary draft) refl
+commit-serves w event number worker (Some draft) h = by (commit_answer w.primary worker draft) refl
   where
-    by : (answer : Result ℕ CommitFault) → commit_answer w.primary draft ≡ answer
+    by : (answer : Result ℕ CommitFault) → commit_answer w.primary worker draft ≡ answer
         → Serves w event (commit_happens w number worker draft answer)
     by (Ok ticket) e =
         quiet w event (outputs.Ticket ticket, _)
-        (Fresh-committed w worker draft (slice_set w.transactions number None) h (commit-taken w.primary draft ticket e).numbered) tt
+        (Fresh-committed w worker draft (slice_set w.transactions number None) h (commit-numbered w.primary worker draft ticket e)) tt
     by (Err fault) e = quiet w event (of_commit fault, _) (Fresh-drafts w (slice_set w.transactions number None) h) (commit-silent fault)
 
 pub flush-serves : (w : World) (event : Event) (count : ℕ) (failed : Bool) → Fresh w
@@ -96,3 +96,25 @@ pub flush-serves : (w : World) (event : Event) (count : ℕ) (failed : Bool) →
 flush-serves w event count true h = quiet w event (outputs.Failed, w) h tt
 flush-serves w event count false h =
     quiet w event (outputs.Durable (length (flushed w.primary count).durable), _) (Fresh-flushed w count h) tt
+
+-- ---- stops and starts
+
+pub stop-serves : (w : World) (event : Event) (bytes : ℕ) → Fresh w → Serves w event (stop_happens w bytes)
+stop-serves w event bytes h = quiet w event (stop_happens w bytes) (Fresh-stopped w bytes h) tt
+
+pub start-serves : (w : World) (event : Event) (stopped : Bool) → Fresh w
+    → Serves w event (cond stopped (outputs.Durable (length w.primary.durable), record w { stopped = false }) (outputs.Running, w))
+start-serves w event true h = quiet w event (
+  outputs.Durable (length w.primary.durable),
+  record w { stopped = false },
+) (Fresh-started w h) tt
+start-serves w event false h = quiet w event (outputs.Running, w) h tt
+
+-- an event of the primary, which may be stopped
+pub unless-serves : (w : World) (event : Event) (next : Output × World) → Fresh w → Serves w event next
+    → Serves w event (unless_stopped w next)
+unless-serves w event next h serves = by w.stopped
+  where
+    by : (stopped : Bool) → Serves w event (cond stopped (outputs.Stopped, w) next)
+    by true = quiet w event (outputs.Stopped, w) h tt
+    by false = serves

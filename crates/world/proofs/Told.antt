@@ -5,7 +5,7 @@ use Rattle.rows.specs.declared.value.Value.{Value}
 use Rattle.rows.specs.Shape.{Shape}
 use Rattle.mvcc.specs.Draft.{Draft}
 use Rattle.mvcc.specs.Transactions.{insert_answer, set_answer, delete_answer, get_answer}
-use Rattle.dispatcher.proofs.Versions.{tables-stay}
+use Rattle.world.proofs.Durable.{tables-stay}
 
 module _ (shape : Shape) (durable pending : List Commit) (draft : Draft) (table row : ℕ) (known : draft.snapshot ≤ length durable) where
   pub insert-told : (values : List Value)

@@ -1,16 +1,16 @@
 -- What a change of the replicas is in the world that the parts make.
-use Rattle.std.proofs.Common.{◌≡◌, ℕ, zero, suc, List, [], ◌∷◌, length, refl, sym, ap, ◌∙◌, arith}
+use Rattle.std.proofs.Common.{◌≡◌, ℕ, zero, suc, List, [], ◌∷◌, length, replicate, refl, sym, ap, ◌∙◌, arith}
 use Rattle.std.specs.List.{slice_get, slice_set, slice_index}
 use Rattle.std.specs.Option.{option_map}
 use Rattle.dispatcher.specs.State.{Replica}
-use Rattle.dispatcher.specs.Steps.{started}
+use Rattle.intake.specs.Steps.{started as none_came}
 use Rattle.rows.specs.Shape.{Shape, shape_of}
 use Rattle.script.specs.declared.setup.Setup.{Setup}
 use Rattle.script.specs.declared.output.Output.{Output}
 use Rattle.world.specs.Parts.{Parts, replicas_from, zeros, parts_started}
 use Rattle.world.specs.Inner.CoreSteps.{with_replica}
-use Rattle.world.specs.Standing.{member_of, members_of, world_of}
-use Rattle.world.specs.Steps.{World, Member, fresh_from, opening_world, with_member}
+use Rattle.world.specs.Standing.{member_of, members_of, world_of, known_in}
+use Rattle.world.specs.Steps.{World, Member, fresh, fresh_from, opening_world, with_member}
 
 -- what a step of the parts is in the world
 abbrev pub seen : Output × Parts → Output × World
@@ -18,7 +18,7 @@ seen answer = (answer.0, world_of answer.1)
 
 -- the parts with another primary, other transactions and other datagrams: those of a world
 abbrev pub beside_of : World → Parts → Parts
-beside_of w p = record p { primary = w.primary; transactions = w.transactions; sent = w.sent }
+beside_of w p = record p { primary = w.primary; stopped = w.stopped; transactions = w.transactions; sent = w.sent }
 
 pub members-get : (replicas : List Replica) (asked_at : List ℕ) (i : ℕ)
     → slice_get (members_of replicas asked_at) i ≡ option_map (member_of (slice_index asked_at i)) (slice_get replicas i)
@@ -54,11 +54,18 @@ member-changes p i r h =
     ap (λ n. made (slice_set w.members n (member_of (slice_index p.asked_at i) r))) h
     ∙ ap made (sym (members-set p.replicas p.asked_at i r))
 
+-- nothing is known where nothing has come
+known-started : (workers : ℕ) → known_in (none_came workers) ≡ replicate workers []
+known-started zero = refl
+known-started (suc workers) = ap (λ (l : List (List ℕ)). [] ∷ l) (known-started workers)
+
 members-started : (shape : Shape) (workers number count : ℕ)
-    → members_of (replicas_from shape workers number count) (zeros count) ≡ fresh_from number count
+    → members_of (replicas_from shape workers number count) (zeros count) ≡ fresh_from workers number count
 members-started shape workers number zero = refl
 members-started shape workers number (suc count) =
-    ap (λ l. member_of 0 (started shape workers number 1) ∷ l) (members-started shape workers (suc number) count)
+    let m = fresh workers number in
+    ap (λ (x : List (List ℕ) × List Member). record m { known = x.0 } ∷ x.1)
+    (cc (known-started workers, members-started shape workers (suc number) count))
 
 pub world-started : (setup : Setup) → world_of (parts_started setup) ≡ opening_world setup
 world-started setup =

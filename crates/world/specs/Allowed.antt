@@ -8,11 +8,11 @@ use Rattle.script.specs.declared.event.Event.TheVariants as events
 use Rattle.script.specs.declared.output.Output.{Output}
 use Rattle.script.specs.declared.output.Output.TheVariants as outputs
 use Rattle.script.specs.declared.setup.Setup.{Setup}
-use Rattle.world.specs.Steps.{World, Member, Batch, opening_world, happens, with_member}
+use Rattle.world.specs.Steps.{World, Member, Batch, opening_world, happens, with_member, lacking}
 
 -- what was fetched for the batch of a replica of which no frame is missing
 abbrev pub ready_member : Member → Option Fetched
-ready_member m = ready m.broken m.known (option_and_then (λ (batch : Batch). batch.fetched) m.batch)
+ready_member m = ready m.broken (lacking m.known) (option_and_then (λ (batch : Batch). batch.fetched) m.batch)
 
 -- a run that lacks memory at a replica that has fetched a version and lacks no frame: it stands at the old version or
 -- at the fetched one and may run again; or it is broken, where there was a commit to apply

@@ -1,4 +1,5 @@
 pub mod Outputs
+pub mod Stops
 pub mod Steps
 pub mod Allowed
 pub mod Worked

@@ -1,6 +1,7 @@
 -- The parts of a world that the program steps: the cores, the open transactions, and every datagram that was ever sent.
-use Rattle.std.specs.Prelude.{ℕ, zero, suc, List, [], ◌∷◌, Option}
+use Rattle.std.specs.Prelude.{ℕ, zero, suc, List, [], ◌∷◌, Option, Bool, false}
 use Rattle.rows.specs.Shape.{Shape, shape_of}
+use Rattle.journal.specs.Text.{journal_text}
 use Rattle.mvcc.specs.Draft.{Draft}
 use Rattle.primary.specs.State.{Primary}
 use Rattle.primary.specs.Steps.{started as primary_started}
@@ -9,7 +10,12 @@ use Rattle.dispatcher.specs.Steps.{started as replica_started}
 use Rattle.script.specs.declared.setup.Setup.{Setup}
 
 pub record Parts : Type 0 where
+  -- what the world was made for, and the primary is started with
+  pub setup : Setup
   pub primary : Primary
+  pub stopped : Bool
+  -- the bytes that stand on the primary's journal
+  pub journal : List ℕ
   -- the transactions in the order of their `begin`; none where one is no longer open
   pub transactions : List (Option Draft)
   -- the bytes of every datagram that was ever sent, in order
@@ -27,10 +33,13 @@ abbrev pub zeros : ℕ → List ℕ
 zeros zero = []
 zeros (suc count) = 0 ∷ zeros count
 
--- the parts at the beginning: the primary on an empty journal, each replica with boot 1
+-- the parts at the beginning: the primary without commits, each replica with boot 1
 abbrev pub parts_started : Setup → Parts
 parts_started setup = record {
-  primary = primary_started setup.schema setup.workers;
+  setup = setup;
+  primary = primary_started setup.schema setup.workers [];
+  stopped = false;
+  journal = journal_text setup.workers (shape_of setup.schema) [];
   transactions = [];
   sent = [];
   replicas = replicas_from (shape_of setup.schema) setup.workers 0 setup.replicas;

@@ -1,11 +1,13 @@
 -- Where the cores stand: the world that the parts make, and that each replica there is fed from the one list of durable
 -- commits.
-use Rattle.std.specs.Prelude.{◌≡◌, ℕ, List, [], ◌∷◌, false, Some, slice_get}
+use Rattle.std.specs.Prelude.{◌≡◌, ℕ, List, [], ◌∷◌, map, Bool, true, false, Some, slice_get}
 use Rattle.std.specs.List.{AllByRecursion}
 use Rattle.std.specs.Option.{option_map}
 use Rattle.rows.specs.Shape.{shape_of}
+use Rattle.intake.specs.State.{Arrivals}
+use Rattle.journal.specs.Text.{journal_text}
+use Rattle.journal.specs.Recovery.{IsRecovered}
 use Rattle.dispatcher.specs.State.{Replica, Batch as ReplicaBatch}
-use Rattle.dispatcher.specs.Steps.{known}
 use Rattle.dispatcher.specs.Feeding.{IsFedFrom}
 use Rattle.world.specs.Parts.{Parts}
 use Rattle.world.specs.Steps.{World, Member, Batch}
@@ -14,13 +16,17 @@ use Rattle.world.specs.Steps.{World, Member, Batch}
 abbrev pub batch_of : ℕ → ReplicaBatch → Batch
 batch_of asked_at batch = record { plans = batch.plans; asked_at = asked_at; fetched = batch.fetched }
 
--- a replica, as the world has it: its tables are left out
+-- the seqs that are known, by worker
+abbrev pub known_in : List Arrivals → List (List ℕ)
+known_in arrivals = map (λ (of_worker : Arrivals). of_worker.known) arrivals
+
+-- a replica, as the world has it: its tables are left out, and which frames it still keeps
 abbrev pub member_of : ℕ → Replica → Member
 member_of asked_at r = record {
   number = r.number;
   boot = r.boot;
   request = r.request;
-  known = known r;
+  known = known_in r.arrivals;
   version = r.version;
   waiting = r.waiting;
   batch = option_map (batch_of asked_at) r.batch;
@@ -35,7 +41,13 @@ members_of (r ∷ replicas) (at ∷ asked_at) = member_of at r ∷ members_of re
 
 -- the world that the parts make
 abbrev pub world_of : Parts → World
-world_of p = record { primary = p.primary; transactions = p.transactions; sent = p.sent; members = members_of p.replicas p.asked_at }
+world_of p = record {
+  primary = p.primary;
+  stopped = p.stopped;
+  transactions = p.transactions;
+  sent = p.sent;
+  members = members_of p.replicas p.asked_at;
+}
 
 -- two replicas that stand at one version hold the same tables; a broken one stands at none
 abbrev pub TablesAgree : Parts → Type 0
@@ -47,3 +59,17 @@ TablesAgree p =
 -- each replica is fed from what is durable: its known frames and its tables are of that one list
 abbrev pub AreFed : Parts → Type 0
 AreFed p = AllByRecursion (IsFedFrom (shape_of p.primary.schema) p.primary.durable) p.replicas
+
+-- what is durable is what the journal keeps of its bytes
+abbrev pub JournalKeeps : Parts → Type 0
+JournalKeeps p =
+    (bytes_kept : ℕ) × IsRecovered p.primary.workers (shape_of p.primary.schema) p.journal p.primary.durable bytes_kept
+
+-- where the journal of a primary stands, by whether it is stopped: what is durable is then what the journal keeps, and
+-- otherwise its bytes are the text of that
+abbrev pub JournalStandsAs : Parts → Bool → Type 0
+JournalStandsAs p true = JournalKeeps p
+JournalStandsAs p false = p.journal ≡ journal_text p.primary.workers (shape_of p.primary.schema) p.primary.durable
+
+abbrev pub JournalStands : Parts → Type 0
+JournalStands p = JournalStandsAs p p.stopped

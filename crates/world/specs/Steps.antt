@@ -1,11 +1,10 @@
 -- The world: one primary, its open transactions, every datagram that was ever sent, and of each replica what it knows.
 -- No replica's tables are held: what a batch answers is said by the one list of durable commits.
-use Rattle.std.specs.Prelude.{ℕ, zero, suc, ◌+◌, List, [], ◌∷◌, ◌++◌, length, Bool, false, Option, None, Some, Result, Ok, Err}
-use Rattle.std.specs.Prelude.{slice_get, slice_set, ◌==◌, ◌||◌, ◌&&◌, not, nat_lt, nat_le, if◌then◌else◌, is_ok}
+use Rattle.std.specs.Prelude.{ℕ, zero, suc, ◌+◌, List, [], ◌∷◌, ◌++◌, length, Bool, true, false, Option, None, Some, Result, Ok, Err}
+use Rattle.std.specs.Prelude.{slice_get, slice_set, slice_index_or, replicate, ◌==◌, ◌||◌, ◌&&◌, not, nat_lt, nat_le, if◌then◌else◌}
+use Rattle.std.specs.Prelude.{is_ok}
 use Rattle.std.specs.List.{list_all}
 use Rattle.std.specs.Option.{option_and_then}
-use Rattle.std.specs.Ordering.{nat_cmp}
-use Rattle.std.specs.BTreeSet.{insert_key}
 use Rattle.rows.specs.Limits.{waiting_queries_max}
 use Rattle.rows.specs.declared.entry.Entry.{Entry}
 use Rattle.rows.specs.Shape.{Shape, shape_of}
@@ -19,17 +18,16 @@ use Rattle.wire.specs.Reading.{reading}
 use Rattle.mvcc.specs.declared.faults.TxFault.{TxFault}
 use Rattle.mvcc.specs.Draft.{Draft}
 use Rattle.mvcc.specs.Transactions.{insert_answer, set_answer, delete_answer, get_answer}
+use Rattle.intake.specs.Known.{is_known, with_seq, first_missing, is_ahead}
 use Rattle.primary.specs.declared.faults.CommitFault.{CommitFault}
 use Rattle.primary.specs.State.{Primary}
 use Rattle.primary.specs.Steps.{started, commit_answer, committed, flushed}
 use Rattle.primary.specs.Sending.{pushed, answers}
 use Rattle.dispatcher.specs.declared.plan.Plan.{Plan}
 use Rattle.dispatcher.specs.declared.faults.PlanFault.{PlanFault}
-use Rattle.dispatcher.specs.Known.{is_known, is_ahead, first_missing}
 use Rattle.dispatcher.specs.Plans.{checked}
 use Rattle.dispatcher.specs.State.{Fetched}
 use Rattle.dispatcher.specs.Report.{report_of}
-use Rattle.dispatcher.specs.Steps.{lacks_frame}
 use Rattle.script.specs.declared.event.Event.{Event}
 use Rattle.script.specs.declared.event.Event.TheVariants as events
 use Rattle.script.specs.declared.event.Node.{Node}
@@ -38,6 +36,7 @@ use Rattle.script.specs.declared.output.Output.{Output}
 use Rattle.script.specs.declared.output.Output.TheVariants as outputs
 use Rattle.script.specs.declared.setup.Setup.{Setup}
 use Rattle.world.specs.Outputs.{of_change, of_look, of_commit, of_answers, packets_of}
+use Rattle.world.specs.Stops.{stopped_at, closed}
 
 -- a batch: its queries, how many commits were durable when it asked, and what was fetched for it
 pub record Batch : Type 0 where
@@ -51,8 +50,8 @@ pub record Member : Type 0 where
   pub boot : ℕ
   -- how many requests it has made
   pub request : ℕ
-  -- the seqs of the known frames of its worker, each once, in rising order
-  pub known : List ℕ
+  -- by worker, the seqs of its known frames, each once, in rising order
+  pub known : List (List ℕ)
   pub version : ℕ
   -- the queries that wait for the next batch
   pub waiting : List Plan
@@ -61,6 +60,8 @@ pub record Member : Type 0 where
 
 pub record World : Type 0 where
   pub primary : Primary
+  -- whether the primary is stopped; then nothing is pending, and no transaction is open
+  pub stopped : Bool
   -- the transactions in the order of their `begin`; none where one is no longer open
   pub transactions : List (Option Draft)
   -- the bytes of every datagram that was ever sent, in order; the network may deliver any of them, to any node, in any
@@ -68,18 +69,49 @@ pub record World : Type 0 where
   pub sent : List (List ℕ)
   pub members : List Member
 
--- a replica fresh from its start with boot 1
-abbrev pub fresh : ℕ → Member
-fresh number = record { number = number; boot = 1; request = 0; known = []; version = 0; waiting = []; batch = None; broken = false }
+-- a replica of so many workers, fresh from its start with boot 1
+abbrev pub fresh : ℕ → ℕ → Member
+fresh workers number = record {
+  number = number;
+  boot = 1;
+  request = 0;
+  known = replicate workers [];
+  version = 0;
+  waiting = [];
+  batch = None;
+  broken = false;
+}
 
-abbrev pub fresh_from : ℕ → ℕ → List Member
-fresh_from number zero = []
-fresh_from number (suc count) = fresh number ∷ fresh_from (suc number) count
+abbrev pub fresh_from : ℕ → ℕ → ℕ → List Member
+fresh_from workers number zero = []
+fresh_from workers number (suc count) = fresh workers number ∷ fresh_from workers (suc number) count
 
 -- the world at its beginning
 abbrev pub opening_world : Setup → World
-opening_world setup =
-    record { primary = started setup.schema setup.workers; transactions = []; sent = []; members = fresh_from 0 setup.replicas }
+opening_world setup = record {
+  primary = started setup.schema setup.workers [];
+  stopped = false;
+  transactions = [];
+  sent = [];
+  members = fresh_from setup.workers 0 setup.replicas;
+}
+
+-- ---- stops and starts
+
+-- while the primary is stopped, each of its events but a start answers that, and changes nothing
+abbrev pub unless_stopped : World → Output × World → Output × World
+unless_stopped w next = if w.stopped then (outputs.Stopped, w) else next
+
+-- the primary stops, its journal with so many bytes of what was not acknowledged
+abbrev pub stop_happens : World → ℕ → Output × World
+stop_happens w bytes = (
+  outputs.Stopped,
+  record w { primary = stopped_at w.primary bytes; stopped = true; transactions = closed w.transactions },
+)
+
+-- the primary starts on what its journal keeps
+abbrev pub start_happens : World → Output × World
+start_happens w = if w.stopped then (outputs.Durable (length w.primary.durable), record w { stopped = false }) else (outputs.Running, w)
 
 -- ---- transactions, commits and flushes
 
@@ -111,6 +143,12 @@ commit_happens w transaction worker draft (Err fault) =
 abbrev pub abort_happens : World → ℕ → Output × World
 abort_happens w transaction = (outputs.Accepted, record w { transactions = slice_set w.transactions transaction None })
 
+-- the first pending commits become durable, this many at the most
+abbrev pub flush_happens : World → ℕ → Output × World
+flush_happens w count =
+    if w.primary.failed then (outputs.Failed, w) else
+    (outputs.Durable (length (flushed w.primary count).durable), record w { primary = flushed w.primary count })
+
 -- ---- datagrams
 
 -- one more datagram is sent
@@ -124,13 +162,21 @@ push_happens w (Some bytes) = send w bytes
 abbrev pub with_member : World → Member → World
 with_member w member = record w { members = slice_set w.members member.number member }
 
+-- the known seqs of a worker; none where there is no worker of that number
+abbrev pub known_of : List (List ℕ) → ℕ → List ℕ
+known_of known worker = slice_index_or known worker []
+
+-- the known seqs with one more of a worker
+abbrev pub with_known : List (List ℕ) → ℕ → ℕ → List (List ℕ)
+with_known known worker seq = slice_set known worker (with_seq (known_of known worker) seq)
+
 -- a frame that comes to a replica
 abbrev pub frame_happens : Shape → ℕ → Member → ℕ → ℕ → List Entry → Output × Member
 frame_happens shape workers m worker seq entries =
     if not (nat_lt worker workers) || not (list_all (λ entry. is_ok (fitting shape entry)) entries) then (outputs.Ignored, m) else
-    if is_known m.known seq then (outputs.Repeat, m) else
-    if is_ahead m.known seq then (outputs.Ahead, m) else
-    (outputs.Stored, record m { known = insert_key nat_cmp m.known seq })
+    if is_known (known_of m.known worker) seq then (outputs.Repeat, m) else
+    if is_ahead (known_of m.known worker) seq then (outputs.Ahead, m) else
+    (outputs.Stored, record m { known = with_known m.known worker seq })
 
 -- a Head of a replica's own number, boot and request: it is taken where the batch has none
 abbrev pub head_happens : Member → ℕ → List ℕ → Option Batch → Output × Member
@@ -209,52 +255,66 @@ abbrev pub wait_happens : World → ℕ → ℕ → List ℕ → Output × World
 wait_happens w worker seq bytes =
     (outputs.Waiting worker seq (record { index = length w.sent; len = length bytes }), record w { sent = w.sent ++ bytes ∷ [] })
 
--- a batch of which no frame is missing is answered by its report: the plain answers on the rows after exactly the first
--- commits of the durable list, up to the version that was fetched
+-- of the workers from this number on, the least of whom a frame below its count is not known, with the first such seq
+abbrev pub lacking_from : ℕ → List (List ℕ) → List ℕ → Option (ℕ × ℕ)
+lacking_from worker [] counts = None
+lacking_from worker (known ∷ others) [] = None
+lacking_from worker (known ∷ others) (count ∷ counts) =
+    if nat_lt (first_missing known) count then Some (worker, first_missing known) else lacking_from (worker + 1) others counts
+
+-- the least worker of whom a frame below its count is not known, with the first such seq
+abbrev pub lacking : List (List ℕ) → List ℕ → Option (ℕ × ℕ)
+lacking known counts = lacking_from 0 known counts
+
+-- a batch of which a frame is missing waits for it, and asks for it; one of which no frame is missing is answered by its
+-- report: the plain answers on the rows after exactly the first commits of the durable list, up to the version that was
+-- fetched
+abbrev pub answer_happens : World → Member → List Plan → Fetched → Option (ℕ × ℕ) → Output × World
+answer_happens w m plans fetched (Some missing) = wait_happens w missing.0 missing.1 (want_bytes m missing.0 missing.1)
+answer_happens w m plans fetched None = (
+  outputs.Report (report_of (tables_after (shape_of w.primary.schema) w.primary.durable fetched.version) fetched.version plans),
+  with_member w (record m { version = fetched.version; batch = None }),
+)
+
+abbrev pub fetched_happens : World → Member → List Plan → Option Fetched → Output × World
+fetched_happens w m plans None = (outputs.WaitingHead, w)
+fetched_happens w m plans (Some fetched) = answer_happens w m plans fetched (lacking m.known fetched.counts)
+
 abbrev pub run_happens : World → Member → Option Batch → Output × World
 run_happens w m None = (outputs.NoBatch, w)
-run_happens w m (Some batch) = on batch.fetched
-  where
-    on : Option Fetched → Output × World
-    on None = (outputs.WaitingHead, w)
-    on (Some fetched) =
-        if lacks_frame m.known fetched
-        then wait_happens w 0 (first_missing m.known) (want_bytes m 0 (first_missing m.known))
-        else (
-          outputs.Report (report_of (tables_after (shape_of w.primary.schema) w.primary.durable fetched.version) fetched.version
-              batch.plans),
-          with_member w (record m { version = fetched.version; batch = None }),
-        )
+run_happens w m (Some batch) = fetched_happens w m batch.plans batch.fetched
 
 -- ---- the step
 
 -- what an event answers, and the world after it. Being out of memory aside.
 abbrev pub happens : World → Event → Output × World
-happens w events.Begin = (
+happens w events.Begin = unless_stopped w (
   outputs.Tx (length w.transactions) (length w.primary.durable),
   record w { transactions = w.transactions ++ Some (record { snapshot = length w.primary.durable; entries = [] }) ∷ [] },
 )
 happens w (events.Insert transaction table row values) =
-    on_draft w (open_draft w.transactions transaction)
-    (λ draft. change_happens w transaction (insert_answer (shape_of w.primary.schema) w.primary.durable draft table row.0 values))
+    unless_stopped w (on_draft w (open_draft w.transactions transaction)
+    (λ draft. change_happens w transaction (insert_answer (shape_of w.primary.schema) w.primary.durable draft table row.0 values)))
 happens w (events.Set transaction table row column value) =
-    on_draft w (open_draft w.transactions transaction)
-    (λ draft. change_happens w transaction (set_answer (shape_of w.primary.schema) w.primary.durable draft table row.0 column value))
+    unless_stopped w (on_draft w (open_draft w.transactions transaction)
+    (λ draft. change_happens w transaction (set_answer (shape_of w.primary.schema) w.primary.durable draft table row.0 column value)))
 happens w (events.Delete transaction table row) =
-    on_draft w (open_draft w.transactions transaction)
-    (λ draft. change_happens w transaction (delete_answer (shape_of w.primary.schema) w.primary.durable draft table row.0))
+    unless_stopped w (on_draft w (open_draft w.transactions transaction)
+    (λ draft. change_happens w transaction (delete_answer (shape_of w.primary.schema) w.primary.durable draft table row.0)))
 happens w (events.Get transaction table row column) =
-    on_draft w (open_draft w.transactions transaction)
-    (λ draft. (of_look (get_answer (shape_of w.primary.schema) w.primary.durable draft table row.0 column), w))
+    unless_stopped w (on_draft w (open_draft w.transactions transaction)
+    (λ draft. (of_look (get_answer (shape_of w.primary.schema) w.primary.durable draft table row.0 column), w)))
 happens w (events.Commit transaction worker) =
-    on_draft w (open_draft w.transactions transaction)
-    (λ draft. commit_happens w transaction worker draft (commit_answer w.primary draft))
-happens w (events.Abort transaction) = on_draft w (open_draft w.transactions transaction) (λ draft. abort_happens w transaction)
-happens w (events.Flush count) =
-    if w.primary.failed then (outputs.Failed, w) else
-    (outputs.Durable (length (flushed w.primary count).durable), record w { primary = flushed w.primary count })
-happens w (events.Push worker seq) = push_happens w (pushed w.primary worker seq)
-happens w (events.Deliver index node) = deliver_happens w node (slice_get w.sent index)
+    unless_stopped w (on_draft w (open_draft w.transactions transaction)
+    (λ draft. commit_happens w transaction worker draft (commit_answer w.primary worker draft)))
+happens w (events.Abort transaction) =
+    unless_stopped w (on_draft w (open_draft w.transactions transaction) (λ draft. abort_happens w transaction))
+happens w (events.Flush count) = unless_stopped w (flush_happens w count)
+happens w (events.Stop bytes) = unless_stopped w (stop_happens w bytes)
+happens w events.Start = start_happens w
+happens w (events.Push worker seq) = unless_stopped w (push_happens w (pushed w.primary worker seq))
+happens w (events.Deliver index nodes.Primary) = unless_stopped w (deliver_happens w nodes.Primary (slice_get w.sent index))
+happens w (events.Deliver index (nodes.Replica number)) = deliver_happens w (nodes.Replica number) (slice_get w.sent index)
 happens w (events.Show index) = (shown (slice_get w.sent index), w)
 happens w (events.Open replica plan) =
     on_member w (slice_get w.members replica) (λ m.

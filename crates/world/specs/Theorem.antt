@@ -15,7 +15,7 @@ use Rattle.script.specs.declared.setup.Setup.{Setup}
 use Rattle.world.specs.Parts.{Parts, parts_started}
 use Rattle.world.specs.Steps.{World, Member, Batch, opening_world}
 use Rattle.world.specs.Allowed.{MayHappen, RunsBy, Runs}
-use Rattle.world.specs.Standing.{world_of, AreFed, TablesAgree}
+use Rattle.world.specs.Standing.{world_of, AreFed, TablesAgree, JournalStands}
 
 -- ---- what a step keeps
 
@@ -58,9 +58,10 @@ pub record IsStep (commits : List Commit) (old : World) (event : Event) (output 
   pub durable : IsBeginning old.primary.durable new.primary.durable
   pub faultless : IsFaultless output
 
--- one step of the cores: it is one of the world that they make, and leaves every replica fed from what is durable
+-- one step of the cores: it is one of the world that they make, and leaves every replica fed from what is durable, and that on
+-- the journal
 abbrev pub IsCoreStep : List Commit → Parts → Event → Output → Parts → Type 0
-IsCoreStep commits old event output new = IsStep commits (world_of old) event output (world_of new) × AreFed new
+IsCoreStep commits old event output new = IsStep commits (world_of old) event output (world_of new) × AreFed new × JournalStands new
 
 -- a run of the cores from their start on: all its steps are by the one list that is durable at its end, and that is legal
 pub record IsRun (setup : Setup) (events : List Event) (outputs : List Output) : Type 0 where
@@ -101,13 +102,14 @@ HasLegalList setup events outputs =
 abbrev pub HasNoFault : Setup → List Event → List Output → Type 0
 HasNoFault setup events outputs = AllByRecursion IsFaultless outputs
 
--- the cores stand where the world does from the beginning on, every replica is fed from what is durable there, and those
--- at one version hold the same tables
+-- the cores stand where the world does from the beginning on, every replica is fed from what is durable there, the journal
+-- stands for that, and replicas at one version hold the same tables
 abbrev pub CoresStand : Setup → List Event → List Output → Type 0
 CoresStand setup events outputs =
     (world_of (parts_started setup) ≡ opening_world setup)
     × (end : Parts)
-    × RunsBy (λ old event output new. MayHappen (world_of old) event output (world_of new) × AreFed new × TablesAgree new)
+    × RunsBy (λ old event output new.
+    MayHappen (world_of old) event output (world_of new) × AreFed new × JournalStands new × TablesAgree new)
     (parts_started setup) events outputs end
 
 -- and each run of the world itself, whoever makes it, is by the one list that is durable at its end

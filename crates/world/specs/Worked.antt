@@ -1,13 +1,13 @@
 -- Events with what they are to answer: three scripts, `examples/first-commit.script`, `examples/lost-frame.script` and
--- `examples/conflict.script`; write skew; and each refusal of a transaction's calls. One worker, one replica, and one table
--- of two `int` columns.
+-- `examples/conflict.script`; write skew; each refusal of a transaction's calls; stops and starts; and two workers. One table
+-- of two `int` columns; one worker and one replica but for the last.
 use Rattle.std.specs.Prelude.{ℕ, ◌∷◌, [], List, pos, negsuc, codes, ◌++◌}
 use Rattle.rows.specs.declared.kind.Kind.TheVariants.{Int as IntKind}
 use Rattle.rows.specs.declared.row_id.RowId.{RowId}
 use Rattle.rows.specs.declared.value.Value.TheVariants.{Int}
 use Rattle.script.specs.declared.event.Event.{Event}
-use Rattle.script.specs.declared.event.Event.TheVariants.{Begin, Insert, Set, Delete, Get, Commit, Abort, Flush, Push, Deliver, Show, Open}
-use Rattle.script.specs.declared.event.Event.TheVariants.{Ask, Run}
+use Rattle.script.specs.declared.event.Event.TheVariants.{Begin, Insert, Set, Delete, Get, Commit, Abort, Flush, Stop, Start}
+use Rattle.script.specs.declared.event.Event.TheVariants.{Push, Deliver, Show, Open, Ask, Run}
 use Rattle.script.specs.declared.event.Node.TheVariants.{Primary, Replica}
 use Rattle.script.specs.declared.output.Output.{Output}
 use Rattle.script.specs.declared.output.Output.TheVariants as outputs
@@ -98,7 +98,7 @@ write_skew_outputs =
     ∷ outputs.Tx 1 1 ∷ outputs.Tx 2 1 ∷ outputs.Value (Int (pos 9)) ∷ outputs.Value (Int (pos 5)) ∷ outputs.Accepted ∷ outputs.Accepted
     ∷ outputs.Ticket 2 ∷ outputs.Ticket 3 ∷ []
 
--- what does not fit is refused first, then what is there or missing, then a third entry; a commit without entries takes no
+-- what does not fit is refused first, then what is there or missing; a commit without entries takes no
 -- number, and a pending commit is one to conflict with
 abbrev pub refusals : List Event
 refusals =
@@ -117,5 +117,46 @@ refusals_outputs =
     ∷ outputs.Tx 1 0 ∷ outputs.Unfit ∷ outputs.Missing ∷ outputs.Unfit ∷ outputs.Missing
     ∷ outputs.Unfit ∷ outputs.Missing ∷ outputs.Unfit ∷ outputs.Accepted
     ∷ outputs.Unfit ∷ outputs.Exists ∷ outputs.Accepted ∷ outputs.Missing
-    ∷ outputs.Missing ∷ outputs.Unfit ∷ outputs.TooManyEntries
+    ∷ outputs.Missing ∷ outputs.Unfit ∷ outputs.Accepted
     ∷ outputs.Tx 2 0 ∷ outputs.Accepted ∷ outputs.Ticket 1 ∷ outputs.Conflict 1 ∷ outputs.NoTx ∷ []
+
+-- a row with the values 5 and -1 is put in by the transaction of this number, and committed for a worker
+abbrev pub commit_of : ℕ → RowId → ℕ → List Event
+commit_of number row worker =
+    Begin ∷ Insert number 0 row (Int (pos 5) ∷ Int (negsuc 0) ∷ []) ∷ Commit number worker ∷ []
+
+-- a stop keeps a commit of whose record each byte stands, and no other; its number is given again. It keeps what is durable,
+-- and no transaction, and while the primary is stopped nothing but a start is served
+abbrev pub stops : List Event
+stops =
+    commit_of 0 account 0 ++ Stop 42 ∷ Start ∷ commit_of 1 account 0 ++ Begin ∷ Stop 43 ∷ Begin ∷ Get 2 0 account 0 ∷ Stop 0 ∷ Push 0 0
+    ∷ Deliver 0 Primary ∷ Start ∷ Get 2 0 account 0 ∷ Start ∷ Push 0 0 ∷ commit_of 3 other_account 0 ++ Stop 0 ∷ Start ∷ []
+
+abbrev pub stops_outputs : List Output
+stops_outputs =
+    outputs.Tx 0 0 ∷ outputs.Accepted ∷ outputs.Ticket 1 ∷ outputs.Stopped ∷ outputs.Durable 0
+    ∷ outputs.Tx 1 0 ∷ outputs.Accepted ∷ outputs.Ticket 1 ∷ outputs.Tx 2 0 ∷ outputs.Stopped
+    ∷ outputs.Stopped ∷ outputs.Stopped ∷ outputs.Stopped ∷ outputs.Stopped ∷ outputs.Stopped ∷ outputs.Durable 1
+    ∷ outputs.NoTx ∷ outputs.Running ∷ outputs.Sent (record { index = 0; len = 54 } ∷ [])
+    ∷ outputs.Tx 3 1 ∷ outputs.Accepted ∷ outputs.Ticket 2 ∷ outputs.Stopped ∷ outputs.Durable 1 ∷ []
+
+-- the world of two workers and two replicas
+abbrev pub wide_world : World
+wide_world = opening_world (record { schema = (codes "acct", IntKind ∷ IntKind ∷ []) ∷ []; workers = 2; replicas = 2 })
+
+-- each worker commits, and their frames come in the other order: the batch waits for the one that is missing, asks for it,
+-- and counts both
+abbrev pub two_workers : List Event
+two_workers =
+    commit_of 0 account 0 ++ commit_of 1 other_account 1 ++ Flush 2 ∷ Push 0 0 ∷ Push 1 0
+    ∷ Deliver 1 (Replica 0) ∷ Deliver 1 (Replica 0) ∷ Open 0 (record { table = 0 }) ∷ Ask 0 ∷ Deliver 2 Primary ∷ Deliver 3 (Replica 1)
+    ∷ Deliver 3 (Replica 0) ∷ Run 0 ∷ Deliver 4 Primary ∷ Deliver 5 (Replica 0) ∷ Deliver 0 (Replica 0) ∷ Run 0 ∷ []
+
+abbrev pub two_workers_outputs : List Output
+two_workers_outputs =
+    outputs.Tx 0 0 ∷ outputs.Accepted ∷ outputs.Ticket 1 ∷ outputs.Tx 1 0 ∷ outputs.Accepted ∷ outputs.Ticket 2 ∷ outputs.Durable 2
+    ∷ outputs.Sent (record { index = 0; len = 54 } ∷ []) ∷ outputs.Sent (record { index = 1; len = 54 } ∷ [])
+    ∷ outputs.Stored ∷ outputs.Repeat ∷ outputs.Opened 1 ∷ outputs.Sent (record { index = 2; len = 23 } ∷ [])
+    ∷ outputs.Sent (record { index = 3; len = 48 } ∷ []) ∷ outputs.Ignored ∷ outputs.Head 2
+    ∷ outputs.Waiting 0 0 (record { index = 4; len = 16 }) ∷ outputs.Sent (record { index = 5; len = 54 } ∷ [])
+    ∷ outputs.Stored ∷ outputs.Repeat ∷ outputs.Report (codes "version 2 queries 1\nquery 0 rows 1\n2\n") ∷ []

@@ -1,40 +1,51 @@
 //! The parts of a world: the cores, the open transactions, and what was sent.
 
-ghost use Rattle.std.specs.Prelude.{◌≡◌, ◌≤◌, ◌++◌, IfOk};
-ghost use Rattle.rows.specs.Shape.{shape_of};
+ghost use Rattle.std.specs.Prelude.{◌≡◌, ◌<◌, ◌≤◌, false, IfOk};
 ghost use Rattle.rows.specs.Commits.{IsLegal};
+ghost use Rattle.rows.specs.Limits.{workers_max, replicas_max};
+ghost use Rattle.rows.specs.Shape.{shape_of};
+ghost use Rattle.journal.specs.Text.{journal_text};
 ghost use Rattle.world.specs.Parts.{Parts, parts_started};
-ghost use Rattle.rows.specs.Limits.{replicas_max};
+ghost use Rattle.world.specs.Inner.CoreSteps.{KeepsStopped};
+ghost use Rattle.world.specs.Inner.Sound.{AreLists};
 
+use crate::primary_node::PrimaryNode;
+use crate::stopping::start_on;
 use dispatcher::ReplicaCore;
+use journal::MemJournal;
 use mvcc::Transaction;
-use primary::PrimaryCore;
+use rows::ByteList;
 use script::Setup;
 use std::alloc::{AllocError, Global};
 use std::marker::Model;
 use store::PlainStore;
-use wire::Packet;
 
-/// The cores, each replica on a store of its own, the transactions in the order of their `begin`
-/// (none where one is no longer open), every datagram that was ever sent, and for each replica how
-/// many commits were durable when its newest batch asked.
+/// What the world was made for, the primary, each replica on a store of its own, the transactions
+/// in the order of their `begin` (none where one is no longer open), every datagram that was ever
+/// sent, at its own length, and for each replica how many commits were durable when its newest
+/// batch asked.
 #[derive(Debug, Drop)]
 pub struct Cores {
     pub alloc: Global,
-    pub primary: PrimaryCore,
+    pub setup: Setup,
+    pub primary: PrimaryNode,
     pub transactions: Vec<Option<Transaction>>,
-    pub sent: Vec<Packet>,
+    pub sent: Vec<ByteList>,
     pub replicas: Vec<ReplicaCore<PlainStore>>,
     pub asked_at: Vec<u64>,
 }
 
 impl Model for Cores {
     ghost use Rattle.world.specs.Parts.{Parts};
+    ghost use Rattle.world.specs.Inner.Nodes.{primary_in, is_stopped, bytes_in};
 
     ghost Value = { Parts };
 
     ghost view = { λ c. record {
-      primary = c.primary;
+      setup = c.setup;
+      primary = primary_in c.setup c.primary;
+      stopped = is_stopped c.primary;
+      journal = bytes_in c.primary;
       transactions = c.transactions.items;
       sent = c.sent.items;
       replicas = c.replicas.items;
@@ -46,7 +57,8 @@ impl Cores {
     /// A primary without commits, and replicas without frames, each with boot 1. Fails only when out
     /// of memory.
     pub fn start(alloc: Global, setup: &Setup) -> Result<Cores, AllocError>
-        requires workers { setup.now.workers ≡ 1 }
+        requires some { 0 < setup.now.workers }
+        requires workers { setup.now.workers ≤ workers_max }
         requires replicas { setup.now.replicas ≤ replicas_max }
         ensures { IfOk result (λ cores. cores ≡ parts_started setup.now) }
     {
@@ -59,9 +71,13 @@ impl Cores {
             cores.push(ReplicaCore::start(alloc, store, schema, workers, number, 1)?)?;
             asked_at.push(0)?;
         }
+        let Ok(primary) = start_on(alloc, MemJournal::new(alloc), schema, workers) else {
+            return Err(AllocError);
+        };
         Ok(Cores {
             alloc,
-            primary: PrimaryCore::start(alloc, schema, workers)?,
+            setup: copy_of(setup)?,
+            primary: PrimaryNode::Running(primary),
             transactions: Vec::new(alloc),
             sent: Vec::new(alloc),
             replicas: cores,
@@ -69,13 +85,36 @@ impl Cores {
         })
     }
 
-    /// The durable list followed by the pending one is legal, and so is the durable list alone. It
-    /// does nothing: its contract is the law.
+    /// What is durable is a legal list. It does nothing: its contract is the law.
     pub fn keeps_legal(&self)
-        ensures all { IsLegal (shape_of self.now.primary.schema) self.now.primary.workers
-            (self.now.primary.durable ++ self.now.primary.pending) }
-        ensures durable { IsLegal (shape_of self.now.primary.schema) self.now.primary.workers self.now.primary.durable }
+        requires { KeepsStopped self.now }
+        ensures { IsLegal (shape_of self.now.primary.schema) self.now.primary.workers self.now.primary.durable }
     {
-        self.primary.keeps_legal();
+        if let PrimaryNode::Running(primary) = &self.primary {
+            primary.keeps_legal();
+        }
     }
+
+    /// What a primary that runs keeps of its commits, and of its journal where that has not failed.
+    /// It does nothing: its contract is the law.
+    pub fn keeps_core(&self)
+        ensures lists { self.now.stopped ≡ false → AreLists self.now.primary }
+        ensures text { self.now.stopped ≡ false → self.now.primary.failed ≡ false
+            → self.now.journal ≡ journal_text self.now.primary.workers (shape_of self.now.primary.schema) self.now.primary.durable }
+    {
+        if let PrimaryNode::Running(primary) = &self.primary {
+            primary.keeps_legal();
+        }
+    }
+}
+
+/// The same setup once more. Fails only when out of memory.
+fn copy_of(setup: &Setup) -> Result<Setup, AllocError>
+    ensures { IfOk result (λ copy. copy ≡ setup.now) }
+{
+    Ok(Setup {
+        schema: setup.schema.clone()?,
+        workers: setup.workers,
+        replicas: setup.replicas,
+    })
 }

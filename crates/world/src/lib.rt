@@ -6,21 +6,24 @@
 //! contract is the main theorem; `run_script` does so with the events of a script. Losses, repeats
 //! and delays of the network, and whatever else may go wrong, are events.
 //!
-//! `specs/` says what may happen: the world as its users see it (`Steps.antt`) and which outputs
-//! are allowed in it (`Allowed.antt`), the cores as parts and the world that they make
-//! (`Parts.antt`, `Standing.antt`), what a step and a run are (`Theorem.antt`), and what a script's
-//! run reads and prints (`Scripts.antt`). What only helps proofs stands in `specs/Inner`.
+//! `specs/` says what may happen: the world as its users see it (`Steps.antt`), what a stop of the
+//! primary leaves (`Stops.antt`) and which outputs are allowed (`Allowed.antt`), the cores as parts
+//! and the world that they make (`Parts.antt`, `Standing.antt`), what a step and a run are
+//! (`Theorem.antt`), and what a script's run reads and prints (`Scripts.antt`). What only helps
+//! proofs stands in `specs/Inner`.
 //!
-//! It stands on `primary` and `dispatcher`, which know nothing of each other, on `mvcc` for
-//! transactions, and on `script` for events and outputs.
+//! It stands on `primary` and `dispatcher`, which know nothing of each other, on `journal` for what
+//! a primary's journal keeps, on `mvcc` for transactions, and on `script` for events and outputs.
 #![tactic(auto)]
 
 mod cores;
 mod faults;
 mod naming;
+mod primary_node;
 mod script_running;
 mod simulator;
 mod stepping;
+mod stopping;
 mod theorem;
 mod transacting;
 mod worked;
@@ -33,6 +36,6 @@ pub use script::{
 };
 pub use script_running::{Echo, run_script};
 pub use simulator::run;
-pub use theorem::{allowed_runs_are_exact, runs_keep_promises};
+pub use theorem::{allowed_runs_are_exact, runs_keep_promises, stops_keep_what_stands};
 pub use worked::worked_scripts;
 pub use world::World;

@@ -1,10 +1,10 @@
 //! Runs of a list of events on a new world.
 
-ghost use Rattle.std.specs.Prelude.{◌≡◌, ◌≤◌, IfOk};
+ghost use Rattle.std.specs.Prelude.{◌<◌, ◌≤◌, IfOk};
 ghost use Rattle.std.specs.List.{AllByRecursion};
 ghost use Rattle.script.specs.Events.{IsPossible};
 ghost use Rattle.world.specs.Theorem.{IsRun};
-ghost use Rattle.rows.specs.Limits.{replicas_max};
+ghost use Rattle.rows.specs.Limits.{workers_max, replicas_max};
 
 use crate::world::World;
 use script::{Event, Output, Setup};
@@ -12,16 +12,17 @@ use std::alloc::{AllocError, Global};
 
 /// What each of the events answers, in order, from a primary without commits and replicas without
 /// frames on: the main theorem. The workers and replicas that an event names are the setup's, and
-/// for now there is one worker. Fails only when out of memory, where the world cannot be made or
+/// there are 1 to 16 workers. Fails only when out of memory, where the world cannot be made or
 /// the outputs cannot be kept.
 ///
 /// The outputs are those of one run, by one legal list of commits: at each of its steps what is
 /// answered and left may happen in the world, a report has the plain answers on the rows after
 /// exactly the commits of that list up to the version fetched for its batch, what is durable only
-/// grows, every replica is fed from it, and no damage is told. `runs_keep_promises` says what
-/// follows.
+/// grows, over stops too, and stands on the primary's journal, every replica is fed from it, and no
+/// damage is told. `runs_keep_promises` says what follows.
 pub fn run(alloc: Global, setup: &Setup, events: &[Event]) -> Result<Vec<Output>, AllocError>
-    requires workers { setup.now.workers ≡ 1 }
+    requires some { 0 < setup.now.workers }
+    requires workers { setup.now.workers ≤ workers_max }
     requires replicas { setup.now.replicas ≤ replicas_max }
     requires possible { AllByRecursion (IsPossible setup.now.workers setup.now.replicas) events.now }
     ensures { IfOk result (λ outputs. IsRun setup.now events.now outputs.items) }

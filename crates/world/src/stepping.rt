@@ -1,7 +1,7 @@
 //! One step of the cores: each event is one call on one of them. `transacting.rt` has those of
 //! transactions.
 
-ghost use Rattle.std.specs.Prelude.{◌≡◌, ◌<◌, ◌++◌, ◌⊎◌, length, IfOk, OnErr};
+ghost use Rattle.std.specs.Prelude.{◌≡◌, ◌<◌, ◌≤◌, [], ◌++◌, ◌⊎◌, length, vec_capacity, IfOk, OnErr};
 ghost use Rattle.world.specs.Outputs.{sent_from, packets_of};
 ghost use Rattle.world.specs.Inner.Invariant.{IsReady};
 ghost use Rattle.script.specs.Events.{IsPossible, IsThere};
@@ -9,12 +9,19 @@ ghost use Rattle.world.specs.Inner.CoreSteps.{HappensBeside, MayStep, sent_one, 
 
 use crate::cores::Cores;
 use crate::naming::{ask_output, got_output, open_output};
+use crate::primary_node::PrimaryNode;
 use dispatcher::{Plan, Run};
 use primary::FlushFault;
 use rows::ByteList;
 use script::{Event, Node, Output, Sent, SentList};
 use std::alloc::{AllocError, Global};
 use wire::{Out, Packet};
+
+/// Bytes of an Ask.
+const ASK_LEN: usize = 23;
+
+/// Bytes of a Want.
+const WANT_LEN: usize = 16;
 
 impl Cores {
     /// Lets an event happen by the call that it is, and answers what it gave.
@@ -55,6 +62,8 @@ impl Cores {
             } => self.commit(*transaction, *worker),
             Event::Abort { transaction } => self.abort(*transaction),
             Event::Flush { count } => self.flush(*count),
+            Event::Stop { bytes } => self.stop(*bytes),
+            Event::Start => self.start_again(),
             Event::Push { worker, seq } => self.push(*worker, *seq),
             Event::Deliver { index, node } => self.deliver(*index, *node),
             Event::Show { index } => self.show(*index),
@@ -67,9 +76,13 @@ impl Cores {
     fn flush(&mut self, count: u32) -> Output
         ensures { HappensBeside self.old (Event.Flush count) result self.new }
     {
-        match self.primary.flush(count as usize) {
+        let PrimaryNode::Running(primary) = &mut self.primary else {
+            return Output::Stopped;
+        };
+        match primary.flush(count as usize) {
             Ok(durable) => Output::Durable(durable),
             Err(FlushFault::Failed) => Output::Failed,
+            Err(FlushFault::Journal) => unreachable!(),
             Err(FlushFault::Memory) => Output::Memory,
         }
     }
@@ -78,15 +91,18 @@ impl Cores {
         requires { worker < self.old.primary.workers }
         ensures { HappensBeside self.old (Event.Push worker seq) result self.new }
     {
-        match self.primary.push(worker, seq) {
+        let PrimaryNode::Running(primary) = &self.primary else {
+            return Output::Stopped;
+        };
+        match primary.push(worker, seq) {
             None => Output::NoFrame,
-            Some(packet) => self.send(packet),
+            Some(packet) => self.send(&packet),
         }
     }
 
     /// Sends a datagram; when out of memory nothing is sent.
-    fn send(&mut self, packet: Packet) -> Output
-        ensures { ((result ≡ sent_one self.old packet) × (self.new ≡ with_sent self.old packet))
+    fn send(&mut self, packet: &Packet) -> Output
+        ensures { ((result ≡ sent_one self.old packet.now) × (self.new ≡ with_sent self.old packet.now))
             ⊎ ((result ≡ Output.Memory) × (self.new ≡ self.old)) }
     {
         let sent = Sent {
@@ -96,7 +112,10 @@ impl Cores {
         let Ok(list) = SentList::of_one(self.alloc, sent) else {
             return Output::Memory;
         };
-        match self.sent.push(packet) {
+        let Ok(bytes) = Vec::from_slice(self.alloc, packet.bytes()) else {
+            return Output::Memory;
+        };
+        match self.sent.push(ByteList::from_vec(bytes)) {
             Ok(()) => Output::Sent(list),
             Err(_) => Output::Memory,
         }
@@ -115,16 +134,19 @@ impl Cores {
     fn deliver_to_primary(&mut self, index: u64) -> Output
         ensures { HappensBeside self.old (Event.Deliver index Node.Primary) result self.new }
     {
-        let Some(packet) = self.sent.get(index as usize) else {
+        let PrimaryNode::Running(primary) = &self.primary else {
+            return Output::Stopped;
+        };
+        let Some(bytes) = self.sent.get(index as usize) else {
             return Output::NeverSent;
         };
-        let Ok(outs) = self.primary.on_bytes(packet.bytes()) else {
+        let Ok(outs) = primary.on_bytes(bytes.as_slice()) else {
             return Output::Memory;
         };
         if outs.is_empty() {
             return Output::Ignored;
         }
-        match send_all(self.alloc, &mut self.sent, outs) {
+        match send_all(self.alloc, &mut self.sent, outs.as_slice()) {
             Ok(list) => Output::Sent(list),
             Err(_) => Output::Memory,
         }
@@ -134,20 +156,20 @@ impl Cores {
         requires { number < length self.old.replicas }
         ensures { MayStep self.old (Event.Deliver index (Node.Replica number)) result self.new }
     {
-        let Some(packet) = self.sent.get(index as usize) else {
+        let Some(bytes) = self.sent.get(index as usize) else {
             return Output::NeverSent;
         };
         let replica = &mut self.replicas[number as usize];
-        got_output(replica.on_bytes(packet.bytes()))
+        got_output(replica.on_bytes(bytes.as_slice()))
     }
 
     fn show(&self, index: u64) -> Output
         ensures { HappensBeside self.now (Event.Show index) result self.now }
     {
-        let Some(packet) = self.sent.get(index as usize) else {
+        let Some(bytes) = self.sent.get(index as usize) else {
             return Output::NeverSent;
         };
-        match Vec::from_slice(self.alloc, packet.bytes()) {
+        match Vec::from_slice(self.alloc, bytes.as_slice()) {
             Ok(bytes) => Output::Shown(ByteList::from_vec(bytes)),
             Err(_) => Output::Memory,
         }
@@ -175,6 +197,9 @@ impl Cores {
         if self.sent.reserve(1).is_err() {
             return Output::Memory;
         }
+        let Ok(room) = Vec::with_capacity(self.alloc, ASK_LEN) else {
+            return Output::Memory;
+        };
         let durable = self.primary.durable();
         let replica = &mut self.replicas[number as usize];
         let before = replica.request();
@@ -187,7 +212,7 @@ impl Cores {
                     index: self.sent.len() as u64,
                     len: out.packet.bytes().len(),
                 });
-                self.sent.push_reserved(out.packet);
+                self.sent.push_reserved(copied(room, out.packet.bytes()));
                 Output::Sent(SentList::from_vec(list))
             }
             Err(fault) => ask_output(fault),
@@ -200,6 +225,9 @@ impl Cores {
         requires { number < length self.old.replicas }
         ensures { MayStep self.old (Event.Run number) result self.new }
     {
+        let Ok(room) = Vec::with_capacity(self.alloc, WANT_LEN) else {
+            return Output::Memory;
+        };
         if self.sent.reserve(1).is_err() {
             return Output::Memory;
         }
@@ -212,7 +240,7 @@ impl Cores {
                     index: self.sent.len() as u64,
                     len: want.packet.bytes().len(),
                 };
-                self.sent.push_reserved(want.packet);
+                self.sent.push_reserved(copied(room, want.packet.bytes()));
                 Output::Waiting {
                     worker,
                     seq,
@@ -227,21 +255,34 @@ impl Cores {
     }
 }
 
+/// A datagram's bytes, put where there is room for them.
+fn copied(room: Vec<u8>, bytes: &[u8]) -> ByteList
+    requires empty { room.items ≡ [] }
+    requires room { length bytes.now ≤ vec_capacity room }
+    ensures { result ≡ bytes.now }
+{
+    let mut copy = room;
+    match copy.extend_from_slice(bytes) {
+        Ok(()) => ByteList::from_vec(copy),
+        Err(_) => unreachable!(),
+    }
+}
+
 /// Sends datagrams one after the other, and answers where they are found. Fails only when out of
 /// memory, and then nothing is sent.
-fn send_all(alloc: Global, sent: &mut Vec<Packet>, outs: Vec<Out>) -> Result<SentList, AllocError>
-    ensures ok { IfOk result (λ list. (list ≡ sent_from (length sent.old.items) outs.items)
-        × (sent.new.items ≡ sent.old.items ++ packets_of outs.items)) }
+fn send_all(alloc: Global, sent: &mut Vec<ByteList>, outs: &[Out]) -> Result<SentList, AllocError>
+    ensures ok { IfOk result (λ list. (list ≡ sent_from (length sent.old.items) outs.now)
+        × (sent.new.items ≡ sent.old.items ++ packets_of outs.now)) }
     ensures err { OnErr result (sent.new.items ≡ sent.old.items) }
 {
-    let list = sent_behind(alloc, sent.as_slice(), outs.as_slice())?;
+    let list = sent_behind(alloc, sent.as_slice(), outs)?;
     let mut packets = packets_in(alloc, outs)?;
     sent.append(&mut packets)?;
     Ok(SentList::from_vec(list))
 }
 
 /// The indices and lengths of datagrams that are sent behind these.
-fn sent_behind(alloc: Global, sent: &[Packet], outs: &[Out]) -> Result<Vec<Sent>, AllocError>
+fn sent_behind(alloc: Global, sent: &[ByteList], outs: &[Out]) -> Result<Vec<Sent>, AllocError>
     ensures { IfOk result (λ list. list.items ≡ sent_from (length sent.now) outs.now) }
 {
     let mut list = Vec::new(alloc);
@@ -254,13 +295,14 @@ fn sent_behind(alloc: Global, sent: &[Packet], outs: &[Out]) -> Result<Vec<Sent>
     Ok(list)
 }
 
-/// The datagrams without where they go.
-fn packets_in(alloc: Global, outs: Vec<Out>) -> Result<Vec<Packet>, AllocError>
-    ensures { IfOk result (λ packets. packets.items ≡ packets_of outs.items) }
+/// The datagrams' bytes, without where they go.
+fn packets_in(alloc: Global, outs: &[Out]) -> Result<Vec<ByteList>, AllocError>
+    ensures { IfOk result (λ packets. packets.items ≡ packets_of outs.now) }
 {
     let mut packets = Vec::new(alloc);
     for out in outs {
-        packets.push(out.packet)?;
+        let bytes = Vec::from_slice(alloc, out.packet.bytes())?;
+        packets.push(ByteList::from_vec(bytes))?;
     }
     Ok(packets)
 }

@@ -3,11 +3,15 @@
 ghost use Rattle.world.specs.Allowed.{Allowed};
 ghost use Rattle.world.specs.Theorem.{OfEachRun, HasExactReports, HasGrowingList, HasLegalList, HasNoFault, CoresStand};
 ghost use Rattle.world.specs.Theorem.{AllowedRunsAreExact};
+ghost use Rattle.world.specs.Stops.{StopIsRecovered, StopKeepsDurable, StopEndsTransactions};
+
+use journal::laws::stops_are_recovered;
 
 /// What each run keeps, of which `run` says that it is one: its outputs are allowed; each report
 /// has the plain answers at one version of the one list, no older than what was durable when its
 /// batch asked; what is durable stays; the one list is legal; no output speaks of damage; and the
-/// cores stand where the world does at every step. No code takes part.
+/// cores stand where the world does at every step, every replica fed from what is durable, and that
+/// on the primary's journal. No code takes part.
 pub fn runs_keep_promises()
     ensures allowed { OfEachRun Allowed }
     ensures reports { OfEachRun HasExactReports }
@@ -16,6 +20,16 @@ pub fn runs_keep_promises()
     ensures faultless { OfEachRun HasNoFault }
     ensures cores { OfEachRun CoresStand }
 {}
+
+/// What is durable after a stop is what the journal keeps of the bytes that stand then; it is what
+/// was durable, with more or nothing behind it; and no transaction is open. No code takes part.
+pub fn stops_keep_what_stands()
+    ensures recovered { StopIsRecovered }
+    ensures durable { StopKeepsDurable }
+    ensures transactions { StopEndsTransactions }
+{
+    stops_are_recovered();
+}
 
 /// Whatever is allowed in the world, whoever answers it, keeps what is durable, speaks of no
 /// damage, and reports by the one list that is durable at the end. No code takes part.

@@ -9,6 +9,7 @@ ghost use Rattle.world.specs.Steps.{open_draft};
 
 use crate::cores::Cores;
 use crate::naming::{change_output, commit_output, look_output};
+use crate::primary_node::PrimaryNode;
 use mvcc::Transaction;
 use primary::CommitFault;
 use rows::{Row, RowId, Value};
@@ -19,8 +20,11 @@ impl Cores {
     pub fn begin(&mut self) -> Output
         ensures { HappensBeside self.old Event.Begin result self.new }
     {
+        let PrimaryNode::Running(primary) = &self.primary else {
+            return Output::Stopped;
+        };
         let number = self.transactions.len() as u64;
-        let snapshot = self.primary.durable();
+        let snapshot = primary.durable();
         let transaction = Transaction::begin(self.alloc, snapshot);
         match self.transactions.push(Some(transaction)) {
             Ok(()) => Output::Tx { number, snapshot },
@@ -33,11 +37,14 @@ impl Cores {
         requires { IsReady self.old }
         ensures { HappensBeside self.old (Event.Insert number table row values.now) result self.new }
     {
+        let PrimaryNode::Running(primary) = &self.primary else {
+            return Output::Stopped;
+        };
         let Some(mut transaction) = take_open(&mut self.transactions, number) else {
             return Output::NoTx;
         };
         let values = values.as_slice();
-        let inserted = transaction.insert(self.primary.versions(), table, row, values);
+        let inserted = transaction.insert(primary.versions(), table, row, values);
         put_back(&mut self.transactions, number, transaction);
         change_output(inserted)
     }
@@ -47,11 +54,14 @@ impl Cores {
         requires { IsReady self.old }
         ensures { HappensBeside self.old (Event.Set number table row column value) result self.new }
     {
+        let PrimaryNode::Running(primary) = &self.primary else {
+            return Output::Stopped;
+        };
         let Some(mut transaction) = take_open(&mut self.transactions, number) else {
             return Output::NoTx;
         };
         let column = column as usize;
-        let set = transaction.set(self.primary.versions(), table, row, column, value);
+        let set = transaction.set(primary.versions(), table, row, column, value);
         put_back(&mut self.transactions, number, transaction);
         change_output(set)
     }
@@ -61,10 +71,13 @@ impl Cores {
         requires { IsReady self.old }
         ensures { HappensBeside self.old (Event.Delete number table row) result self.new }
     {
+        let PrimaryNode::Running(primary) = &self.primary else {
+            return Output::Stopped;
+        };
         let Some(mut transaction) = take_open(&mut self.transactions, number) else {
             return Output::NoTx;
         };
-        let deleted = transaction.delete(self.primary.versions(), table, row);
+        let deleted = transaction.delete(primary.versions(), table, row);
         put_back(&mut self.transactions, number, transaction);
         change_output(deleted)
     }
@@ -74,10 +87,13 @@ impl Cores {
         requires { IsReady self.now }
         ensures { HappensBeside self.now (Event.Get number table row column) result self.now }
     {
+        let PrimaryNode::Running(primary) = &self.primary else {
+            return Output::Stopped;
+        };
         match find_open(self.transactions.as_slice(), number) {
             None => Output::NoTx,
             Some(transaction) => {
-                look_output(transaction.get(self.primary.versions(), table, row, column as usize))
+                look_output(transaction.get(primary.versions(), table, row, column as usize))
             }
         }
     }
@@ -87,10 +103,13 @@ impl Cores {
         requires { worker < self.old.primary.workers }
         ensures { HappensBeside self.old (Event.Commit number worker) result self.new }
     {
+        let PrimaryNode::Running(primary) = &mut self.primary else {
+            return Output::Stopped;
+        };
         let Some(transaction) = take_open(&mut self.transactions, number) else {
             return Output::NoTx;
         };
-        match self.primary.commit(transaction, worker) {
+        match primary.commit(transaction, worker) {
             Ok(ticket) => Output::Ticket(ticket.number),
             Err((transaction, CommitFault::Memory)) => {
                 put_back(&mut self.transactions, number, transaction);
@@ -104,6 +123,9 @@ impl Cores {
     pub fn abort(&mut self, number: u64) -> Output
         ensures { HappensBeside self.old (Event.Abort number) result self.new }
     {
+        let PrimaryNode::Running(_) = &self.primary else {
+            return Output::Stopped;
+        };
         match take_open(&mut self.transactions, number) {
             None => Output::NoTx,
             Some(_) => Output::Accepted,

@@ -1,21 +1,23 @@
 //! The world: the cores and all that was ever sent, stepped by events.
 
-ghost use Rattle.std.specs.Prelude.{◌≡◌, ◌≤◌, length, IfOk};
+ghost use Rattle.std.specs.Prelude.{◌≡◌, ◌<◌, ◌≤◌, length, IfOk};
 ghost use Rattle.rows.specs.Shape.{shape_of};
 ghost use Rattle.rows.specs.Commits.{IsLegal};
 ghost use Rattle.script.specs.Events.{IsPossible};
 ghost use Rattle.world.specs.Parts.{parts_started};
 ghost use Rattle.world.specs.Allowed.{MayHappen};
-ghost use Rattle.world.specs.Standing.{world_of, AreFed};
+ghost use Rattle.world.specs.Standing.{world_of, AreFed, JournalStands};
 ghost use Rattle.world.specs.Theorem.{ReportsItsBatch, IsBeginning, IsFaultless};
-ghost use Rattle.rows.specs.Limits.{replicas_max};
+ghost use Rattle.rows.specs.Limits.{workers_max, replicas_max};
 
 use crate::cores::Cores;
+use dispatcher::fed_replicas_stay_fed;
 use script::{Event, Output, Setup};
 use std::alloc::{AllocError, Global};
 use std::marker::Model;
 
-/// One primary, its replicas, the open transactions, and every datagram that was ever sent.
+/// One primary on a journal in memory, its replicas, the open transactions, and every datagram that
+/// was ever sent. While the primary is stopped, its journal is all that is left of it.
 ///
 /// Contracts see the cores as callers of each see it. `world_of` says which world they make.
 #[derive(Debug, Drop)]
@@ -35,13 +37,15 @@ impl Model for World {
 }
 
 impl World {
-    /// A primary without commits, and replicas without frames, each with boot 1. For now there is
-    /// one worker. Fails only when out of memory.
+    /// A primary without commits, on an empty journal, and replicas without frames, each with boot 1.
+    /// There are 1 to 16 workers. Fails only when out of memory.
     pub fn new(alloc: Global, setup: &Setup) -> Result<World, AllocError>
-        requires workers { setup.now.workers ≡ 1 }
+        requires some { 0 < setup.now.workers }
+        requires workers { setup.now.workers ≤ workers_max }
         requires replicas { setup.now.replicas ≤ replicas_max }
         ensures { IfOk result (λ world. world ≡ parts_started setup.now) }
     {
+        fed_replicas_stay_fed();
         setup.schema.keeps_limits();
         let cores = Cores::start(alloc, setup)?;
         Ok(World { cores })
@@ -55,13 +59,17 @@ impl World {
         ensures reports { ReportsItsBatch self.old.primary.durable (world_of self.old) event.now result }
         ensures durable { IsBeginning self.old.primary.durable self.new.primary.durable }
         ensures fed { AreFed self.new }
+        ensures journal { JournalStands self.new }
         ensures faultless { IsFaultless result }
         ensures schema { self.new.primary.schema ≡ self.old.primary.schema }
         ensures workers { self.new.primary.workers ≡ self.old.primary.workers }
         ensures replicas { length self.new.replicas ≡ length self.old.replicas }
     {
-        self.cores.keeps_legal();
-        self.cores.happen(event)
+        fed_replicas_stay_fed();
+        self.cores.keeps_core();
+        let output = self.cores.happen(event);
+        self.cores.keeps_core();
+        output
     }
 
     /// What is durable is a legal list for its workers.

@@ -1,13 +1,15 @@
 -- How the fields of a replica's core make the state that its contracts speak of, and what holds of them.
-use Rattle.std.specs.Prelude.{◌≡◌, ℕ, ◌<◌, ◌≤◌, [], length, Bool, true, false, Option, None, Some, if◌then◌else◌, slice_index, IfSome}
+use Rattle.std.specs.Prelude.{◌≡◌, ℕ, ◌<◌, ◌≤◌, [], List, length, Bool, true, false, Option, None, Some, if◌then◌else◌, nat_le, IfSome}
+use Rattle.std.specs.Cmp.Lexicographic.{pointwise}
 use Rattle.std.specs.Option.{option_map}
+use Rattle.rows.specs.Limits.{workers_max, replicas_max}
+use Rattle.rows.specs.Shape.{shape_of}
+use Rattle.rows.specs.Tables.{Tables}
+use Rattle.intake.specs.Kept.{AreKeptFrom}
 use Rattle.dispatcher.specs.declared.batch.Batch.{Batch as HeldBatch}
 use Rattle.dispatcher.specs.declared.batch.Fetched.{Fetched as HeldFetched}
 use Rattle.dispatcher.specs.declared.replica_core.ReplicaCore.TheInside.{Inside}
 use Rattle.dispatcher.specs.State.{Replica, Batch, Fetched}
-use Rattle.rows.specs.Shape.{shape_of}
-use Rattle.rows.specs.Tables.{Tables}
-use Rattle.rows.specs.Limits.{replicas_max}
 
 abbrev pub fetched_of : HeldFetched → Fetched
 fetched_of held = record { version = held.version; counts = held.counts }
@@ -23,7 +25,7 @@ replica_of tables a = record {
   number = a.number;
   boot = a.boot;
   request = a.request;
-  frames = a.frames;
+  arrivals = a.intake;
   applied = a.applied;
   tables = if a.broken then [] else tables a.store;
   version = a.version;
@@ -32,20 +34,23 @@ replica_of tables a = record {
   broken = a.broken;
 }
 
--- what was fetched has one count, and goes back neither in version nor in count
-pub record GoesOn (version applied : ℕ) (fetched : HeldFetched) : Type 0 where
-  pub one : length fetched.counts ≡ 1
+-- what was fetched goes back neither in version nor in a count
+pub record GoesOn (version : ℕ) (applied : List ℕ) (fetched : HeldFetched) : Type 0 where
   pub version_on : version ≤ fetched.version
-  pub count_on : applied ≤ slice_index fetched.counts 0
+  pub counts_on : pointwise nat_le applied fetched.counts ≡ true
 
 -- what was fetched for a batch, if there is one and something was
-abbrev pub BatchGoesOn : ℕ → ℕ → Option HeldBatch → Type 0
+abbrev pub BatchGoesOn : ℕ → List ℕ → Option HeldBatch → Type 0
 BatchGoesOn version applied None = Unit {0}
 BatchGoesOn version applied (Some batch) = IfSome batch.fetched (GoesOn version applied)
 
 -- what holds of a replica on a store that is whole or not
 pub record IsCore {S Place Fault : Type 0} (is_whole : S → Bool) (a : Inside S Place Fault) : Type 0 where
-  pub one_worker : a.workers ≡ 1
+  pub few_workers : a.workers ≤ workers_max
   pub number_below : a.number < replicas_max
+  pub arrivals_by_worker : length a.intake ≡ a.workers
+  pub applied_by_worker : length a.applied ≡ a.workers
+  -- what its tables do not have, and came, is kept
+  pub others_kept : AreKeptFrom a.intake a.applied
   pub store_whole : a.broken ≡ false → is_whole a.store ≡ true
   pub fetched : BatchGoesOn a.version a.applied a.batch

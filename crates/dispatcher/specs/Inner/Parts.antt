@@ -1,5 +1,5 @@
 -- Only for proofs: what the parts of a replica's calls answer and leave.
-use Rattle.std.specs.Prelude.{◌≡◌, ℕ, ◌<◌, List, true, Option, None, Some, Result, Ok, Err, IsErr, IsOkAnd, ◌⊎◌}
+use Rattle.std.specs.Prelude.{◌≡◌, ◌<◌, List, true, Option, None, Some, Result, Ok, Err, IsErr, IsOkAnd, ◌⊎◌}
 use Rattle.rows.specs.declared.commit.Commit.{Commit}
 use Rattle.rows.specs.Commits.{commits_of}
 use Rattle.store.specs.Faults.{have_entries}
@@ -12,7 +12,7 @@ use Rattle.dispatcher.specs.declared.outcome.Run.{Run}
 use Rattle.dispatcher.specs.declared.outcome.Run.TheVariants as runs
 use Rattle.dispatcher.specs.State.{Replica, Batch, Fetched}
 use Rattle.dispatcher.specs.Report.{report_of}
-use Rattle.dispatcher.specs.Steps.{frame_comes, broken_of, caught_up}
+use Rattle.dispatcher.specs.Steps.{frame_comes, broken_of, at_fetched, CaughtUp, CannotCatchUp}
 
 -- what taking a frame answers and leaves: out of memory is answered only where it would be stored, and nothing has changed
 abbrev pub TakesFrame : Replica → Frame → Got → Replica → Type 0
@@ -22,18 +22,17 @@ TakesFrame old frame answer new =
 -- what catching up answers and leaves: where memory is wanted before the first change, nothing has changed; where it is
 -- wanted later, the replica is broken
 abbrev pub CatchesUp : Replica → Fetched → Result (Unit {0}) CatchUpFault → Replica → Type 0
-CatchesUp old fetched (Ok done) new = caught_up old fetched ≡ Some new
-CatchesUp old fetched (Err Inconsistent) new = (caught_up old fetched ≡ None) × (new ≡ broken_of old)
+CatchesUp old fetched (Ok done) new = CaughtUp old fetched new
+CatchesUp old fetched (Err Inconsistent) new = CannotCatchUp old fetched × (new ≡ broken_of old)
 CatchesUp old fetched (Err Memory) new = new ≡ old
 CatchesUp old fetched (Err Broken) new = (new ≡ broken_of old) × (old.version < fetched.version)
 
--- what applying commits answers and leaves; it lists none, so that no memory is wanted before the first change
-abbrev pub Applies : Replica → List Commit → ℕ → ℕ → Result (Unit {0}) CatchUpFault → Replica → Type 0
-Applies old commits version count (Ok done) new =
-    IsOkAnd (commits_of old.tables commits) (λ tables. new ≡ record old { tables = tables; version = version; applied = count })
-Applies old commits version count (Err Inconsistent) new = IsErr (commits_of old.tables commits) × (new ≡ broken_of old)
-Applies old commits version count (Err Memory) new = ⊥
-Applies old commits version count (Err Broken) new = (new ≡ broken_of old) × (have_entries commits ≡ true)
+-- what applying commits answers and leaves; it merges none, so that no memory is wanted before the first change
+abbrev pub Applies : Replica → Fetched → List Commit → Result (Unit {0}) CatchUpFault → Replica → Type 0
+Applies old fetched commits (Ok done) new = IsOkAnd (commits_of old.tables commits) (λ tables. new ≡ at_fetched old fetched tables)
+Applies old fetched commits (Err Inconsistent) new = IsErr (commits_of old.tables commits) × (new ≡ broken_of old)
+Applies old fetched commits (Err Memory) new = ⊥
+Applies old fetched commits (Err Broken) new = (new ≡ broken_of old) × (have_entries commits ≡ true)
 
 -- answering a batch on the tables as they are, which ends it
 abbrev pub answered_by : Replica → Option Batch → Run × Replica

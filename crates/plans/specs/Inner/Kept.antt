@@ -121,10 +121,10 @@ pub record IsKept (plan : Plan) (rows : List JoinedRow) (count : ℕ) (groups : 
   pub found : (group : List Value) → lookup (is_at (group_cmp group)) groups ≡ kept_at plan rows group
   pub within : AreWithin count groups
 
--- the rows of a plan among those before a place of its table
+-- the rows of a plan among those before an index of its table
 abbrev pub rows_before : Tables → Plan → ℕ → List JoinedRow
 rows_before tables plan i = rows_among tables plan (take i (rows_of tables plan.table))
 
--- what is kept before a place of the plan's table
+-- what is kept before an index of the plan's table
 abbrev pub IsKeptBefore : Tables → Plan → ℕ → GroupList → Type 0
 IsKeptBefore tables plan i groups = IsKept plan (rows_before tables plan i) i groups

@@ -1,6 +1,6 @@
 -- What the words of a line give, step by step, as the code finds it. The lines that are events are said without it, in
 -- `EventLines`; that both agree is proved.
-use Rattle.std.specs.Prelude.{◌≡◌, ℕ, suc, zero, ◌^◌, ◌*◌, ◌+◌, ◌-◌, ◌≤◌, List, [], ◌∷◌, length, drop, Bool, true, false, nat_lt, nat_le}
+use Rattle.std.specs.Prelude.{ℕ, suc, zero, ◌^◌, ◌*◌, ◌+◌, ◌-◌, List, [], ◌∷◌, length, drop, Bool, nat_lt, nat_le}
 use Rattle.std.specs.Prelude.{◌==◌, ◌&&◌}
 use Rattle.std.specs.Prelude.{Option, None, Some, Result, Ok, Err, ℤ, pos, negsuc, if◌then◌else◌, slice_index, codes, decimal}
 use Rattle.std.specs.List.{list_any}
@@ -14,7 +14,7 @@ use Rattle.rows.specs.Limits.{octets_max}
 use Rattle.dispatcher.specs.declared.plan.Plan.{Plan}
 use Rattle.script.specs.declared.event.Event.{Event}
 use Rattle.script.specs.declared.event.Event.TheVariants.{Begin, Insert, Set, Delete, Get, Commit, Abort, Flush, Push, Deliver, Show, Open}
-use Rattle.script.specs.declared.event.Event.TheVariants.{Ask, Run}
+use Rattle.script.specs.declared.event.Event.TheVariants.{Ask, Run, Stop, Start}
 use Rattle.script.specs.declared.event.Node.{Node}
 use Rattle.script.specs.declared.event.Node.TheVariants.{Primary, Replica}
 use Rattle.script.specs.declared.setup.Setup.{Setup}
@@ -169,6 +169,13 @@ abort_of words = given (one_of words) (λ it. made Abort (number_of it))
 unfoldable pub flush_of : List (List ℕ) → Option Event
 flush_of words = given (one_of words) (λ it. made Flush (below_of (2 ^ 32) it))
 
+unfoldable pub stop_of : List (List ℕ) → Option Event
+stop_of words = given (one_of words) (λ it. made Stop (number_of it))
+
+unfoldable pub start_of : List (List ℕ) → Option Event
+start_of [] = Some Start
+start_of (word ∷ words) = None
+
 unfoldable pub push_of : ℕ → List (List ℕ) → Option Event
 push_of workers words = given (two_of words) (λ it. both (below_of workers it.0) (number_of it.1) Push)
 
@@ -255,7 +262,9 @@ primary_event setup first words =
     if bytes_eq first (codes "begin") then or_bad_words (begin_of words) else
     if bytes_eq first (codes "commit") then or_bad_words (commit_of setup.workers words) else
     if bytes_eq first (codes "abort") then or_bad_words (abort_of words) else
-    if bytes_eq first (codes "flush") then or_bad_words (flush_of words) else network_event setup first words
+    if bytes_eq first (codes "flush") then or_bad_words (flush_of words) else
+    if bytes_eq first (codes "stop") then or_bad_words (stop_of words) else
+    if bytes_eq first (codes "start") then or_bad_words (start_of words) else network_event setup first words
 
 -- the event of a line whose first word is this, and the others behind it
 unfoldable pub event_of : Setup → List ℕ → List (List ℕ) → Result Event Reason

@@ -1,9 +1,9 @@
 -- The words that lines are made of, as the code hands them on.
 use Rattle.std.specs.Prelude.{ℕ, List, ◌∷◌, decimal}
 use Rattle.std.specs.List.{flat_map}
+use Rattle.rows.specs.Text.{value_text}
 use Rattle.script.specs.declared.lines.Word.{Word}
 use Rattle.script.specs.declared.lines.Word.TheVariants as kinds
-use Rattle.script.specs.Text.{value_text}
 use Rattle.script.specs.EventText.{node_text}
 
 -- what a word is written as

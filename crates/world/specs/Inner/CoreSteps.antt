@@ -1,6 +1,6 @@
 -- Only for proofs: what the call that an event is answers and leaves. Beside the replicas that is what happens in the world;
 -- what a call on a replica does is told by the replica's own definitions.
-use Rattle.std.specs.Prelude.{◌≡◌, ℕ, List, [], ◌∷◌, ◌++◌, length, Option, None, Some, Result, Ok, Err, slice_get, slice_set, ◌⊎◌}
+use Rattle.std.specs.Prelude.{◌≡◌, ℕ, List, [], ◌∷◌, ◌++◌, length, true, Option, None, Some, Result, Ok, Err, slice_get, slice_set, ◌⊎◌}
 use Rattle.wire.specs.declared.out.Out.{Out}
 use Rattle.dispatcher.specs.declared.plan.Plan.{Plan}
 use Rattle.dispatcher.specs.declared.faults.OpenFault.{OpenFault}
@@ -9,7 +9,7 @@ use Rattle.dispatcher.specs.declared.outcome.Got.{Got}
 use Rattle.dispatcher.specs.declared.outcome.Run.{Run}
 use Rattle.dispatcher.specs.declared.outcome.Run.TheVariants as runs
 use Rattle.dispatcher.specs.State.{Replica, Batch as ReplicaBatch}
-use Rattle.dispatcher.specs.Steps.{opened, asked, received, ran, WantsMemory}
+use Rattle.dispatcher.specs.Steps.{opened, asked, received, MayRun}
 use Rattle.script.specs.declared.event.Event.{Event}
 use Rattle.script.specs.declared.event.Event.TheVariants as events
 use Rattle.script.specs.declared.event.Node.TheVariants as nodes
@@ -18,15 +18,21 @@ use Rattle.script.specs.declared.output.Output.TheVariants as outputs
 use Rattle.world.specs.Outputs.{of_open, of_ask, of_got}
 use Rattle.world.specs.Parts.{Parts}
 use Rattle.world.specs.Allowed.{MayHappen}
-use Rattle.world.specs.Standing.{world_of}
+use Rattle.world.specs.Standing.{world_of, JournalKeeps}
 
 -- ---- beside the replicas
+
+-- while the primary is stopped, its journal keeps what is durable
+abbrev pub KeepsStopped : Parts → Type 0
+KeepsStopped p = p.stopped ≡ true → JournalKeeps p
 
 -- what happens in the world, where the replicas and what is noted of them stay
 pub record HappensBeside (old : Parts) (event : Event) (output : Output) (new : Parts) : Type 0 where
   pub happens : MayHappen (world_of old) event output (world_of new)
+  pub setup : new.setup ≡ old.setup
   pub replicas : new.replicas ≡ old.replicas
   pub asked_at : new.asked_at ≡ old.asked_at
+  pub kept : KeepsStopped old → KeepsStopped new
 
 -- ---- calls on a replica
 
@@ -93,15 +99,12 @@ run_output p number (runs.Inconsistent, replica) = (outputs.Inconsistent, with_r
 run_output p number (runs.Broken, replica) = (outputs.Broken, with_replica p number replica)
 run_output p number (runs.Memory, replica) = (outputs.Memory, with_replica p number replica)
 
-abbrev pub run_by : Parts → ℕ → Option Replica → Output × Parts
-run_by p number None = (outputs.Ignored, p)
-run_by p number (Some replica) = run_output p number (ran replica)
-
--- a run that lacks memory may have applied what it fetched, or may be broken
-abbrev pub CallIsCut : Parts → ℕ → Option Replica → Output → Parts → Type 0
-CallIsCut old number None output new = ⊥
-CallIsCut old number (Some replica) output new =
-    (answer : Run) × (after : Replica) × WantsMemory replica answer after × (run_output old number (answer, after) ≡ (output, new))
+-- what running the batch of a replica answers and leaves; one that lacks memory may have applied what it fetched, or may be
+-- broken
+abbrev pub RunsBy : Parts → ℕ → Option Replica → Output → Parts → Type 0
+RunsBy old number None output new = ⊥
+RunsBy old number (Some replica) output new =
+    (answer : Run) × (after : Replica) × MayRun replica answer after × (run_output old number (answer, after) ≡ (output, new))
 
 -- ---- any event
 
@@ -115,6 +118,5 @@ MayStep old (events.Deliver index (nodes.Replica number)) output new =
 MayStep old (events.Open replica plan) output new = MayAnswer old (open_by old replica plan (slice_get old.replicas replica)) output new
 MayStep old (events.Ask replica) output new = MayAnswer old (ask_by old replica (slice_get old.replicas replica)) output new
 MayStep old (events.Run replica) output new =
-    MayAnswer old (run_by old replica (slice_get old.replicas replica)) output new
-    ⊎ CallIsCut old replica (slice_get old.replicas replica) output new
+    RunsBy old replica (slice_get old.replicas replica) output new ⊎ ((output ≡ outputs.Memory) × (new ≡ old))
 MayStep old other output new = HappensBeside old other output new

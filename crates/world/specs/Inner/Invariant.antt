@@ -1,11 +1,13 @@
 -- Only for proofs: what every world keeps.
-use Rattle.std.specs.Prelude.{◌≡◌, ◌≤◌, length, IfSome}
+use Rattle.std.specs.Prelude.{◌≡◌, ◌<◌, ◌≤◌, length, false, IfSome}
 use Rattle.std.specs.List.{AllByRecursion}
+use Rattle.rows.specs.declared.limits.TheConstants.{WORKERS_MAX}
 use Rattle.rows.specs.Shape.{AreTables, shape_of}
 use Rattle.dispatcher.specs.State.{Replica}
 use Rattle.world.specs.Parts.{Parts}
 use Rattle.world.specs.Steps.{World, Member}
 use Rattle.world.specs.Standing.{world_of}
+use Rattle.world.specs.Inner.CoreSteps.{KeepsStopped}
 use Rattle.world.specs.Inner.Sound.{Sound}
 use Rattle.world.specs.Inner.Honest.{IsHonest}
 use Rattle.world.specs.Inner.Fresh.{Fresh}
@@ -13,6 +15,11 @@ use Rattle.world.specs.Inner.Fresh.{Fresh}
 -- what the program needs of its parts to call the cores: each open transaction reads a durable version, and each
 -- request was sent
 pub record IsReady (p : Parts) : Type 0 where
+  pub setup_is : (p.setup.schema ≡ p.primary.schema) × (p.setup.workers ≡ p.primary.workers)
+  pub workers_some : 0 < p.primary.workers
+  pub workers_few : p.primary.workers ≤ WORKERS_MAX
+  pub whole : p.primary.failed ≡ false
+  pub kept : KeepsStopped p
   pub asked_there : length p.asked_at ≡ length p.replicas
   pub snapshots : AllByRecursion (λ slot. IfSome slot (λ draft. draft.snapshot ≤ length p.primary.durable)) p.transactions
   pub requests : AllByRecursion (λ (replica : Replica). replica.request ≤ length p.sent) p.replicas
@@ -21,9 +28,10 @@ pub record IsReady (p : Parts) : Type 0 where
 abbrev pub IsRequested : World → Type 0
 IsRequested w = AllByRecursion (λ (m : Member). m.request ≤ length w.sent) w.members
 
--- the parts of every world: its tables are in their limits, the cores are sound, each request was sent, nothing is damaged,
--- and what was fetched is no older than its batch
+-- the parts of every world: its journal keeps what is durable, its tables are in their limits, the cores are sound, each
+-- request was sent, nothing is damaged, and what was fetched is no older than its batch
 pub record IsKept (p : Parts) : Type 0 where
+  pub journal : KeepsStopped p
   pub tables : AreTables (shape_of p.primary.schema)
   pub sound : Sound (shape_of p.primary.schema) p
   pub requested : IsRequested (world_of p)

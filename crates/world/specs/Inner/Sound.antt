@@ -1,45 +1,40 @@
 -- Only for proofs: what is true of the parts at each step, and what makes them a world.
-use Rattle.std.specs.Prelude.{◌≡◌, ℕ, ◌+◌, ◌^◌, ◌<◌, ◌≤◌, List, ◌++◌, length, Bool, true, false, Option, None, Some, Result, Ok, Err}
+use Rattle.std.specs.Prelude.{◌≡◌, ℕ, ◌<◌, ◌≤◌, List, ◌++◌, length, Bool, true, false, Option, None, Some, Result, Ok, Err}
 use Rattle.std.specs.Prelude.{slice_get, is_none}
 use Rattle.std.specs.List.{AllByRecursion}
 use Rattle.rows.specs.declared.commit.Commit.{Commit}
-use Rattle.rows.specs.declared.limits.TheConstants.{REPLICAS_MAX}
+use Rattle.rows.specs.declared.limits.TheConstants.{REPLICAS_MAX, WORKERS_MAX}
 use Rattle.rows.specs.Shape.{Shape, shape_of}
-use Rattle.rows.specs.Spelling.{HasSpelling}
 use Rattle.wire.specs.declared.datagram.Datagram.{Datagram}
 use Rattle.wire.specs.declared.datagram.Datagram.TheVariants as datagrams
 use Rattle.wire.specs.declared.faults.WireFault.{WireFault}
 use Rattle.wire.specs.Reading.{reading}
 use Rattle.wire.specs.Spelling.{IsAsk}
-use Rattle.mvcc.specs.declared.transaction.TheConstants.{TRANSACTION_ENTRIES_MAX}
+use Rattle.update_log.specs.Frames.{IsSendable}
+use Rattle.update_log.specs.Streams.{stream_of}
+use Rattle.journal.specs.Recovery.{IsJournaled}
+use Rattle.primary.specs.Journaling.{AreNumbered}
 use Rattle.mvcc.specs.Draft.{Draft}
 use Rattle.primary.specs.State.{Primary}
 use Rattle.dispatcher.specs.Feeding.{IsFedFrom, Tells}
 use Rattle.dispatcher.specs.State.{Replica, Batch as ReplicaBatch}
 use Rattle.world.specs.Parts.{Parts}
 
--- a commit of the only worker, with one or two entries, each of which has a spelling
-pub record IsSmall (commit : Commit) : Type 0 where
-  pub worker : commit.worker ≡ 0
-  pub some : 0 < length commit.entries
-  pub few : length commit.entries ≤ TRANSACTION_ENTRIES_MAX
-  pub spelled : AllByRecursion HasSpelling commit.entries
-
--- the same of a transaction, which may have no entries yet, and reads a version that is durable
-pub record IsSmallDraft (durable : ℕ) (draft : Draft) : Type 0 where
-  pub known : draft.snapshot ≤ durable
-  pub few : length draft.entries ≤ TRANSACTION_ENTRIES_MAX
-  pub spelled : AllByRecursion HasSpelling draft.entries
+-- what the lists of a primary that runs are: legal, and such that all that is sent of them has a spelling
+pub record AreLists (p : Primary) : Type 0 where
+  pub all : IsJournaled p.workers (shape_of p.schema) (p.durable ++ p.pending)
+  pub numbered : AreNumbered (p.durable ++ p.pending)
+  pub sendable : (worker : ℕ) → AllByRecursion IsSendable (stream_of p.durable worker)
 
 pub record IsSoundPrimary (shape : Shape) (p : Primary) : Type 0 where
   pub shape_is : shape_of p.schema ≡ shape
-  pub workers_are : p.workers ≡ 1
-  pub small : AllByRecursion IsSmall (p.durable ++ p.pending)
-  pub numbered : length p.durable + length p.pending < 2 ^ 64
+  pub workers_some : 0 < p.workers
+  pub workers_few : p.workers ≤ WORKERS_MAX
 
 -- a replica of this number in its first boot, which is fed from the durable list
-pub record IsFed (shape : Shape) (durable : List Commit) (number : ℕ) (r : Replica) : Type 0 where
+pub record IsFed (shape : Shape) (workers : ℕ) (durable : List Commit) (number : ℕ) (r : Replica) : Type 0 where
   pub feeding : IsFedFrom shape durable r
+  pub workers_are : r.workers ≡ workers
   pub number_is : r.number ≡ number
   pub boot_is : r.boot ≡ 1
 
@@ -67,14 +62,16 @@ IsOfRequests replicas (Ok (datagrams.Head replica boot request version counts)) 
 IsOfRequests replicas (Ok (datagrams.Want replica worker from)) = Unit {0}
 
 -- what is known of bytes that were sent, by what they read as
-pub record Means (durable : List Commit) (replicas : List Replica) (datagram : Result Datagram WireFault) : Type 0 where
-  pub tells : Tells durable datagram
+pub record Means (workers : ℕ) (durable : List Commit) (replicas : List Replica) (datagram : Result Datagram WireFault) : Type 0 where
+  pub tells : Tells workers durable datagram
   pub requests : IsOfRequests replicas datagram
 
 pub record Sound (shape : Shape) (p : Parts) : Type 0 where
+  pub setup_is : (p.setup.schema ≡ p.primary.schema) × (p.setup.workers ≡ p.primary.workers)
   pub primary_is : IsSoundPrimary shape p.primary
-  pub drafts_are : (i : ℕ) (draft : Draft) → slice_get p.transactions i ≡ Some (Some draft) → IsSmallDraft (length p.primary.durable) draft
+  pub drafts_are : (i : ℕ) (draft : Draft) → slice_get p.transactions i ≡ Some (Some draft) → draft.snapshot ≤ length p.primary.durable
   pub asked_there : length p.asked_at ≡ length p.replicas
   pub few : length p.replicas ≤ REPLICAS_MAX
-  pub fed : (i : ℕ) (r : Replica) → slice_get p.replicas i ≡ Some r → IsFed shape p.primary.durable i r
-  pub sent_is : (i : ℕ) (bytes : List ℕ) → slice_get p.sent i ≡ Some bytes → Means p.primary.durable p.replicas (reading bytes)
+  pub fed : (i : ℕ) (r : Replica) → slice_get p.replicas i ≡ Some r → IsFed shape p.primary.workers p.primary.durable i r
+  pub sent_is : (i : ℕ) (bytes : List ℕ) → slice_get p.sent i ≡ Some bytes
+      → Means p.primary.workers p.primary.durable p.replicas (reading bytes)

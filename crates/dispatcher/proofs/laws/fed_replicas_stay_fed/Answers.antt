@@ -1,16 +1,72 @@
 -- The laws, for all lists of commits.
-use Rattle.dispatcher.proofs.Feeding.{fresh-fed, commits-feed, bytes-feed, open-feeds, ask-feeds, same-tables}
+use Rattle.dispatcher.proofs.CatchingUp.{Merges}
+use Rattle.dispatcher.proofs.Feeding.{Arriving, fresh-fed, commits-feed, truth-stays, bytes-feed, head-goes-on, open-feeds}
+use Rattle.dispatcher.proofs.Feeding.{ask-feeds, same-tables}
 use Rattle.dispatcher.proofs.Reports.{run-feeds, run-consistent, answer-reports, ready-answers}
 use Rattle.dispatcher.proofs.laws.fed_replicas_stay_fed.Goals as goal
 
 pub returns-clause-fresh : goal.returns-clause-fresh
-returns-clause-fresh c = fresh-fed
+returns-clause-fresh c =
+    let of = c.arrivals_stay_of_streams.ensures in
+    let stay = c.known_frames_stay_kept.ensures in
+    let laws : Arriving =
+    record {
+      nothing_from = of.nothing;
+      commits_from = of.commits;
+      frames_from = of.frames;
+      drops_from = of.drops;
+      frames_leave = stay.frames_leave;
+      drops_leave = stay.drops_leave;
+      frames_known = stay.known;
+      drops_known = stay.drops_known;
+      frames_kept = stay.kept;
+      drops_kept = stay.drops_kept;
+    } in
+    fresh-fed laws
 
 pub returns-clause-commits : goal.returns-clause-commits
-returns-clause-commits c = commits-feed
+returns-clause-commits c =
+    let of = c.arrivals_stay_of_streams.ensures in
+    let stay = c.known_frames_stay_kept.ensures in
+    let laws : Arriving =
+    record {
+      nothing_from = of.nothing;
+      commits_from = of.commits;
+      frames_from = of.frames;
+      drops_from = of.drops;
+      frames_leave = stay.frames_leave;
+      drops_leave = stay.drops_leave;
+      frames_known = stay.known;
+      drops_known = stay.drops_known;
+      frames_kept = stay.kept;
+      drops_kept = stay.drops_kept;
+    } in
+    commits-feed laws
+
+pub returns-clause-truth : goal.returns-clause-truth
+returns-clause-truth c = truth-stays
 
 pub returns-clause-bytes : goal.returns-clause-bytes
-returns-clause-bytes c = bytes-feed
+returns-clause-bytes c =
+    let of = c.arrivals_stay_of_streams.ensures in
+    let stay = c.known_frames_stay_kept.ensures in
+    let laws : Arriving =
+    record {
+      nothing_from = of.nothing;
+      commits_from = of.commits;
+      frames_from = of.frames;
+      drops_from = of.drops;
+      frames_leave = stay.frames_leave;
+      drops_leave = stay.drops_leave;
+      frames_known = stay.known;
+      drops_known = stay.drops_known;
+      frames_kept = stay.kept;
+      drops_kept = stay.drops_kept;
+    } in
+    bytes-feed laws
+
+pub returns-clause-head : goal.returns-clause-head
+returns-clause-head c = head-goes-on
 
 pub returns-clause-open : goal.returns-clause-open
 returns-clause-open c = open-feeds
@@ -19,16 +75,47 @@ pub returns-clause-ask : goal.returns-clause-ask
 returns-clause-ask c = ask-feeds
 
 pub returns-clause-run : goal.returns-clause-run
-returns-clause-run c = run-feeds
+returns-clause-run c =
+    let of = c.arrivals_stay_of_streams.ensures in
+    let stay = c.known_frames_stay_kept.ensures in
+    let laws : Arriving =
+    record {
+      nothing_from = of.nothing;
+      commits_from = of.commits;
+      frames_from = of.frames;
+      drops_from = of.drops;
+      frames_leave = stay.frames_leave;
+      drops_leave = stay.drops_leave;
+      frames_known = stay.known;
+      drops_known = stay.drops_known;
+      frames_kept = stay.kept;
+      drops_kept = stay.drops_kept;
+    } in
+    let complete = c.known_frames_stay_kept.ensures.complete in
+    let merge = c.one_merge.ensures in
+    let merges : Merges = record { complete = complete; only = merge.only; kept = merge.kept } in
+    run-feeds laws merges
 
 pub returns-clause-consistent : goal.returns-clause-consistent
-returns-clause-consistent c = run-consistent
+returns-clause-consistent c =
+    let complete = c.known_frames_stay_kept.ensures.complete in
+    let merge = c.one_merge.ensures in
+    let merges : Merges = record { complete = complete; only = merge.only; kept = merge.kept } in
+    run-consistent merges
 
 pub returns-clause-report : goal.returns-clause-report
-returns-clause-report c = answer-reports
+returns-clause-report c =
+    let complete = c.known_frames_stay_kept.ensures.complete in
+    let merge = c.one_merge.ensures in
+    let merges : Merges = record { complete = complete; only = merge.only; kept = merge.kept } in
+    answer-reports merges
 
 pub returns-clause-ready : goal.returns-clause-ready
-returns-clause-ready c = ready-answers
+returns-clause-ready c =
+    let complete = c.known_frames_stay_kept.ensures.complete in
+    let merge = c.one_merge.ensures in
+    let merges : Merges = record { complete = complete; only = merge.only; kept = merge.kept } in
+    ready-answers merges
 
 pub returns-clause-tables : goal.returns-clause-tables
 returns-clause-tables c = same-tables

@@ -1,5 +1,5 @@
 -- The row at the place is there, and has the columns that the plan names. Where it is not looked at, nothing is added.
-use Rattle.std.proofs.Common.{◌≡◌, ◌+◌, true, None, Some, is_some, sym, ap, ◌∙◌, subst}
+use Rattle.std.proofs.Common.{◌+◌, is_some, sym, ap, ◌∙◌, subst}
 use Rattle.std.specs.List.{AllByRecursion, list_all}
 use Rattle.std.specs.Option.{option_map, IsSome}
 use Rattle.std.proofs.lemmas.Bool.{false≢true}

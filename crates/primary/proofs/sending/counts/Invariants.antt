@@ -1,12 +1,12 @@
 -- The counts of the workers so far.
 use Rattle.std.proofs.Common.{◌≡◌, List, length}
 use Rattle.rows.specs.declared.commit.Commit.{Commit}
-use Rattle.primary.specs.Inner.StreamNumbers.{AreStreams}
+use Rattle.update_log.specs.Streams.{AreStreamsOf}
 use Rattle.primary.specs.Sending.{counts_of}
 use Rattle.primary.proofs.sending.counts.Given as goal
 
 abbrev pub invariant-loop-worker : goal.invariant-loop-worker
 invariant-loop-worker l = record {
-  counted : (commits : List Commit) → AreStreams l.streams commits → l.counts ≡ counts_of commits l.version l.worker;
+  counted : (commits : List Commit) → AreStreamsOf l.streams.streams commits → l.counts ≡ counts_of commits l.version l.worker;
   few : length l.counts ≡ l.worker;
 }

@@ -3,4 +3,4 @@ use Rattle.std.proofs.Common.{◌≡◌}
 use Rattle.scenarios.proofs.primary_steps.other_step_of.Given as goal
 
 abbrev pub invariant-loop-index : goal.invariant-loop-index
-invariant-loop-index l = l.primary.workers ≡ l.workers
+invariant-loop-index g l = l.primary.primary.workers ≡ l.workers

@@ -1,7 +1,7 @@
 -- A name is text.
-use Rattle.std.proofs.Common.{◌≡◌, true, ◌∙◌, sym, arith, rules}
+use Rattle.std.proofs.Common.{◌≡◌, true, rules}
 use Rattle.script.specs.Text.{is_name}
-use Rattle.script.proofs.Spaces.{name-text}
+use Rattle.script.proofs.Plain.{name-text}
 use Rattle.script.proofs.event_reading.named_table.Goals as goal
 
 pub returns-in_default : goal.returns-in_default

@@ -1,7 +1,7 @@
 -- What the words give is said of their line.
-use Rattle.std.proofs.Common.{◌≡◌, ◌∙◌, ◌<◌, ◌^◌, ◌∷◌, sym, ap, arith, rules}
+use Rattle.std.proofs.Common.{◌∙◌, ◌<◌, ◌^◌, sym, ap, arith, rules}
 use Rattle.script.proofs.Arity.{shown}
-use Rattle.script.proofs.ReadLines.{line_words, answered}
+use Rattle.script.proofs.ReadLines.{answered}
 use Rattle.script.proofs.event_reading.read_event.Goals as goal
 
 pub returns : goal.returns

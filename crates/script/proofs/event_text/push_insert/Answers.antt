@@ -1,7 +1,7 @@
 -- The values stand behind the first words, each behind a space.
 use Rattle.std.proofs.Common.{◌∷◌, [], map, codes, decimal, arith}
 use Rattle.std.proofs.lemmas.Grind.{common_steps}
-use Rattle.script.specs.Text.{value_text}
+use Rattle.rows.specs.Text.{value_text}
 use Rattle.script.proofs.Joining.{words-more}
 use Rattle.script.proofs.event_text.push_insert.Goals as goal
 

@@ -1,6 +1,6 @@
 -- The values so far are written.
 use Rattle.std.proofs.Common.{◌≡◌, ◌++◌, map, take}
-use Rattle.script.specs.Text.{value_text}
+use Rattle.rows.specs.Text.{value_text}
 use Rattle.script.specs.Inner.Words.{tail_text}
 use Rattle.script.proofs.lines.push_values.Given as goal
 

@@ -1,6 +1,7 @@
 -- The words into which the line falls say what it sets.
 use Rattle.std.proofs.Common.{◌≡◌, refl, ap, ◌∙◌}
 use Rattle.std.specs.List.{slice_split}
+use Rattle.rows.specs.Limits.{workers_max, replicas_max}
 use Rattle.script.specs.Settings.{IsCount, IsSetup}
 use Rattle.script.specs.Inner.SettingWords.{texts}
 use Rattle.script.proofs.Splitting.{parts_words}
@@ -23,7 +24,7 @@ pub returns-in-Some-count_of : goal.returns-in-Some-count_of
 returns-in-Some-count_of c =
     let words = texts c.as_slice-words.result.now in
     let falls : words ≡ slice_split parts_words c.args.line.now = ap texts c.as_slice-words.ensures.value ∙ c.in-Ok.ensures in
-    let so_far : IsCount c.in-Workers.workers = rw c.in-Workers.is at c.requires in
+    let so_far : IsCount workers_max c.in-Workers.workers = rw c.in-Workers.is at c.requires in
     rw c.in-Workers.is
     (replicas-next c.args.line.now words falls c.in-Workers.workers c.in-Some-count_of.replicas so_far c.in-Some-count_of.ensures.0
     c.in-Some-count_of.ensures.1)
@@ -40,7 +41,7 @@ returns-in-Ok-first_table c =
     let falls : words ≡ slice_split parts_words c.args.line.now = ap texts c.as_slice-words.ensures.value ∙ c.in-Ok.ensures in
     let workers = c.in-Replicas.workers in
     let replicas = c.in-Replicas.replicas in
-    let so_far : IsCount workers × IsCount replicas = rw c.in-Replicas.is at c.requires in
+    let so_far : IsCount workers_max workers × IsCount replicas_max replicas = rw c.in-Replicas.is at c.requires in
     rw c.in-Replicas.is
     (first-next c.args.line.now words falls workers replicas c.in-Ok-first_table.schema so_far.0 so_far.1 c.in-Ok-first_table.ensures)
 

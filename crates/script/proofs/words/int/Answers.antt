@@ -1,5 +1,5 @@
 -- The signed number of a word is the one that is written so.
-use Rattle.std.proofs.Common.{◌≡◌, ◌∙◌, ℤ, FitsSigned, sym, ap, true, false, None, Some, rules}
+use Rattle.std.proofs.Common.{◌≡◌, ◌∙◌, FitsSigned, sym, ap, true, false, rules}
 use Rattle.std.specs.Int.{w64}
 use Rattle.std.specs.Fmt.{signed_decimal}
 use Rattle.std.specs.Str.{bytes_eq}

@@ -1,5 +1,5 @@
 -- The bytes are those of the digits: two digits make a byte, as long as there are any.
-use Rattle.std.proofs.Common.{◌≡◌, ◌∙◌, ℕ, ◌+◌, ◌*◌, ◌/◌, ◌<◌, ◌≤◌, List, length, take, drop, subst, sym, None, refl, arith}
+use Rattle.std.proofs.Common.{◌≡◌, ◌∙◌, ℕ, ◌*◌, ◌/◌, length, take, drop, subst, sym, None, refl, arith}
 use Rattle.std.proofs.Math.ListN.{length-set}
 use Rattle.script.specs.Inner.Reading.{bytes_of, octets_of}
 use Rattle.script.proofs.Hex.{onto, onto-none, hex-step, hex-stop, octets-none, octets-broken, octets-made}

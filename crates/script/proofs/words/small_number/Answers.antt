@@ -1,5 +1,5 @@
 -- The number below 256 of a word is the one that is written so.
-use Rattle.std.proofs.Common.{◌^◌, ◌≤◌, ℕ, arith, rules}
+use Rattle.std.proofs.Common.{◌^◌, arith, rules}
 use Rattle.std.proofs.lemmas.Grind.{common_steps}
 use Rattle.script.specs.Inner.Reading.{below_of}
 use Rattle.script.proofs.Numbers.{below-exact}

@@ -6,7 +6,7 @@ use Rattle.rows.specs.declared.kind.Kind.{Kind}
 use Rattle.script.specs.declared.event.Event.{Event}
 use Rattle.script.specs.declared.output.Output.{Output}
 use Rattle.script.specs.EventText.{echoed_one, echoed_text}
-use Rattle.script.specs.Writing.{IsWrittenBut, IsPartlyWritten}
+use Rattle.script.specs.Writing.{IsWrittenBut}
 use Rattle.script.proofs.Pieces.{line_written, line_cut, end_written, end_cut, when_err, then_ok, then_err}
 use Rattle.script.proofs.writing.write_echoed.Goals as goal
 use Rattle.script.proofs.writing.write_echoed.Goals.{then-events-outputs, else-events-outputs}

@@ -1,9 +1,9 @@
 -- Each output's lines are gathered, and the text is written up to what is left of it.
-use Rattle.std.proofs.Common.{◌≡◌, ℕ, ◌+◌, ◌<◌, ◌≤◌, List, [], ◌∷◌, ◌++◌, length, get_or, drop, refl, ap, subst}
+use Rattle.std.proofs.Common.{◌≡◌, ℕ, ◌+◌, ◌<◌, ◌≤◌, List, [], ◌++◌, length, get_or, drop, refl, ap, subst}
 use Rattle.std.proofs.lemmas.List.{drop_more, drop_all}
 use Rattle.script.specs.declared.output.Output.{Output}
 use Rattle.script.specs.OutputText.{output_text, outputs_text}
-use Rattle.script.specs.Writing.{IsWrittenBut, IsPartlyWritten}
+use Rattle.script.specs.Writing.{IsWrittenBut}
 use Rattle.script.proofs.Pieces.{line_written, line_cut, end_cut, when_err, then_err}
 use Rattle.script.proofs.writing.write_outputs.Goals as goal
 

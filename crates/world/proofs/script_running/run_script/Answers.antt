@@ -1,6 +1,5 @@
 -- The text is that of the run, and the flush keeps it.
-use Rattle.std.proofs.Common.{rules, ◌≡◌, List, ℕ, [], ◌++◌, refl, sym, append-nil, length, drop}
-use Rattle.std.proofs.KnownBytes.{Appends-kept}
+use Rattle.std.proofs.Common.{rules, [], refl, sym, append-nil}
 use Rattle.world.specs.Scripts.{WasRead, IsPrinted, run_text}
 use Rattle.world.proofs.script_running.run_script.Goals as goal
 

@@ -1,8 +1,12 @@
 -- Each event is one step, and what follows it is a run behind it.
-use Rattle.std.proofs.Common.{[], ◌∷◌, refl, append_assoc}
+use Rattle.std.proofs.Common.{List, [], ◌∷◌, ◌++◌, refl, sym, ap, subst, ◌∙◌, append_assoc}
 use Rattle.std.proofs.lemmas.List.{append-nil}
 use Rattle.std.proofs.lemmas.Option.{slice_get_read}
 use Rattle.script.specs.Events.{IsPossible}
+use Rattle.script.specs.declared.output.Output.{Output}
+use Rattle.world.specs.Allowed.{RunsBy}
+use Rattle.world.specs.Parts.{parts_started}
+use Rattle.world.specs.Theorem.{IsCoreStep}
 use Rattle.world.proofs.Continuing.{step_first, none_left}
 use Rattle.world.proofs.Slots.{all_at}
 use Rattle.world.proofs.Starting.{as_many}
@@ -25,12 +29,17 @@ loop-event-preserved c =
       schema = cc;
       workers = cc;
       replicas = cc;
-      behind = λ more end steps. rw (c.in_ok-push.ensures.items, append_assoc)
+      behind = λ more end steps.
+          let setup = c.args.setup.now in
+          let done_before = c.loop-event.outputs.items in
+          let joined = ap (λ (l : List Output). l ++ more) c.in_ok-push.ensures.items
+          ∙ append_assoc done_before (c.step-output.result ∷ []) more in
+          subst (λ (l : List Output). RunsBy (IsCoreStep end.primary.durable) (parts_started setup) c.args.events.now l end) (sym joined)
           (c.loop-event.invariant.behind (c.step-output.result ∷ more) end
           (step_first _ _ end c.args.events.now c.loop-event.event-index c.event-item.result c.step-output.result more
           c.loop-event-test.true c.event-item.is
           (record { happens = done.happens; reports = done.reports; durable = done.durable; faultless = done.faultless })
-          done.fed steps));
+          done.fed done.journal steps));
     }
 
 pub step-output-requires : goal.step-output-requires
@@ -50,5 +59,7 @@ returns c =
     record {
       end = end;
       legal = rw (← c.loop-event.invariant.schema, ← c.loop-event.invariant.workers) c.keeps_legal.ensures;
-      steps = rw append-nil at run;
+      steps =
+          subst (λ (l : List Output). RunsBy (IsCoreStep end.primary.durable) (parts_started c.args.setup.now) c.args.events.now l end)
+          (append-nil c.loop-event.outputs.items) run;
     }

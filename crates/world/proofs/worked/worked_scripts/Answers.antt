@@ -19,3 +19,10 @@ returns-clause-write_skew c = refl
 
 pub returns-clause-refusals : goal.returns-clause-refusals
 returns-clause-refusals c = refl
+
+pub returns-clause-stops : goal.returns-clause-stops
+returns-clause-stops c = refl
+
+pub returns-clause-two_workers : goal.returns-clause-two_workers
+unfolding digits
+returns-clause-two_workers c = refl

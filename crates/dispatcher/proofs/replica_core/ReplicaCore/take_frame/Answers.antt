@@ -1,12 +1,10 @@
 -- Each test of the code is that of `frame_comes`, in the same order.
-use Rattle.std.proofs.Common.{inl, inr, refl, sym, ap, ◌∙◌, lt-ltb}
+use Rattle.std.proofs.Common.{List, inl, inr, refl, sym, subst, ◌∙◌, lt-ltb}
+use Rattle.rows.specs.declared.entry.Entry.{Entry}
 use Rattle.update_log.specs.declared.frame.Frame.{Frame}
-use Rattle.dispatcher.specs.declared.outcome.Got.{Got}
 use Rattle.dispatcher.specs.Inner.Invariant.{replica_of}
-use Rattle.dispatcher.specs.State.{Replica}
-use Rattle.dispatcher.proofs.Coming.{comes-unfit, comes-repeat, comes-ahead, comes-stored}
+use Rattle.dispatcher.proofs.Coming.{comes-unfit, comes-apart, comes-stored, comes-taken, Takes, the_frame, takes-workers, takes-kept}
 use Rattle.dispatcher.proofs.replica_core.ReplicaCore.take_frame.Goals as goal
-use Rattle.dispatcher.proofs.replica_core.ReplicaCore.take_frame.Goals.{in-Ok-insert, in-Err}
 
 pub returns-then-not-fit : goal.returns-then-not-fit
 returns-then-not-fit g c =
@@ -15,43 +13,55 @@ returns-then-not-fit g c =
     rw (← c.self.view_is) (inr (comes-unfit (replica_of g.S.Store.tables c.self.inside) frame (lt-ltb _ _ c.if-worker-self.false)
     (sym c.fit.ensures ∙ c.if-not-fit.true)))
 
-pub returns-then-contains : goal.returns-then-contains
-returns-then-contains g c =
-    let frame : Frame =
-    record { worker = c.args.worker; seq = c.args.seq; commit = c.args.commit; last = c.args.last; entries = c.args.entries.now } in
-    rw (← c.self.view_is) (inr (comes-repeat (replica_of g.S.Store.tables c.self.inside) frame (lt-ltb _ _ c.if-worker-self.false)
-    (sym c.fit.ensures ∙ c.if-not-fit.false) (sym c.if-contains.ensures)))
-
-pub returns-then-is_ahead : goal.returns-then-is_ahead
-returns-then-is_ahead g c =
-    let frame : Frame =
-    record { worker = c.args.worker; seq = c.args.seq; commit = c.args.commit; last = c.args.last; entries = c.args.entries.now } in
-    rw (← c.self.view_is) (inr (comes-ahead (replica_of g.S.Store.tables c.self.inside) frame (lt-ltb _ _ c.if-worker-self.false)
-    (sym c.fit.ensures ∙ c.if-not-fit.false) (sym c.if-contains.ensures) (sym c.if-is_ahead.ensures)))
-
 pub returns-in_default : goal.returns-in_default
 returns-in_default g c =
+    let frame : Frame =
+    record { worker = c.args.worker; seq = c.args.seq; commit = c.args.commit; last = c.args.last; entries = c.args.entries.now } in
+    rw (← c.self.view_is) (inr (comes-apart (replica_of g.S.Store.tables c.self.inside) frame (lt-ltb _ _ c.if-worker-self.false)
+    (sym c.fit.ensures ∙ c.if-not-fit.false) c.would_take.result c.got_of.result (c.would_take.ensures frame refl refl)
+    c.in_default.not-Stored c.got_of.ensures))
+
+pub returns-in_default-to_list : goal.returns-in_default-to_list
+returns-in_default-to_list g c =
     let frame : Frame =
     record { worker = c.args.worker; seq = c.args.seq; commit = c.args.commit; last = c.args.last; entries = c.args.entries.now } in
     rw (← c.self.view_is) (inl (
       refl,
       refl,
-      ap (λ (answer : Got × Replica). answer.0)
-          (comes-stored (replica_of g.S.Store.tables c.self.inside) frame (lt-ltb _ _ c.if-worker-self.false)
-          (sym c.fit.ensures ∙ c.if-not-fit.false) (sym c.if-contains.ensures) (sym c.if-is_ahead.ensures)),
+      comes-stored (replica_of g.S.Store.tables c.self.inside) frame (lt-ltb _ _ c.if-worker-self.false)
+          (sym c.fit.ensures ∙ c.if-not-fit.false) (c.in-Stored.ensures frame refl refl),
     ))
+
+pub invariant_of-self : goal.invariant_of-self
+invariant_of-self g c =
+    let frame : Frame =
+    record { worker = c.args.worker; seq = c.args.seq; commit = c.args.commit; last = c.args.last; entries = c.in-Ok.entries } in
+    let laws = c.known_frames_stay_kept.ensures in
+    let is = c.self.invariant in
+    record {
+      few_workers = is.few_workers;
+      number_below = is.number_below;
+      arrivals_by_worker =
+          takes-workers laws.frames_leave c.self.inside.intake frame c.take_owned.result c.take_owned.new.self c.take_owned.ensures
+          ∙ is.arrivals_by_worker;
+      applied_by_worker = is.applied_by_worker;
+      others_kept =
+          takes-kept laws.kept c.self.inside.intake c.self.inside.applied frame c.take_owned.result c.take_owned.new.self is.others_kept
+          c.take_owned.ensures;
+      store_whole = is.store_whole;
+      fetched = is.fetched;
+    }
 
 pub returns : goal.returns
 returns g c =
-    let frame : Frame =
-    record { worker = c.args.worker; seq = c.args.seq; commit = c.args.commit; last = c.args.last; entries = c.args.entries.now } in
-    let stored = comes-stored (replica_of g.S.Store.tables c.self.inside) frame (lt-ltb _ _ c.if-worker-self.false)
-    (sym c.fit.ensures ∙ c.if-not-fit.false) (sym c.if-contains.ensures) (sym c.if-is_ahead.ensures) in
-    elim c.match-insert.branch [
-      | in-Ok-insert w ↦ rw (w.result-is, w.in-Ok-insert.ensures.ok, c.in-Ok.ensures, ← c.self.view_is) (inr stored)
-      | in-Err w ↦ inl (
-        w.result-is,
-        rw (w.in-Err.ensures.err) c.self.view_is,
-        rw (← c.self.view_is) (ap (λ (answer : Got × Replica). answer.0) stored),
-      )
-    ]
+    let replica = replica_of g.S.Store.tables c.self.inside in
+    let frame =
+    λ (entries : List Entry). the_frame c.args.worker c.args.seq c.args.commit c.args.last entries in
+    let there = lt-ltb c.args.worker c.self.inside.workers c.if-worker-self.false in
+    let fits = sym c.fit.ensures ∙ c.if-not-fit.false in
+    let took =
+    subst (λ (entries : List Entry). Takes c.self.inside.intake (frame entries) c.take_owned.result c.take_owned.new.self) c.in-Ok.ensures
+    c.take_owned.ensures in
+    rw (← c.self.view_is) (comes-taken replica
+    (frame c.args.entries.now) there fits c.take_owned.result c.take_owned.new.self c.got_of-2.result
+    took c.got_of-2.ensures)

@@ -1,7 +1,20 @@
 -- The parts at the beginning are those of a world.
+use Rattle.world.proofs.FedLaws.{FedLaws}
 use Rattle.world.proofs.Whole.{started-kept}
 use Rattle.world.proofs.world.World.new.Goals as goal
 
 pub invariant_of-result : goal.invariant_of-result
 invariant_of-result c =
-    rw c.in_ok-cores.ensures (started-kept c.args.setup.now c.keeps_limits.ensures c.requires.workers c.requires.replicas)
+    let e = c.fed_replicas_stay_fed.ensures in
+    let laws : FedLaws = record {
+      fresh = e.fresh;
+      commits = e.commits;
+      bytes = e.bytes;
+      head = e.head;
+      opening = e.«open»;
+      asking = e.ask;
+      running = e.run;
+      ready = e.ready;
+    } in
+    rw c.in_ok-cores.ensures
+    (started-kept laws c.args.setup.now c.keeps_limits.ensures c.requires.some c.requires.workers c.requires.replicas)

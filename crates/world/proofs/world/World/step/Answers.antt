@@ -1,29 +1,53 @@
 -- What the event's call leaves is the world's again, and what it answers may happen there.
+use Rattle.world.proofs.FedLaws.{FedLaws}
 use Rattle.world.proofs.Requested.{kept-ready}
 use Rattle.world.proofs.Whole.{step-keeps}
 use Rattle.world.proofs.world.World.step.Goals as goal
 
-pub happen-requires : goal.happen-requires
-happen-requires c = record {
+pub happen-output-requires : goal.happen-output-requires
+happen-output-requires c = record {
   ready = kept-ready c.self.inside.cores c.self.invariant;
   possible = rw (← c.self.view_is) at c.requires.possible;
 }
 
 pub invariant_of-self : goal.invariant_of-self
 invariant_of-self c =
-    (step-keeps c.self.inside.cores c.args.event.now c.happen.result c.happen.new.self c.self.invariant c.keeps_legal.ensures.all
-    (rw (← c.self.view_is) at c.requires.possible) c.happen.ensures).kept
+    let e = c.fed_replicas_stay_fed.ensures in
+    let laws : FedLaws = record {
+      fresh = e.fresh;
+      commits = e.commits;
+      bytes = e.bytes;
+      head = e.head;
+      opening = e.«open»;
+      asking = e.ask;
+      running = e.run;
+      ready = e.ready;
+    } in
+    (step-keeps laws c.self.inside.cores c.args.event.now c.happen-output.result c.happen-output.new.self c.self.invariant
+    c.keeps_core.ensures.lists c.happen-output.ensures).kept
 
 pub returns : goal.returns
 returns c =
+    let e = c.fed_replicas_stay_fed.ensures in
+    let laws : FedLaws = record {
+      fresh = e.fresh;
+      commits = e.commits;
+      bytes = e.bytes;
+      head = e.head;
+      opening = e.«open»;
+      asking = e.ask;
+      running = e.run;
+      ready = e.ready;
+    } in
     let done =
-    step-keeps c.self.inside.cores c.args.event.now c.happen.result c.happen.new.self c.self.invariant c.keeps_legal.ensures.all
-    (rw (← c.self.view_is) at c.requires.possible) c.happen.ensures in
+    step-keeps laws c.self.inside.cores c.args.event.now c.happen-output.result c.happen-output.new.self c.self.invariant
+    c.keeps_core.ensures.lists c.happen-output.ensures in
     rw (← c.self.view_is) (record {
       happens = done.step.happens;
       reports = done.step.reports;
       durable = done.step.durable;
       fed = done.fed;
+      journal = done.journal c.keeps_core-2.ensures.text;
       faultless = done.step.faultless;
       schema = done.schema;
       workers = done.workers;

@@ -1,0 +1,85 @@
+-- A list of commits rebuilt one by one: each is defined where it stands, and its frames can be sent.
+use Rattle.std.proofs.Common.{◌≡◌, ◌+◌, ◌<◌, ◌≤◌, ℕ, true, false, List, [], ◌∷◌, length, take, drop, get_or}
+use Rattle.std.proofs.Common.{Result, Ok, Err, sym, ap, subst, ◌∙◌, arith, refl}
+use Rattle.std.specs.Prelude.{IsOk}
+use Rattle.std.specs.Result.{is_ok}
+use Rattle.std.proofs.lemmas.List.{take_all, drop_more}
+use Rattle.std.proofs.Math.ListN.{drop_of_length-le}
+use Rattle.rows.specs.declared.commit.Commit.{Commit}
+use Rattle.rows.specs.declared.kind.Kind.{Kind}
+use Rattle.rows.specs.Commits.{IsCommit, commits_of, tables_after}
+use Rattle.rows.specs.Limits.{workers_max}
+use Rattle.rows.specs.Shape.{Shape, shape_of}
+use Rattle.rows.specs.Tables.{Tables, Refusal, opening, changes_of}
+use Rattle.rows.proofs.Presence.{and_then-parts}
+use Rattle.rows.proofs.TableLaws.{commits_of-split}
+use Rattle.mvcc.specs.History.{History, defined_at}
+use Rattle.update_log.specs.declared.frame.Frame.{Frame}
+use Rattle.update_log.specs.Frames.{IsCuttable}
+use Rattle.update_log.specs.Streams.{AreStreamsOf, stream_at}
+use Rattle.update_log.proofs.Elements.{all-get_or}
+use Rattle.journal.specs.Recovery.{HasRecord, IsJournaled}
+use Rattle.primary.specs.Journaling.{AreNumbered}
+use Rattle.primary.specs.Steps.{primary_of, started}
+use Rattle.primary.proofs.Streams.{next-below}
+
+pub ok-of : (r : Result Tables Refusal) → IsOk r → (tables : Tables) × (r ≡ Ok tables)
+ok-of (Ok tables) ok = (tables, refl)
+ok-of (Err refusal) ok = absurd cc
+
+-- the tables at a version are those after the first commits
+tables-front : (shape : Shape) (commits : List Commit) (version : ℕ)
+    → tables_after shape (take version commits) (length (take version commits)) ≡ tables_after shape commits version
+tables-front shape commits version = rw (take_all (length (take version commits)) (take version commits) (omega arith)) refl
+
+-- the next commit is defined where it stands
+pub defined-next : (versions : History) (schema : List (List ℕ × List Kind)) (workers : ℕ) (commits : List Commit) (i : ℕ)
+    (commit : Commit) → i < length commits → commit ≡ get_or commits i commit → IsJournaled workers (shape_of schema) commits
+    → versions.schema ≡ schema → versions.commits ≡ take i commits
+    → defined_at versions (length versions.commits) commit.entries ≡ true
+defined-next versions schema workers commits i commit h e journaled same taken =
+    let shape = shape_of schema in
+    let all = ok-of (commits_of (opening shape) commits) journaled.legal.defined in
+    let split = commits_of-split shape commits i all.0 all.1 in
+    let rest = drop (i + 1) commits in
+    let next : drop i commits ≡ commit ∷ rest =
+    drop_more commits i commit h ∙ ap (λ c. c ∷ rest) (sym e) in
+    let parts =
+    and_then-parts (λ after. commits_of after rest) (changes_of (tables_after shape commits i) commit.entries) all.0
+    (ap (commits_of (tables_after shape commits i)) (sym next) ∙ split.1) in
+    let here : tables_after (shape_of versions.schema) versions.commits (length versions.commits) ≡ tables_after shape commits i =
+    ap (λ s. tables_after (shape_of s) versions.commits (length versions.commits)) same
+    ∙ ap (λ cs. tables_after shape cs (length cs)) taken
+    ∙ tables-front shape commits i in
+    ap (λ tables. is_ok (changes_of tables commit.entries)) here ∙ ap is_ok parts.1
+
+-- and its frames can be sent
+pub cuttable-next : (workers : ℕ) (shape : Shape) (commits : List Commit) (i : ℕ) (commit : Commit) (streams : List (List Frame))
+    (number : ℕ) → i < length commits → commit ≡ get_or commits i commit → workers ≤ workers_max → IsJournaled workers shape commits
+    → AreNumbered commits → AreStreamsOf streams (take i commits) → 0 < number
+    → IsCuttable commit number (length (stream_at streams commit.worker))
+cuttable-next workers shape commits i commit streams number h e few journaled numbered are some =
+    let own : IsCommit workers commit = subst (IsCommit workers) (sym e) (all-get_or
+    (IsCommit workers) commits i commit h journaled.legal.each) in
+    let record_held : HasRecord commit = subst HasRecord (sym e) (all-get_or HasRecord commits i commit h journaled.records) in
+    record {
+      worker_below = omega (arith, own.worker);
+      numbered = some;
+      spelled = record_held.spelled;
+      seqs_below =
+          omega (
+            arith,
+            next-below commits i commit h e numbered,
+            ap (λ (stream : List Frame). length stream) (are.each commit.worker),
+          );
+    }
+
+-- the primary of versions that are all durable
+pub started-is : (versions : History) (schema : List (List ℕ × List Kind)) (durable workers : ℕ) (commits : List Commit)
+    → versions.schema ≡ schema → versions.commits ≡ commits → durable ≡ length commits
+    → primary_of versions durable workers false ≡ started schema workers commits
+started-is versions schema durable workers commits same are counted =
+    let within : length versions.commits ≤ durable = omega (arith, ap length are) in
+    let all : take durable versions.commits ≡ commits = take_all durable versions.commits within ∙ are in
+    let none : drop durable versions.commits ≡ [] = drop_of_length-le versions.commits within in
+    rw (same, all, none) refl

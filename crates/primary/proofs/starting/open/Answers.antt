@@ -1,0 +1,71 @@
+-- What the journal keeps is durable, and stays what it was where the start is refused.
+use Rattle.std.proofs.Common.{◌≡◌, length, sym, ap, subst, ◌∙◌, arith}
+use Rattle.rows.specs.Shape.{shape_of}
+use Rattle.journal.specs.Recovery.{IsRecovered}
+use Rattle.journal.specs.Text.{header, journal_text}
+use Rattle.primary.specs.Journaling.{KeepsSame}
+use Rattle.primary.specs.State.{Primary}
+use Rattle.primary.proofs.Opening.{same-bytes, kept-within, settled-is_text, partly-keeps_same}
+use Rattle.primary.proofs.Wanting.{on-err}
+use Rattle.primary.proofs.starting.open.Goals as goal
+
+pub returns-in_err-bytes-clause-same : goal.returns-in_err-bytes-clause-same
+returns-in_err-bytes-clause-same g c honest =
+    let stands = g.J.JournalStore.standing in
+    on-err _ c.from_residual.result
+    (same-bytes c.args.workers (shape_of c.args.schema.now) (stands c.args.journal.now) (stands c.standing.new.journal)
+    (c.standing.ensures.same honest))
+
+pub returns-in_err-recovered-clause-same : goal.returns-in_err-recovered-clause-same
+returns-in_err-recovered-clause-same g c honest =
+    let stands = g.J.JournalStore.standing in
+    on-err _ c.from_residual-in_err-recovered.result
+    (same-bytes c.args.workers (shape_of c.args.schema.now) (stands c.args.journal.now) (stands c.standing.new.journal)
+    (c.standing.ensures.same honest))
+
+pub returns-in_default-header_bytes-clause-same : goal.returns-in_default-header_bytes-clause-same
+returns-in_default-header_bytes-clause-same g c honest =
+    let stands = g.J.JournalStore.standing in
+    same-bytes c.args.workers (shape_of c.args.schema.now) (stands c.args.journal.now) (stands c.standing.new.journal)
+    (c.standing.ensures.same honest)
+
+pub settle-requires-clause-within : goal.settle-requires-clause-within
+settle-requires-clause-within g c =
+    let found = c.in_ok-recovered.recovered in
+    omega (
+      arith,
+      kept-within c.args.workers (shape_of c.args.schema.now) c.deref.result.now found.commits.items found.bytes_kept
+          c.in_ok-recovered.ensures.kept,
+      ap length c.deref.ensures.value,
+      ap length c.deref-3.ensures.value,
+    )
+
+pub returns-in_err-settle-clause-same : goal.returns-in_err-settle-clause-same
+returns-in_err-settle-clause-same g c honest =
+    let store = g.J.JournalStore in
+    let found = c.in_ok-recovered.recovered in
+    let shape = shape_of c.args.schema.now in
+    let stood : c.deref-3.result.now ≡ store.standing c.args.journal.now = c.deref-3.ensures.value ∙ c.in_ok-bytes.ensures.ok honest in
+    let recovered =
+    subst (λ bytes. IsRecovered c.args.workers shape bytes found.commits.items found.bytes_kept)
+    (c.deref.ensures.value ∙ sym c.deref-3.ensures.value) c.in_ok-recovered.ensures.kept in
+    let head : c.deref-4.result.now ≡ header c.args.workers shape = c.deref-4.ensures.value ∙ c.in-Ok-header_bytes.ensures in
+    on-err _ c.from_residual-in_err-settle.result
+    (subst (λ bytes. KeepsSame c.args.workers shape bytes (store.standing c.settle.new.journal)) stood
+    (partly-keeps_same c.args.workers shape c.deref-3.result.now c.deref-4.result.now (store.standing c.settle.new.journal)
+    found.commits.items found.bytes_kept c.stops_are_recovered.ensures.once c.stops_are_recovered.ensures.not_refused recovered head
+    (c.in_err-settle.ensures.partly (c.standing.ensures.honest ∙ honest))))
+
+pub returns-clause-text : goal.returns-clause-text
+returns-clause-text g c honest =
+    let store = g.J.JournalStore in
+    let found = c.in_ok-recovered.recovered in
+    let shape = shape_of c.args.schema.now in
+    let recovered =
+    subst (λ bytes. IsRecovered c.args.workers shape bytes found.commits.items found.bytes_kept)
+    (c.deref.ensures.value ∙ sym c.deref-3.ensures.value) c.in_ok-recovered.ensures.kept in
+    let head : c.deref-4.result.now ≡ header c.args.workers shape = c.deref-4.ensures.value ∙ c.in-Ok-header_bytes.ensures in
+    settled-is_text c.args.workers shape c.deref-3.result.now c.deref-4.result.now (store.standing c.settle.new.journal)
+    found.commits.items found.bytes_kept recovered head (c.in_ok-settle.ensures.ok (c.standing.ensures.honest ∙ honest))
+    ∙ ap (journal_text c.args.workers shape)
+    (sym (ap (λ (p : Primary). p.durable) c.in-Ok.ensures ∙ c.deref-2.ensures.value))

@@ -1,0 +1,144 @@
+//! Starting on a journal: reading it, and making it the text of what it keeps.
+
+ghost use Rattle.std.specs.Prelude.{◌≡◌, ◌<◌, ◌≤◌, ◌++◌, ℕ, length, true, IfOk, IfErr, OnOk, OnErr};
+ghost use Rattle.rows.specs.Limits.{workers_max};
+ghost use Rattle.rows.specs.Shape.{shape_of};
+ghost use Rattle.journal.specs.Recovery.{IsRecovered};
+ghost use Rattle.journal.specs.Storing.{IsPartlyAppended, faults_max};
+ghost use Rattle.journal.specs.Text.{journal_text};
+ghost use Rattle.primary.specs.Inner.Opening.{IsOfStore, settled, IsPartlySettled};
+ghost use Rattle.primary.specs.Journaling.{IsKeptOf, KeepsSame, IsStartRefusal, CountsStartFault, AreNumbered};
+ghost use Rattle.primary.specs.Steps.{started};
+
+use crate::faults::StartFault;
+use crate::lists::Lists;
+use journal::{JournalFault, JournalStore, Recovered, header_bytes, recover};
+use rows::Schema;
+use std::alloc::Global;
+
+/// The lists of the commits that a journal keeps. What is torn is cut away from it then, or what
+/// is missing of its header written; all memory is taken before that. Where it fails, the journal
+/// keeps what it kept.
+pub fn open<J: JournalStore>(
+    alloc: Global,
+    journal: &mut J,
+    schema: &Schema,
+    workers: u8,
+) -> Result<Lists, StartFault<J::Fault>>
+    requires some { 0 < workers }
+    requires few { workers ≤ workers_max }
+    requires countable { J.fault_count journal.old < faults_max }
+    ensures ok { IfOk result (λ lists. lists ≡ started schema.now workers lists.durable) }
+    ensures kept { J.is_honest journal.old ≡ true
+        → IfOk result (λ lists. IsKeptOf workers (shape_of schema.now) (J.standing journal.old) lists.durable) }
+    ensures text { J.is_honest journal.old ≡ true
+        → IfOk result (λ lists. J.standing journal.new ≡ journal_text workers (shape_of schema.now) lists.durable) }
+    ensures refused { IfErr result
+        (IsStartRefusal workers (shape_of schema.now) (J.is_honest journal.old) (J.standing journal.old)) }
+    ensures same { J.is_honest journal.old ≡ true
+        → OnErr result (KeepsSame workers (shape_of schema.now) (J.standing journal.old) (J.standing journal.new)) }
+    ensures no_fault { OnOk result (J.fault_count journal.new ≡ J.fault_count journal.old) }
+    ensures faults { IfErr result (λ fault. CountsStartFault fault (J.fault_count journal.old) (J.fault_count journal.new)) }
+    ensures honest { J.is_honest journal.new ≡ J.is_honest journal.old }
+{
+    journal::laws::stops_are_recovered();
+    let bytes = standing(alloc, journal)?;
+    let recovered = kept(alloc, &bytes, schema, workers)?;
+    let Ok(lists) = Lists::of(alloc, schema, workers, &recovered.commits) else {
+        return Err(StartFault::Memory);
+    };
+    let Ok(header) = header_bytes(alloc, workers, schema) else {
+        return Err(StartFault::Memory);
+    };
+    settle(journal, &bytes, &header, recovered.bytes_kept)?;
+    Ok(lists)
+}
+
+/// The bytes that stand on a journal. Nothing that stands changes.
+fn standing<J: JournalStore>(
+    alloc: Global,
+    journal: &mut J,
+) -> Result<Vec<u8>, StartFault<J::Fault>>
+    requires { J.fault_count journal.old < faults_max }
+    ensures ok { J.is_honest journal.old ≡ true → IfOk result (λ bytes. bytes.items ≡ J.standing journal.old) }
+    ensures err { IfErr result IsOfStore }
+    ensures same { J.is_honest journal.old ≡ true → J.standing journal.new ≡ J.standing journal.old }
+    ensures no_fault { OnOk result (J.fault_count journal.new ≡ J.fault_count journal.old) }
+    ensures faults { IfErr result (λ fault. CountsStartFault fault (J.fault_count journal.old) (J.fault_count journal.new)) }
+    ensures honest { J.is_honest journal.new ≡ J.is_honest journal.old }
+{
+    let mut bytes = Vec::new(alloc);
+    match journal.read_all(&mut bytes) {
+        Ok(()) => Ok(bytes),
+        Err(Some(fault)) => Err(StartFault::Store(fault)),
+        Err(None) => Err(StartFault::Memory),
+    }
+}
+
+/// What the bytes of a journal keep.
+fn kept<F>(
+    alloc: Global,
+    bytes: &[u8],
+    schema: &Schema,
+    workers: u8,
+) -> Result<Recovered, StartFault<F>>
+    ensures kept { IfOk result (λ recovered.
+        IsRecovered workers (shape_of schema.now) bytes.now recovered.commits.items recovered.bytes_kept) }
+    ensures numbered { IfOk result (λ recovered. AreNumbered recovered.commits.items) }
+    ensures refused { IfErr result (IsStartRefusal workers (shape_of schema.now) true bytes.now) }
+    ensures no_fault { (count : ℕ) → IfErr result (λ fault. CountsStartFault fault count count) }
+{
+    // A look at the length brings its range to the proof: no list has more commits than bytes.
+    let _ = bytes.len();
+    match recover(alloc, bytes, schema, workers) {
+        Ok(recovered) => Ok(recovered),
+        Err(JournalFault::Memory) => Err(StartFault::Memory),
+        Err(fault) => Err(StartFault::Journal(fault)),
+    }
+}
+
+/// Makes a journal of these bytes the text of what they keep: where they end within the header, the
+/// rest of it is written, and otherwise what is torn behind the kept ones is cut away.
+fn settle<J: JournalStore>(
+    journal: &mut J,
+    bytes: &[u8],
+    header: &[u8],
+    bytes_kept: u64,
+) -> Result<(), StartFault<J::Fault>>
+    requires standing { J.is_honest journal.old ≡ true → bytes.now ≡ J.standing journal.old }
+    requires within { bytes_kept ≤ length bytes.now }
+    requires countable { J.fault_count journal.old < faults_max }
+    ensures ok { J.is_honest journal.old ≡ true → OnOk result (J.standing journal.new ≡ settled header.now bytes.now bytes_kept) }
+    ensures partly { J.is_honest journal.old ≡ true
+        → OnErr result (IsPartlySettled header.now bytes.now bytes_kept (J.standing journal.new)) }
+    ensures err { IfErr result IsOfStore }
+    ensures no_fault { OnOk result (J.fault_count journal.new ≡ J.fault_count journal.old) }
+    ensures faults { IfErr result (λ fault. CountsStartFault fault (J.fault_count journal.old) (J.fault_count journal.new)) }
+    ensures honest { J.is_honest journal.new ≡ J.is_honest journal.old }
+{
+    if bytes.len() < header.len() {
+        let (_, missing) = header.split_at(bytes.len());
+        return add(journal, missing);
+    }
+    if bytes_kept < bytes.len() as u64 {
+        return journal.cut_to(bytes_kept).map_err(StartFault::Store);
+    }
+    Ok(())
+}
+
+/// Puts bytes behind those that stand.
+fn add<J: JournalStore>(journal: &mut J, bytes: &[u8]) -> Result<(), StartFault<J::Fault>>
+    requires { J.fault_count journal.old < faults_max }
+    ensures ok { J.is_honest journal.old ≡ true → OnOk result (J.standing journal.new ≡ J.standing journal.old ++ bytes.now) }
+    ensures partly { J.is_honest journal.old ≡ true
+        → OnErr result (IsPartlyAppended (J.standing journal.old) bytes.now (J.standing journal.new)) }
+    ensures err { IfErr result IsOfStore }
+    ensures no_fault { OnOk result (J.fault_count journal.new ≡ J.fault_count journal.old) }
+    ensures faults { IfErr result (λ fault. CountsStartFault fault (J.fault_count journal.old) (J.fault_count journal.new)) }
+    ensures honest { J.is_honest journal.new ≡ J.is_honest journal.old }
+{
+    if journal.reserve(bytes.len()).is_err() {
+        return Err(StartFault::Memory);
+    }
+    journal.append(bytes).map_err(StartFault::Store)
+}

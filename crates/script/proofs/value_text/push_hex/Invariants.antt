@@ -1,7 +1,0 @@
--- The bytes so far are written.
-use Rattle.std.proofs.Common.{◌≡◌, ◌++◌, take}
-use Rattle.script.specs.Text.{hex_text}
-use Rattle.script.proofs.value_text.push_hex.Given as goal
-
-abbrev pub invariant-loop-byte : goal.invariant-loop-byte
-invariant-loop-byte l = l.text.items ≡ l.fn.text.items ++ hex_text (take l.byte-index l.bytes)

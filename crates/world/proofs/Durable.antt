@@ -1,0 +1,83 @@
+-- What stays of a list of commits as others come behind: its streams, its counts, its tables, and that it is legal.
+use Rattle.std.proofs.Common.{◌≡◌, ℕ, ◌+◌, ◌≤◌, true, cond, ◌==◌, List, [], ◌∷◌, ◌++◌, length, Some}
+use Rattle.std.proofs.Common.{Result, Ok, Err, refl, sym, ap, ◌∙◌, append_assoc, arith}
+use Rattle.std.specs.List.{slice_get}
+use Rattle.std.specs.Result.{is_ok}
+use Rattle.std.proofs.lemmas.List.{take-append-le, length-append}
+use Rattle.rows.specs.declared.commit.Commit.{Commit}
+use Rattle.rows.specs.Shape.{Shape}
+use Rattle.rows.specs.Tables.{Tables, Refusal, opening, changes_of, and_then}
+use Rattle.rows.specs.Commits.{IsCommit, IsLegal, commits_of, tables_after}
+use Rattle.update_log.specs.declared.frame.Frame.{Frame}
+use Rattle.update_log.specs.Frames.{frames_of}
+use Rattle.update_log.specs.Streams.{stream_from, stream_of}
+use Rattle.ordering.specs.Cutting.{AreCounts}
+use Rattle.world.proofs.Lists.{All-left, get-append_left}
+
+-- ---- streams
+
+-- the stream of a list goes on as the list does
+stream-more : (worker before first : ℕ) (commits more : List Commit)
+    → (rest : List Frame) × (stream_from worker before first (commits ++ more) ≡ stream_from worker before first commits ++ rest)
+stream-more worker before first [] more = (stream_from worker before first more, refl)
+stream-more worker before first (commit ∷ commits) more =
+    let front : List Frame = cond (commit.worker == worker) (frames_of commit (before + 1) first) [] in
+    let behind = stream-more worker (before + 1) (first + length front) commits more in (
+      behind.0,
+      ap (λ (frames : List Frame). front ++ frames) behind.1
+          ∙ sym (append_assoc front (stream_from worker (before + 1) (first + length front) commits) behind.0),
+    )
+
+-- a frame that is there stays there
+pub frame-stays : (commits more : List Commit) (worker seq : ℕ) (frame : Frame) → slice_get (stream_of commits worker) seq ≡ Some frame
+    → slice_get (stream_of (commits ++ more) worker) seq ≡ Some frame
+frame-stays commits more worker seq frame h =
+    let behind = stream-more worker 0 0 commits more in
+    ap (λ (frames : List Frame). slice_get frames seq) behind.1
+    ∙ get-append_left (stream_of commits worker) behind.0 seq frame h
+
+-- a stream is not shorter once commits have come behind
+pub stream-grows : (commits more : List Commit) (worker : ℕ)
+    → length (stream_of commits worker) ≤ length (stream_of (commits ++ more) worker)
+stream-grows commits more worker =
+    let behind = stream-more worker 0 0 commits more in
+    omega (arith, ap length behind.1, length-append (stream_of commits worker) behind.0)
+
+-- a count at a version that is there stays
+pub counts-stay : (commits more : List Commit) (version : ℕ) (counts : List ℕ) → version ≤ length commits → AreCounts commits version counts
+    → AreCounts (commits ++ more) version counts
+counts-stay commits more version counts below are worker =
+    are worker ∙ ap (λ (l : List Commit). length (stream_of l worker)) (sym (take-append-le version commits more below))
+
+-- ---- tables
+
+-- the tables at a version that is there stay when commits come behind
+pub tables-stay : (shape : Shape) (commits more : List Commit) (version : ℕ) → version ≤ length commits
+    → tables_after shape (commits ++ more) version ≡ tables_after shape commits version
+tables-stay shape commits more version h = rw take-append-le refl
+
+commits_of-append : (tables : Tables) (before commits : List Commit)
+    → commits_of tables (before ++ commits) ≡ and_then (λ after. commits_of after commits) (commits_of tables before)
+commits_of-append tables [] commits = refl
+commits_of-append tables (commit ∷ before) commits =
+    by (λ after. commits_of-append after before commits) (changes_of tables commit.entries)
+  where
+    by : ((after : Tables) → commits_of after (before ++ commits) ≡ and_then (λ after. commits_of after commits) (commits_of after before))
+        → (first : Result Tables Refusal)
+        → and_then (λ after. commits_of after (before ++ commits)) first ≡ and_then (λ after. commits_of after commits)
+        (and_then (λ after. commits_of after before) first)
+    by rest (Ok after) = rest after
+    by rest (Err refusal) = refl
+
+first-ok : (next : Tables → Result Tables Refusal) (first : Result Tables Refusal) → is_ok (and_then next first) ≡ true → is_ok first ≡ true
+first-ok next (Ok after) h = refl
+first-ok next (Err refusal) h = h
+
+-- the beginning of a legal list is legal
+pub legal-front : (shape : Shape) (workers : ℕ) (front back : List Commit) → IsLegal shape workers (front ++ back)
+    → IsLegal shape workers front
+legal-front shape workers front back legal = record {
+  each = All-left (IsCommit workers) front back legal.each;
+  defined = first-ok (λ after. commits_of after back) (commits_of (opening shape) front)
+      (ap is_ok (sym (commits_of-append (opening shape) front back)) ∙ legal.defined);
+}

@@ -1,0 +1,42 @@
+-- What is kept of the bytes that stand is what is durable then.
+use Rattle.std.proofs.Common.{◌≡◌, length, refl, ap, ◌∙◌, arith}
+use Rattle.std.proofs.lemmas.List.{with_items_is}
+use Rattle.world.specs.declared.primary_node.PrimaryNode.TheVariants.{Running}
+use Rattle.world.proofs.Nodes.{node_seen, closed_length, left_recovered, left_kept, stop_done}
+use Rattle.world.proofs.cores.Cores.stop.Goals as goal
+
+pub commits_kept-requires : goal.commits_kept-requires
+commits_kept-requires c =
+    let inside = c.self.inside in
+    let seen =
+    node_seen inside.setup inside.primary (Running c.in-Running.primary) inside.transactions.items inside.sent.items inside.replicas.items
+    inside.asked_at.items c.args.self.now c.in-Running.is c.self.view_is in
+    let core = c.in-Running.primary in
+    let set = rw (← seen) at c.requires.setup_is in
+    let whole = rw (← seen) at c.requires.whole in
+    let text = c.keeps_legal.ensures.written refl whole in
+    rw c.as_slice.ensures.value (left_recovered c.stops_are_recovered.ensures.stops inside.setup core.primary c.args.bytes
+    core.journal.bytes c.in-Ok.content.items set c.keeps_legal.ensures.all text c.in-Ok.ensures)
+
+pub returns : goal.returns
+returns c =
+    let inside = c.self.inside in
+    let seen =
+    node_seen inside.setup inside.primary (Running c.in-Running.primary) inside.transactions.items inside.sent.items inside.replicas.items
+    inside.asked_at.items c.args.self.now c.in-Running.is c.self.view_is in
+    let core = c.in-Running.primary in
+    let set = rw (← seen) at c.requires.setup_is in
+    let whole = rw (← seen) at c.requires.whole in
+    let text = c.keeps_legal.ensures.written refl whole in
+    let found = rw c.as_slice.ensures.value at c.in-Ok-commits_kept.ensures in
+    let content = c.in-Ok.content.items in
+    let kept = c.in-Ok-commits_kept.kept.items in
+    let same =
+    left_kept c.stops_are_recovered.ensures.stops inside.setup core.primary c.args.bytes core.journal.bytes content set
+    c.keeps_legal.ensures.all text c.in-Ok.ensures c.stops_are_recovered.ensures.once kept found.0 found.1 in
+    let over = rw c.as_mut_slice.ensures.value at c.close_all.ensures in
+    let size : length c.close_all.new.transactions ≡ inside.transactions.len =
+    omega (arith, ap length over, closed_length inside.transactions.items, inside.transactions.ok.0) in
+    let slots = with_items_is inside.transactions c.close_all.new.transactions size ∙ over in
+    stop_done inside.setup core.primary core.journal.bytes inside.transactions.items inside.sent.items inside.replicas.items
+    inside.asked_at.items c.args.self.now c.args.bytes found.0 content kept _ _ seen set same found.1 c.of.ensures slots

@@ -1,0 +1,31 @@
+//! The primary of a world, whether it runs or is stopped.
+
+ghost use Rattle.std.specs.Prelude.{◌≡◌, length};
+ghost use Rattle.world.specs.Inner.Nodes.{durable_in};
+
+use journal::MemJournal;
+use primary::PrimaryCore;
+use rows::Commit;
+
+/// The primary's core. While it is stopped there is none: its journal stands, and beside it the
+/// commits that this keeps, which the world alone looks at.
+#[derive(Debug, Drop)]
+pub enum PrimaryNode {
+    Running(PrimaryCore<MemJournal>),
+    Stopped {
+        journal: MemJournal,
+        kept: Vec<Commit>,
+    },
+}
+
+impl PrimaryNode {
+    /// How many commits are durable.
+    pub fn durable(&self) -> u64
+        ensures { result ≡ length (durable_in self.now) }
+    {
+        match self {
+            PrimaryNode::Running(primary) => primary.durable(),
+            PrimaryNode::Stopped { kept, .. } => kept.len() as u64,
+        }
+    }
+}

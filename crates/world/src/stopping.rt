@@ -1,0 +1,153 @@
+//! Stops and starts of the primary.
+
+ghost use Rattle.std.specs.Prelude.{◌≡◌, ◌<◌, ◌≤◌, [], ◌++◌, ℕ, List, length, take, false, IfOk, IfErr};
+ghost use Rattle.rows.specs.declared.commit.Commit.{Commit as CommitOf};
+ghost use Rattle.rows.specs.Limits.{workers_max};
+ghost use Rattle.rows.specs.Shape.{shape_of};
+ghost use Rattle.journal.specs.Recovery.{IsRecovered};
+ghost use Rattle.journal.specs.Text.{journal_text, records_from};
+ghost use Rattle.world.specs.Inner.CoreSteps.{HappensBeside};
+ghost use Rattle.world.specs.Inner.Invariant.{IsReady};
+ghost use Rattle.world.specs.Inner.Nodes.{primary_kept};
+ghost use Rattle.world.specs.Stops.{closed};
+
+use crate::cores::Cores;
+use crate::primary_node::PrimaryNode;
+use journal::laws::stops_are_recovered;
+use journal::{JournalFault, MemJournal, recover};
+use mvcc::Transaction;
+use primary::{PrimaryCore, StartFault};
+use rows::{Commit, Schema};
+use script::{Event, Output, Setup};
+use std::alloc::{AllocError, Global};
+
+impl Cores {
+    /// Stops the primary: its core ends, and its journal has so many bytes more of what was not
+    /// acknowledged. All memory is taken before, and where there is none nothing has changed.
+    pub fn stop(&mut self, bytes: u64) -> Output
+        requires { IsReady self.old }
+        ensures { HappensBeside self.old (Event.Stop bytes) result self.new }
+    {
+        let PrimaryNode::Running(primary) = &self.primary else {
+            return Output::Stopped;
+        };
+        let Ok(content) = bytes_left(self.alloc, primary, bytes) else {
+            return Output::Memory;
+        };
+        primary.keeps_legal();
+        stops_are_recovered();
+        let setup = &self.setup;
+        let Ok(kept) = commits_kept(self.alloc, content.as_slice(), &setup.schema, setup.workers)
+        else {
+            return Output::Memory;
+        };
+        self.primary = PrimaryNode::Stopped {
+            journal: MemJournal::of(content),
+            kept,
+        };
+        close_all(self.transactions.as_mut_slice());
+        Output::Stopped
+    }
+
+    /// Starts the primary again, on what its journal keeps. When out of memory it stays stopped.
+    pub fn start_again(&mut self) -> Output
+        requires { IsReady self.old }
+        ensures { HappensBeside self.old Event.Start result self.new }
+    {
+        let PrimaryNode::Stopped { journal, .. } = &mut self.primary else {
+            return Output::Running;
+        };
+        let old = std::mem::replace(journal, MemJournal::new(self.alloc));
+        let setup = &self.setup;
+        match start_on(self.alloc, old, &setup.schema, setup.workers) {
+            Ok(primary) => {
+                let durable = primary.durable();
+                self.primary = PrimaryNode::Running(primary);
+                Output::Durable(durable)
+            }
+            Err(back) => {
+                *journal = back;
+                Output::Memory
+            }
+        }
+    }
+}
+
+/// What stands after a stop: the bytes that the journal acknowledged, and so many of the pending
+/// commits' records behind them. Fails only when out of memory.
+fn bytes_left(
+    alloc: Global,
+    primary: &PrimaryCore<MemJournal>,
+    bytes: u64,
+) -> Result<Vec<u8>, AllocError>
+    ensures { IfOk result (λ content. content.items ≡ primary.now.journal.bytes
+        ++ take bytes (records_from (length primary.now.primary.durable) primary.now.primary.pending)) }
+{
+    let records = primary.pending_text()?;
+    let count = records.len().min(bytes as usize);
+    let (torn, _) = records.as_slice().split_at(count);
+    let mut content = Vec::from_slice(alloc, primary.journal().content())?;
+    content.extend_from_slice(torn)?;
+    Ok(content)
+}
+
+/// The commits that a journal keeps which is not refused. Fails only when out of memory.
+fn commits_kept(
+    alloc: Global,
+    content: &[u8],
+    schema: &Schema,
+    workers: u8,
+) -> Result<Vec<Commit>, AllocError>
+    requires { (commits : List CommitOf) × (bytes_kept : ℕ)
+        × IsRecovered workers (shape_of schema.now) content.now commits bytes_kept }
+    ensures { IfOk result (λ kept. (bytes_kept : ℕ)
+        × IsRecovered workers (shape_of schema.now) content.now kept.items bytes_kept) }
+{
+    stops_are_recovered();
+    match recover(alloc, content, schema, workers) {
+        Ok(recovered) => Ok(recovered.commits),
+        Err(JournalFault::Memory) => Err(AllocError),
+        Err(JournalFault::OtherHeader) => unreachable!(),
+        Err(JournalFault::Damaged(_)) => unreachable!(),
+        Err(JournalFault::OutOfOrder(_)) => unreachable!(),
+        Err(JournalFault::Illegal(_)) => unreachable!(),
+    }
+}
+
+/// Gives every transaction up.
+fn close_all(transactions: &mut [Option<Transaction>])
+    ensures { transactions.new ≡ closed transactions.old }
+{
+    for index in 0..transactions.len() {
+        transactions[index] = None;
+    }
+}
+
+/// Starts a primary on a journal that is not refused. When out of memory it hands back the journal,
+/// which keeps the same.
+pub fn start_on(
+    alloc: Global,
+    journal: MemJournal,
+    schema: &Schema,
+    workers: u8,
+) -> Result<PrimaryCore<MemJournal>, MemJournal>
+    requires some { 0 < workers }
+    requires few { workers ≤ workers_max }
+    requires kept { (commits : List CommitOf) × (bytes_kept : ℕ)
+        × IsRecovered workers (shape_of schema.now) journal.bytes commits bytes_kept }
+    ensures ok { IfOk result (λ core. (commits : List CommitOf) (bytes_kept : ℕ)
+        → IsRecovered workers (shape_of schema.now) journal.bytes commits bytes_kept
+        → core.primary ≡ record { schema = schema.now; workers = workers; durable = commits; pending = []; failed = false }) }
+    ensures written { IfOk result (λ core. core.journal.bytes ≡ journal_text workers (shape_of schema.now) core.primary.durable) }
+    ensures err { IfErr result (λ back. (commits : List CommitOf) (bytes_kept : ℕ)
+        → IsRecovered workers (shape_of schema.now) journal.bytes commits bytes_kept
+        → (left : ℕ) × IsRecovered workers (shape_of schema.now) back.bytes commits left) }
+{
+    stops_are_recovered();
+    match PrimaryCore::start(alloc, journal, schema, workers) {
+        Ok(primary) => Ok(primary),
+        Err((back, StartFault::Memory)) => Err(back),
+        Err((_, StartFault::Store(_))) => unreachable!(),
+        Err((_, StartFault::Journal(_))) => unreachable!(),
+    }
+}
