@@ -1,5 +1,5 @@
 -- What keeps a replica fed.
-use Rattle.std.proofs.Common.{◌≡◌, ℕ, zero, suc, ◌+◌, ◌≤◌, Bool, true, false, cond, not, ◌||◌, ◌&&◌, ◌==◌, List, [], ◌∷◌, ◌++◌}
+use Rattle.std.proofs.Common.{◌≡◌, ℕ, ◌+◌, ◌≤◌, Bool, true, false, cond, not, ◌||◌, ◌&&◌, ◌==◌, List, [], ◌∷◌, ◌++◌}
 use Rattle.std.proofs.Common.{length, Option}
 use Rattle.std.proofs.Common.{Some, None, Result, Ok, Err, nat_lt, nat_le, refl, sym, ap, subst, ◌∙◌, arith}
 use Rattle.std.specs.Cmp.Lexicographic.{pointwise}
@@ -16,8 +16,8 @@ use Rattle.rows.specs.Commits.{tables_after}
 use Rattle.update_log.specs.declared.frame.Frame.{Frame}
 use Rattle.update_log.specs.Streams.{stream_of}
 use Rattle.intake.specs.Known.{is_known}
-use Rattle.intake.specs.State.{nothing, known_of}
-use Rattle.intake.specs.Steps.{started as none_came, taken}
+use Rattle.intake.specs.State.{nothing}
+use Rattle.intake.specs.Steps.{taken}
 use Rattle.intake.specs.Laws.{NothingIsFrom, CommitsKeepFrom, FramesKeepFrom, DropsKeepFrom}
 use Rattle.intake.specs.Laws.{FramesLeaveWorkers, DropsLeaveWorkers, FramesStayKnown, DropsLeaveKnown, FramesStayKept, DropsStayKept}
 use Rattle.ordering.specs.Cutting.{AreCounts}
@@ -32,14 +32,15 @@ use Rattle.dispatcher.specs.declared.faults.AskFault.{AskFault}
 use Rattle.dispatcher.specs.declared.faults.AskFault.TheVariants as asks
 use Rattle.dispatcher.specs.declared.faults.OpenFault.{OpenFault}
 use Rattle.dispatcher.specs.declared.faults.OpenFault.TheVariants as opens
-use Rattle.dispatcher.specs.declared.plan.Plan.{Plan}
-use Rattle.dispatcher.specs.declared.faults.PlanFault.{PlanFault}
+use Rattle.plans.specs.declared.plan.Plan.{Plan}
+use Rattle.plans.specs.declared.faults.PlanFault.{PlanFault}
 use Rattle.dispatcher.specs.Feeding.{IsFetchedFrom, IsFedFrom, Tells, TruthStays, FreshIsFed, CommitsKeepFed, BytesKeepFed, TrueHeadGoesOn}
 use Rattle.dispatcher.specs.Feeding.{OpenKeepsFed, AskKeepsFed, VersionTellsTables}
-use Rattle.dispatcher.specs.Plans.{checked}
+use Rattle.plans.specs.Checking.{checked}
 use Rattle.dispatcher.specs.State.{Replica, Batch, Fetched}
 use Rattle.dispatcher.specs.Steps.{asked_by, ask_for, with_batch, got_of, frame_comes, goes_on, head_for, head_by_batch, own_head_comes}
 use Rattle.dispatcher.specs.Steps.{datagram_comes, at_fetched, broken_of}
+use Rattle.dispatcher.proofs.Beginning.{none-known}
 use Rattle.dispatcher.proofs.CatchingUp.{Merges, is-fetched, each-known}
 use Rattle.dispatcher.proofs.Lists.{le-pointwise, none-counted}
 use Rattle.dispatcher.proofs.Ready.{CanAnswer}
@@ -60,11 +61,6 @@ pub record Arriving : Type 0 where
   pub drops_kept : DropsStayKept
 
 -- ---- the beginning
-
-none-known : (workers worker seq : ℕ) → is_known (known_of (none_came workers) worker) seq ≡ false
-none-known zero worker seq = refl
-none-known (suc workers) zero seq = refl
-none-known (suc workers) (suc worker) seq = none-known workers worker seq
 
 pub fresh-fed : Arriving → FreshIsFed
 fresh-fed laws shape commits workers number boot legal = record {

@@ -1,4 +1,5 @@
 pub mod Lists
+pub mod Beginning
 pub mod Streams
 pub mod Versions
 pub mod Ready

@@ -7,7 +7,7 @@ use Rattle.rows.specs.Commits.{tables_after}
 use Rattle.intake.specs.Steps.{lacking}
 use Rattle.dispatcher.specs.declared.outcome.Run.{Run}
 use Rattle.dispatcher.specs.declared.outcome.Run.TheVariants as runs
-use Rattle.dispatcher.specs.declared.plan.Plan.{Plan}
+use Rattle.plans.specs.declared.plan.Plan.{Plan}
 use Rattle.dispatcher.specs.Feeding.{IsFedFrom, RunKeepsFed, RunIsConsistent, AnswerIsReport, ReadyIsAnswered}
 use Rattle.dispatcher.specs.State.{Replica, Batch, Fetched}
 use Rattle.dispatcher.specs.Report.{report_of}

@@ -1,4 +1,3 @@
-pub mod Plans
 pub mod Report
 pub mod State
 pub mod Steps

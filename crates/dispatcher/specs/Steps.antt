@@ -27,13 +27,13 @@ use Rattle.dispatcher.specs.declared.faults.AskFault.{AskFault}
 use Rattle.dispatcher.specs.declared.faults.AskFault.TheVariants as asks
 use Rattle.dispatcher.specs.declared.faults.OpenFault.{OpenFault}
 use Rattle.dispatcher.specs.declared.faults.OpenFault.TheVariants as opens
-use Rattle.dispatcher.specs.declared.plan.Plan.{Plan}
-use Rattle.dispatcher.specs.declared.faults.PlanFault.{PlanFault}
+use Rattle.plans.specs.declared.plan.Plan.{Plan}
+use Rattle.plans.specs.declared.faults.PlanFault.{PlanFault}
 use Rattle.dispatcher.specs.declared.outcome.Got.{Got}
 use Rattle.dispatcher.specs.declared.outcome.Got.TheVariants as got
 use Rattle.dispatcher.specs.declared.outcome.Run.{Run}
 use Rattle.dispatcher.specs.declared.outcome.Run.TheVariants as runs
-use Rattle.dispatcher.specs.Plans.{checked}
+use Rattle.plans.specs.Checking.{checked}
 use Rattle.dispatcher.specs.State.{Replica, Batch, Fetched}
 use Rattle.dispatcher.specs.Report.{report_of}
 

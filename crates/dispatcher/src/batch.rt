@@ -1,4 +1,4 @@
-use crate::plan::Plan;
+use plans::Plan;
 use wire::Counts;
 
 /// The version that was fetched for a batch, and each worker's frame count at it.

@@ -1,12 +1,5 @@
+use plans::PlanFault;
 use thiserror::Error;
-
-/// Why a plan does not fit a schema.
-#[derive(Clone, Copy, Debug, PartialEq, Eq, Error)]
-pub enum PlanFault {
-    /// The schema has no table of that number.
-    #[error("no such table")]
-    NoTable,
-}
 
 /// Why a query is not taken: the first that stands, in the order `Broken`, `BatchFull`,
 /// `BadPlan`, `Memory`.

@@ -4,28 +4,25 @@
 //! Its state is what it knows: the frames that came of each worker, its tables at one version, the
 //! queries that wait, and at most one batch. Its tables stand in a store that its caller gives it, of
 //! any kind to which lists of commits can be applied. `specs/` says what each call answers and leaves
-//! (`Steps.antt`), the plain answer of a query (`Plans.antt`), the text of a report (`Report.antt`),
-//! and when all that a replica knows is of one list of commits (`Feeding.antt`). `Inner` only helps
-//! proofs.
+//! (`Steps.antt`), the report of a batch (`Report.antt`), and when all that a replica knows is of one
+//! list of commits (`Feeding.antt`). What a query is, when it fits, and what its answer is, stands in
+//! `plans`. `Inner` only helps proofs.
 //!
 //! Promised: each call is exact, out of memory aside. `fed_replicas_stay_fed` says that a replica
 //! to which only what is true of a legal list of commits comes reports on rows of that list. It
 //! stands on `intake` for the frames that come, on `ordering` for the commits that they hold, on
-//! `wire`, and on `store`.
+//! `plans` for the answers of queries, on `wire`, and on `store`.
 #![tactic(auto)]
 
-mod answering;
 mod batch;
 mod counting;
 mod faults;
 mod laws;
 mod outcome;
-mod plan;
 mod replica_core;
 mod sending;
 
-pub use faults::{AskFault, OpenFault, PlanFault};
+pub use faults::{AskFault, OpenFault};
 pub use laws::fed_replicas_stay_fed;
 pub use outcome::{Got, Run};
-pub use plan::Plan;
 pub use replica_core::ReplicaCore;

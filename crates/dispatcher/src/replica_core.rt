@@ -9,17 +9,17 @@ ghost use Rattle.dispatcher.specs.State.{Replica};
 ghost use Rattle.dispatcher.specs.Steps.{started, opened, asked, received, own_head_comes, ready_of, HoldNext, MayRun};
 ghost use Rattle.dispatcher.specs.Inner.Parts.{TakesFrame, CatchesUp, Applies, answered_by};
 
-use crate::answering::report;
 use crate::batch::{Batch, Fetched};
 use crate::counting::{are_at_least, copy_of, missing_below, no_counts};
 use crate::faults::{AskFault, CatchUpFault, OpenFault};
 use crate::outcome::{Got, Run, got_of};
-use crate::plan::Plan;
 use crate::sending::{ask_out, want_out};
 use intake::{Intake, Taken, known_frames_stay_kept};
 use ordering::{OrderFault, one_merge, ordered};
+use plans::{Plan, answer_batch, report};
+use rows::laws::changes_keep_kinds;
 use rows::limits::WAITING_QUERIES_MAX;
-use rows::{Commit, Schema};
+use rows::{ByteList, Commit, Schema};
 use std::alloc::{AllocError, Global};
 use std::marker::{Model, Sync};
 use store::{ApplyFault, ApplyStore};
@@ -58,7 +58,7 @@ impl<S: ApplyStore + Sync> Model for ReplicaCore<S> {
 
     ghost view = { replica_of S.tables };
 
-    ghost invariant = { IsCore S.is_whole };
+    ghost invariant = { IsCore S.is_whole S.tables };
 }
 
 impl<S: ApplyStore + Sync> ReplicaCore<S> {
@@ -82,6 +82,7 @@ impl<S: ApplyStore + Sync> ReplicaCore<S> {
         requires number { number < replicas_max }
         ensures { IfOk result (λ replica. replica ≡ started (shape_of schema.now) workers number boot) }
     {
+        changes_keep_kinds();
         Ok(ReplicaCore {
             alloc,
             store,
@@ -116,7 +117,7 @@ impl<S: ApplyStore + Sync> ReplicaCore<S> {
     /// Takes a query for the next batch, and answers how many wait now.
     ///
     /// Fails with the first of these, and changes nothing: `Broken`; `BatchFull`, 64 wait;
-    /// `BadPlan`; `Memory`.
+    /// `BadPlan`, the plan does not fit the schema, with its first fault; `Memory`.
     pub fn open(&mut self, plan: Plan) -> Result<usize, OpenFault>
         ensures ok { IfOk result (λ count. opened self.old plan ≡ Ok (count, self.new)) }
         ensures refused { IfErr result (λ fault. (self.new ≡ self.old)
@@ -369,12 +370,13 @@ impl<S: ApplyStore + Sync> ReplicaCore<S> {
         let Some(batch) = &self.batch else {
             return Run::NoBatch;
         };
-        match report(self.alloc, self.version, &self.store, &batch.plans) {
-            Ok(text) => {
-                self.batch = None;
-                Run::Answered(text)
-            }
-            Err(_) => Run::Memory,
-        }
+        let Ok(answers) = answer_batch(self.alloc, &self.store, &batch.plans) else {
+            return Run::Memory;
+        };
+        let Ok(text) = report(self.alloc, self.version, &answers) else {
+            return Run::Memory;
+        };
+        self.batch = None;
+        Run::Answered(ByteList::from_vec(text))
     }
 }

@@ -61,6 +61,12 @@ IsStartRefusal workers shape is_honest bytes (starts.Journal fault) =
     ¬ (fault ≡ journals.Memory) × (is_honest ≡ true → IsRefusal workers shape bytes fault)
 IsStartRefusal workers shape is_honest bytes starts.Memory = Unit {0}
 
+-- a start that is refused leaves the bytes as they were, but where they could not be cut or written
+abbrev pub LeavesBytes : {F : Type 0} → StartFault F → List ℕ → List ℕ → Type 0
+LeavesBytes (starts.Store fault) old new = Unit {0}
+LeavesBytes (starts.Journal fault) old new = new ≡ old
+LeavesBytes starts.Memory old new = new ≡ old
+
 -- a fault is counted where the journal could not be read, cut or written, and nowhere else
 abbrev pub CountsStartFault : {F : Type 0} → StartFault F → ℕ → ℕ → Type 0
 CountsStartFault (starts.Store fault) old new = new ≡ old + 1

@@ -11,7 +11,7 @@ ghost use Rattle.journal.specs.Recovery.{IsJournaled};
 ghost use Rattle.journal.specs.Storing.{faults_max};
 ghost use Rattle.journal.specs.Text.{records_from};
 ghost use Rattle.primary.specs.Journaling.{IsWritten, offered, IsFlushRefusal, StandsAfterFlush, CountsFlushFault};
-ghost use Rattle.primary.specs.Journaling.{IsKeptOf, KeepsSame, IsStartRefusal, CountsStartFault, AreNumbered};
+ghost use Rattle.primary.specs.Journaling.{IsKeptOf, KeepsSame, IsStartRefusal, LeavesBytes, CountsStartFault, AreNumbered};
 ghost use Rattle.primary.specs.Sending.{pushed, answers};
 ghost use Rattle.primary.specs.Steps.{started, commit_answer, committed, flushed};
 
@@ -55,7 +55,7 @@ impl<J: JournalStore> PrimaryCore<J> {
     ///
     /// Fails with `Store` where the journal could not be read, cut or written, which it has counted
     /// as a fault; with `Journal` where its bytes are refused; with `Memory`. The journal is handed
-    /// back, and keeps what it kept.
+    /// back, and keeps what it kept; its bytes are changed only where `Store` is answered.
     pub fn start(
         alloc: Global,
         journal: J,
@@ -75,6 +75,8 @@ impl<J: JournalStore> PrimaryCore<J> {
             IsStartRefusal workers (shape_of schema.now) (J.is_honest journal) (J.standing journal) refusal.1) }
         ensures same { J.is_honest journal ≡ true
             → IfErr result (λ refusal. KeepsSame workers (shape_of schema.now) (J.standing journal) (J.standing refusal.0)) }
+        ensures leaves { J.is_honest journal ≡ true
+            → IfErr result (λ refusal. LeavesBytes refusal.1 (J.standing journal) (J.standing refusal.0)) }
         ensures faults { IfErr result (λ refusal. (J.is_honest refusal.0 ≡ J.is_honest journal)
             × CountsStartFault refusal.1 (J.fault_count journal) (J.fault_count refusal.0)) }
     {

@@ -7,7 +7,7 @@ ghost use Rattle.journal.specs.Recovery.{IsRecovered};
 ghost use Rattle.journal.specs.Storing.{IsPartlyAppended, faults_max};
 ghost use Rattle.journal.specs.Text.{journal_text};
 ghost use Rattle.primary.specs.Inner.Opening.{IsOfStore, settled, IsPartlySettled};
-ghost use Rattle.primary.specs.Journaling.{IsKeptOf, KeepsSame, IsStartRefusal, CountsStartFault, AreNumbered};
+ghost use Rattle.primary.specs.Journaling.{IsKeptOf, KeepsSame, IsStartRefusal, LeavesBytes, CountsStartFault, AreNumbered};
 ghost use Rattle.primary.specs.Steps.{started};
 
 use crate::faults::StartFault;
@@ -18,7 +18,7 @@ use std::alloc::Global;
 
 /// The lists of the commits that a journal keeps. What is torn is cut away from it then, or what
 /// is missing of its header written; all memory is taken before that. Where it fails, the journal
-/// keeps what it kept.
+/// keeps what it kept, and its bytes are changed only where it could not be cut or written.
 pub fn open<J: JournalStore>(
     alloc: Global,
     journal: &mut J,
@@ -37,6 +37,8 @@ pub fn open<J: JournalStore>(
         (IsStartRefusal workers (shape_of schema.now) (J.is_honest journal.old) (J.standing journal.old)) }
     ensures same { J.is_honest journal.old ≡ true
         → OnErr result (KeepsSame workers (shape_of schema.now) (J.standing journal.old) (J.standing journal.new)) }
+    ensures leaves { J.is_honest journal.old ≡ true
+        → IfErr result (λ fault. LeavesBytes fault (J.standing journal.old) (J.standing journal.new)) }
     ensures no_fault { OnOk result (J.fault_count journal.new ≡ J.fault_count journal.old) }
     ensures faults { IfErr result (λ fault. CountsStartFault fault (J.fault_count journal.old) (J.fault_count journal.new)) }
     ensures honest { J.is_honest journal.new ≡ J.is_honest journal.old }
@@ -111,6 +113,8 @@ fn settle<J: JournalStore>(
     ensures ok { J.is_honest journal.old ≡ true → OnOk result (J.standing journal.new ≡ settled header.now bytes.now bytes_kept) }
     ensures partly { J.is_honest journal.old ≡ true
         → OnErr result (IsPartlySettled header.now bytes.now bytes_kept (J.standing journal.new)) }
+    ensures leaves { J.is_honest journal.old ≡ true
+        → IfErr result (λ fault. LeavesBytes fault (J.standing journal.old) (J.standing journal.new)) }
     ensures err { IfErr result IsOfStore }
     ensures no_fault { OnOk result (J.fault_count journal.new ≡ J.fault_count journal.old) }
     ensures faults { IfErr result (λ fault. CountsStartFault fault (J.fault_count journal.old) (J.fault_count journal.new)) }
@@ -132,6 +136,8 @@ fn add<J: JournalStore>(journal: &mut J, bytes: &[u8]) -> Result<(), StartFault<
     ensures ok { J.is_honest journal.old ≡ true → OnOk result (J.standing journal.new ≡ J.standing journal.old ++ bytes.now) }
     ensures partly { J.is_honest journal.old ≡ true
         → OnErr result (IsPartlyAppended (J.standing journal.old) bytes.now (J.standing journal.new)) }
+    ensures leaves { J.is_honest journal.old ≡ true
+        → IfErr result (λ fault. LeavesBytes fault (J.standing journal.old) (J.standing journal.new)) }
     ensures err { IfErr result IsOfStore }
     ensures no_fault { OnOk result (J.fault_count journal.new ≡ J.fault_count journal.old) }
     ensures faults { IfErr result (λ fault. CountsStartFault fault (J.fault_count journal.old) (J.fault_count journal.new)) }

@@ -1,12 +1,15 @@
 //! Batches of a replica, from the first query to the report.
 
+use crate::queries::{COUNT, Wish, plan_of};
 use crate::replica::{Ran, Step, Story, other_step, other_story};
 use crate::wanted::{NUMBERS, Table, bank};
 use crate::worker_datagrams::{
     FRAME, HEAD, HEAD_AT_2, HEAD_OF_TWO, HEAD_WITHOUT_FRAMES, PATCH_AND_DELETE, TWO_ROWS,
 };
-use dispatcher::{AskFault, Got, OpenFault, Plan, PlanFault, fed_replicas_stay_fed};
+use dispatcher::{AskFault, Got, OpenFault, fed_replicas_stay_fed};
+use plans::PlanFault;
 use rows::Kind;
+use std::alloc::Global;
 use std::test::Fail;
 
 /// Accounts of a number and three bytes.
@@ -137,12 +140,18 @@ fn a_run_without_memory_stands_or_breaks(rt: HostRuntime) -> Result<(), Fail> {
     Ok(())
 }
 
+/// What a check answers of the plan that counts the rows of a table of the bank.
+fn check_of(alloc: Global, table: u8) -> Result<Result<(), PlanFault>, Fail> {
+    let schema = bank(alloc)?;
+    let plan = plan_of(alloc, &Wish { table, ..COUNT })?;
+    Ok(plan.check(&schema))
+}
+
 /// The laws of replicas can be called too.
 #[test]
 fn a_plan_fits_where_its_table_is_there(rt: HostRuntime) -> Result<(), Fail> {
-    let schema = bank(rt.alloc())?;
-    assert_eq!(rt; Plan { table: 1 }.check(&schema), Ok(()));
-    assert_eq!(rt; Plan { table: 2 }.check(&schema), Err(PlanFault::NoTable));
+    assert_eq!(rt; check_of(rt.alloc(), 1)?, Ok(()));
+    assert_eq!(rt; check_of(rt.alloc(), 2)?, Err(PlanFault::NoTable));
     fed_replicas_stay_fed();
     Ok(())
 }

@@ -38,6 +38,8 @@ mod long_journals;
 #[cfg(test)]
 mod merges;
 #[cfg(test)]
+mod opened_plans;
+#[cfg(test)]
 mod plain_queries;
 #[cfg(test)]
 mod primary_starts;
@@ -59,6 +61,10 @@ mod script_faults;
 mod script_frames;
 #[cfg(test)]
 mod script_memory;
+#[cfg(test)]
+mod script_plan_faults;
+#[cfg(test)]
+mod script_plans;
 #[cfg(test)]
 mod script_stops;
 #[cfg(test)]

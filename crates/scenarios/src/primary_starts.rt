@@ -1,6 +1,5 @@
 //! A primary on a journal: what it starts with and what then stands there, whatever a stop left or a
 //! store refused, and what becomes of commits whose records the journal did not take.
-//!
 ghost use Rattle.std.specs.Prelude.{◌≡◌, IfOk};
 
 use crate::failing_journal::{Failing, FailingJournal, Failure, Refused};

@@ -89,20 +89,22 @@ fn filled(alloc: Global, schema: &Schema, lines: &[Line]) -> Result<PlainStore, 
 fn conditions_of(
     alloc: Global,
     wished: &[(Column, Comparison, Cell)],
-) -> Result<ConditionList, Fail> {
+) -> Result<ConditionList, AllocError> {
     let mut conditions = Vec::with_capacity(alloc, wished.len())?;
     for (column, comparison, cell) in wished {
-        conditions.push(Condition {
-            column: *column,
-            comparison: *comparison,
-            value: value_of(*cell).ok_or("no value")?,
-        })?;
+        if let Some(value) = value_of(*cell) {
+            conditions.push(Condition {
+                column: *column,
+                comparison: *comparison,
+                value,
+            })?;
+        }
     }
     Ok(ConditionList::from_vec(conditions))
 }
 
 /// The plan that is wished for.
-fn plan_of(alloc: Global, wish: &Wish<'_>) -> Result<Plan, Fail> {
+pub fn plan_of(alloc: Global, wish: &Wish<'_>) -> Result<Plan, AllocError> {
     Ok(Plan {
         table: wish.table,
         join: wish.join,
@@ -148,7 +150,7 @@ pub fn report_of(
 }
 
 /// Accounts of two numbers, and sites of two octets.
-const SHOP: Tables<'static> = &[
+pub const SHOP: Tables<'static> = &[
     ("acct", &[Kind::Int, Kind::Int]),
     ("site", &[Kind::Octets(2)]),
 ];
@@ -180,7 +182,7 @@ const GREATEST: [Line; 2] = [
 ];
 
 /// How many accounts there are.
-const COUNT: Wish<'static> = Wish {
+pub const COUNT: Wish<'static> = Wish {
     table: 0,
     join: None,
     conditions: &[],
@@ -189,7 +191,7 @@ const COUNT: Wish<'static> = Wish {
 };
 
 /// The same of the accounts whose first column names a site.
-const JOINED: Wish<'static> = Wish {
+pub const JOINED: Wish<'static> = Wish {
     join: Some(Join {
         column: 0,
         table: 1,
@@ -198,7 +200,7 @@ const JOINED: Wish<'static> = Wish {
 };
 
 /// The plans on accounts and sites.
-const WISHES: [Wish<'static>; 5] = [
+pub const WISHES: [Wish<'static>; 5] = [
     Wish {
         groups: &[Column::Joined(0)],
         aggregates: &[
@@ -297,8 +299,16 @@ fn sums_are_exact(rt: HostRuntime) -> Result<(), Fail> {
 /// A condition that every account meets.
 const ANY: (Column, Comparison, Cell) = (Column::Own(0), Comparison::NotEqual, Cell::Number(77));
 
-/// Plans that do not fit.
-const UNFIT: [(Wish<'static>, PlanFault); 8] = [
+/// As much of everything as a plan may have.
+pub const MOST: Wish<'static> = Wish {
+    conditions: &[ANY; 8],
+    groups: &[Column::Own(0), Column::Own(1)],
+    aggregates: &[Aggregate::Count; 8],
+    ..COUNT
+};
+
+/// Plans that do not fit, each with its first fault.
+pub const UNFIT: [(Wish<'static>, PlanFault); 17] = [
     (Wish { table: 1, ..SUM }, PlanFault::WrongKind),
     (
         Wish {
@@ -346,6 +356,79 @@ const UNFIT: [(Wish<'static>, PlanFault); 8] = [
             ..COUNT
         },
         PlanFault::NoTable,
+    ),
+    (
+        Wish {
+            groups: &[Column::Own(0), Column::Own(1), Column::Own(0)],
+            ..COUNT
+        },
+        PlanFault::TooMany,
+    ),
+    (
+        Wish {
+            aggregates: &[Aggregate::Count; 9],
+            ..COUNT
+        },
+        PlanFault::TooMany,
+    ),
+    (
+        Wish {
+            conditions: &[ANY; 9],
+            aggregates: &[],
+            ..COUNT
+        },
+        PlanFault::TooMany,
+    ),
+    (
+        Wish {
+            table: 2,
+            aggregates: &[],
+            ..COUNT
+        },
+        PlanFault::NoAggregate,
+    ),
+    (
+        Wish {
+            table: 2,
+            groups: &[Column::Own(9)],
+            ..COUNT
+        },
+        PlanFault::NoTable,
+    ),
+    (
+        Wish {
+            join: Some(Join {
+                column: 2,
+                table: 1,
+            }),
+            ..COUNT
+        },
+        PlanFault::NoColumn,
+    ),
+    (
+        Wish {
+            table: 1,
+            join: Some(Join {
+                column: 0,
+                table: 0,
+            }),
+            ..COUNT
+        },
+        PlanFault::WrongKind,
+    ),
+    (
+        Wish {
+            groups: &[Column::Own(2)],
+            ..COUNT
+        },
+        PlanFault::NoColumn,
+    ),
+    (
+        Wish {
+            aggregates: &[Aggregate::Sum(Column::Joined(0))],
+            ..JOINED
+        },
+        PlanFault::WrongKind,
     ),
 ];
 

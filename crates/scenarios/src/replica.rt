@@ -1,24 +1,34 @@
 //! What is done with a replica, step by step, and what it answers.
 
+use crate::queries::{COUNT, Wish, plan_of};
 use crate::wanted::Table;
 use crate::worker_datagrams::{
     FRAME, HEAD, Insert, ask_of, changed, frame_at, frame_of, head_of, want_of,
 };
-use dispatcher::{AskFault, Got, OpenFault, Plan, ReplicaCore, Run};
+use dispatcher::{AskFault, Got, OpenFault, ReplicaCore, Run};
+use plans::PlanFault;
 use rows::Schema;
-use std::alloc::Global;
+use std::alloc::{AllocError, Global};
 use std::test::Fail;
 use store::PlainStore;
 use wire::{Out, To};
 
 /// What is done with replica 0, in its boot 1, and last what it answers.
 pub enum Step<'a> {
-    /// A query of this table is opened, and so many wait then.
+    /// A query that counts the rows of this table is opened, and so many wait then.
     Open(u8, usize),
-    /// Queries of table 0 are opened until so many wait.
+    /// Such queries of table 0 are opened until so many wait.
     OpenAll(usize),
-    /// A query of this table is not taken.
+    /// A query that counts the rows of this table is not taken.
     OpenRefused(u8, OpenFault),
+    /// The query that is wished for is opened, and so many wait then.
+    OpenWish(Wish<'a>, usize),
+    /// These queries are opened, where none waits.
+    OpenWishes(&'a [Wish<'a>]),
+    /// The query that is wished for is not taken.
+    OpenWishRefused(Wish<'a>, OpenFault),
+    /// None of these queries is taken: each has this fault.
+    OpenUnfit(&'a [(Wish<'a>, PlanFault)]),
     /// It asks for a version: its first Ask is on the way to the primary.
     Ask,
     /// It asks for a version, by the request of this number.
@@ -41,6 +51,8 @@ pub enum Step<'a> {
     Run(Ran<'a>),
     /// The batch is run twice, as refused memory leaves it: with this report once.
     RunTwice(&'a [u8]),
+    /// A batch of so many queries that count rows is run at version 0, where there are none.
+    RunAll(usize),
     /// It is asked for the number of its newest request.
     Request(u64),
     /// It is asked for its version.
@@ -82,7 +94,7 @@ pub fn other_step(
     story: &[Step<'_>],
 ) -> Result<Option<usize>, Fail> {
     let mut replica = fresh(alloc, workers, tables)?;
-    Ok(other_step_of(&mut replica, story))
+    Ok(other_step_of(alloc, &mut replica, story))
 }
 
 /// A fresh replica of so many workers, of these tables.
@@ -96,9 +108,13 @@ fn fresh(alloc: Global, workers: u8, tables: &[Table]) -> Result<ReplicaCore<Pla
 }
 
 /// The index of the first step that a replica answers otherwise.
-fn other_step_of(replica: &mut ReplicaCore<PlainStore>, story: &[Step<'_>]) -> Option<usize> {
+fn other_step_of(
+    alloc: Global,
+    replica: &mut ReplicaCore<PlainStore>,
+    story: &[Step<'_>],
+) -> Option<usize> {
     for (index, step) in story.iter().enumerate() {
-        if !is_answered(replica, step) {
+        if !is_answered(alloc, replica, step) {
             return Some(index);
         }
     }
@@ -106,11 +122,15 @@ fn other_step_of(replica: &mut ReplicaCore<PlainStore>, story: &[Step<'_>]) -> O
 }
 
 /// Whether it answers one step as it should.
-fn is_answered(replica: &mut ReplicaCore<PlainStore>, step: &Step<'_>) -> bool {
+fn is_answered(alloc: Global, replica: &mut ReplicaCore<PlainStore>, step: &Step<'_>) -> bool {
     match step {
-        Step::Open(table, count) => replica.open(Plan { table: *table }) == Ok(*count),
-        Step::OpenAll(count) => are_opened(replica, *count),
-        Step::OpenRefused(table, fault) => replica.open(Plan { table: *table }) == Err(*fault),
+        Step::Open(table, count) => opens(alloc, replica, &count_of(*table), Ok(*count)),
+        Step::OpenAll(count) => are_opened(alloc, replica, *count),
+        Step::OpenRefused(table, fault) => opens(alloc, replica, &count_of(*table), Err(*fault)),
+        Step::OpenWish(wish, count) => opens(alloc, replica, wish, Ok(*count)),
+        Step::OpenWishes(wishes) => open_in_turn(alloc, replica, wishes),
+        Step::OpenWishRefused(wish, fault) => opens(alloc, replica, wish, Err(*fault)),
+        Step::OpenUnfit(unfit) => are_unfit(alloc, replica, unfit),
         Step::Ask => asks(replica, 1),
         Step::AskOf(request) => asks(replica, *request),
         Step::AskRefused(fault) => is_ask_refused(replica, *fault),
@@ -128,6 +148,7 @@ fn is_answered(replica: &mut ReplicaCore<PlainStore>, step: &Step<'_>) -> bool {
         }
         Step::Run(ran) => runs(replica, ran),
         Step::RunTwice(report) => runs_twice(replica, report),
+        Step::RunAll(count) => runs_all(alloc, replica, *count),
         Step::Request(number) => replica.request() == *number,
         Step::Version(number) => replica.version() == *number,
     }
@@ -138,10 +159,53 @@ fn gets(replica: &mut ReplicaCore<PlainStore>, bytes: &[u8], answer: Got) -> boo
     replica.on_bytes(bytes) == answer
 }
 
+/// The query that counts the rows of a table.
+fn count_of(table: u8) -> Wish<'static> {
+    Wish { table, ..COUNT }
+}
+
+/// Whether it answers so where a query is opened. One without memory for its plan is answered
+/// otherwise.
+fn opens(
+    alloc: Global,
+    replica: &mut ReplicaCore<PlainStore>,
+    wish: &Wish<'_>,
+    answer: Result<usize, OpenFault>,
+) -> bool {
+    match plan_of(alloc, wish) {
+        Ok(plan) => replica.open(plan) == answer,
+        Err(_) => false,
+    }
+}
+
 /// Whether queries of table 0 are opened, where none waits, until so many do.
-fn are_opened(replica: &mut ReplicaCore<PlainStore>, count: usize) -> bool {
+fn are_opened(alloc: Global, replica: &mut ReplicaCore<PlainStore>, count: usize) -> bool {
     for waiting in 0..count {
-        if replica.open(Plan { table: 0 }) != Ok(waiting + 1) {
+        if !opens(alloc, replica, &COUNT, Ok(waiting + 1)) {
+            return false;
+        }
+    }
+    true
+}
+
+/// Whether these queries are opened, where none waits.
+fn open_in_turn(alloc: Global, replica: &mut ReplicaCore<PlainStore>, wishes: &[Wish<'_>]) -> bool {
+    for (waiting, wish) in wishes.iter().enumerate() {
+        if !opens(alloc, replica, wish, Ok(waiting + 1)) {
+            return false;
+        }
+    }
+    true
+}
+
+/// Whether each of these queries is refused for its fault.
+fn are_unfit(
+    alloc: Global,
+    replica: &mut ReplicaCore<PlainStore>,
+    unfit: &[(Wish<'_>, PlanFault)],
+) -> bool {
+    for (wish, fault) in unfit {
+        if !opens(alloc, replica, wish, Err(OpenFault::BadPlan(*fault))) {
             return false;
         }
     }
@@ -212,6 +276,23 @@ fn runs_twice(replica: &mut ReplicaCore<PlainStore>, report: &[u8]) -> bool {
         Run::Broken => runs(replica, &Ran::Broken) && replica.version() == 0,
         _ => false,
     }
+}
+
+/// Whether the batch is answered with the report of so many counts of no rows, at version 0.
+fn runs_all(alloc: Global, replica: &mut ReplicaCore<PlainStore>, count: usize) -> bool {
+    match report_of_counts(alloc, count) {
+        Ok(report) => runs(replica, &Ran::Answered(report.as_bytes())),
+        Err(_) => false,
+    }
+}
+
+/// The report of so many counts of no rows, at version 0.
+fn report_of_counts(alloc: Global, count: usize) -> Result<String, AllocError> {
+    let mut report = format!(in alloc; "version 0 queries {count}\n")?;
+    for number in 0..count {
+        write!(report, "query {number} rows 1\n0\n")?;
+    }
+    Ok(report)
 }
 
 /// Whether these bytes are on their way to the primary.

@@ -5,7 +5,7 @@ use std::alloc::Global;
 use std::test::Fail;
 
 /// What is said of scripts, and these: each stands behind the same front.
-type Group = (&'static str, &'static [&'static str]);
+pub type Group = (&'static str, &'static [&'static str]);
 
 /// Scripts that do not read.
 const BAD_SETTINGS: [Group; 6] = [
@@ -92,7 +92,7 @@ const BAD_EVENTS: [Group; 7] = [
             "flush 4294967296",
             "deliver 0 r1",
             "deliver 0 q",
-            "open 0 query acct get sum 0",
+            "open 0 query acct get sum",
             "run 1",
             "begin 0",
             "commit 0 0;",
@@ -232,7 +232,7 @@ fn other_text(
 }
 
 /// The same of groups of texts: the first group that has such a text, and its index.
-fn other_refusal(
+pub fn other_refusal(
     alloc: Global,
     settings: &str,
     front: &str,

@@ -7,7 +7,7 @@ use world::{Echo, RunFault, run_script};
 
 /// Changes of the primary, of what was sent, and of a replica, each beside the line that it
 /// answers.
-const STORY: [(&str, &str); 27] = [
+const STORY: [(&str, &str); 28] = [
     ("begin", "tx 0 at 0"),
     ("insert 0 acct 7 5 -1", "ok"),
     ("commit 0 0", "ticket 1"),
@@ -29,6 +29,10 @@ const STORY: [(&str, &str); 27] = [
     ("push 0 0", "sent 0 54"),
     ("deliver 0 r0", "stored"),
     ("open 0 query acct get count", "opened 1"),
+    (
+        "open 0 query acct join 0 acct where 0 > 0 and j1 < 9 by 0 j1 get count sum 1 min j0",
+        "opened 2",
+    ),
     ("ask 0", "sent 1 23"),
     ("deliver 1 p", "sent 2 40"),
     ("deliver 2 r0", "head 3"),
@@ -45,7 +49,7 @@ fn the_story_answers_as_it_should(rt: HostRuntime) -> Result<(), Fail> {
 
 /// The script of the story without the event of that index.
 fn script_without(alloc: Global, index: usize) -> Result<String, AllocError> {
-    let (before, behind) = STORY.split_at(index.min(27));
+    let (before, behind) = STORY.split_at(index.min(28));
     let mut script = script_of(alloc, SETTINGS, before)?;
     let (_, behind) = behind.split_at(behind.len().min(1));
     let rest = script_of(alloc, "", behind)?;

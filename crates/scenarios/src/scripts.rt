@@ -16,7 +16,7 @@ pub fn printed(alloc: Global, script: &[u8]) -> Result<Vec<u8>, Fail> {
 }
 
 /// What a script prints, with its events or without.
-fn printed_with(alloc: Global, echo: Echo, script: &[u8]) -> Result<Vec<u8>, Fail> {
+pub fn printed_with(alloc: Global, echo: Echo, script: &[u8]) -> Result<Vec<u8>, Fail> {
     let mut reader = script;
     let mut text = Vec::new(alloc);
     run_script(alloc, echo, &mut reader, &mut text)?;
@@ -88,7 +88,7 @@ pub fn is_text_of(
 }
 
 /// Adds a line.
-fn push_line(text: &mut String, front: &str, line: &str) -> Result<(), AllocError> {
+pub fn push_line(text: &mut String, front: &str, line: &str) -> Result<(), AllocError> {
     text.push_str(front)?;
     text.push_str(line)?;
     text.push_str("\n")

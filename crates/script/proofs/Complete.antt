@@ -1,8 +1,7 @@
 -- What is spelled so is read: the words of an event give it.
-use Rattle.std.proofs.Common.{◌≡◌, ℕ, ◌<◌, ◌^◌, List, [], ◌∷◌, true, Option}
+use Rattle.std.proofs.Common.{◌≡◌, ℕ, ◌<◌, ◌^◌, List, [], ◌∷◌, Option}
 use Rattle.std.proofs.Common.{None, Some, Result, Ok, Err}
-use Rattle.std.proofs.Common.{refl, arith, IfSome, decimal}
-use Rattle.rows.specs.declared.kind.Kind.{Kind}
+use Rattle.std.proofs.Common.{refl, arith, decimal}
 use Rattle.rows.specs.declared.row_id.RowId.{RowId}
 use Rattle.rows.specs.declared.value.Value.{Value}
 use Rattle.script.specs.declared.event.Event.{Event}
@@ -13,16 +12,21 @@ use Rattle.script.specs.declared.event.Node.TheVariants.{Primary, Replica}
 use Rattle.script.specs.declared.setup.Setup.{Setup}
 use Rattle.script.specs.declared.faults.Reason.{Reason}
 use Rattle.script.specs.declared.faults.Reason.TheVariants.{UnknownEvent, NoTable}
-use Rattle.script.specs.Text.{is_name}
-use Rattle.script.specs.EventText.{event_words, table_in, node_text}
+use Rattle.script.specs.EventText.{event_words, tables_in, node_text}
 use Rattle.script.specs.Events.{HasLine, IsPossible, IsThere}
-use Rattle.script.specs.EventLines.{table_called}
-use Rattle.script.specs.Inner.Reading.{placed, or_no_table, table_of, row_of, node_of, begin_of, commit_of, abort_of, flush_of}
+use Rattle.script.specs.Tables.{table_called}
+use Rattle.script.specs.Inner.Reading.{placed, row_of, node_of, begin_of, commit_of, abort_of, flush_of}
+use Rattle.script.specs.Inner.WordReading.{or_no_table}
 use Rattle.script.specs.Inner.Reading.{push_of, stop_of, start_of}
-use Rattle.script.specs.Inner.Reading.{deliver_of, show_of, replica_of, insert_of, set_of, delete_of, get_of, plan_of, open_of, on_table}
+use Rattle.script.specs.Inner.Reading.{deliver_of, show_of, replica_of, insert_of, set_of, delete_of, get_of, open_of}
+use Rattle.script.specs.Inner.PlanReading.{plan_of}
 use Rattle.script.specs.Inner.Reading.{opened}
 use Rattle.script.specs.Inner.Reading.{one_of, two_of, three_of, four_of, five_of, three_and_more}
 use Rattle.script.specs.Inner.Reading.{replica_event, network_event, primary_event, event_of}
+use Rattle.script.specs.Tables.{AreNamed}
+use Rattle.script.specs.PlanText.{plan_words}
+use Rattle.script.specs.Inner.PlanReading.{plan_of}
+use Rattle.script.proofs.Tables.{table_of-name}
 use Rattle.script.proofs.Numbers.{number_of-decimal, below_of-decimal}
 use Rattle.script.proofs.Values.{value_of-text, values_of-text}
 
@@ -31,17 +35,18 @@ abbrev pub tabled : Option ℕ → (ℕ → Event) → Result Event Reason
 tabled None make = Err NoTable
 tabled (Some table) make = Ok (make table)
 
--- an event with the table of this name
-abbrev pub at_table : Setup → List ℕ → Event → Result Event Reason
-at_table setup name (Insert transaction table row values) =
-    tabled (table_called setup.schema name) (λ found. Insert transaction found row values)
-at_table setup name (Set transaction table row column value) =
-    tabled (table_called setup.schema name) (λ found. Set transaction found row column value)
-at_table setup name (Delete transaction table row) = tabled (table_called setup.schema name) (λ found. Delete transaction found row)
-at_table setup name (Get transaction table row column) =
-    tabled (table_called setup.schema name) (λ found. Get transaction found row column)
-at_table setup name (Open replica plan) = tabled (table_called setup.schema name) (λ found. Open replica (record { table = found }))
-at_table setup name other = Ok other
+-- an event with the tables of these names
+abbrev pub at_tables : Setup → (ℕ → List ℕ) → Event → Result Event Reason
+at_tables setup naming (Insert transaction table row values) =
+    tabled (table_called setup.schema (naming table)) (λ found. Insert transaction found row values)
+at_tables setup naming (Set transaction table row column value) =
+    tabled (table_called setup.schema (naming table)) (λ found. Set transaction found row column value)
+at_tables setup naming (Delete transaction table row) =
+    tabled (table_called setup.schema (naming table)) (λ found. Delete transaction found row)
+at_tables setup naming (Get transaction table row column) =
+    tabled (table_called setup.schema (naming table)) (λ found. Get transaction found row column)
+at_tables setup naming (Open replica plan) = opened (Some replica) (plan_of setup.schema (plan_words naming plan))
+at_tables setup naming other = Ok other
 
 -- what words give
 abbrev pub words_event : Setup → List (List ℕ) → Result Event Reason
@@ -53,11 +58,6 @@ placed-tabled : {A : Type 0} (parts : A) (found : Option ℕ) (make : A → ℕ 
 placed-tabled parts None make = refl
 placed-tabled parts (Some table) make = refl
 
-pub table_of-name : (schema : List (List ℕ × List Kind)) (name : List ℕ) → is_name name ≡ true
-    → table_of schema name ≡ or_no_table (table_called schema name)
-unfolding table_of
-table_of-name schema name h = rw h refl
-
 row_of-text : (transaction : ℕ) (row : RowId) → transaction < 2 ^ 64 → row.0 < 2 ^ 64
     → row_of (decimal transaction) (decimal row.0) ≡ Some (transaction, row)
 unfolding row_of
@@ -68,55 +68,49 @@ unfolding node_of
 node_of-text replicas Primary h there = refl
 node_of-text replicas (Replica number) h there = rw (below_of-decimal replicas number there (omega arith)) refl
 
-opened-tabled : (replica : ℕ) (found : Option ℕ)
-    → opened (Some replica) (on_table (or_no_table found)) ≡ tabled found (λ table. Open replica (record { table = table }))
-opened-tabled replica None = refl
-opened-tabled replica (Some table) = refl
-
--- the words of an event give it, on the table of its name
-pub complete : (setup : Setup) (name : List ℕ) (event : Event) → setup.workers < 2 ^ 64 → setup.replicas < 2 ^ 64
-    → IfSome (table_in event) (λ table. is_name name ≡ true) → HasLine event → IsPossible setup.workers setup.replicas event
-    → words_event setup (event_words name event) ≡ at_table setup name event
+-- the words of an event give it, on the tables of its names
+pub complete : (setup : Setup) (naming : ℕ → List ℕ) (event : Event) → setup.workers < 2 ^ 64 → setup.replicas < 2 ^ 64
+    → AreNamed naming (tables_in event) → HasLine event → IsPossible setup.workers setup.replicas event
+    → words_event setup (event_words naming event) ≡ at_tables setup naming event
 unfolding event_of primary_event network_event replica_event begin_of commit_of abort_of flush_of stop_of start_of push_of deliver_of
-    show_of replica_of insert_of set_of delete_of get_of plan_of open_of one_of two_of three_of four_of five_of three_and_more
-complete setup name Begin w r named form possible = refl
-complete setup name (Insert transaction table row []) w r named form possible = absurd (omega arith)
-complete setup name (Insert transaction table row (value ∷ values)) w r named form possible =
+    show_of replica_of insert_of set_of delete_of get_of open_of one_of two_of three_of four_of five_of three_and_more
+complete setup naming Begin w r named form possible = refl
+complete setup naming (Insert transaction table row []) w r named form possible = absurd (omega arith)
+complete setup naming (Insert transaction table row (value ∷ values)) w r named form possible =
     rw (row_of-text transaction row form.0 form.1)
     (rw (values_of-text (value ∷ values) form.3)
-    (rw (table_of-name setup.schema name named)
-    (placed-tabled {A = (ℕ × RowId) × List Value} ((transaction, row), value ∷ values) (table_called setup.schema name)
+    (rw (table_of-name setup.schema (naming table) named.0)
+    (placed-tabled {A = (ℕ × RowId) × List Value} ((transaction, row), value ∷ values) (table_called setup.schema (naming table))
     (λ parts found. Insert parts.0.0 found parts.0.1 parts.1))))
-complete setup name (Set transaction table row column value) w r named form possible =
+complete setup naming (Set transaction table row column value) w r named form possible =
     rw (row_of-text transaction row form.0 form.1)
     (rw (below_of-decimal (2 ^ 8) column form.2 (omega arith))
     (rw (value_of-text value form.3)
-    (rw (table_of-name setup.schema name named)
-    (placed-tabled {A = (ℕ × RowId) × (ℕ × Value)} ((transaction, row), (column, value)) (table_called setup.schema name)
+    (rw (table_of-name setup.schema (naming table) named.0)
+    (placed-tabled {A = (ℕ × RowId) × (ℕ × Value)} ((transaction, row), (column, value)) (table_called setup.schema (naming table))
     (λ parts found. Set parts.0.0 found parts.0.1 parts.1.0 parts.1.1)))))
-complete setup name (Delete transaction table row) w r named form possible =
+complete setup naming (Delete transaction table row) w r named form possible =
     rw (row_of-text transaction row form.0 form.1)
-    (rw (table_of-name setup.schema name named)
-    (placed-tabled {A = ℕ × RowId} (transaction, row) (table_called setup.schema name) (λ at found. Delete at.0 found at.1)))
-complete setup name (Get transaction table row column) w r named form possible =
+    (rw (table_of-name setup.schema (naming table) named.0)
+    (placed-tabled {A = ℕ × RowId} (transaction, row) (table_called setup.schema (naming table)) (λ at found. Delete at.0 found at.1)))
+complete setup naming (Get transaction table row column) w r named form possible =
     rw (row_of-text transaction row form.0 form.1)
     (rw (below_of-decimal (2 ^ 8) column form.2 (omega arith))
-    (rw (table_of-name setup.schema name named)
-    (placed-tabled {A = (ℕ × RowId) × ℕ} ((transaction, row), column) (table_called setup.schema name)
+    (rw (table_of-name setup.schema (naming table) named.0)
+    (placed-tabled {A = (ℕ × RowId) × ℕ} ((transaction, row), column) (table_called setup.schema (naming table))
     (λ parts found. Get parts.0.0 found parts.0.1 parts.1))))
-complete setup name (Commit transaction worker) w r named form possible =
+complete setup naming (Commit transaction worker) w r named form possible =
     rw (number_of-decimal transaction form) (rw (below_of-decimal setup.workers worker possible (omega arith)) refl)
-complete setup name (Abort transaction) w r named form possible = rw (number_of-decimal transaction form) refl
-complete setup name (Flush count) w r named form possible = rw (below_of-decimal (2 ^ 32) count form (omega arith)) refl
-complete setup name (Stop bytes) w r named form possible = rw (number_of-decimal bytes form) refl
-complete setup name Start w r named form possible = refl
-complete setup name (Push worker seq) w r named form possible =
+complete setup naming (Abort transaction) w r named form possible = rw (number_of-decimal transaction form) refl
+complete setup naming (Flush count) w r named form possible = rw (below_of-decimal (2 ^ 32) count form (omega arith)) refl
+complete setup naming (Stop bytes) w r named form possible = rw (number_of-decimal bytes form) refl
+complete setup naming Start w r named form possible = refl
+complete setup naming (Push worker seq) w r named form possible =
     rw (below_of-decimal setup.workers worker possible (omega arith)) (rw (number_of-decimal seq form) refl)
-complete setup name (Deliver index node) w r named form possible =
+complete setup naming (Deliver index node) w r named form possible =
     rw (number_of-decimal index form) (rw (node_of-text setup.replicas node r possible) refl)
-complete setup name (Show index) w r named form possible = rw (number_of-decimal index form) refl
-complete setup name (Open replica plan) w r named form possible =
-    rw (below_of-decimal setup.replicas replica possible (omega arith))
-    (rw (table_of-name setup.schema name named) (opened-tabled replica (table_called setup.schema name)))
-complete setup name (Ask replica) w r named form possible = rw (below_of-decimal setup.replicas replica possible (omega arith)) refl
-complete setup name (Run replica) w r named form possible = rw (below_of-decimal setup.replicas replica possible (omega arith)) refl
+complete setup naming (Show index) w r named form possible = rw (number_of-decimal index form) refl
+complete setup naming (Open replica plan) w r named form possible =
+    rw (below_of-decimal setup.replicas replica possible (omega arith)) refl
+complete setup naming (Ask replica) w r named form possible = rw (below_of-decimal setup.replicas replica possible (omega arith)) refl
+complete setup naming (Run replica) w r named form possible = rw (below_of-decimal setup.replicas replica possible (omega arith)) refl

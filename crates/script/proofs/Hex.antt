@@ -11,7 +11,7 @@ use Rattle.std.specs.Fmt.{digit_glyph}
 use Rattle.rows.specs.Limits.{octets_max}
 use Rattle.rows.specs.Spelling.{AreBytes}
 use Rattle.rows.specs.Text.{hex_text}
-use Rattle.script.specs.Inner.Reading.{both, made, two, digit_of, byte_of, bytes_of, sized, octets_of}
+use Rattle.script.specs.Inner.WordReading.{both, made, two, digit_of, byte_of, bytes_of, sized, octets_of}
 
 -- the parts of what two of them made
 pub both-some : {A B C : Type 0} (first : Option A) (second : Option B) (make : A → B → C) (c : C) → both first second make ≡ Some c

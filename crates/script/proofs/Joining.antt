@@ -4,7 +4,7 @@ use Rattle.std.proofs.Common.{append-nil}
 use Rattle.std.proofs.lemmas.List.{map-append, take_more}
 use Rattle.std.proofs.lemmas.List.Concat.{flat_map-append}
 use Rattle.rows.specs.Text.{words_text}
-use Rattle.script.specs.Inner.Words.{tail_text}
+use Rattle.script.specs.Inner.Lines.{tail_text}
 
 -- the words behind the first stand each behind a space
 pub words-text : (first : List ℕ) (words : List (List ℕ)) → words_text (first ∷ words) ≡ first ++ tail_text words

@@ -1,9 +1,17 @@
-mod Joining
-mod Splitting
-mod Plain
+pub mod WordSplitting
+pub mod Plain
+pub mod Joining
 pub mod Numbers
 pub mod Hex
 pub mod Values
+pub mod WordSpaces
+pub mod Tables
+pub mod PlanParts
+pub mod PlanSeries
+pub mod PlanSteps
+pub mod PlanLaws
+mod Splitting
+mod KindWords
 pub mod Arity
 pub mod Complete
 pub mod Sound

@@ -12,7 +12,7 @@ use Rattle.std.proofs.lemmas.Bool.Decides.{nat_tests}
 use Rattle.std.proofs.lemmas.Fmt.{decimal_is_IsNumeral}
 use Rattle.std.proofs.lemmas.Str.Parse.{digit_at}
 use Rattle.std.proofs.lemmas.Slice.Eq.{bytes_eq-Decides}
-use Rattle.script.specs.Inner.Reading.{number_of, below_of, under, int_of, negative, positive}
+use Rattle.script.specs.Inner.WordReading.{number_of, below_of, under, int_of, negative, positive}
 
 -- equal words pass the test, and only they
 pub words_eq : (xs : List ℕ) → bytes_eq xs xs ≡ true

@@ -14,7 +14,7 @@ use Rattle.script.specs.declared.faults.LineFault.{LineFault}
 use Rattle.script.specs.declared.faults.LineFault.TheVariants.{Because, Memory}
 use Rattle.script.specs.Inner.LineFaults.{OrMemory}
 use Rattle.script.specs.Inner.SettingWords.{table_words, IsTableMore, IsNoTableMore, IsSettingFault}
-use Rattle.script.proofs.Splitting.{IsPlain, parts_words, words-of-line, line-of-words}
+use Rattle.script.proofs.WordSplitting.{IsPlain, parts_words, words-of-line, line-of-words}
 use Rattle.script.proofs.Plain.{plain-by-test, decimal-plain}
 use Rattle.script.proofs.TableLines.{HasTableLine, table-plain, schema-has-lines, last-table}
 

@@ -1,7 +1,7 @@
 -- What is read is spelled so: an event that words give has these words, and what is no event begins as it is said.
 use Rattle.std.proofs.Common.{◌≡◌, ℕ, ◌<◌, ◌^◌, List, [], ◌∷◌, map, length, drop, Bool, true, false, cond, Option}
 use Rattle.std.proofs.Common.{None, Some, Result, Ok, Err}
-use Rattle.std.proofs.Common.{refl, sym, ap, ◌∙◌, subst, arith, IfSome, IsSome, slice_index, ◌==◌, codes, decimal, ◌&&◌}
+use Rattle.std.proofs.Common.{refl, sym, ap, ◌∙◌, subst, arith, slice_index, ◌==◌, codes, decimal}
 use Rattle.std.specs.List.{AllByRecursion, list_any}
 use Rattle.std.specs.Str.{bytes_eq}
 use Rattle.rows.specs.declared.row_id.RowId.{RowId}
@@ -18,26 +18,35 @@ use Rattle.script.specs.declared.setup.Setup.{Setup}
 use Rattle.script.specs.declared.faults.Reason.{Reason}
 use Rattle.script.specs.declared.faults.Reason.TheVariants.{NotText, BadSetting, UnknownEvent, BadWords, NoTable}
 use Rattle.script.specs.Text.{is_name}
-use Rattle.script.specs.EventText.{event_words, table_in, node_text}
-use Rattle.script.specs.Events.{HasLine, HasWord, IsPossible, IsThere, IsValue}
-use Rattle.script.specs.EventLines.{table_called, event_names, setting_names}
-use Rattle.script.specs.Inner.Reading.{both, two, made, number_of, below_of, value_of, values_of}
-use Rattle.script.specs.Inner.Reading.{placed, or_no_table, or_bad_words, table_of, row_of, row_id, node_of, begin_of, commit_of}
+use Rattle.script.specs.EventText.{event_words, tables_in, node_text}
+use Rattle.script.specs.Events.{HasLine, IsPossible, IsThere, IsValue}
+use Rattle.script.specs.Values.{HasWord}
+use Rattle.script.specs.Tables.{table_called}
+use Rattle.script.specs.EventLines.{event_names, setting_names}
+use Rattle.script.specs.Inner.WordReading.{both, two, made, number_of, below_of, value_of, values_of}
+use Rattle.script.specs.Inner.Reading.{placed, or_bad_words, row_of, row_id, node_of, begin_of, commit_of}
+use Rattle.script.specs.Inner.WordReading.{or_no_table, table_of}
 use Rattle.script.specs.Inner.Reading.{abort_of, flush_of, stop_of, start_of, push_of}
-use Rattle.script.specs.Inner.Reading.{deliver_of, show_of, replica_of, insert_of, set_of, delete_of, get_of, plan_of, open_of, on_table}
+use Rattle.script.specs.Inner.Reading.{deliver_of, show_of, replica_of, insert_of, set_of, delete_of, get_of, open_of}
+use Rattle.script.specs.Inner.PlanReading.{plan_of}
 use Rattle.script.specs.Inner.Reading.{opened}
 use Rattle.script.specs.Inner.Reading.{one_of, two_of, three_of, four_of, five_of, three_and_more}
 use Rattle.script.specs.Inner.Reading.{replica_event, network_event, primary_event, event_of}
+use Rattle.plans.specs.declared.plan.Plan.{Plan}
+use Rattle.script.specs.Tables.{name_in, AreNamed, AreFound, IsOneMissing}
+use Rattle.script.specs.Inner.PlanReading.{plan_of}
+use Rattle.script.proofs.Tables.{named_so}
+use Rattle.script.proofs.PlanLaws.{IsPlanSound, plan-sound}
 use Rattle.script.proofs.Numbers.{number_of-some, below_of-some, first-is, words_same}
 use Rattle.script.proofs.Hex.{both-some, two-some, made-some}
 use Rattle.script.proofs.Values.{value_of-some, values_of-some}
 
--- words are those of an event that a line can have, whose table, where it has one, has this name
-pub record IsOf (setup : Setup) (name : List ℕ) (event : Event) (words : List (List ℕ)) : Type 0 where
-  pub named : IfSome (table_in event) (λ table. is_name name ≡ true)
+-- words are those of an event that a line can have, whose tables have these names
+pub record IsOf (setup : Setup) (naming : ℕ → List ℕ) (event : Event) (words : List (List ℕ)) : Type 0 where
+  pub named : AreNamed naming (tables_in event)
   pub form : HasLine event
   pub possible : IsPossible setup.workers setup.replicas event
-  pub spelled : event_words name event ≡ words
+  pub spelled : event_words naming event ≡ words
 
 abbrev pub is_known : List ℕ → Bool
 is_known first = list_any (λ name. bytes_eq first name) event_names
@@ -48,14 +57,14 @@ sets first = list_any (λ name. bytes_eq first name) setting_names
 -- what an answer on these words says of them
 abbrev pub IsSound : Setup → List ℕ → List (List ℕ) → Result Event Reason → Type 0
 IsSound setup first words (Ok event) =
-    (name : List ℕ) × IsOf setup name event (first ∷ words) × IfSome (table_in event) (λ table. table_called setup.schema name ≡ Some table)
+    IsOf setup (name_in setup.schema) event (first ∷ words) × AreFound setup.schema (tables_in event)
 IsSound setup first words (Err NotText) = ⊥
 IsSound setup first words (Err BadSetting) = sets first ≡ true
 IsSound setup first words (Err UnknownEvent) = (sets first ≡ false) × (is_known first ≡ false)
 IsSound setup first words (Err BadWords) = is_known first ≡ true
 IsSound setup first words (Err NoTable) =
-    (name : List ℕ) × (event : Event) × IsOf setup name event (first ∷ words) × IsSome (table_in event)
-    × (table_called setup.schema name ≡ None)
+    (naming : ℕ → List ℕ) × (event : Event) × IsOf setup naming event (first ∷ words)
+    × IsOneMissing setup.schema naming (tables_in event)
 
 plain : (setup : Setup) (first : List ℕ) (words : List (List ℕ)) (found : Option Event) → is_known first ≡ true
     → ((event : Event) → found ≡ Some event → IsSound setup first words (Ok event)) → IsSound setup first words (or_bad_words found)
@@ -65,8 +74,9 @@ plain setup first words (Some event) known sound = sound event refl
 -- an event on a table, of parts that words give
 located : {A : Type 0} (setup : Setup) (first : List ℕ) (words : List (List ℕ)) (parts : Option A) (name : List ℕ) (make : A → ℕ → Event)
     → is_known first ≡ true
-    → ((a : A) (table : ℕ) → parts ≡ Some a → is_name name ≡ true → IsOf setup name (make a table) (first ∷ words))
-    → ((a : A) (table : ℕ) → table_in (make a table) ≡ Some table)
+    → ((a : A) (table : ℕ) (naming : ℕ → List ℕ) → parts ≡ Some a → naming table ≡ name → is_name (naming table) ≡ true
+    → IsOf setup naming (make a table) (first ∷ words))
+    → ((a : A) (table : ℕ) → tables_in (make a table) ≡ table ∷ [])
     → IsSound setup first words (placed parts (table_of setup.schema name) make)
 unfolding table_of
 located setup first words None name make known good at = known
@@ -76,11 +86,14 @@ located setup first words (Some a) name make known good at = by (is_name name) r
         → IsSound setup first words (placed (Some a) (cond is (or_no_table found) (Err BadWords)) make)
     by false e found f = known
     by true e None f =
-        let P : Option ℕ → Type 0 = λ o. IsSome o in
-        (name, make a 0, good a 0 refl e, subst P (sym (at a 0)) refl, f)
+        let P : List ℕ → Type 0 = λ tables. IsOneMissing setup.schema (λ table. name) tables in
+        ((λ table. name), make a 0, good a 0 (λ table. name) refl refl e, subst P (sym (at a 0)) (0, (0, omega arith, refl), f))
     by true e (Some table) f =
-        let P : Option ℕ → Type 0 = λ o. IfSome o (λ t. table_called setup.schema name ≡ Some t) in
-        (name, good a table refl e, subst P (sym (at a table)) f)
+        let P : List ℕ → Type 0 = λ tables. AreFound setup.schema tables in
+        let same : name_in setup.schema table ≡ name = named_so setup.schema name table f in (
+          good a table (name_in setup.schema) refl same (ap is_name same ∙ e),
+          subst P (sym (at a table)) (ap (table_called setup.schema) same ∙ f, tt),
+        )
 
 row_of-some : (transaction row : List ℕ) (at : ℕ × RowId) → row_of transaction row ≡ Some at
     → (at.0 < 2 ^ 64) × (at.1.0 < 2 ^ 64) × (decimal at.0 ≡ transaction) × (decimal at.1.0 ≡ row)
@@ -114,7 +127,7 @@ node_of-some replicas word node h = by (bytes_eq word (codes "p")) refl (slice_i
 
 begin-sound : (setup : Setup) (words : List (List ℕ)) → IsSound setup (codes "begin") words (or_bad_words (begin_of words))
 unfolding begin_of
-begin-sound setup [] = ([], record { named = tt; form = tt; possible = tt; spelled = refl }, tt)
+begin-sound setup [] = (record { named = tt; form = tt; possible = tt; spelled = refl }, tt)
 begin-sound setup (word ∷ words) = refl
 
 commit-sound : (setup : Setup) (words : List (List ℕ))
@@ -129,7 +142,7 @@ commit-sound setup (transaction ∷ worker ∷ []) =
     let t = number_of-some transaction p.0 p.2 in
     let w = below_of-some setup.workers worker p.1 p.3 in
     let P : Event → Type 0 = λ it. IsSound setup (codes "commit") (transaction ∷ worker ∷ []) (Ok it) in
-    subst P p.4 ([], record { named = tt; form = t.0; possible = w.0; spelled = rw t.1 (rw w.1 refl) }, tt))
+    subst P p.4 (record { named = tt; form = t.0; possible = w.0; spelled = rw t.1 (rw w.1 refl) }, tt))
 commit-sound setup (transaction ∷ worker ∷ other ∷ words) = refl
 
 abort-sound : (setup : Setup) (words : List (List ℕ)) → IsSound setup (codes "abort") words (or_bad_words (abort_of words))
@@ -141,7 +154,7 @@ abort-sound setup (transaction ∷ []) =
     let p = made-some Abort (number_of transaction) event e in
     let t = number_of-some transaction p.0 p.1 in
     let P : Event → Type 0 = λ it. IsSound setup (codes "abort") (transaction ∷ []) (Ok it) in
-    subst P p.2 ([], record { named = tt; form = t.0; possible = tt; spelled = rw t.1 refl }, tt))
+    subst P p.2 (record { named = tt; form = t.0; possible = tt; spelled = rw t.1 refl }, tt))
 abort-sound setup (transaction ∷ other ∷ words) = refl
 
 flush-sound : (setup : Setup) (words : List (List ℕ)) → IsSound setup (codes "flush") words (or_bad_words (flush_of words))
@@ -153,7 +166,7 @@ flush-sound setup (count ∷ []) =
     let p = made-some Flush (below_of (2 ^ 32) count) event e in
     let t = below_of-some (2 ^ 32) count p.0 p.1 in
     let P : Event → Type 0 = λ it. IsSound setup (codes "flush") (count ∷ []) (Ok it) in
-    subst P p.2 ([], record { named = tt; form = t.0; possible = tt; spelled = rw t.1 refl }, tt))
+    subst P p.2 (record { named = tt; form = t.0; possible = tt; spelled = rw t.1 refl }, tt))
 flush-sound setup (count ∷ other ∷ words) = refl
 
 stop-sound : (setup : Setup) (words : List (List ℕ)) → IsSound setup (codes "stop") words (or_bad_words (stop_of words))
@@ -165,12 +178,12 @@ stop-sound setup (bytes ∷ []) =
     let p = made-some Stop (number_of bytes) event e in
     let t = number_of-some bytes p.0 p.1 in
     let P : Event → Type 0 = λ it. IsSound setup (codes "stop") (bytes ∷ []) (Ok it) in
-    subst P p.2 ([], record { named = tt; form = t.0; possible = tt; spelled = rw t.1 refl }, tt))
+    subst P p.2 (record { named = tt; form = t.0; possible = tt; spelled = rw t.1 refl }, tt))
 stop-sound setup (bytes ∷ other ∷ words) = refl
 
 start-sound : (setup : Setup) (words : List (List ℕ)) → IsSound setup (codes "start") words (or_bad_words (start_of words))
 unfolding start_of
-start-sound setup [] = ([], record { named = tt; form = tt; possible = tt; spelled = refl }, tt)
+start-sound setup [] = (record { named = tt; form = tt; possible = tt; spelled = refl }, tt)
 start-sound setup (word ∷ words) = refl
 
 push-sound : (setup : Setup) (words : List (List ℕ)) → IsSound setup (codes "push") words (or_bad_words (push_of setup.workers words))
@@ -184,7 +197,7 @@ push-sound setup (worker ∷ seq ∷ []) =
     let w = below_of-some setup.workers worker p.0 p.2 in
     let t = number_of-some seq p.1 p.3 in
     let P : Event → Type 0 = λ it. IsSound setup (codes "push") (worker ∷ seq ∷ []) (Ok it) in
-    subst P p.4 ([], record { named = tt; form = t.0; possible = w.0; spelled = rw w.1 (rw t.1 refl) }, tt))
+    subst P p.4 (record { named = tt; form = t.0; possible = w.0; spelled = rw w.1 (rw t.1 refl) }, tt))
 push-sound setup (worker ∷ seq ∷ other ∷ words) = refl
 
 deliver-sound : (setup : Setup) (words : List (List ℕ))
@@ -199,7 +212,7 @@ deliver-sound setup (index ∷ node ∷ []) =
     let t = number_of-some index p.0 p.2 in
     let n = node_of-some setup.replicas node p.1 p.3 in
     let P : Event → Type 0 = λ it. IsSound setup (codes "deliver") (index ∷ node ∷ []) (Ok it) in
-    subst P p.4 ([], record { named = tt; form = t.0; possible = n.0; spelled = rw t.1 (rw n.1 refl) }, tt))
+    subst P p.4 (record { named = tt; form = t.0; possible = n.0; spelled = rw t.1 (rw n.1 refl) }, tt))
 deliver-sound setup (index ∷ node ∷ other ∷ words) = refl
 
 show-sound : (setup : Setup) (words : List (List ℕ)) → IsSound setup (codes "show") words (or_bad_words (show_of words))
@@ -211,7 +224,7 @@ show-sound setup (index ∷ []) =
     let p = made-some Show (number_of index) event e in
     let t = number_of-some index p.0 p.1 in
     let P : Event → Type 0 = λ it. IsSound setup (codes "show") (index ∷ []) (Ok it) in
-    subst P p.2 ([], record { named = tt; form = t.0; possible = tt; spelled = rw t.1 refl }, tt))
+    subst P p.2 (record { named = tt; form = t.0; possible = tt; spelled = rw t.1 refl }, tt))
 show-sound setup (index ∷ other ∷ words) = refl
 
 ask-sound : (setup : Setup) (words : List (List ℕ)) → IsSound setup (codes "ask") words (or_bad_words (made Ask
@@ -224,7 +237,7 @@ ask-sound setup (replica ∷ []) =
     let p = made-some Ask (below_of setup.replicas replica) event e in
     let t = below_of-some setup.replicas replica p.0 p.1 in
     let P : Event → Type 0 = λ it. IsSound setup (codes "ask") (replica ∷ []) (Ok it) in
-    subst P p.2 ([], record { named = tt; form = tt; possible = t.0; spelled = rw t.1 refl }, tt))
+    subst P p.2 (record { named = tt; form = tt; possible = t.0; spelled = rw t.1 refl }, tt))
 ask-sound setup (replica ∷ other ∷ words) = refl
 
 run-sound : (setup : Setup) (words : List (List ℕ)) → IsSound setup (codes "run") words (or_bad_words (made Run
@@ -237,7 +250,7 @@ run-sound setup (replica ∷ []) =
     let p = made-some Run (below_of setup.replicas replica) event e in
     let t = below_of-some setup.replicas replica p.0 p.1 in
     let P : Event → Type 0 = λ it. IsSound setup (codes "run") (replica ∷ []) (Ok it) in
-    subst P p.2 ([], record { named = tt; form = tt; possible = t.0; spelled = rw t.1 refl }, tt))
+    subst P p.2 (record { named = tt; form = tt; possible = t.0; spelled = rw t.1 refl }, tt))
 run-sound setup (replica ∷ other ∷ words) = refl
 
 delete-sound : (setup : Setup) (words : List (List ℕ)) → IsSound setup (codes "delete") words (delete_of setup.schema words)
@@ -247,9 +260,9 @@ delete-sound setup (transaction ∷ []) = refl
 delete-sound setup (transaction ∷ name ∷ []) = refl
 delete-sound setup (transaction ∷ name ∷ row ∷ []) =
     located setup (codes "delete") (transaction ∷ name ∷ row ∷ []) (row_of transaction row) name (λ at table. Delete at.0 table at.1) refl
-    (λ at table e named.
+    (λ at table naming e same named.
     let r = row_of-some transaction row at e in
-    record { named = named; form = (r.0, r.1); possible = r.1; spelled = rw r.2 (rw r.3 refl) })
+    record { named = (named, tt); form = (r.0, r.1); possible = r.1; spelled = rw same (rw r.2 (rw r.3 refl)) })
     (λ at table. refl)
 delete-sound setup (transaction ∷ name ∷ row ∷ other ∷ words) = refl
 
@@ -262,11 +275,11 @@ get-sound setup (transaction ∷ name ∷ row ∷ []) = refl
 get-sound setup (transaction ∷ name ∷ row ∷ column ∷ []) =
     located setup (codes "get") (transaction ∷ name ∷ row ∷ column ∷ []) (two (row_of transaction row) (below_of (2 ^ 8) column)) name
     (λ parts table. Get parts.0.0 table parts.0.1 parts.1) refl
-    (λ parts table e named.
+    (λ parts table naming e same named.
     let p = two-some (row_of transaction row) (below_of (2 ^ 8) column) parts e in
     let r = row_of-some transaction row parts.0 p.0 in
     let k = below_of-some (2 ^ 8) column parts.1 p.1 in
-    record { named = named; form = (r.0, r.1, k.0); possible = tt; spelled = rw r.2 (rw r.3 (rw k.1 refl)) })
+    record { named = (named, tt); form = (r.0, r.1, k.0); possible = tt; spelled = rw same (rw r.2 (rw r.3 (rw k.1 refl))) })
     (λ parts table. refl)
 get-sound setup (transaction ∷ name ∷ row ∷ column ∷ other ∷ words) = refl
 
@@ -289,17 +302,17 @@ set-sound setup (transaction ∷ name ∷ row ∷ column ∷ value ∷ []) =
     located setup (codes "set") (transaction ∷ name ∷ row ∷ column ∷ value ∷ [])
     (two (row_of transaction row) (two (below_of (2 ^ 8) column) (value_of value))) name
     (λ parts table. Set parts.0.0 table parts.0.1 parts.1.0 parts.1.1) refl
-    (λ parts table e named.
+    (λ parts table naming e same named.
     let p = two-some (row_of transaction row) (two (below_of (2 ^ 8) column) (value_of value)) parts e in
     let q = two-some (below_of (2 ^ 8) column) (value_of value) parts.1 p.1 in
     let r = row_of-some transaction row parts.0 p.0 in
     let k = below_of-some (2 ^ 8) column parts.1.0 q.0 in
     let v = value_of-some value parts.1.1 q.1 in
     record {
-      named = named;
+      named = (named, tt);
       form = (r.0, r.1, k.0, v.0);
       possible = (r.1, value-possible parts.1.1 v.0);
-      spelled = rw r.2 (rw r.3 (rw k.1 (rw v.1 refl)));
+      spelled = rw same (rw r.2 (rw r.3 (rw k.1 (rw v.1 refl))));
     })
     (λ parts table. refl)
 set-sound setup (transaction ∷ name ∷ row ∷ column ∷ value ∷ other ∷ words) = refl
@@ -313,67 +326,48 @@ insert-sound setup (transaction ∷ name ∷ row ∷ []) = refl
 insert-sound setup (transaction ∷ name ∷ row ∷ first ∷ more) =
     located setup (codes "insert") (transaction ∷ name ∷ row ∷ first ∷ more)
     (two (row_of transaction row) (values_of (first ∷ more))) name (λ parts table. Insert parts.0.0 table parts.0.1 parts.1) refl
-    (λ parts table e named.
+    (λ parts table naming e same named.
     let p = two-some (row_of transaction row) (values_of (first ∷ more)) parts e in
     let r = row_of-some transaction row parts.0 p.0 in
     let v = values_of-some (first ∷ more) parts.1 p.1 in
     let count : length (map value_text parts.1) ≡ length (first ∷ more) = ap (λ (words : List (List ℕ)). length words) v.1 in
     record {
-      named = named;
+      named = (named, tt);
       form = (r.0, r.1, omega (arith, length-map parts.1 value_text), v.0);
       possible = (r.1, values-possible parts.1 v.0);
-      spelled = rw r.2 (rw r.3 (rw v.1 refl));
+      spelled = rw same (rw r.2 (rw r.3 (rw v.1 refl)));
     })
     (λ parts table. refl)
 
-opened-placed : (replica : Option ℕ) (table : Result ℕ Reason)
-    → opened replica (on_table table) ≡ placed replica table (λ number found. Open number (record { table = found }))
-opened-placed None table = refl
-opened-placed (Some number) (Ok table) = refl
-opened-placed (Some number) (Err reason) = refl
-
-opened-bad : (setup : Setup) (words : List (List ℕ)) (replica : Option ℕ)
-    → IsSound setup (codes "open") words (opened replica (Err BadWords))
-opened-bad setup words None = refl
-opened-bad setup words (Some number) = refl
-
 open-sound : (setup : Setup) (words : List (List ℕ)) → IsSound setup (codes "open") words (open_of setup.schema setup.replicas words)
-unfolding open_of plan_of four_of
+unfolding open_of
 open-sound setup [] = refl
-open-sound setup (replica ∷ []) = opened-bad setup (replica ∷ []) (below_of setup.replicas replica)
-open-sound setup (replica ∷ query ∷ []) = opened-bad setup (replica ∷ query ∷ []) (below_of setup.replicas replica)
-open-sound setup (replica ∷ query ∷ name ∷ []) = opened-bad setup (replica ∷ query ∷ name ∷ []) (below_of setup.replicas replica)
-open-sound setup (replica ∷ query ∷ name ∷ get ∷ []) =
-    opened-bad setup (replica ∷ query ∷ name ∷ get ∷ []) (below_of setup.replicas replica)
-open-sound setup (replica ∷ query ∷ name ∷ get ∷ count ∷ []) =
-    by (bytes_eq query (codes "query")) refl (bytes_eq get (codes "get")) refl (bytes_eq count (codes "count")) refl
+open-sound setup (replica ∷ words) =
+    by (below_of setup.replicas replica) refl (plan_of setup.schema words) (plan-sound setup.schema words)
   where
-    words : List (List ℕ)
-    words = replica ∷ query ∷ name ∷ get ∷ count ∷ []
-
-    by : (q : Bool) → bytes_eq query (codes "query") ≡ q → (g : Bool) → bytes_eq get (codes "get") ≡ g
-        → (k : Bool) → bytes_eq count (codes "count") ≡ k
-        → IsSound setup (codes "open") (replica ∷ query ∷ name ∷ get ∷ count ∷ [])
-        (opened (below_of setup.replicas replica) (cond (q && g && k) (on_table (table_of setup.schema name)) (Err BadWords)))
-    by false e g f k h = opened-bad setup (replica ∷ query ∷ name ∷ get ∷ count ∷ []) (below_of setup.replicas replica)
-    by true e false f k h = opened-bad setup (replica ∷ query ∷ name ∷ get ∷ count ∷ []) (below_of setup.replicas replica)
-    by true e true f false h = opened-bad setup (replica ∷ query ∷ name ∷ get ∷ count ∷ []) (below_of setup.replicas replica)
-    by true e true f true h =
-        rw (opened-placed (below_of setup.replicas replica) (table_of setup.schema name))
-        (located setup (codes "open") (replica ∷ query ∷ name ∷ get ∷ count ∷ []) (below_of setup.replicas replica) name
-        (λ number found. Open number (record { table = found })) refl
-        (λ number table p named.
-        let r = below_of-some setup.replicas replica number p in
-        record {
-          named = named;
-          form = tt;
-          possible = r.0;
-          spelled = rw r.1 (rw (words_same query (codes "query") e) (rw (words_same get (codes "get") f)
-              (rw (words_same count (codes "count") h) refl)));
-        })
-        (λ number table. refl))
-open-sound setup (replica ∷ query ∷ name ∷ get ∷ count ∷ other ∷ words) =
-    opened-bad setup (replica ∷ query ∷ name ∷ get ∷ count ∷ other ∷ words) (below_of setup.replicas replica)
+    by : (number : Option ℕ) → below_of setup.replicas replica ≡ number → (plan : Result Plan Reason)
+        → IsPlanSound setup.schema words plan
+        → IsSound setup (codes "open") (replica ∷ words) (opened number plan)
+    by None e plan sound = refl
+    by (Some number) e (Err NotText) sound = sound
+    by (Some number) e (Err BadSetting) sound = absurd sound
+    by (Some number) e (Err UnknownEvent) sound = absurd sound
+    by (Some number) e (Err BadWords) sound = refl
+    by (Some number) e (Err NoTable) sound =
+        let r = below_of-some setup.replicas replica number e in (
+          sound.0,
+          Open number sound.1,
+          record {
+            named = sound.3;
+            form = sound.2;
+            possible = r.0;
+            spelled = rw r.1 (rw sound.4 refl);
+          },
+          sound.5,
+        )
+    by (Some number) e (Ok plan) sound =
+        let r = below_of-some setup.replicas replica number e in
+        (record { named = sound.1; form = sound.0; possible = r.0; spelled = rw r.1 (rw sound.3 refl) }, sound.2)
 
 -- where the first word is this one
 chosen : (setup : Setup) (first name : List ℕ) (words : List (List ℕ)) (ours other : Result Event Reason) (is : Bool)

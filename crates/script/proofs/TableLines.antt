@@ -13,8 +13,9 @@ use Rattle.rows.specs.Limits.{tables_max}
 use Rattle.script.specs.Text.{is_name}
 use Rattle.script.specs.Settings.{kind_text, table_line}
 use Rattle.script.specs.Inner.SettingWords.{table_words}
-use Rattle.script.proofs.Splitting.{IsPlain, parts_words, split-words}
-use Rattle.script.proofs.Plain.{plain-by-test, name-plain, kinds-plain, kinds-same}
+use Rattle.script.proofs.WordSplitting.{IsPlain, parts_words, split-words}
+use Rattle.script.proofs.Plain.{plain-by-test, name-plain}
+use Rattle.script.proofs.KindWords.{kinds-plain, kinds-same}
 
 -- a table that a line can set
 pub record HasTableLine (table : List ℕ × List Kind) : Type 0 where

@@ -8,8 +8,8 @@ use Rattle.std.specs.List.{AllByRecursion}
 use Rattle.rows.specs.declared.value.Value.{Value}
 use Rattle.rows.specs.declared.value.Value.TheVariants.{Int, Octets}
 use Rattle.rows.specs.Text.{value_text}
-use Rattle.script.specs.Events.{HasWord}
-use Rattle.script.specs.Inner.Reading.{made, octets_of, int_of, value_of, values_of}
+use Rattle.script.specs.Values.{HasWord}
+use Rattle.script.specs.Inner.WordReading.{made, octets_of, int_of, value_of, values_of}
 use Rattle.script.proofs.Numbers.{first-decimal, first-is, int_of-signed, int_of-some}
 use Rattle.script.proofs.Hex.{both-some, made-some, octets_of-text, octets_of-some}
 

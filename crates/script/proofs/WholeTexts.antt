@@ -10,6 +10,7 @@ use Rattle.script.specs.declared.event.Event.TheVariants.{Begin, Insert, Set, De
 use Rattle.script.specs.declared.event.Event.TheVariants.{Ask, Run, Stop, Start}
 use Rattle.script.specs.declared.setup.Setup.{Setup}
 use Rattle.script.specs.declared.settings.Settings.TheVariants.{Ready}
+use Rattle.script.specs.Tables.{name_in}
 use Rattle.script.specs.EventText.{event_words, event_text}
 use Rattle.script.specs.EventLines.{IsEventLine}
 use Rattle.script.specs.Settings.{IsCount, IsSetup, table_line, workers_line, replicas_line}
@@ -23,23 +24,24 @@ abbrev first_byte : List ℕ → ℕ
 first_byte line = get_or line 0 0
 
 -- no event has a table's line, since none begins with its first letter
-event-no-table : (name : List ℕ) (event : Event) (table : List ℕ × List Kind) → words_text (event_words name event) ≡ table_line table → ⊥
-event-no-table name Begin table same = let heads : 98 ≡ 116 = ap first_byte same in omega (arith, heads)
-event-no-table name (Insert transaction at row values) table same = let heads : 105 ≡ 116 = ap first_byte same in omega (arith, heads)
-event-no-table name (Set transaction at row column value) table same = let heads : 115 ≡ 116 = ap first_byte same in omega (arith, heads)
-event-no-table name (Delete transaction at row) table same = let heads : 100 ≡ 116 = ap first_byte same in omega (arith, heads)
-event-no-table name (Get transaction at row column) table same = let heads : 103 ≡ 116 = ap first_byte same in omega (arith, heads)
-event-no-table name (Commit transaction worker) table same = let heads : 99 ≡ 116 = ap first_byte same in omega (arith, heads)
-event-no-table name (Abort transaction) table same = let heads : 97 ≡ 116 = ap first_byte same in omega (arith, heads)
-event-no-table name (Flush count) table same = let heads : 102 ≡ 116 = ap first_byte same in omega (arith, heads)
-event-no-table name (Stop bytes) table same = let heads : 115 ≡ 116 = ap first_byte same in omega (arith, heads)
-event-no-table name Start table same = let heads : 115 ≡ 116 = ap first_byte same in omega (arith, heads)
-event-no-table name (Push worker seq) table same = let heads : 112 ≡ 116 = ap first_byte same in omega (arith, heads)
-event-no-table name (Deliver index node) table same = let heads : 100 ≡ 116 = ap first_byte same in omega (arith, heads)
-event-no-table name (Show index) table same = let heads : 115 ≡ 116 = ap first_byte same in omega (arith, heads)
-event-no-table name (Open replica plan) table same = let heads : 111 ≡ 116 = ap first_byte same in omega (arith, heads)
-event-no-table name (Ask replica) table same = let heads : 97 ≡ 116 = ap first_byte same in omega (arith, heads)
-event-no-table name (Run replica) table same = let heads : 114 ≡ 116 = ap first_byte same in omega (arith, heads)
+event-no-table : (naming : ℕ → List ℕ) (event : Event) (table : List ℕ × List Kind)
+    → words_text (event_words naming event) ≡ table_line table → ⊥
+event-no-table naming Begin table same = let heads : 98 ≡ 116 = ap first_byte same in omega (arith, heads)
+event-no-table naming (Insert transaction at row values) table same = let heads : 105 ≡ 116 = ap first_byte same in omega (arith, heads)
+event-no-table naming (Set transaction at row column value) table same = let heads : 115 ≡ 116 = ap first_byte same in omega (arith, heads)
+event-no-table naming (Delete transaction at row) table same = let heads : 100 ≡ 116 = ap first_byte same in omega (arith, heads)
+event-no-table naming (Get transaction at row column) table same = let heads : 103 ≡ 116 = ap first_byte same in omega (arith, heads)
+event-no-table naming (Commit transaction worker) table same = let heads : 99 ≡ 116 = ap first_byte same in omega (arith, heads)
+event-no-table naming (Abort transaction) table same = let heads : 97 ≡ 116 = ap first_byte same in omega (arith, heads)
+event-no-table naming (Flush count) table same = let heads : 102 ≡ 116 = ap first_byte same in omega (arith, heads)
+event-no-table naming (Stop bytes) table same = let heads : 115 ≡ 116 = ap first_byte same in omega (arith, heads)
+event-no-table naming Start table same = let heads : 115 ≡ 116 = ap first_byte same in omega (arith, heads)
+event-no-table naming (Push worker seq) table same = let heads : 112 ≡ 116 = ap first_byte same in omega (arith, heads)
+event-no-table naming (Deliver index node) table same = let heads : 100 ≡ 116 = ap first_byte same in omega (arith, heads)
+event-no-table naming (Show index) table same = let heads : 115 ≡ 116 = ap first_byte same in omega (arith, heads)
+event-no-table naming (Open replica plan) table same = let heads : 111 ≡ 116 = ap first_byte same in omega (arith, heads)
+event-no-table naming (Ask replica) table same = let heads : 97 ≡ 116 = ap first_byte same in omega (arith, heads)
+event-no-table naming (Run replica) table same = let heads : 114 ≡ 116 = ap first_byte same in omega (arith, heads)
 
 -- lines of tables and then of events are those of the same tables, and then of events with the same lines
 tables-same : (schema other : List (List ℕ × List Kind)) (ones others : List (List ℕ × List Kind)) (events more : List Event)
@@ -50,11 +52,11 @@ tables-same schema other [] [] events more one_good other_good same = (refl, sam
 tables-same schema other [] (table ∷ others) [] more one_good other_good same = absurd (let no : ⊥ = cc in no)
 tables-same schema other [] (table ∷ others) (event ∷ events) more one_good other_good same =
     let heads : event_text schema event ≡ table_line table = cc in
-    absurd (event-no-table _ event table heads)
+    absurd (event-no-table (name_in schema) event table heads)
 tables-same schema other (table ∷ ones) [] events [] one_good other_good same = absurd (let no : ⊥ = cc in no)
 tables-same schema other (table ∷ ones) [] events (event ∷ more) one_good other_good same =
     let heads : event_text other event ≡ table_line table = cc in
-    absurd (event-no-table _ event table heads)
+    absurd (event-no-table (name_in other) event table heads)
 tables-same schema other (one ∷ ones) (two ∷ others) events more one_good other_good same =
     let heads : table_line one ≡ table_line two = cc in
     let tails : map table_line ones ++ map (event_text schema) events ≡ map table_line others ++ map (event_text other) more = cc in

@@ -1,44 +1,41 @@
 -- Which lines are events, and why a line is none.
-use Rattle.std.specs.Prelude.{◌≡◌, ℕ, List, [], ◌∷◌, Bool, true, false, Option, None, Some, IfSome, IsSome, ◌==◌}
-use Rattle.std.specs.List.{position, list_any, before_first}
+use Rattle.std.specs.Prelude.{◌≡◌, ℕ, List, [], ◌∷◌, Bool, true, false, ◌==◌, codes}
+use Rattle.std.specs.List.{list_any, before_first}
 use Rattle.std.specs.Str.{bytes_eq}
-use Rattle.std.specs.Prelude.{codes}
 use Rattle.rows.specs.declared.kind.Kind.{Kind}
 use Rattle.rows.specs.Text.{words_text}
-use Rattle.dispatcher.specs.declared.plan.Plan.{Plan}
-use Rattle.script.specs.declared.event.Event.{Event}
-use Rattle.script.specs.declared.setup.Setup.{Setup}
+use Rattle.plans.specs.declared.plan.Plan.{Plan}
 use Rattle.script.specs.declared.faults.Reason.{Reason}
 use Rattle.script.specs.declared.faults.Reason.TheVariants.{NotText, BadSetting, UnknownEvent, BadWords, NoTable}
-use Rattle.script.specs.Text.{is_name}
-use Rattle.script.specs.EventText.{event_words, event_text, plan_text, name_in, table_in}
+use Rattle.script.specs.PlanText.{plan_words, plan_tables, HasPlanWords}
+use Rattle.script.specs.Tables.{name_in, AreNamed, AreFound, IsOneMissing}
+use Rattle.script.specs.declared.event.Event.{Event}
+use Rattle.script.specs.declared.setup.Setup.{Setup}
+use Rattle.script.specs.EventText.{event_words, event_text, tables_in}
 use Rattle.script.specs.Events.{IsPossible, HasLine}
 
--- a line is that of an event whose table, where it has one, has this name
-pub record IsSpelled (setup : Setup) (name : List ℕ) (event : Event) (line : List ℕ) : Type 0 where
-  pub named : IfSome (table_in event) (λ table. is_name name ≡ true)
+-- a line is that of an event whose tables have these names
+pub record IsSpelled (setup : Setup) (naming : ℕ → List ℕ) (event : Event) (line : List ℕ) : Type 0 where
+  pub named : AreNamed naming (tables_in event)
   pub form : HasLine event
   pub possible : IsPossible setup.workers setup.replicas event
-  pub text : words_text (event_words name event) ≡ line
-
--- the number of the table of this name
-abbrev pub table_called : List (List ℕ × List Kind) → List ℕ → Option ℕ
-table_called schema name = position (λ table. bytes_eq name table.0) schema
+  pub text : words_text (event_words naming event) ≡ line
 
 -- a line is that of an event on the tables of a setup. A table that is not there has no name, so there is none in an event
 -- that has a line
 pub record IsEventLine (setup : Setup) (line : List ℕ) (event : Event) : Type 0 where
-  pub named : IfSome (table_in event) (λ table. is_name (name_in setup.schema table) ≡ true)
-  pub found : IfSome (table_in event) (λ table. table_called setup.schema (name_in setup.schema table) ≡ Some table)
+  pub named : AreNamed (name_in setup.schema) (tables_in event)
+  pub found : AreFound setup.schema (tables_in event)
   pub form : HasLine event
   pub possible : IsPossible setup.workers setup.replicas event
   pub text : event_text setup.schema event ≡ line
 
 -- a text is that of a plan on the tables of a setup
 pub record IsPlanText (schema : List (List ℕ × List Kind)) (text : List ℕ) (plan : Plan) : Type 0 where
-  pub named : is_name (name_in schema plan.table) ≡ true
-  pub found : table_called schema (name_in schema plan.table) ≡ Some plan.table
-  pub written : plan_text schema plan ≡ text
+  pub named : AreNamed (name_in schema) (plan_tables plan)
+  pub found : AreFound schema (plan_tables plan)
+  pub form : HasPlanWords plan
+  pub written : words_text (plan_words (name_in schema) plan) ≡ text
 
 -- what lines of events begin with
 abbrev pub event_names : List (List ℕ)
@@ -64,7 +61,7 @@ IsEventFault setup line NotText = ⊥
 IsEventFault setup line BadSetting = begins_with setting_names line ≡ true
 IsEventFault setup line UnknownEvent = (begins_with setting_names line ≡ false) × (begins_with event_names line ≡ false)
 IsEventFault setup line BadWords =
-    (begins_with event_names line ≡ true) × ((name : List ℕ) (event : Event) → ¬ IsSpelled setup name event line)
+    (begins_with event_names line ≡ true) × ((naming : ℕ → List ℕ) (event : Event) → ¬ IsSpelled setup naming event line)
 IsEventFault setup line NoTable =
-    (name : List ℕ) × (event : Event) × IsSpelled setup name event line × IsSome (table_in event)
-    × (table_called setup.schema name ≡ None)
+    (naming : ℕ → List ℕ) × (event : Event) × IsSpelled setup naming event line
+    × IsOneMissing setup.schema naming (tables_in event)

@@ -1,11 +1,11 @@
 -- Which events may be asked for, and which a line can have.
-use Rattle.std.specs.Prelude.{ℕ, ◌^◌, ◌<◌, ◌≤◌, length, FitsSigned}
-use Rattle.std.specs.Int.{w64}
+use Rattle.std.specs.Prelude.{ℕ, ◌^◌, ◌<◌, length}
 use Rattle.std.specs.List.{AllByRecursion}
 use Rattle.rows.specs.declared.value.Value.{Value}
 use Rattle.rows.specs.declared.value.Value.TheVariants as values
-use Rattle.rows.specs.Limits.{octets_max}
 use Rattle.rows.specs.Spelling.{AreBytes}
+use Rattle.script.specs.PlanText.{HasPlanWords}
+use Rattle.script.specs.Values.{HasWord}
 use Rattle.script.specs.declared.event.Event.{Event}
 use Rattle.script.specs.declared.event.Event.TheVariants as events
 use Rattle.script.specs.declared.event.Node.{Node}
@@ -41,13 +41,8 @@ IsPossible workers replicas (events.Open replica plan) = replica < replicas
 IsPossible workers replicas (events.Ask replica) = replica < replicas
 IsPossible workers replicas (events.Run replica) = replica < replicas
 
--- a value that a word can have: a number of 64 bits, or 1 to 64 bytes
-abbrev pub HasWord : Value → Type 0
-HasWord (values.Int number) = FitsSigned w64 number
-HasWord (values.Octets bytes) = (0 < length bytes) × (length bytes ≤ octets_max) × AreBytes bytes
-
 -- an event that a line can have: a column is a number of 8 bits, the count of a flush one of 32 and each other number
--- one of 64, a row is put in with at least one value, and words can have the values
+-- one of 64, a row is put in with at least one value, and words can have the values and the plan
 abbrev pub HasLine : Event → Type 0
 HasLine events.Begin = Unit {0}
 HasLine (events.Insert transaction table row values) =
@@ -64,6 +59,6 @@ HasLine events.Start = Unit {0}
 HasLine (events.Push worker seq) = seq < 2 ^ 64
 HasLine (events.Deliver index node) = index < 2 ^ 64
 HasLine (events.Show index) = index < 2 ^ 64
-HasLine (events.Open replica plan) = Unit {0}
+HasLine (events.Open replica plan) = HasPlanWords plan
 HasLine (events.Ask replica) = Unit {0}
 HasLine (events.Run replica) = Unit {0}

@@ -1,12 +1,12 @@
--- What holds of the text of events and values, whoever reads it.
+-- What holds of the text of scripts, events and values, whoever reads it.
 use Rattle.std.specs.Prelude.{◌≡◌, ℕ, ◌<◌, ◌^◌, List}
 use Rattle.rows.specs.declared.value.Value.{Value}
 use Rattle.rows.specs.Text.{value_text}
 use Rattle.script.specs.declared.event.Event.{Event}
 use Rattle.script.specs.declared.setup.Setup.{Setup}
-use Rattle.script.specs.Events.{HasWord}
 use Rattle.script.specs.EventLines.{IsEventLine}
 use Rattle.script.specs.Scripts.{IsScript}
+use Rattle.script.specs.Values.{HasWord}
 
 -- a text is that of one script alone: it says which settings there are, and which events in which order
 abbrev pub TextsDetermineScripts : Type 0

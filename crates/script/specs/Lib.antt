@@ -1,11 +1,14 @@
 pub mod Text
+pub mod Values
+pub mod Tables
+pub mod PlanText
 pub mod EventText
 pub mod OutputText
 pub mod Writing
-pub mod Faults
 pub mod Events
 pub mod EventLines
 pub mod Settings
 pub mod Scripts
+pub mod Faults
 pub mod Laws
 pub mod Inner

@@ -3,8 +3,8 @@
 use Rattle.std.specs.Prelude.{ℕ, List, [], ◌∷◌, ◌++◌, codes, decimal}
 use Rattle.std.specs.List.{flat_map}
 use Rattle.rows.specs.Text.{hex_text, value_text, line_text}
-use Rattle.dispatcher.specs.declared.faults.PlanFault.{PlanFault}
-use Rattle.dispatcher.specs.declared.faults.PlanFault.TheVariants.{NoTable}
+use Rattle.plans.specs.declared.faults.PlanFault.{PlanFault}
+use Rattle.plans.specs.declared.faults.PlanFault.TheVariants.{NoTable, NoColumn, WrongKind, TooMany, NoAggregate}
 use Rattle.script.specs.declared.sent.Sent.{Sent as SentOne}
 use Rattle.script.specs.declared.output.Output.{Output}
 use Rattle.script.specs.declared.output.Output.TheVariants.{Tx, Accepted, Exists, Missing, Unfit, TooManyEntries, NoTx, Value, Ticket}
@@ -16,6 +16,10 @@ use Rattle.script.specs.declared.output.Output.TheVariants.{Broken, Memory, Stop
 -- the number of a plan's fault
 abbrev pub fault_number : PlanFault → ℕ
 fault_number NoTable = 1
+fault_number NoColumn = 2
+fault_number WrongKind = 3
+fault_number TooMany = 4
+fault_number NoAggregate = 5
 
 -- the words of an output that has nothing else
 abbrev pub word_of : Output → List ℕ

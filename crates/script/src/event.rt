@@ -1,4 +1,4 @@
-use dispatcher::Plan;
+use plans::Plan;
 use rows::{Row, RowId, Value};
 
 /// A node that a datagram is delivered to.

@@ -1,20 +1,22 @@
-//! Reading the line of an event, and what else has the form of its words: a plan, and a value.
+//! Reading the line of an event.
 
-ghost use Rattle.std.specs.Prelude.{◌≡◌, ◌<◌, ◌^◌, map, Some, None, IfOk, IfErr, MatchOption, MatchResult};
-ghost use Rattle.script.specs.EventLines.{IsEventLine, IsEventFault};
+ghost use Rattle.std.specs.Prelude.{◌≡◌, ◌<◌, ◌^◌, map, Some, None, MatchOption, MatchResult};
 ghost use Rattle.script.specs.Inner.LineFaults.{Gives, OrMemory, because};
-ghost use Rattle.script.specs.Inner.Reading.{is_setting, below_of, node_of, begin_of, commit_of, abort_of, flush_of, push_of, deliver_of};
-ghost use Rattle.script.specs.Inner.Reading.{show_of, stop_of, start_of};
-ghost use Rattle.script.specs.Inner.Reading.{replica_of, row_of, values_of, table_of, insert_of, set_of, delete_of, get_of};
+ghost use Rattle.script.specs.Inner.WordReading.{below_of};
+ghost use Rattle.script.specs.EventLines.{IsEventLine, IsEventFault};
+ghost use Rattle.script.specs.Inner.Reading.{is_setting, node_of, begin_of, commit_of, abort_of, flush_of, push_of, deliver_of};
+ghost use Rattle.script.specs.Inner.Reading.{show_of, stop_of, start_of, replica_of, row_of, insert_of, set_of, delete_of, get_of};
 ghost use Rattle.script.specs.Inner.Reading.{one_of, two_of, three_of, four_of, five_of, three_and_more};
-ghost use Rattle.script.specs.Inner.Reading.{plan_of, open_of, or_bad_words, replica_event, network_event, primary_event, event_of};
+ghost use Rattle.script.specs.Inner.Reading.{open_of, or_bad_words, replica_event, network_event, primary_event, event_of};
 
 use crate::event::{Event, Node};
 use crate::faults::{LineFault, Reason};
+use crate::plan_reading::read_plan_words;
 use crate::setup::Setup;
-use crate::words::{is_name, number, number_below, small_number, text, value_of, words_of};
-use dispatcher::Plan;
-use rows::{Row, RowId, Schema, Value};
+use crate::table_names::named_table;
+use crate::value_reading::read_values;
+use crate::word_reading::{number, number_below, small_number, value_of, words_of};
+use rows::{Row, RowId, Schema};
 use std::alloc::Global;
 
 /// Reads the line of an event.
@@ -53,7 +55,7 @@ fn read_table_event(
     } else if first == b"get".as_slice() {
         read_get(&setup.schema, words)
     } else if first == b"open".as_slice() {
-        read_open(setup, words)
+        read_open(alloc, setup, words)
     } else {
         read_primary_event(setup, first, words)
     }
@@ -195,7 +197,7 @@ fn read_start(words: &[&[u8]]) -> Option<Event>
 }
 
 /// A decimal number of 32 bits.
-#[tactic(auto, unfolding(crate::specs::Inner::Reading::below_of))]
+#[tactic(auto, unfolding(crate::specs::Inner::WordReading::below_of))]
 fn count_of(word: &[u8]) -> Option<u32>
     ensures { result ≡ below_of (2 ^ 32) word.now }
 {
@@ -277,26 +279,6 @@ fn read_insert(alloc: Global, schema: &Schema, words: &[&[u8]]) -> Result<Event,
     })
 }
 
-/// Reads the values of a row.
-fn read_values(alloc: Global, words: &[&[u8]]) -> Result<Vec<Value>, LineFault>
-    ensures ok { IfOk result (λ values. values_of (map (λ word. word.now) words.now) ≡ Some values.items) }
-    ensures err { IfErr result (OrMemory (λ reason.
-        (reason ≡ Reason.BadWords) × (values_of (map (λ word. word.now) words.now) ≡ None))) }
-{
-    let mut values = Vec::new(alloc);
-    for word in words {
-        match value_of(word) {
-            Some(value) => {
-                if values.push(value).is_err() {
-                    return Err(LineFault::Memory);
-                }
-            }
-            None => return Err(LineFault::Because(Reason::BadWords)),
-        }
-    }
-    Ok(values)
-}
-
 /// Reads `set T NAME ROW COL V`.
 #[tactic(auto, unfolding(crate::specs::Inner::Reading::set_of))]
 fn read_set(schema: &Schema, words: &[&[u8]]) -> Result<Event, LineFault>
@@ -376,8 +358,8 @@ fn transaction_and_row(transaction: &[u8], row: &[u8]) -> Option<(u64, RowId)>
 
 /// Reads `open R PLAN`.
 #[tactic(auto, unfolding(crate::specs::Inner::Reading::open_of))]
-fn read_open(setup: &Setup, words: &[&[u8]]) -> Result<Event, LineFault>
-    ensures { result ≡ because (open_of setup.now.schema setup.now.replicas (map (λ word. word.now) words.now)) }
+fn read_open(alloc: Global, setup: &Setup, words: &[&[u8]]) -> Result<Event, LineFault>
+    ensures { Gives (open_of setup.now.schema setup.now.replicas (map (λ word. word.now) words.now)) result }
 {
     let Some((replica, plan)) = words.split_first() else {
         return Err(LineFault::Because(Reason::BadWords));
@@ -385,49 +367,8 @@ fn read_open(setup: &Setup, words: &[&[u8]]) -> Result<Event, LineFault>
     let Some(replica) = number_below(replica, setup.replicas) else {
         return Err(LineFault::Because(Reason::BadWords));
     };
-    let plan = read_plan_words(&setup.schema, plan)?;
+    let plan = read_plan_words(alloc, &setup.schema, plan)?;
     Ok(Event::Open { replica, plan })
-}
-
-/// Reads `query NAME get count`.
-#[tactic(auto, unfolding(crate::specs::Inner::Reading::plan_of))]
-pub fn read_plan_words(schema: &Schema, words: &[&[u8]]) -> Result<Plan, LineFault>
-    ensures { result ≡ because (plan_of schema.now (map (λ word. word.now) words.now)) }
-{
-    let Some((query, name, get, count)) = four_words(words) else {
-        return Err(LineFault::Because(Reason::BadWords));
-    };
-    if query != b"query".as_slice() {
-        return Err(LineFault::Because(Reason::BadWords));
-    }
-    if get != b"get".as_slice() {
-        return Err(LineFault::Because(Reason::BadWords));
-    }
-    if count != b"count".as_slice() {
-        return Err(LineFault::Because(Reason::BadWords));
-    }
-    let table = named_table(schema, name)?;
-    Ok(Plan { table })
-}
-
-/// The number of the table of that name. A word that is no name is bad, whichever tables there
-/// are.
-#[tactic(auto, unfolding(crate::specs::Inner::Reading::table_of))]
-fn named_table(schema: &Schema, name: &[u8]) -> Result<u8, LineFault>
-    ensures { result ≡ because (table_of schema.now name.now) }
-{
-    if !is_name(name) {
-        return Err(LineFault::Because(Reason::BadWords));
-    }
-    let Some(name) = text(name) else {
-        return Err(LineFault::Because(Reason::BadWords));
-    };
-    // There are at most 16 tables.
-    schema.keeps_limits();
-    match schema.table_named(name) {
-        Some(table) => Ok(table as u8),
-        None => Err(LineFault::Because(Reason::NoTable)),
-    }
 }
 
 /// The one word that there is, where there are no others.

@@ -2,13 +2,18 @@
 
 ghost use Rattle.std.specs.Prelude.{◌≡◌, ◌∷◌, [], ◌++◌, OnOk, codes, decimal};
 ghost use Rattle.rows.specs.Text.{words_text};
-ghost use Rattle.script.specs.Inner.Words.{word_text};
-ghost use Rattle.script.specs.EventText.{event_text, event_words, plan_words, echoed_one, name_in};
+ghost use Rattle.script.specs.Inner.Lines.{word_text};
+ghost use Rattle.script.specs.PlanText.{plan_words};
+ghost use Rattle.script.specs.Tables.{name_in};
+ghost use Rattle.script.specs.EventText.{event_text, event_words, node_text, echoed_one};
 
-use crate::event::Event;
+use crate::event::{Event, Node};
 use crate::lines::{Word, push_values, push_words};
 use crate::output::Output;
 use crate::output_text::push_output;
+use crate::plan_writing::push_plan;
+use crate::table_names::name_of;
+use plans::Plan;
 use rows::{RowId, Schema, Value};
 use std::alloc::AllocError;
 
@@ -83,19 +88,12 @@ fn push_event(text: &mut Vec<u8>, schema: &Schema, event: &Event) -> Result<(), 
         Event::Push { worker, seq } => {
             push_two(text, "push", u64::from(*worker), Word::Number(*seq))
         }
-        Event::Deliver { index, node } => push_two(text, "deliver", *index, Word::Node(*node)),
+        Event::Deliver { index, node } => push_two(text, "deliver", *index, node_word(*node)),
         Event::Show { index } => push_one(text, "show", *index),
-        Event::Open { replica, plan } => push_open(text, name_of(schema, plan.table), *replica),
+        Event::Open { replica, plan } => push_open(text, schema, *replica, plan),
         Event::Ask { replica } => push_one(text, "ask", u64::from(*replica)),
         Event::Run { replica } => push_one(text, "run", u64::from(*replica)),
     }
-}
-
-/// The name of a table; `?`, where the schema has no such table.
-fn name_of(schema: &Schema, table: u8) -> &str
-    ensures { result.now ≡ name_in schema.now table }
-{
-    schema.name(table as usize).unwrap_or("?")
 }
 
 /// Adds a word and a number.
@@ -121,7 +119,7 @@ fn push_insert(
     values: &[Value],
 ) -> Result<(), AllocError>
     ensures { OnOk result (text.new.items
-        ≡ text.old.items ++ words_text (event_words name.now (Event.Insert transaction 0 row values.now))) }
+        ≡ text.old.items ++ words_text (event_words (λ table. name.now) (Event.Insert transaction 0 row values.now))) }
 {
     let words = [
         Word::Number(transaction),
@@ -141,7 +139,7 @@ fn push_set<'x>(
     value: &'x Value,
 ) -> Result<(), AllocError>
     ensures { OnOk result (text.new.items
-        ≡ text.old.items ++ words_text (event_words name.now (Event.Set transaction 0 row column value.now))) }
+        ≡ text.old.items ++ words_text (event_words (λ table. name.now) (Event.Set transaction 0 row column value.now))) }
 {
     let words = [
         Word::Number(transaction),
@@ -160,7 +158,7 @@ fn push_delete(
     row: RowId,
 ) -> Result<(), AllocError>
     ensures { OnOk result (text.new.items
-        ≡ text.old.items ++ words_text (event_words name.now (Event.Delete transaction 0 row))) }
+        ≡ text.old.items ++ words_text (event_words (λ table. name.now) (Event.Delete transaction 0 row))) }
 {
     let words = [
         Word::Number(transaction),
@@ -178,7 +176,7 @@ fn push_get(
     column: u8,
 ) -> Result<(), AllocError>
     ensures { OnOk result (text.new.items
-        ≡ text.old.items ++ words_text (event_words name.now (Event.Get transaction 0 row column))) }
+        ≡ text.old.items ++ words_text (event_words (λ table. name.now) (Event.Get transaction 0 row column))) }
 {
     let words = [
         Word::Number(transaction),
@@ -189,15 +187,25 @@ fn push_get(
     push_words(text, "get", &words)
 }
 
-fn push_open(text: &mut Vec<u8>, name: &str, replica: u8) -> Result<(), AllocError>
-    ensures { OnOk result (text.new.items ≡ text.old.items ++ words_text (codes "open" ∷ decimal replica ∷ plan_words name.now)) }
+fn push_open(
+    text: &mut Vec<u8>,
+    schema: &Schema,
+    replica: u8,
+    plan: &Plan,
+) -> Result<(), AllocError>
+    ensures { OnOk result (text.new.items
+        ≡ text.old.items ++ words_text (codes "open" ∷ decimal replica ∷ plan_words (name_in schema.now) plan.now)) }
 {
-    let words = [
-        Word::Number(u64::from(replica)),
-        Word::Text("query"),
-        Word::Text(name),
-        Word::Text("get"),
-        Word::Text("count"),
-    ];
-    push_words(text, "open", &words)
+    push_words(text, "open", &[Word::Number(u64::from(replica))])?;
+    push_plan(text, schema, plan)
+}
+
+/// The word of a node: `p`, or `r` and a replica's number.
+fn node_word(node: Node) -> Word<'static>
+    ensures { word_text result ≡ node_text node }
+{
+    match node {
+        Node::Primary => Word::Text("p"),
+        Node::Replica(number) => Word::Numbered("r", u64::from(number)),
+    }
 }

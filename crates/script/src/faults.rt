@@ -1,8 +1,7 @@
 use std::fmt;
 use thiserror::Error;
 
-/// Why a line of a script does not read. Where one line has several faults, the first of these is
-/// given.
+/// Why a line does not read. Where one line has several faults, the first of these is given.
 #[derive(Clone, Copy, Debug, PartialEq, Eq)]
 pub enum Reason {
     /// A byte that is not allowed: all are from 20 to 7e, and 0a ends a line.

@@ -2,9 +2,8 @@
 
 ghost use Rattle.std.specs.Prelude.{◌≡◌, ◌∷◌, [], ◌++◌, map, OnOk};
 ghost use Rattle.rows.specs.Text.{value_text, words_text, line_text};
-ghost use Rattle.script.specs.Inner.Words.{word_text, tail_text};
+ghost use Rattle.script.specs.Inner.Lines.{word_text, tail_text};
 
-use crate::event::Node;
 use rows::{Value, append_number, append_value};
 use std::alloc::AllocError;
 
@@ -14,7 +13,8 @@ pub enum Word<'a> {
     Text(&'a str),
     Number(u64),
     Value(&'a Value),
-    Node(Node),
+    /// A text, and a number right behind it.
+    Numbered(&'a str, u64),
 }
 
 /// Adds a line of these words, the first of which is a text, with its end.
@@ -31,6 +31,13 @@ pub fn push_words(text: &mut Vec<u8>, first: &str, words: &[Word]) -> Result<(),
     ensures { OnOk result (text.new.items ≡ text.old.items ++ words_text (first.now ∷ map word_text words.now)) }
 {
     text.extend_from_slice(first.as_bytes())?;
+    push_tail(text, words)
+}
+
+/// Adds words, each behind a space.
+pub fn push_tail(text: &mut Vec<u8>, words: &[Word]) -> Result<(), AllocError>
+    ensures { OnOk result (text.new.items ≡ text.old.items ++ tail_text (map word_text words.now)) }
+{
     for word in words {
         text.push(b' ')?;
         push_word(text, word)?;
@@ -57,9 +64,8 @@ fn push_word(text: &mut Vec<u8>, word: &Word) -> Result<(), AllocError>
         Word::Text(word) => text.extend_from_slice(word.as_bytes()),
         Word::Number(number) => append_number(text, *number),
         Word::Value(value) => append_value(text, value),
-        Word::Node(Node::Primary) => text.extend_from_slice(b"p"),
-        Word::Node(Node::Replica(number)) => {
-            text.push(b'r')?;
+        Word::Numbered(word, number) => {
+            text.extend_from_slice(word.as_bytes())?;
             append_number(text, *number)
         }
     }

@@ -1,5 +1,5 @@
 use crate::sent::{Sent, SentList};
-use dispatcher::PlanFault;
+use plans::PlanFault;
 use rows::{ByteList, Value};
 
 /// What an event answers.

@@ -7,7 +7,7 @@ ghost use Rattle.script.specs.OutputText.{output_text, sent_text, word_of, numbe
 use crate::lines::{Word, push_line};
 use crate::output::Output;
 use crate::sent::Sent;
-use dispatcher::PlanFault;
+use plans::PlanFault;
 use rows::append_hex;
 use std::alloc::AllocError;
 
@@ -87,6 +87,10 @@ fn fault_number(fault: PlanFault) -> u64
 {
     match fault {
         PlanFault::NoTable => 1,
+        PlanFault::NoColumn => 2,
+        PlanFault::WrongKind => 3,
+        PlanFault::TooMany => 4,
+        PlanFault::NoAggregate => 5,
     }
 }
 

@@ -1,47 +1,30 @@
-//! Reading what stands within lines, by itself: a value, and a plan.
+//! Reading what stands within lines, by itself: a plan. And what holds of the text of scripts and events.
 
-ghost use Rattle.std.specs.Prelude.{◌≡◌, IfOk, MatchOption};
-ghost use Rattle.rows.specs.Text.{value_text};
-ghost use Rattle.script.specs.Events.{HasWord};
+ghost use Rattle.std.specs.Prelude.{IfOk, MatchOption};
+ghost use Rattle.plans.specs.declared.plan.Plan.{Plan};
 ghost use Rattle.script.specs.EventLines.{IsPlanText};
-ghost use Rattle.script.specs.Laws.{LinesDetermineEvents, TextsDetermineScripts, WordsDetermineValues};
-ghost use Rattle.rows.specs.declared.value.Value.{Value};
+ghost use Rattle.script.specs.Laws.{LinesDetermineEvents, TextsDetermineScripts};
 
-use crate::event_reading::read_plan_words;
+use crate::faults::LineFault;
+use crate::plan_reading::read_plan_words;
 use crate::setup::Setup;
-use crate::words::{value_of, words_of};
-use dispatcher::Plan;
-use rows::Value;
+use crate::word_reading::words_of;
+use plans::Plan;
 use std::alloc::{AllocError, Global};
 
-/// The value that a word stands for: a signed decimal number of 64 bits without needless zeros, or
-/// `x` and 1 to 64 pairs of lower-case hexadecimal digits; `None` exactly where it stands for none.
-/// Takes no memory.
-pub fn read_value(word: &[u8]) -> Option<Value>
-    ensures { MatchOption result ((value : Value) → HasWord value → value_text value ≡ word.now → ⊥)
-        (λ value. HasWord value × (value_text value ≡ word.now)) }
-{
-    value_of(word)
-}
-
-/// The plan that a text is, on the tables of a setup: `query NAME get count`; `None` exactly where it
-/// is none, or its table is not there. Fails only when out of memory.
+/// The plan that a text is, on the tables of a setup; `None` exactly where it is none, or a table
+/// that it names is not there. Fails only when out of memory.
 pub fn read_plan(alloc: Global, text: &[u8], setup: &Setup) -> Result<Option<Plan>, AllocError>
     ensures { IfOk result (λ read. MatchOption read ((plan : Plan) → IsPlanText setup.now.schema text.now plan → ⊥)
         (IsPlanText setup.now.schema text.now)) }
 {
     let words = words_of(alloc, text)?;
-    match read_plan_words(&setup.schema, words.as_slice()) {
+    match read_plan_words(alloc, &setup.schema, words.as_slice()) {
         Ok(plan) => Ok(Some(plan)),
-        Err(_) => Ok(None),
+        Err(LineFault::Because(_)) => Ok(None),
+        Err(LineFault::Memory) => Err(AllocError),
     }
 }
-
-/// A word is that of one value alone. It does nothing: its contract says so of the text of values,
-/// whoever reads it.
-pub fn words_determine_values()
-    ensures { WordsDetermineValues }
-{}
 
 /// A text is that of one script alone: no two that differ in their settings or in their events have
 /// one text. It does nothing: its contract says so of the text of scripts, whoever reads it.

@@ -17,6 +17,7 @@ use crate::event_reading::read_event;
 use crate::faults::{LineFault, Reason, ScriptFault};
 use crate::settings::{Settings, read_setting};
 use crate::setup::Setup;
+use crate::word_reading::is_text;
 use std::alloc::Global;
 
 /// The settings and events of a script. Each line is ended by 0a, and the last one may lack it;
@@ -173,13 +174,6 @@ fn read_setting_line(alloc: Global, settings: Settings, line: &[u8]) -> Result<S
         return Ok(settings);
     }
     read_setting(alloc, settings, line)
-}
-
-/// Whether all bytes are those of a line of text.
-fn is_text(line: &[u8]) -> bool
-    ensures { result ≡ is_text line.now }
-{
-    line.iter().all(|byte| 0x20 <= *byte && *byte <= 0x7e)
 }
 
 /// Whether a line is not skipped.

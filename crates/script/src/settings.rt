@@ -15,7 +15,7 @@ ghost use Rattle.script.specs.Inner.SettingWords.{IsSchemaOf, IsNoSchemaOf};
 
 use crate::faults::{LineFault, Reason};
 use crate::setup::Setup;
-use crate::words::{is_name, small_number, words_of};
+use crate::word_reading::{is_name, small_number, words_of};
 use rows::limits::{REPLICAS_MAX, WORKERS_MAX};
 use rows::{Kind, Schema, SchemaFault};
 use std::alloc::{AllocError, Global};

@@ -18,7 +18,7 @@ use Rattle.wire.specs.declared.out.Out.{Out}
 use Rattle.wire.specs.Reading.{reading}
 use Rattle.wire.specs.Spelling.{frame_spelling}
 use Rattle.primary.specs.Sending.{counts_of, answers, answers_to, wanted, frame_to}
-use Rattle.dispatcher.specs.declared.plan.Plan.{Plan}
+use Rattle.plans.specs.declared.plan.Plan.{Plan}
 use Rattle.dispatcher.specs.State.{Fetched}
 use Rattle.script.specs.declared.event.Event.{Event}
 use Rattle.script.specs.declared.event.Node.{Node}

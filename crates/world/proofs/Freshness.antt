@@ -7,10 +7,10 @@ use Rattle.rows.specs.declared.limits.TheConstants.{REPLICAS_MAX, WAITING_QUERIE
 use Rattle.rows.specs.Shape.{shape_of}
 use Rattle.wire.specs.Reading.{reading}
 use Rattle.update_log.specs.Streams.{stream_of}
-use Rattle.dispatcher.specs.declared.plan.Plan.{Plan}
-use Rattle.dispatcher.specs.declared.faults.PlanFault.{PlanFault}
+use Rattle.plans.specs.declared.plan.Plan.{Plan}
+use Rattle.plans.specs.declared.faults.PlanFault.{PlanFault}
 use Rattle.mvcc.specs.Transactions.{insert_answer, set_answer, delete_answer, get_answer}
-use Rattle.dispatcher.specs.Plans.{checked}
+use Rattle.plans.specs.Checking.{checked}
 use Rattle.dispatcher.specs.State.{Fetched}
 use Rattle.script.specs.declared.event.Event.{Event}
 use Rattle.script.specs.declared.event.Event.TheVariants as events

@@ -28,9 +28,9 @@ use Rattle.mvcc.specs.Transactions.{insert_answer, set_answer, delete_answer, ge
 use Rattle.primary.specs.Steps.{commit_answer, committed, flushed, is_foreign, next_number, has_numbers}
 use Rattle.primary.specs.Sending.{pushed, answers}
 use Rattle.primary.specs.State.{Primary}
-use Rattle.dispatcher.specs.declared.plan.Plan.{Plan}
-use Rattle.dispatcher.specs.declared.faults.PlanFault.{PlanFault}
-use Rattle.dispatcher.specs.Plans.{checked}
+use Rattle.plans.specs.declared.plan.Plan.{Plan}
+use Rattle.plans.specs.declared.faults.PlanFault.{PlanFault}
+use Rattle.plans.specs.Checking.{checked}
 use Rattle.dispatcher.specs.State.{Fetched}
 use Rattle.world.proofs.Durable.{tables-stay}
 use Rattle.script.specs.declared.event.Event.{Event}

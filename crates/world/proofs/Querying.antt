@@ -1,9 +1,8 @@
 -- Opening a query and asking for a version do at a replica of sound parts what they do at its member.
 use Rattle.std.proofs.Common.{◌≡◌, ℕ, ◌+◌, ◌^◌, ◌<◌, ◌≤◌, Bool, true, false, cond, ◌==◌, List, [], ◌∷◌, ◌++◌, length, Option, Some, None}
-use Rattle.std.proofs.Common.{Result, Ok, Err, nat_lt, nat_le, refl, sym, ap, subst, ◌∙◌, inl, inr, arith}
+use Rattle.std.proofs.Common.{Result, Ok, Err, nat_le, refl, sym, ap, subst, ◌∙◌, arith}
 use Rattle.std.specs.List.{slice_get, slice_set, slice_index}
 use Rattle.std.specs.Option.{option_map}
-use Rattle.std.proofs.lemmas.Bool.{false≢true, true≢false, cases_Bool}
 use Rattle.std.proofs.lemmas.List.{length-set}
 use Rattle.std.proofs.lemmas.Option.{same_Some, slice_get_within}
 use Rattle.rows.specs.declared.commit.Commit.{Commit}
@@ -12,14 +11,14 @@ use Rattle.rows.specs.Shape.{Shape, shape_of}
 use Rattle.wire.specs.declared.datagram.Datagram.TheVariants as datagrams
 use Rattle.wire.specs.Reading.{reading}
 use Rattle.wire.specs.Spelling.{spelling}
-use Rattle.dispatcher.specs.declared.plan.Plan.{Plan}
-use Rattle.dispatcher.specs.declared.faults.PlanFault.TheVariants.{NoTable}
+use Rattle.plans.specs.declared.plan.Plan.{Plan}
+use Rattle.plans.specs.declared.faults.PlanFault.{PlanFault}
 use Rattle.dispatcher.specs.declared.faults.OpenFault.{OpenFault}
 use Rattle.dispatcher.specs.declared.faults.OpenFault.TheVariants as opens
 use Rattle.dispatcher.specs.declared.faults.AskFault.{AskFault}
 use Rattle.dispatcher.specs.declared.faults.AskFault.TheVariants as asks
 use Rattle.wire.specs.declared.out.Out.{Out}
-use Rattle.dispatcher.specs.Plans.{checked}
+use Rattle.plans.specs.Checking.{checked}
 use Rattle.dispatcher.specs.Feeding.{IsFedFrom}
 use Rattle.dispatcher.specs.State.{Replica, Batch as ReplicaBatch, Fetched}
 use Rattle.dispatcher.specs.Steps.{opened, asked, asked_by, ask_for, with_batch}
@@ -43,10 +42,19 @@ use Rattle.world.proofs.Replicas.{Follows-goes}
 abbrev with_plan : Replica → Plan → Replica
 with_plan r plan = record r { waiting = r.waiting ++ plan ∷ [] }
 
-opened-is : (r : Replica) (plan : Plan) → opened r plan ≡
-    cond r.broken (Err opens.Broken) (cond (nat_le WAITING_QUERIES_MAX (length r.waiting)) (Err opens.BatchFull)
-    (cond (nat_lt plan.table (length r.shape)) (Ok (length r.waiting + 1, with_plan r plan)) (Err (opens.BadPlan NoTable))))
-opened-is r plan = elim (cases_Bool (nat_lt plan.table (length r.shape))) [ inl e ↦ rw e refl | inr e ↦ rw e refl ]
+-- what opening a query gives, by what the check of its plan says
+abbrev by_check : Replica → Plan → Result (Unit {0}) PlanFault → Result (ℕ × Replica) OpenFault
+by_check r plan (Err fault) = Err (opens.BadPlan fault)
+by_check r plan (Ok fits) = Ok (length r.waiting + 1, with_plan r plan)
+
+abbrev opened_by : Bool → Bool → Replica → Plan → Result (Unit {0}) PlanFault → Result (ℕ × Replica) OpenFault
+opened_by broken full r plan check = cond broken (Err opens.Broken) (cond full (Err opens.BatchFull) (by_check r plan check))
+
+opened-is : (r : Replica) (plan : Plan) (of : Shape) → r.shape ≡ of
+    → opened r plan ≡ opened_by r.broken (nat_le WAITING_QUERIES_MAX (length r.waiting)) r plan (checked of plan)
+opened-is r plan of same =
+    subst (λ (it : Shape). opened r plan ≡ opened_by r.broken (nat_le WAITING_QUERIES_MAX (length r.waiting)) r plan (checked it plan))
+    same refl
 
 plan-goes : (laws : FedLaws) (shape : Shape) (durable : List Commit) (r : Replica) (plan : Plan) → IsFedFrom shape durable r
     → opened r plan ≡ Ok (length r.waiting + 1, with_plan r plan) → Goes shape durable r (with_plan r plan)
@@ -71,10 +79,8 @@ pub query-opens : (laws : FedLaws) (shape : Shape) (p : Parts) (i : ℕ) (plan :
     (open_by p i plan found)
 query-opens laws shape p i plan None sound here = (refl, sound)
 query-opens laws shape p i plan (Some r) sound here =
-    subst (λ (o : Result (ℕ × Replica) OpenFault). Follows shape there (opening_query p i o)) (sym (opened-is r plan))
-    (by r.broken (nat_le WAITING_QUERIES_MAX (length r.waiting)) (nat_lt plan.table (length (shape_of p.primary.schema)))
-    (nat_lt plan.table (length r.shape))
-    (ap (λ (shape : Shape). nat_lt plan.table (length shape)) (sound.primary_is.shape_is ∙ sym fed.feeding.shape_is)) (opened-is r plan))
+    subst (λ (o : Result (ℕ × Replica) OpenFault). Follows shape there (opening_query p i o)) (sym is)
+    (by r.broken (nat_le WAITING_QUERIES_MAX (length r.waiting)) (checked (shape_of p.primary.schema) plan) is)
   where
     w : World
     w = world_of p
@@ -91,19 +97,17 @@ query-opens laws shape p i plan (Some r) sound here =
     fed : IsFed shape p.primary.workers p.primary.durable i r
     fed = sound.fed i r here
 
-    by : (a b c d : Bool) → c ≡ d
-        → opened r plan ≡ cond a (Err opens.Broken)
-        (cond b (Err opens.BatchFull) (cond d (Ok (length r.waiting + 1, with_plan r plan)) (Err (opens.BadPlan NoTable))))
-        → Follows shape
-        (cond a (outputs.Broken, w) (cond b (outputs.BatchFull, w) (open_happens w m plan (cond c (Ok tt) (Err NoTable)))))
-        (opening_query p i (cond a (Err opens.Broken)
-        (cond b (Err opens.BatchFull) (cond d (Ok (length r.waiting + 1, with_plan r plan)) (Err (opens.BadPlan NoTable))))))
-    by true b c d e is = (refl, sound)
-    by false true c d e is = (refl, sound)
-    by false false true false e is = absurd (true≢false e)
-    by false false false true e is = absurd (false≢true e)
-    by false false false false e is = (refl, sound)
-    by false false true true e is =
+    is : opened r plan
+        ≡ opened_by r.broken (nat_le WAITING_QUERIES_MAX (length r.waiting)) r plan (checked (shape_of p.primary.schema) plan)
+    is = opened-is r plan (shape_of p.primary.schema) (fed.feeding.shape_is ∙ sym sound.primary_is.shape_is)
+
+    by : (a b : Bool) (check : Result (Unit {0}) PlanFault) → opened r plan ≡ opened_by a b r plan check
+        → Follows shape (cond a (outputs.Broken, w) (cond b (outputs.BatchFull, w) (open_happens w m plan check)))
+        (opening_query p i (opened_by a b r plan check))
+    by true b check is = (refl, sound)
+    by false true check is = (refl, sound)
+    by false false (Err fault) is = (refl, sound)
+    by false false (Ok fits) is =
         Follows-goes shape p i r (outputs.Opened (length r.waiting + 1), member_of (slice_index p.asked_at i) (with_plan r plan))
         (outputs.Opened (length r.waiting + 1)) (with_plan r plan)
         sound here refl (plan-goes laws shape p.primary.durable r plan fed.feeding is)

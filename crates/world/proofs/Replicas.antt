@@ -20,7 +20,7 @@ use Rattle.intake.specs.State.{Arrivals, arrivals_of}
 use Rattle.intake.specs.Steps.{with_frame}
 use Rattle.dispatcher.specs.declared.outcome.Got.{Got}
 use Rattle.dispatcher.specs.declared.outcome.Got.TheVariants as got
-use Rattle.dispatcher.specs.declared.plan.Plan.{Plan}
+use Rattle.plans.specs.declared.plan.Plan.{Plan}
 use Rattle.dispatcher.specs.Feeding.{IsFedFrom, Tells}
 use Rattle.dispatcher.specs.State.{Replica, Batch as ReplicaBatch, Fetched}
 use Rattle.dispatcher.specs.Steps.{frame_comes, own_head_comes, goes_on, got_of, datagram_comes}

@@ -16,10 +16,10 @@ use Rattle.mvcc.specs.Draft.{Draft}
 use Rattle.primary.specs.declared.faults.CommitFault.{CommitFault}
 use Rattle.primary.specs.Steps.{commit_answer, flushed}
 use Rattle.primary.specs.Sending.{pushed, answers}
-use Rattle.dispatcher.specs.declared.plan.Plan.{Plan}
-use Rattle.dispatcher.specs.declared.faults.PlanFault.{PlanFault}
+use Rattle.plans.specs.declared.plan.Plan.{Plan}
+use Rattle.plans.specs.declared.faults.PlanFault.{PlanFault}
 use Rattle.intake.specs.Known.{is_known, is_ahead}
-use Rattle.dispatcher.specs.Plans.{checked}
+use Rattle.plans.specs.Checking.{checked}
 use Rattle.dispatcher.specs.State.{Replica, Fetched}
 use Rattle.script.specs.declared.event.Event.{Event}
 use Rattle.script.specs.declared.event.Event.TheVariants as events

@@ -17,7 +17,7 @@ use Rattle.intake.specs.State.{Arrivals}
 use Rattle.intake.specs.Steps.{dropped, lacking as arrivals_lacking, lacking_from as arrivals_lacking_from}
 use Rattle.dispatcher.specs.declared.outcome.Run.{Run}
 use Rattle.dispatcher.specs.declared.outcome.Run.TheVariants as runs
-use Rattle.dispatcher.specs.declared.plan.Plan.{Plan}
+use Rattle.plans.specs.declared.plan.Plan.{Plan}
 use Rattle.dispatcher.specs.Feeding.{IsFedFrom}
 use Rattle.dispatcher.specs.State.{Replica, Batch as ReplicaBatch, Fetched}
 use Rattle.dispatcher.specs.Report.{report_of}

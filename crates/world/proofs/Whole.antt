@@ -16,7 +16,7 @@ use Rattle.dispatcher.specs.declared.faults.AskFault.{AskFault}
 use Rattle.dispatcher.specs.declared.faults.OpenFault.{OpenFault}
 use Rattle.dispatcher.specs.declared.outcome.Run.{Run}
 use Rattle.dispatcher.specs.declared.outcome.Run.TheVariants as runs
-use Rattle.dispatcher.specs.declared.plan.Plan.{Plan}
+use Rattle.plans.specs.declared.plan.Plan.{Plan}
 use Rattle.dispatcher.specs.State.{Replica}
 use Rattle.dispatcher.specs.Steps.{started, opened, asked, MayRun}
 use Rattle.dispatcher.specs.Feeding.{IsFedFrom}

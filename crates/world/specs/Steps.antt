@@ -23,9 +23,9 @@ use Rattle.primary.specs.declared.faults.CommitFault.{CommitFault}
 use Rattle.primary.specs.State.{Primary}
 use Rattle.primary.specs.Steps.{started, commit_answer, committed, flushed}
 use Rattle.primary.specs.Sending.{pushed, answers}
-use Rattle.dispatcher.specs.declared.plan.Plan.{Plan}
-use Rattle.dispatcher.specs.declared.faults.PlanFault.{PlanFault}
-use Rattle.dispatcher.specs.Plans.{checked}
+use Rattle.plans.specs.declared.plan.Plan.{Plan}
+use Rattle.plans.specs.declared.faults.PlanFault.{PlanFault}
+use Rattle.plans.specs.Checking.{checked}
 use Rattle.dispatcher.specs.State.{Fetched}
 use Rattle.dispatcher.specs.Report.{report_of}
 use Rattle.script.specs.declared.event.Event.{Event}

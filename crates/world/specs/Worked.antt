@@ -1,10 +1,14 @@
 -- Events with what they are to answer: three scripts, `examples/first-commit.script`, `examples/lost-frame.script` and
--- `examples/conflict.script`; write skew; each refusal of a transaction's calls; stops and starts; and two workers. One table
--- of two `int` columns; one worker and one replica but for the last.
-use Rattle.std.specs.Prelude.{ℕ, ◌∷◌, [], List, pos, negsuc, codes, ◌++◌}
+-- `examples/conflict.script`; write skew; each refusal of a transaction's calls; stops and starts; two queries of one batch; and
+-- two workers. One table of two `int` columns; one worker and one replica but for the last.
+use Rattle.std.specs.Prelude.{ℕ, ◌∷◌, [], List, None, Some, pos, negsuc, codes, ◌++◌}
 use Rattle.rows.specs.declared.kind.Kind.TheVariants.{Int as IntKind}
 use Rattle.rows.specs.declared.row_id.RowId.{RowId}
 use Rattle.rows.specs.declared.value.Value.TheVariants.{Int}
+use Rattle.plans.specs.declared.aggregate.Aggregate.TheVariants.{Count, Sum}
+use Rattle.plans.specs.declared.column.Column.TheVariants.{Joined}
+use Rattle.plans.specs.declared.faults.PlanFault.TheVariants.{NoColumn}
+use Rattle.plans.specs.declared.plan.Plan.{Plan}
 use Rattle.script.specs.declared.event.Event.{Event}
 use Rattle.script.specs.declared.event.Event.TheVariants.{Begin, Insert, Set, Delete, Get, Commit, Abort, Flush, Stop, Start}
 use Rattle.script.specs.declared.event.Event.TheVariants.{Push, Deliver, Show, Open, Ask, Run}
@@ -26,9 +30,13 @@ abbrev pub commit_and_push_outputs : List Output
 commit_and_push_outputs =
     outputs.Tx 0 0 ∷ outputs.Accepted ∷ outputs.Ticket 1 ∷ outputs.Durable 1 ∷ outputs.Sent (record { index = 0; len = 54 } ∷ []) ∷ []
 
--- a count is opened, and the newest durable version asked for and fetched
+-- the plan of a query that counts the rows of the table
+abbrev pub count_rows : Plan
+count_rows = record { table = 0; join = None; conditions = []; groups = []; aggregates = Count ∷ [] }
+
+-- such a query is opened, and the newest durable version asked for and fetched
 abbrev pub open_and_fetch : List Event
-open_and_fetch = Open 0 (record { table = 0 }) ∷ Ask 0 ∷ Deliver 1 Primary ∷ Deliver 2 (Replica 0) ∷ []
+open_and_fetch = Open 0 count_rows ∷ Ask 0 ∷ Deliver 1 Primary ∷ Deliver 2 (Replica 0) ∷ []
 
 abbrev pub open_and_fetch_outputs : List Output
 open_and_fetch_outputs =
@@ -140,6 +148,35 @@ stops_outputs =
     ∷ outputs.NoTx ∷ outputs.Running ∷ outputs.Sent (record { index = 0; len = 54 } ∷ [])
     ∷ outputs.Tx 3 1 ∷ outputs.Accepted ∷ outputs.Ticket 2 ∷ outputs.Stopped ∷ outputs.Durable 1 ∷ []
 
+-- of each row with the row that its first column names: how many there are, and the sum of their second columns, for each
+-- value of their first
+abbrev pub count_and_sum_named : Plan
+count_and_sum_named = record {
+  table = 0;
+  join = Some (record { column = 0; table = 0 });
+  conditions = [];
+  groups = Joined 0 ∷ [];
+  aggregates = Count ∷ Sum (Joined 1) ∷ [];
+}
+
+abbrev pub named_account : RowId
+named_account = record { 0 = 5 }
+
+-- two queries are answered in one batch; one that groups by a column of a table that it does not join is refused
+abbrev pub two_queries : List Event
+two_queries =
+    commit_of 0 account 0 ++ commit_of 1 named_account 0 ++ Flush 2 ∷ Push 0 0 ∷ Push 0 1 ∷ Deliver 0 (Replica 0) ∷ Deliver 1 (Replica 0)
+    ∷ Open 0 count_rows ∷ Open 0 (record count_and_sum_named { join = None }) ∷ Open 0 count_and_sum_named
+    ∷ Ask 0 ∷ Deliver 2 Primary ∷ Deliver 3 (Replica 0) ∷ Run 0 ∷ []
+
+abbrev pub two_queries_outputs : List Output
+two_queries_outputs =
+    outputs.Tx 0 0 ∷ outputs.Accepted ∷ outputs.Ticket 1 ∷ outputs.Tx 1 0 ∷ outputs.Accepted ∷ outputs.Ticket 2 ∷ outputs.Durable 2
+    ∷ outputs.Sent (record { index = 0; len = 54 } ∷ []) ∷ outputs.Sent (record { index = 1; len = 54 } ∷ [])
+    ∷ outputs.Stored ∷ outputs.Stored ∷ outputs.Opened 1 ∷ outputs.BadPlan NoColumn ∷ outputs.Opened 2
+    ∷ outputs.Sent (record { index = 2; len = 23 } ∷ []) ∷ outputs.Sent (record { index = 3; len = 40 } ∷ []) ∷ outputs.Head 2
+    ∷ outputs.Report (codes "version 2 queries 2\nquery 0 rows 1\n2\nquery 1 rows 1\n5 2 -2\n") ∷ []
+
 -- the world of two workers and two replicas
 abbrev pub wide_world : World
 wide_world = opening_world (record { schema = (codes "acct", IntKind ∷ IntKind ∷ []) ∷ []; workers = 2; replicas = 2 })
@@ -149,7 +186,7 @@ wide_world = opening_world (record { schema = (codes "acct", IntKind ∷ IntKind
 abbrev pub two_workers : List Event
 two_workers =
     commit_of 0 account 0 ++ commit_of 1 other_account 1 ++ Flush 2 ∷ Push 0 0 ∷ Push 1 0
-    ∷ Deliver 1 (Replica 0) ∷ Deliver 1 (Replica 0) ∷ Open 0 (record { table = 0 }) ∷ Ask 0 ∷ Deliver 2 Primary ∷ Deliver 3 (Replica 1)
+    ∷ Deliver 1 (Replica 0) ∷ Deliver 1 (Replica 0) ∷ Open 0 count_rows ∷ Ask 0 ∷ Deliver 2 Primary ∷ Deliver 3 (Replica 1)
     ∷ Deliver 3 (Replica 0) ∷ Run 0 ∷ Deliver 4 Primary ∷ Deliver 5 (Replica 0) ∷ Deliver 0 (Replica 0) ∷ Run 0 ∷ []
 
 abbrev pub two_workers_outputs : List Output

@@ -13,7 +13,8 @@
 //! proofs stands in `specs/Inner`.
 //!
 //! It stands on `primary` and `dispatcher`, which know nothing of each other, on `journal` for what
-//! a primary's journal keeps, on `mvcc` for transactions, and on `script` for events and outputs.
+//! a primary's journal keeps, on `mvcc` for transactions, on `plans` for queries, and on `script` for
+//! events and outputs.
 #![tactic(auto)]
 
 mod cores;

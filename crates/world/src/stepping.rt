@@ -10,7 +10,8 @@ ghost use Rattle.world.specs.Inner.CoreSteps.{HappensBeside, MayStep, sent_one, 
 use crate::cores::Cores;
 use crate::naming::{ask_output, got_output, open_output};
 use crate::primary_node::PrimaryNode;
-use dispatcher::{Plan, Run};
+use dispatcher::Run;
+use plans::Plan;
 use primary::FlushFault;
 use rows::ByteList;
 use script::{Event, Node, Output, Sent, SentList};
@@ -67,7 +68,7 @@ impl Cores {
             Event::Push { worker, seq } => self.push(*worker, *seq),
             Event::Deliver { index, node } => self.deliver(*index, *node),
             Event::Show { index } => self.show(*index),
-            Event::Open { replica, plan } => self.open(*replica, *plan),
+            Event::Open { replica, plan } => self.open(*replica, plan),
             Event::Ask { replica } => self.ask(*replica),
             Event::Run { replica } => self.run(*replica),
         }
@@ -175,10 +176,13 @@ impl Cores {
         }
     }
 
-    fn open(&mut self, number: u8, plan: Plan) -> Output
+    fn open(&mut self, number: u8, plan: &Plan) -> Output
         requires { number < length self.old.replicas }
-        ensures { MayStep self.old (Event.Open number plan) result self.new }
+        ensures { MayStep self.old (Event.Open number plan.now) result self.new }
     {
+        let Ok(plan) = copy_of(plan) else {
+            return Output::Memory;
+        };
         let replica = &mut self.replicas[number as usize];
         match replica.open(plan) {
             Ok(count) => Output::Opened(count),
@@ -253,6 +257,13 @@ impl Cores {
             Run::Memory => Output::Memory,
         }
     }
+}
+
+/// The same plan once more. Fails only when out of memory.
+fn copy_of(plan: &Plan) -> Result<Plan, AllocError>
+    ensures { IfOk result (λ copy. copy ≡ plan.now) }
+{
+    plan.clone()
 }
 
 /// A datagram's bytes, put where there is room for them.

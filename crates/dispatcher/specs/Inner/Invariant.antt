@@ -1,11 +1,14 @@
 -- How the fields of a replica's core make the state that its contracts speak of, and what holds of them.
-use Rattle.std.specs.Prelude.{◌≡◌, ℕ, ◌<◌, ◌≤◌, [], List, length, Bool, true, false, Option, None, Some, if◌then◌else◌, nat_le, IfSome}
+use Rattle.std.specs.Prelude.{◌≡◌, ℕ, ◌<◌, ◌≤◌, [], List, length, Bool, true, false, Option, None, Some, Ok, if◌then◌else◌, nat_le, IfSome}
 use Rattle.std.specs.Cmp.Lexicographic.{pointwise}
+use Rattle.std.specs.List.{AllByRecursion}
 use Rattle.std.specs.Option.{option_map}
 use Rattle.rows.specs.Limits.{workers_max, replicas_max}
-use Rattle.rows.specs.Shape.{shape_of}
-use Rattle.rows.specs.Tables.{Tables}
+use Rattle.rows.specs.Shape.{Shape, shape_of}
+use Rattle.rows.specs.Tables.{Tables, shape_in}
 use Rattle.intake.specs.Kept.{AreKeptFrom}
+use Rattle.plans.specs.declared.plan.Plan.{Plan}
+use Rattle.plans.specs.Checking.{checked}
 use Rattle.dispatcher.specs.declared.batch.Batch.{Batch as HeldBatch}
 use Rattle.dispatcher.specs.declared.batch.Fetched.{Fetched as HeldFetched}
 use Rattle.dispatcher.specs.declared.replica_core.ReplicaCore.TheInside.{Inside}
@@ -44,8 +47,17 @@ abbrev pub BatchGoesOn : ℕ → List ℕ → Option HeldBatch → Type 0
 BatchGoesOn version applied None = Unit {0}
 BatchGoesOn version applied (Some batch) = IfSome batch.fetched (GoesOn version applied)
 
--- what holds of a replica on a store that is whole or not
-pub record IsCore {S Place Fault : Type 0} (is_whole : S → Bool) (a : Inside S Place Fault) : Type 0 where
+-- each of these plans fits
+abbrev pub AreChecked : Shape → List Plan → Type 0
+AreChecked shape plans = AllByRecursion (λ plan. checked shape plan ≡ Ok tt) plans
+
+-- and each plan of a batch, if there is one
+abbrev pub BatchIsChecked : Shape → Option HeldBatch → Type 0
+BatchIsChecked shape None = Unit {0}
+BatchIsChecked shape (Some batch) = AreChecked shape batch.plans.items
+
+-- what holds of a replica on a store that is whole or not, and has these tables
+pub record IsCore {S Place Fault : Type 0} (is_whole : S → Bool) (tables : S → Tables) (a : Inside S Place Fault) : Type 0 where
   pub few_workers : a.workers ≤ workers_max
   pub number_below : a.number < replicas_max
   pub arrivals_by_worker : length a.intake ≡ a.workers
@@ -54,3 +66,7 @@ pub record IsCore {S Place Fault : Type 0} (is_whole : S → Bool) (a : Inside S
   pub others_kept : AreKeptFrom a.intake a.applied
   pub store_whole : a.broken ≡ false → is_whole a.store ≡ true
   pub fetched : BatchGoesOn a.version a.applied a.batch
+  -- the tables have the columns of the schema, for which each query was checked
+  pub kinds : shape_in (tables a.store) ≡ shape_of a.schema
+  pub waiting_checked : AreChecked (shape_of a.schema) a.waiting.items
+  pub batch_checked : BatchIsChecked (shape_of a.schema) a.batch

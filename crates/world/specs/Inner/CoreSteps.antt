@@ -2,7 +2,7 @@
 -- what a call on a replica does is told by the replica's own definitions.
 use Rattle.std.specs.Prelude.{◌≡◌, ℕ, List, [], ◌∷◌, ◌++◌, length, true, Option, None, Some, Result, Ok, Err, slice_get, slice_set, ◌⊎◌}
 use Rattle.wire.specs.declared.out.Out.{Out}
-use Rattle.dispatcher.specs.declared.plan.Plan.{Plan}
+use Rattle.plans.specs.declared.plan.Plan.{Plan}
 use Rattle.dispatcher.specs.declared.faults.OpenFault.{OpenFault}
 use Rattle.dispatcher.specs.declared.faults.AskFault.{AskFault}
 use Rattle.dispatcher.specs.declared.outcome.Got.{Got}

@@ -1,5 +1,5 @@
 -- The line ends at its first space, or has none.
-use Rattle.script.proofs.Splitting.{first-word-at, first-word-all}
+use Rattle.script.proofs.WordSplitting.{first-word-at, first-word-all}
 use Rattle.script.proofs.reading.first_word.Goals as goal
 
 pub returns-in-Some : goal.returns-in-Some

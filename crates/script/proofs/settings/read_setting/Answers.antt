@@ -4,7 +4,7 @@ use Rattle.std.specs.List.{slice_split}
 use Rattle.rows.specs.Limits.{workers_max, replicas_max}
 use Rattle.script.specs.Settings.{IsCount, IsSetup}
 use Rattle.script.specs.Inner.SettingWords.{texts}
-use Rattle.script.proofs.Splitting.{parts_words}
+use Rattle.script.proofs.WordSplitting.{parts_words}
 use Rattle.script.proofs.SettingSteps.{workers-next, workers-none, replicas-next, replicas-none, first-next, no-first, table-next, no-table}
 use Rattle.script.proofs.settings.read_setting.Goals as goal
 

@@ -31,4 +31,7 @@ invariant_of-self g c =
           (λ worker. pointwise-le c.self.inside.applied c.args.counts worker goes.counts_on) is.others_kept);
       store_whole = search rules;
       fetched = ready-caught replica c.self.inside.batch fetched refl is_ready;
+      kinds = c.apply_all-applied.ensures.kinds ∙ is.kinds;
+      waiting_checked = is.waiting_checked;
+      batch_checked = is.batch_checked;
     }

@@ -50,6 +50,9 @@ invariant_of-self g c =
           c.take_owned.ensures;
       store_whole = is.store_whole;
       fetched = is.fetched;
+      kinds = is.kinds;
+      waiting_checked = is.waiting_checked;
+      batch_checked = is.batch_checked;
     }
 
 pub returns : goal.returns

@@ -1,5 +1,0 @@
-use Rattle.script.proofs.Values.{value-once}
-use Rattle.script.proofs.parts.words_determine_values.Goals as goal
-
-pub returns : goal.returns
-returns c = value-once

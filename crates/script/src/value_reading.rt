@@ -1,0 +1,52 @@
+//! Values, and the words that are them.
+
+ghost use Rattle.std.specs.Prelude.{◌≡◌, map, None, Some, IfOk, IfErr, MatchOption};
+ghost use Rattle.rows.specs.Text.{value_text};
+ghost use Rattle.rows.specs.declared.value.Value.{Value};
+ghost use Rattle.script.specs.Laws.{WordsDetermineValues};
+ghost use Rattle.script.specs.Inner.LineFaults.{OrMemory};
+ghost use Rattle.script.specs.Inner.WordReading.{values_of};
+ghost use Rattle.script.specs.Values.{HasWord};
+
+use crate::faults::{LineFault, Reason};
+use crate::word_reading::value_of;
+use rows::Value;
+use std::alloc::Global;
+
+/// The value that a word stands for: a signed decimal number of 64 bits without needless zeros, or
+/// `x` and 1 to 64 pairs of lower-case hexadecimal digits; `None` exactly where it stands for none.
+/// Takes no memory.
+pub fn read_value(word: &[u8]) -> Option<Value>
+    ensures { MatchOption result ((value : Value) → HasWord value → value_text value ≡ word.now → ⊥)
+        (λ value. HasWord value × (value_text value ≡ word.now)) }
+{
+    value_of(word)
+}
+
+/// The values that words stand for.
+///
+/// Fails with `BadWords` where one of them stands for none, or with `Memory`.
+pub fn read_values(alloc: Global, words: &[&[u8]]) -> Result<Vec<Value>, LineFault>
+    ensures ok { IfOk result (λ values. values_of (map (λ word. word.now) words.now) ≡ Some values.items) }
+    ensures err { IfErr result (OrMemory (λ reason.
+        (reason ≡ Reason.BadWords) × (values_of (map (λ word. word.now) words.now) ≡ None))) }
+{
+    let mut values = Vec::new(alloc);
+    for word in words {
+        match value_of(word) {
+            Some(value) => {
+                if values.push(value).is_err() {
+                    return Err(LineFault::Memory);
+                }
+            }
+            None => return Err(LineFault::Because(Reason::BadWords)),
+        }
+    }
+    Ok(values)
+}
+
+/// A word is that of one value alone. It does nothing: its contract says so of the text of values,
+/// whoever reads it.
+pub fn words_determine_values()
+    ensures { WordsDetermineValues }
+{}
