@@ -1,4 +1,4 @@
-//! Reading what stands within lines, by itself: a plan. And what holds of the text of scripts and events.
+//! Reading a plan by itself, and what holds of the text of scripts and events.
 
 ghost use Rattle.std.specs.Prelude.{IfOk, MatchOption};
 ghost use Rattle.plans.specs.declared.plan.Plan.{Plan};

@@ -52,7 +52,7 @@ impl World {
     }
 
     /// Lets an event happen, and answers what it gave. The worker and the replica that it names
-    /// are there. Where it answers `memory`, nothing has changed but for a run that was cut short.
+    /// are there. Where it answers `memory`, the world is as it was, but for a run that was cut short.
     pub fn step(&mut self, event: &Event) -> Output
         requires possible { IsPossible self.old.primary.workers (length self.old.replicas) event.now }
         ensures happens { MayHappen (world_of self.old) event.now result (world_of self.new) }
