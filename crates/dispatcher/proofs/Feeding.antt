@@ -63,7 +63,7 @@ pub record Arriving : Type 0 where
 -- ---- the beginning
 
 pub fresh-fed : Arriving → FreshIsFed
-fresh-fed laws shape commits workers number boot legal = record {
+fresh-fed laws schema commits workers number boot legal = record {
   legal = legal;
   shape_is = refl;
   workers_are = length-replicate workers nothing;
@@ -249,7 +249,7 @@ bytes-feed laws shape commits r bytes fed tells =
 -- ---- queries
 
 -- what an answer left
-left : {A E : Type 0} (a b : A) (r new : Replica) → ◌≡◌ {A = Result (A × Replica) E} (Ok (a, r)) (Ok (b, new)) → r ≡ new
+pub left : {A E : Type 0} (a b : A) (r new : Replica) → ◌≡◌ {A = Result (A × Replica) E} (Ok (a, r)) (Ok (b, new)) → r ≡ new
 left {A = A} a b r new h =
     let same : ◌≡◌ {A = A × Replica} (a, r) (b, new) = cc in
     ap (λ (x : A × Replica). x.1) same

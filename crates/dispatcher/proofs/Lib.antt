@@ -9,4 +9,8 @@ pub mod Applying
 pub mod Running
 pub mod CatchingUp
 pub mod Feeding
+pub mod Names
+pub mod Dumping
 pub mod Reports
+pub mod Placing
+pub mod Walk

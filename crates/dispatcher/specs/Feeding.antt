@@ -2,7 +2,8 @@
 -- of it. And the laws of what keeps it so, and of what its runs answer then.
 use Rattle.std.specs.Prelude.{◌≡◌, ℕ, ◌<◌, ◌≤◌, List, ◌++◌, length, true, false, None, Some, Result, Ok, Err, slice_get, slice_index}
 use Rattle.rows.specs.declared.commit.Commit.{Commit}
-use Rattle.rows.specs.Shape.{Shape}
+use Rattle.rows.specs.declared.kind.Kind.{Kind}
+use Rattle.rows.specs.Shape.{Shape, shape_of}
 use Rattle.rows.specs.Commits.{IsLegal, tables_after}
 use Rattle.update_log.specs.Streams.{stream_of}
 use Rattle.intake.specs.Known.{is_known}
@@ -20,7 +21,8 @@ use Rattle.dispatcher.specs.declared.outcome.Run.TheVariants as runs
 use Rattle.plans.specs.declared.plan.Plan.{Plan}
 use Rattle.dispatcher.specs.State.{Replica, Batch, Fetched}
 use Rattle.dispatcher.specs.Report.{report_of}
-use Rattle.dispatcher.specs.Steps.{started, received, goes_on, opened, asked, at_fetched, ready_of, Runs, MayRun}
+use Rattle.dispatcher.specs.TableText.{table_text}
+use Rattle.dispatcher.specs.Steps.{started, received, goes_on, opened, asked, at_fetched, ready_of, Runs, MayRun, dumped}
 
 -- a version of the list, fetched by a replica, with each worker's frame count at it
 pub record IsFetchedFrom (commits : List Commit) (r : Replica) (fetched : Fetched) : Type 0 where
@@ -62,8 +64,8 @@ Tells workers commits (Ok (datagrams.Want replica worker from)) = Unit {0}
 -- a fresh replica is fed from every legal list
 abbrev pub FreshIsFed : Type 0
 FreshIsFed =
-    (shape : Shape) (commits : List Commit) (workers number boot : ℕ) → IsLegal shape workers commits
-    → IsFedFrom shape commits (started shape workers number boot)
+    (schema : List (List ℕ × List Kind)) (commits : List Commit) (workers number boot : ℕ) → IsLegal (shape_of schema) workers commits
+    → IsFedFrom (shape_of schema) commits (started schema workers number boot)
 
 -- fed from a list, it is fed from each legal list that goes on from it
 abbrev pub CommitsKeepFed : Type 0
@@ -132,6 +134,21 @@ ReadyIsAnswered =
     → IsFedFrom shape commits r → r.batch ≡ Some batch → ready_of r ≡ Some fetched → Runs r answer new
     → (answer ≡ runs.Answered (report_of (tables_after shape commits fetched.version) fetched.version batch.plans))
     × (new ≡ record (at_fetched r fetched (tables_after shape commits fetched.version)) { batch = None })
+
+-- ---- what it tells of its tables
+
+-- where it is whole, its dump is the text of the tables after exactly the commits up to its version
+abbrev pub DumpIsTables : Type 0
+DumpIsTables =
+    (shape : Shape) (commits : List Commit) (r : Replica) → IsFedFrom shape commits r → r.broken ≡ false
+    → dumped r ≡ Ok (table_text r.names r.version (tables_after shape commits r.version))
+
+-- each step of any replica leaves the names of its tables
+pub record StepsKeepNames : Type 0 where
+  pub by_bytes : (r : Replica) (bytes : List ℕ) → (received r bytes).1.names ≡ r.names
+  pub by_open : (r : Replica) (plan : Plan) (count : ℕ) (new : Replica) → opened r plan ≡ Ok (count, new) → new.names ≡ r.names
+  pub by_ask : (r : Replica) (out : Out) (new : Replica) → asked r ≡ Ok (out, new) → new.names ≡ r.names
+  pub by_run : (r : Replica) (answer : Run) (new : Replica) → MayRun r answer new → new.names ≡ r.names
 
 -- ---- what two of them hold
 

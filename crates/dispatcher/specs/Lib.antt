@@ -1,4 +1,5 @@
 pub mod Report
+pub mod TableText
 pub mod State
 pub mod Steps
 pub mod Feeding

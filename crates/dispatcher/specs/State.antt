@@ -17,6 +17,8 @@ pub record Batch : Type 0 where
 
 pub record Replica : Type 0 where
   pub shape : Shape
+  -- the tables' names, in the schema's order
+  pub names : List (List ℕ)
   pub workers : ℕ
   pub number : ℕ
   pub boot : ℕ

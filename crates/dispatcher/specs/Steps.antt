@@ -7,7 +7,8 @@ use Rattle.std.specs.List.{list_all}
 use Rattle.std.specs.Option.{option_and_then, is_none}
 use Rattle.rows.specs.Limits.{waiting_queries_max}
 use Rattle.rows.specs.declared.commit.Commit.{Commit}
-use Rattle.rows.specs.Shape.{Shape}
+use Rattle.rows.specs.declared.kind.Kind.{Kind}
+use Rattle.rows.specs.Shape.{shape_of}
 use Rattle.rows.specs.Commits.{commits_of}
 use Rattle.rows.specs.Entries.{fitting}
 use Rattle.rows.specs.Tables.{Tables, opening}
@@ -25,6 +26,8 @@ use Rattle.wire.specs.Spelling.{spelling}
 use Rattle.wire.specs.Reading.{reading}
 use Rattle.dispatcher.specs.declared.faults.AskFault.{AskFault}
 use Rattle.dispatcher.specs.declared.faults.AskFault.TheVariants as asks
+use Rattle.dispatcher.specs.declared.faults.DumpFault.{DumpFault}
+use Rattle.dispatcher.specs.declared.faults.DumpFault.TheVariants as dumps
 use Rattle.dispatcher.specs.declared.faults.OpenFault.{OpenFault}
 use Rattle.dispatcher.specs.declared.faults.OpenFault.TheVariants as opens
 use Rattle.plans.specs.declared.plan.Plan.{Plan}
@@ -36,18 +39,20 @@ use Rattle.dispatcher.specs.declared.outcome.Run.TheVariants as runs
 use Rattle.plans.specs.Checking.{checked}
 use Rattle.dispatcher.specs.State.{Replica, Batch, Fetched}
 use Rattle.dispatcher.specs.Report.{report_of}
+use Rattle.dispatcher.specs.TableText.{names_of, table_text}
 
--- a replica fresh from its start
-abbrev pub started : Shape → ℕ → ℕ → ℕ → Replica
-started shape workers number boot = record {
-  shape = shape;
+-- a replica fresh from its start, of the tables of this schema
+abbrev pub started : List (List ℕ × List Kind) → ℕ → ℕ → ℕ → Replica
+started schema workers number boot = record {
+  shape = shape_of schema;
+  names = names_of schema;
   workers = workers;
   number = number;
   boot = boot;
   request = 0;
   arrivals = none_came workers;
   applied = replicate workers 0;
-  tables = opening shape;
+  tables = opening (shape_of schema);
   version = 0;
   waiting = [];
   batch = None;
@@ -222,3 +227,7 @@ WantsMemory old answer new =
 -- what a run may answer and leave
 abbrev pub MayRun : Replica → Run → Replica → Type 0
 MayRun old answer new = Runs old answer new ⊎ WantsMemory old answer new
+
+-- the text of its tables at its version, or why there is none. Being out of memory aside.
+abbrev pub dumped : Replica → Result (List ℕ) DumpFault
+dumped r = if r.broken then Err dumps.Broken else Ok (table_text r.names r.version r.tables)

@@ -31,6 +31,17 @@ pub enum AskFault {
     Broken,
 }
 
+/// Why the text of a replica's tables is not told: the first that stands, in the order `Broken`,
+/// `Memory`.
+#[derive(Clone, Copy, Debug, PartialEq, Eq, Error)]
+pub enum DumpFault {
+    /// The replica is broken; it has to be started again.
+    #[error("the replica is broken")]
+    Broken,
+    #[error("out of memory")]
+    Memory,
+}
+
 /// Why a replica did not catch up with the version that was fetched.
 #[derive(Clone, Copy, Debug, PartialEq, Eq)]
 pub enum CatchUpFault {

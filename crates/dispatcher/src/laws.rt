@@ -2,7 +2,7 @@
 
 ghost use Rattle.dispatcher.specs.Feeding.{FreshIsFed, CommitsKeepFed, BytesKeepFed, OpenKeepsFed, AskKeepsFed, RunKeepsFed};
 ghost use Rattle.dispatcher.specs.Feeding.{RunIsConsistent, AnswerIsReport, ReadyIsAnswered, VersionTellsTables};
-ghost use Rattle.dispatcher.specs.Feeding.{TruthStays, TrueHeadGoesOn};
+ghost use Rattle.dispatcher.specs.Feeding.{TruthStays, TrueHeadGoesOn, DumpIsTables, StepsKeepNames};
 
 use intake::{arrivals_stay_of_streams, known_frames_stay_kept};
 use ordering::one_merge;
@@ -10,7 +10,9 @@ use ordering::one_merge;
 /// A replica is fed from a legal list of commits where all that it knows is of that list: its
 /// frames, its tables, and the version that it fetched. A fresh one is, each step keeps it so where
 /// what comes is true of the list, and its runs report on rows of the list. Two of them at one
-/// version hold the same tables. It does nothing: its contract is the laws.
+/// version hold the same tables, and while one is not broken its dump is the text of the tables after
+/// exactly the commits up to its version. Each step leaves the names of the tables. It does nothing:
+/// its contract is the laws.
 pub fn fed_replicas_stay_fed()
     ensures fresh { FreshIsFed }
     ensures commits { CommitsKeepFed }
@@ -24,6 +26,8 @@ pub fn fed_replicas_stay_fed()
     ensures report { AnswerIsReport }
     ensures ready { ReadyIsAnswered }
     ensures tables { VersionTellsTables }
+    ensures dump { DumpIsTables }
+    ensures names { StepsKeepNames }
 {
     arrivals_stay_of_streams();
     known_frames_stay_kept();

@@ -6,14 +6,15 @@ ghost use Rattle.rows.specs.Limits.{workers_max, replicas_max};
 ghost use Rattle.rows.specs.Shape.{shape_of};
 ghost use Rattle.rows.specs.Tables.{opening};
 ghost use Rattle.dispatcher.specs.State.{Replica};
-ghost use Rattle.dispatcher.specs.Steps.{started, opened, asked, received, own_head_comes, ready_of, HoldNext, MayRun};
+ghost use Rattle.dispatcher.specs.Steps.{started, opened, asked, received, own_head_comes, ready_of, HoldNext, MayRun, dumped};
 ghost use Rattle.dispatcher.specs.Inner.Parts.{TakesFrame, CatchesUp, Applies, answered_by};
 
 use crate::batch::{Batch, Fetched};
 use crate::counting::{are_at_least, copy_of, missing_below, no_counts};
-use crate::faults::{AskFault, CatchUpFault, OpenFault};
+use crate::faults::{AskFault, CatchUpFault, DumpFault, OpenFault};
 use crate::outcome::{Got, Run, got_of};
 use crate::sending::{ask_out, want_out};
+use crate::table_text::table_text;
 use intake::{Intake, Taken, known_frames_stay_kept};
 use ordering::{OrderFault, one_merge, ordered};
 use plans::{Plan, answer_batch, report};
@@ -80,7 +81,7 @@ impl<S: ApplyStore + Sync> ReplicaCore<S> {
         requires some_workers { 1 ≤ workers }
         requires few_workers { workers ≤ workers_max }
         requires number { number < replicas_max }
-        ensures { IfOk result (λ replica. replica ≡ started (shape_of schema.now) workers number boot) }
+        ensures { IfOk result (λ replica. replica ≡ started schema.now workers number boot) }
     {
         changes_keep_kinds();
         Ok(ReplicaCore {
@@ -246,6 +247,26 @@ impl<S: ApplyStore + Sync> ReplicaCore<S> {
             Err(CatchUpFault::Inconsistent) => Run::Inconsistent,
             Err(CatchUpFault::Memory) => Run::Memory,
             Err(CatchUpFault::Broken) => Run::Broken,
+        }
+    }
+
+    /// The text of its tables at its version: a line `version V rows N`, N being the rows of all
+    /// tables; then for each table in the schema's order, and for each of its rows in rising
+    /// identifier, a line of the table's name, the row's identifier and its values, parted by one
+    /// space. Numbers are decimal, octets `x` and lower-case hexadecimal. Each line is ended by 0a.
+    ///
+    /// Fails with the first of these: `Broken`; `Memory`.
+    pub fn dump(&self) -> Result<Vec<u8>, DumpFault>
+        ensures ok { IfOk result (λ text. dumped self.now ≡ Ok text.items) }
+        ensures refused { IfErr result
+            (λ fault. ((fault ≡ DumpFault.Memory) × IsOk (dumped self.now)) ⊎ (dumped self.now ≡ Err fault)) }
+    {
+        if self.broken {
+            return Err(DumpFault::Broken);
+        }
+        match table_text(self.alloc, &self.store, &self.schema, self.version) {
+            Ok(text) => Ok(text),
+            Err(_) => Err(DumpFault::Memory),
         }
     }
 

@@ -3,6 +3,7 @@
 
 ghost use Rattle.std.specs.Prelude.{◌<◌, length};
 
+use crate::drawn_numbers::{draw, pick};
 use crate::plain_queries::plain_report;
 use crate::queries::{Cell, Line, Tables, Wish, report_of};
 use plans::{Aggregate, Column, Comparison, Join};
@@ -49,24 +50,6 @@ const BOTH: [Column; 6] = [
     Column::Joined(2),
     Column::Own(2),
 ];
-
-/// The next number that is drawn, below this.
-fn draw(state: &mut u64, below: usize) -> usize
-    requires { 0 < below }
-    ensures { result < below }
-{
-    *state = state
-        .wrapping_mul(6364136223846793005)
-        .wrapping_add(1442695040888963407);
-    (*state >> 33) as usize % below
-}
-
-/// One of these, drawn.
-fn pick<T: Copy>(state: &mut u64, items: &[T]) -> T
-    requires { 0 < length items.now }
-{
-    items[draw(state, items.len())]
-}
 
 fn drawn_number(state: &mut u64) -> Cell {
     Cell::Number(pick(state, &NUMBERS))

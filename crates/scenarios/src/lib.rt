@@ -14,7 +14,19 @@ mod cuts;
 #[cfg(test)]
 mod datagrams;
 #[cfg(test)]
+mod drawn_changes;
+#[cfg(test)]
+mod drawn_numbers;
+#[cfg(test)]
+mod drawn_plans;
+#[cfg(test)]
 mod drawn_queries;
+#[cfg(test)]
+mod drawn_rounds;
+#[cfg(test)]
+mod drawn_scripts;
+#[cfg(test)]
+mod dumps;
 #[cfg(test)]
 mod entries;
 #[cfg(test)]
@@ -33,6 +45,10 @@ mod journal_bytes;
 mod journal_files;
 #[cfg(test)]
 mod journal_stores;
+#[cfg(test)]
+mod judged_scripts;
+#[cfg(test)]
+mod judged_stories;
 #[cfg(test)]
 mod long_journals;
 #[cfg(test)]
@@ -60,11 +76,15 @@ mod script_faults;
 #[cfg(test)]
 mod script_frames;
 #[cfg(test)]
+mod script_looks;
+#[cfg(test)]
 mod script_memory;
 #[cfg(test)]
 mod script_plan_faults;
 #[cfg(test)]
 mod script_plans;
+#[cfg(test)]
+mod script_restarts;
 #[cfg(test)]
 mod script_stops;
 #[cfg(test)]
@@ -76,11 +96,43 @@ mod script_writers;
 #[cfg(test)]
 mod scripts;
 #[cfg(test)]
+mod slow_batches;
+#[cfg(test)]
+mod slow_bytes;
+#[cfg(test)]
+mod slow_datagrams;
+#[cfg(test)]
+mod slow_events;
+#[cfg(test)]
+mod slow_frames;
+#[cfg(test)]
+mod slow_journal;
+#[cfg(test)]
+mod slow_judge;
+#[cfg(test)]
+mod slow_network;
+#[cfg(test)]
+mod slow_queries;
+#[cfg(test)]
+mod slow_replicas;
+#[cfg(test)]
+mod slow_rows;
+#[cfg(test)]
+mod slow_tally;
+#[cfg(test)]
+mod slow_text;
+#[cfg(test)]
+mod slow_transactions;
+#[cfg(test)]
+mod slow_world;
+#[cfg(test)]
 mod stores;
 #[cfg(test)]
 mod streams;
 #[cfg(test)]
 mod transactions;
+#[cfg(test)]
+mod turned_scripts;
 #[cfg(test)]
 mod two_workers;
 #[cfg(test)]

@@ -221,10 +221,23 @@ fn write_lines(text: &mut String, pairs: &[Pair], wish: &Wish<'_>) -> Result<usi
     Ok(pairs.len())
 }
 
+/// Adds the answer of the plan that is wished for, the one at this place of its batch.
+pub fn write_answer(
+    text: &mut String,
+    alloc: Global,
+    place: usize,
+    lines: &[Line],
+    wish: &Wish<'_>,
+) -> Result<(), AllocError> {
+    let pairs = pairs_of(alloc, lines, wish)?;
+    let mut groups = String::new(alloc);
+    let count = write_lines(&mut groups, pairs.as_slice(), wish)?;
+    write!(text, "query {place} rows {count}\n{groups}")
+}
+
 /// The report of the answer of the plan that is wished for, at version 7.
 pub fn plain_report(alloc: Global, lines: &[Line], wish: &Wish<'_>) -> Result<String, AllocError> {
-    let pairs = pairs_of(alloc, lines, wish)?;
-    let mut text = String::new(alloc);
-    let count = write_lines(&mut text, pairs.as_slice(), wish)?;
-    format!(in alloc; "version 7 queries 1\nquery 0 rows {count}\n{text}")
+    let mut text = String::from_str(alloc, "version 7 queries 1\n")?;
+    write_answer(&mut text, alloc, 0, lines, wish)?;
+    Ok(text)
 }

@@ -5,7 +5,7 @@ use crate::wanted::Table;
 use crate::worker_datagrams::{
     FRAME, HEAD, Insert, ask_of, changed, frame_at, frame_of, head_of, want_of,
 };
-use dispatcher::{AskFault, Got, OpenFault, ReplicaCore, Run};
+use dispatcher::{AskFault, DumpFault, Got, OpenFault, ReplicaCore, Run};
 use plans::PlanFault;
 use rows::Schema;
 use std::alloc::{AllocError, Global};
@@ -57,6 +57,10 @@ pub enum Step<'a> {
     Request(u64),
     /// It is asked for its version.
     Version(u64),
+    /// This is the text of its tables.
+    Dump(&'a [u8]),
+    /// The text of its tables is not told.
+    DumpRefused(DumpFault),
 }
 
 /// What becomes of a run.
@@ -151,6 +155,8 @@ fn is_answered(alloc: Global, replica: &mut ReplicaCore<PlainStore>, step: &Step
         Step::RunAll(count) => runs_all(alloc, replica, *count),
         Step::Request(number) => replica.request() == *number,
         Step::Version(number) => replica.version() == *number,
+        Step::Dump(text) => dumps(replica, text),
+        Step::DumpRefused(fault) => is_dump_refused(replica, *fault),
     }
 }
 
@@ -275,6 +281,31 @@ fn runs_twice(replica: &mut ReplicaCore<PlainStore>, report: &[u8]) -> bool {
         Run::Memory => runs(replica, &Ran::Answered(report)) && replica.version() == 1,
         Run::Broken => runs(replica, &Ran::Broken) && replica.version() == 0,
         _ => false,
+    }
+}
+
+/// Whether this is the text of its tables. Where memory is refused it is asked for once more.
+fn dumps(replica: &ReplicaCore<PlainStore>, text: &[u8]) -> bool {
+    match replica.dump() {
+        Ok(found) => found.as_slice() == text,
+        Err(DumpFault::Memory) => dumps_now(replica, text),
+        Err(DumpFault::Broken) => false,
+    }
+}
+
+/// Whether this is the text of its tables, the first time that it is asked for.
+fn dumps_now(replica: &ReplicaCore<PlainStore>, text: &[u8]) -> bool {
+    match replica.dump() {
+        Ok(found) => found.as_slice() == text,
+        Err(_) => false,
+    }
+}
+
+/// Whether the text of its tables is not told, for this reason.
+fn is_dump_refused(replica: &ReplicaCore<PlainStore>, fault: DumpFault) -> bool {
+    match replica.dump() {
+        Ok(_) => false,
+        Err(found) => found == fault,
     }
 }
 

@@ -1,12 +1,12 @@
 //! Scripts at the ends of what they may have: the greatest numbers, the most tables, many events,
 //! and each fault at the top, in the middle and at the end.
 
-use crate::scripts::{SETTINGS, expect, printed, refusal};
+use crate::scripts::{SETTINGS, expect, is_text_of, printed, printed_with, refusal, script_of};
 use rows::{ByteList, Kind};
 use script::write_text_of;
 use std::alloc::Global;
 use std::test::Fail;
-use world::{Output, Reason, ScriptFault, read_settings};
+use world::{Echo, Output, Reason, ScriptFault, read_settings};
 
 /// Each number at the ends of the ranges of 8, 16, 32, 63 and 64 bits. With the events shown, a
 /// number that was read as another one shows.
@@ -81,14 +81,47 @@ const KEPT: [(&str, &str); 12] = [
     ("flush 1", "durable 1"),
 ];
 
+/// The most workers and replicas.
+const SIXTEEN: &str = "workers 16\nreplicas 16\ntable acct int int\n";
+
+/// The last replica of 16, and the numbers of its starts at the ends of their ranges.
+const LAST_REPLICA: [(&str, &str); 19] = [
+    ("version 0", "version 0"),
+    ("version 15", "version 0"),
+    ("dump 0", "version 0 rows 0"),
+    ("dump 15", "version 0 rows 0"),
+    ("ask 15", "empty"),
+    ("run 15", "no batch"),
+    ("deliver 0 r15", "never sent"),
+    ("raw r15 -", "ignored"),
+    ("raw r15 00", "ignored"),
+    ("restart 15 0", "boot 0"),
+    ("restart 15 255", "boot 255"),
+    ("restart 15 256", "boot 256"),
+    ("restart 15 65536", "boot 65536"),
+    ("restart 15 4294967296", "boot 4294967296"),
+    ("restart 15 9223372036854775807", "boot 9223372036854775807"),
+    ("restart 15 9223372036854775808", "boot 9223372036854775808"),
+    (
+        "restart 15 18446744073709551615",
+        "boot 18446744073709551615",
+    ),
+    ("restart 15 18446744073709551615", "boot used"),
+    (
+        "restart 0 18446744073709551615",
+        "boot 18446744073709551615",
+    ),
+];
+
 #[test]
 fn numbers_at_the_ends_of_their_ranges_are_read(rt: HostRuntime) -> Result<(), Fail> {
     expect(&rt, rt.alloc(), SETTINGS, &NUMBERS)?;
-    expect(&rt, rt.alloc(), SETTINGS, &KEPT)
+    expect(&rt, rt.alloc(), SETTINGS, &KEPT)?;
+    expect(&rt, rt.alloc(), SIXTEEN, &LAST_REPLICA)
 }
 
 /// Lines with a number one past its range.
-const PAST: [&str; 21] = [
+const PAST: [&str; 24] = [
     "abort 18446744073709551616",
     "commit 18446744073709551616 0",
     "commit 0 1",
@@ -110,12 +143,35 @@ const PAST: [&str; 21] = [
     "stop 18446744073709551616",
     "ask 256",
     "run 18446744073709551616",
+    "version 256",
+    "dump 18446744073709551616",
+    "restart 0 18446744073709551616",
+];
+
+/// Lines with a number one past the last worker or replica of 16.
+const PAST_16: [&str; 11] = [
+    "commit 0 16",
+    "push 16 0",
+    "deliver 0 r16",
+    "open 16 query acct get count",
+    "ask 16",
+    "run 16",
+    "version 16",
+    "dump 16",
+    "restart 16 2",
+    "raw r16 -",
+    "raw r16 00",
 ];
 
 /// The index of the first of these lines of which something else is said behind the settings.
-fn other_said(alloc: Global, lines: &[&str], said: &str) -> Result<Option<usize>, Fail> {
+fn other_said(
+    alloc: Global,
+    settings: &str,
+    lines: &[&str],
+    said: &str,
+) -> Result<Option<usize>, Fail> {
     for (index, line) in lines.iter().enumerate() {
-        let script = format!(in alloc; "{SETTINGS}{line}")?;
+        let script = format!(in alloc; "{settings}{line}")?;
         if refusal(alloc, script.as_bytes())?.as_str() != said {
             return Ok(Some(index));
         }
@@ -125,8 +181,59 @@ fn other_said(alloc: Global, lines: &[&str], said: &str) -> Result<Option<usize>
 
 #[test]
 fn numbers_past_their_ranges_are_refused(rt: HostRuntime) -> Result<(), Fail> {
-    let other = other_said(rt.alloc(), &PAST, "line 4: bad words")?;
+    let other = other_said(rt.alloc(), SETTINGS, &PAST, "line 4: bad words")?;
     assert_eq!(rt; other, None);
+    let other = other_said(rt.alloc(), SIXTEEN, &PAST_16, "line 4: bad words")?;
+    assert_eq!(rt; other, None);
+    Ok(())
+}
+
+/// Bytes, each digit of hexadecimal among them, none of which begins a datagram.
+const FIVE_BYTES: [&str; 5] = ["01", "23", "4567", "89abcd", "ef"];
+
+/// How many times these bytes are handed over. They are eight, so 150 times they are as many as a
+/// datagram has at the most.
+const TIMES: [usize; 4] = [1, 150, 151, 1000];
+
+/// The line that hands these bytes to a replica so many times.
+fn raw_line(alloc: Global, times: usize) -> Result<String, Fail> {
+    let mut line = String::from_str(alloc, "raw r0 ")?;
+    for _ in 0..times {
+        for digits in &FIVE_BYTES {
+            line.push_str(digits)?;
+        }
+    }
+    Ok(line)
+}
+
+/// Whether that line is read, and shown as it is written.
+fn is_line_read(alloc: Global, times: usize) -> Result<bool, Fail> {
+    let line = raw_line(alloc, times)?;
+    let story = [(line.as_str(), "ignored")];
+    let script = script_of(alloc, SETTINGS, &story)?;
+    let text = printed_with(alloc, Echo::Events, script.as_bytes())?;
+    Ok(is_text_of(alloc, Echo::Events, &story, text.as_slice())?)
+}
+
+/// Whether that line with these digits behind it is bad words.
+fn is_line_refused(alloc: Global, times: usize, digits: &str) -> Result<bool, Fail> {
+    let front = raw_line(alloc, times)?;
+    let line = format!(in alloc; "{front}{digits}")?;
+    let other = other_said(alloc, SETTINGS, &[line.as_str()], "line 4: bad words")?;
+    Ok(other.is_none())
+}
+
+#[test]
+fn bytes_of_any_number_are_read(rt: HostRuntime) -> Result<(), Fail> {
+    for times in &TIMES {
+        assert!(rt; is_line_read(rt.alloc(), *times)?, "{times} times");
+        for digits in &["0", "0F", "F0", "-", " "] {
+            assert!(rt;
+                is_line_refused(rt.alloc(), *times, digits)?,
+                "{times} times, {digits}"
+            );
+        }
+    }
     Ok(())
 }
 
@@ -321,5 +428,26 @@ fn a_report_of_more_than_4096_bytes_is_written_whole(rt: HostRuntime) -> Result<
     write_text_of(rt.alloc(), &mut text, &[report])?;
     assert_eq!(rt; text.len(), 7000);
     assert_eq!(rt; text.as_slice(), lines.as_slice());
+    Ok(())
+}
+
+/// What replicas tell of themselves, one behind the other.
+const TOLD: &str = "version 18446744073709551615\nversion 1 rows 1\nacct 7 5 -1\n\
+    boot 18446744073709551615\nboot used\nforged\n";
+
+#[test]
+fn versions_tables_and_boots_are_written(rt: HostRuntime) -> Result<(), Fail> {
+    let mut tables = Vec::new(rt.alloc());
+    tables.extend_from_slice(b"version 1 rows 1\nacct 7 5 -1\n")?;
+    let outputs = [
+        Output::Version(u64::MAX),
+        Output::Dump(ByteList::from_vec(tables)),
+        Output::Boot(u64::MAX),
+        Output::BootUsed,
+        Output::Forged,
+    ];
+    let mut text = Vec::new(rt.alloc());
+    write_text_of(rt.alloc(), &mut text, &outputs)?;
+    assert_eq!(rt; text.as_slice(), TOLD.as_bytes());
     Ok(())
 }

@@ -62,6 +62,12 @@ const BAD_EVENTS: [Group; 7] = [
             "Start",
             "stopped",
             "stop;",
+            "versions 0",
+            "Dump 0",
+            "restart0 1",
+            "boot 0",
+            "raws p -",
+            "RAW p -",
         ],
     ),
     ("line 6: unknown event", &["\n# a comment\nfrobnicate"]),
@@ -106,6 +112,25 @@ const BAD_EVENTS: [Group; 7] = [
             "stop 0 0",
             "start 0",
             "start ",
+            "version",
+            "version ",
+            "version 1",
+            "version 00",
+            "version 0 0",
+            "version p",
+            "dump",
+            "dump 1",
+            "dump -1",
+            "dump 0 0",
+            "restart",
+            "restart 0",
+            "restart 0 ",
+            "restart 1 2",
+            "restart 0 02",
+            "restart 0 -1",
+            "restart 0 +1",
+            "restart 0 1 2",
+            "restart r0 2",
         ],
     ),
     (
@@ -183,6 +208,16 @@ const BAD_VALUES: [Group; 1] = [(
     ],
 )];
 
+/// Words that are no bytes, and too few or too many words.
+const BAD_BYTES: [Group; 1] = [(
+    "line 4: bad words",
+    &[
+        "", "p", "p ", " 00", "0 00", "q 00", "r 00", "r1 00", "r00 00", "P 00", "p 0", "p 000",
+        "p A0", "p 0A", "p aF", "p 0g", "p g0", "p 0:", "p 0/", "p 0`", "p x00", "p 0x00", "p x",
+        "p --", "p -0", "p 0-", "p -00", "p +0", "p - -", "p 00 00", "p 00 ",
+    ],
+)];
+
 /// Fifteen more tables, and what may not follow them.
 const FIFTEEN_TABLES: &str = "\
     table t1 int\ntable t2 int\ntable t3 int\ntable t4 int\ntable t5 int\n\
@@ -192,12 +227,13 @@ const FIFTEEN_TABLES: &str = "\
 const A_17TH_TABLE: [Group; 1] = [("line 19: bad setting", &["table t16 int\n"])];
 
 /// What stands before texts, and what is said of each of them behind it.
-const REFUSED: [(&str, &str, &[Group]); 6] = [
+const REFUSED: [(&str, &str, &[Group]); 7] = [
     ("", "", &BAD_SETTINGS),
     (SETTINGS, "", &BAD_EVENTS),
     (SETTINGS, "", &TWO_FAULTS),
     (SETTINGS, "table ", &BAD_TABLES),
     (SETTINGS, "insert 0 acct 7 ", &BAD_VALUES),
+    (SETTINGS, "raw ", &BAD_BYTES),
     (SETTINGS, FIFTEEN_TABLES, &A_17TH_TABLE),
 ];
 

@@ -248,6 +248,34 @@ fn reads_as_its_events(alloc: Global) -> Result<bool, Fail> {
     Ok(are_read(&setup, events.as_slice()))
 }
 
+/// Events of a replica, and of bytes by themselves.
+const MORE_EVENTS: &str = "workers 1\nreplicas 2\ntable acct int int\n\
+    version 1\ndump 0\nrestart 1 18446744073709551615\nraw r1 00ff0a\nraw p -\n";
+
+/// Whether that script reads as them.
+fn reads_as_more_events(alloc: Global) -> Result<bool, Fail> {
+    let (_, events) = read_script(alloc, MORE_EVENTS.as_bytes())?;
+    Ok(match events.as_slice() {
+        [
+            Event::Version { replica: 1 },
+            Event::Dump { replica: 0 },
+            Event::Restart {
+                replica: 1,
+                boot: u64::MAX,
+            },
+            Event::Raw {
+                node: Node::Replica(1),
+                bytes,
+            },
+            Event::Raw {
+                node: Node::Primary,
+                bytes: none,
+            },
+        ] => bytes.as_slice() == [0, 255, 10].as_slice() && none.is_empty(),
+        _ => false,
+    })
+}
+
 /// Whether a run on this schema answers each event.
 fn answers_each_event(alloc: Global, schema: Schema) -> Result<bool, Fail> {
     let setup = Setup {
@@ -276,6 +304,7 @@ fn scripts_are_read_and_events_run(rt: HostRuntime) -> Result<(), Fail> {
     stops_keep_what_stands();
     worked_scripts();
     assert!(rt; reads_as_its_events(rt.alloc())?);
+    assert!(rt; reads_as_more_events(rt.alloc())?);
     let schema = Schema::new(rt.alloc(), &NUMBERS)?;
     assert!(rt; answers_each_event(rt.alloc(), schema)?);
     Ok(())

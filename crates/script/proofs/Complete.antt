@@ -6,7 +6,7 @@ use Rattle.rows.specs.declared.row_id.RowId.{RowId}
 use Rattle.rows.specs.declared.value.Value.{Value}
 use Rattle.script.specs.declared.event.Event.{Event}
 use Rattle.script.specs.declared.event.Event.TheVariants.{Begin, Insert, Set, Delete, Get, Commit, Abort, Flush, Push, Deliver, Show, Open}
-use Rattle.script.specs.declared.event.Event.TheVariants.{Ask, Run, Stop, Start}
+use Rattle.script.specs.declared.event.Event.TheVariants.{Ask, Run, Stop, Start, Version, Dump, Restart, Raw}
 use Rattle.script.specs.declared.event.Node.{Node}
 use Rattle.script.specs.declared.event.Node.TheVariants.{Primary, Replica}
 use Rattle.script.specs.declared.setup.Setup.{Setup}
@@ -17,7 +17,7 @@ use Rattle.script.specs.Events.{HasLine, IsPossible, IsThere}
 use Rattle.script.specs.Tables.{table_called}
 use Rattle.script.specs.Inner.Reading.{placed, row_of, node_of, begin_of, commit_of, abort_of, flush_of}
 use Rattle.script.specs.Inner.WordReading.{or_no_table}
-use Rattle.script.specs.Inner.Reading.{push_of, stop_of, start_of}
+use Rattle.script.specs.Inner.Reading.{pair_of, stop_of, start_of, raw_of}
 use Rattle.script.specs.Inner.Reading.{deliver_of, show_of, replica_of, insert_of, set_of, delete_of, get_of, open_of}
 use Rattle.script.specs.Inner.PlanReading.{plan_of}
 use Rattle.script.specs.Inner.Reading.{opened}
@@ -28,6 +28,7 @@ use Rattle.script.specs.PlanText.{plan_words}
 use Rattle.script.specs.Inner.PlanReading.{plan_of}
 use Rattle.script.proofs.Tables.{table_of-name}
 use Rattle.script.proofs.Numbers.{number_of-decimal, below_of-decimal}
+use Rattle.script.proofs.Hex.{hex_of-text}
 use Rattle.script.proofs.Values.{value_of-text, values_of-text}
 
 -- an event on the table of a number that was looked up
@@ -72,8 +73,8 @@ node_of-text replicas (Replica number) h there = rw (below_of-decimal replicas n
 pub complete : (setup : Setup) (naming : ℕ → List ℕ) (event : Event) → setup.workers < 2 ^ 64 → setup.replicas < 2 ^ 64
     → AreNamed naming (tables_in event) → HasLine event → IsPossible setup.workers setup.replicas event
     → words_event setup (event_words naming event) ≡ at_tables setup naming event
-unfolding event_of primary_event network_event replica_event begin_of commit_of abort_of flush_of stop_of start_of push_of deliver_of
-    show_of replica_of insert_of set_of delete_of get_of open_of one_of two_of three_of four_of five_of three_and_more
+unfolding event_of primary_event network_event replica_event begin_of commit_of abort_of flush_of stop_of start_of pair_of deliver_of
+    raw_of show_of replica_of insert_of set_of delete_of get_of open_of one_of two_of three_of four_of five_of three_and_more
 complete setup naming Begin w r named form possible = refl
 complete setup naming (Insert transaction table row []) w r named form possible = absurd (omega arith)
 complete setup naming (Insert transaction table row (value ∷ values)) w r named form possible =
@@ -114,3 +115,10 @@ complete setup naming (Open replica plan) w r named form possible =
     rw (below_of-decimal setup.replicas replica possible (omega arith)) refl
 complete setup naming (Ask replica) w r named form possible = rw (below_of-decimal setup.replicas replica possible (omega arith)) refl
 complete setup naming (Run replica) w r named form possible = rw (below_of-decimal setup.replicas replica possible (omega arith)) refl
+complete setup naming (Version replica) w r named form possible =
+    rw (below_of-decimal setup.replicas replica possible (omega arith)) refl
+complete setup naming (Dump replica) w r named form possible = rw (below_of-decimal setup.replicas replica possible (omega arith)) refl
+complete setup naming (Restart replica boot) w r named form possible =
+    let there = possible.0 in rw (below_of-decimal setup.replicas replica there (omega arith)) (rw (number_of-decimal boot form) refl)
+complete setup naming (Raw node bytes) w r named form possible =
+    rw (node_of-text setup.replicas node r possible.0) (rw (hex_of-text bytes form) refl)

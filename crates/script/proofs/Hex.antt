@@ -1,7 +1,9 @@
 -- Bytes in hexadecimal, and the digits that are them.
-use Rattle.std.proofs.Common.{◌≡◌, ℕ, zero, suc, ◌+◌, ◌-◌, ◌*◌, ◌/◌, ◌%◌, ◌<◌, ◌≤◌, List, [], ◌∷◌, ◌++◌, length, take, drop, set, get_or}
+use Rattle.std.proofs.Common.{◌≡◌, ℕ, zero, suc, ◌+◌, ◌-◌, ◌*◌, ◌/◌, ◌%◌, ◌<◌, ◌≤◌, List, [], ◌∷◌, ◌++◌, length, take}
+use Rattle.std.proofs.Common.{drop, set, get_or, ◌==◌}
 use Rattle.std.proofs.Common.{Bool, true, false, cond, Option, None, Some, refl, sym, ap, ◌∙◌, subst, arith, nat_lt, nat_le, ◌&&◌}
-use Rattle.std.proofs.Common.{append_assoc, append-nil}
+use Rattle.std.proofs.Common.{append_assoc, append-nil, codes}
+use Rattle.std.specs.Str.{bytes_eq}
 use Rattle.std.proofs.Common.{lit<, length-take-le}
 use Rattle.std.proofs.lemmas.Bool.{ltb-true, lt-ltb, leb-true, le-leb}
 use Rattle.std.proofs.lemmas.Bool.Decides.{nat_tests}
@@ -11,7 +13,9 @@ use Rattle.std.specs.Fmt.{digit_glyph}
 use Rattle.rows.specs.Limits.{octets_max}
 use Rattle.rows.specs.Spelling.{AreBytes}
 use Rattle.rows.specs.Text.{hex_text}
-use Rattle.script.specs.Inner.WordReading.{both, made, two, digit_of, byte_of, bytes_of, sized, octets_of}
+use Rattle.script.specs.EventText.{bytes_text}
+use Rattle.script.specs.Inner.WordReading.{both, made, two, digit_of, byte_of, bytes_of, hex_of, sized, octets_of}
+use Rattle.script.proofs.Numbers.{words_same}
 
 -- the parts of what two of them made
 pub both-some : {A B C : Type 0} (first : Option A) (second : Option B) (make : A → B → C) (c : C) → both first second make ≡ Some c
@@ -64,16 +68,20 @@ pub onto-none : (rest : Option (List ℕ)) → onto [] rest ≡ rest
 onto-none None = refl
 onto-none (Some bytes) = refl
 
+pub hex-more : (digits front : List ℕ) (i byte : ℕ) → 2 * i + 1 < length digits
+    → byte_of (get_or digits (2 * i) 0) (get_or digits (2 * i + 1) 0) ≡ Some byte
+    → onto front (bytes_of (drop (2 * i) digits)) ≡ onto (front ++ byte ∷ []) (bytes_of (drop (2 * (i + 1)) digits))
+hex-more digits front i byte within is = rw (pair_at digits i within) (rw is (by (bytes_of (drop (2 * (i + 1)) digits))))
+  where
+    by : (rest : Option (List ℕ)) → onto front (both (Some byte) rest (λ first more. first ∷ more)) ≡ onto (front ++ byte ∷ []) rest
+    by None = refl
+    by (Some rest) = ap (λ (all : List ℕ). Some all) (sym (append_assoc front (byte ∷ []) rest))
+
 pub hex-step : (digits bytes : List ℕ) (i byte : ℕ) → 2 * i + 1 < length digits → i < length bytes
     → byte_of (get_or digits (2 * i) 0) (get_or digits (2 * i + 1) 0) ≡ Some byte
     → onto (take i bytes) (bytes_of (drop (2 * i) digits)) ≡ onto (take (i + 1) (set bytes i byte)) (bytes_of (drop (2 * (i + 1)) digits))
 hex-step digits bytes i byte within room is =
-    rw (pair_at digits i within) (rw is (rw (take_more_set bytes i byte room) (by (bytes_of (drop (2 * (i + 1)) digits)))))
-  where
-    by : (rest : Option (List ℕ))
-        → onto (take i bytes) (both (Some byte) rest (λ first more. first ∷ more)) ≡ onto (take i bytes ++ byte ∷ []) rest
-    by None = refl
-    by (Some rest) = ap (λ (all : List ℕ). Some all) (sym (append_assoc (take i bytes) (byte ∷ []) rest))
+    rw (take_more_set bytes i byte room) (hex-more digits (take i bytes) i byte within is)
 
 pub hex-stop : (digits : List ℕ) (front : List ℕ) (i : ℕ) → 2 * i + 1 < length digits
     → byte_of (get_or digits (2 * i) 0) (get_or digits (2 * i + 1) 0) ≡ None → onto front (bytes_of (drop (2 * i) digits)) ≡ None
@@ -164,6 +172,71 @@ bytes_of-some (high ∷ low ∷ digits) bytes h =
     written : (byte : ℕ) (more : List ℕ) (high low : ℕ) (digits : List ℕ) → digit_glyph false (byte / 16) ≡ high
         → digit_glyph false (byte % 16) ≡ low → hex_text more ≡ digits → hex_text (byte ∷ more) ≡ high ∷ low ∷ digits
     written byte more high low digits a b c = rw a (rw b (rw c refl))
+
+-- bytes by themselves, and what they are written as
+pub hex_of-text : (bytes : List ℕ) → AreBytes bytes → hex_of (bytes_text bytes) ≡ Some bytes
+unfolding hex_of
+hex_of-text [] are = refl
+hex_of-text (byte ∷ bytes) are = by (bytes_eq (hex_text (byte ∷ bytes)) (codes "-")) refl
+  where
+    by : (is : Bool) → bytes_eq (hex_text (byte ∷ bytes)) (codes "-") ≡ is
+        → cond is (Some []) (bytes_of (hex_text (byte ∷ bytes))) ≡ Some (byte ∷ bytes)
+    by true e =
+        let counts : suc (suc (length (hex_text bytes))) ≡ 1 =
+        ap (λ (word : List ℕ). length word) (words_same (hex_text (byte ∷ bytes)) (codes "-") e) in
+        absurd (omega arith)
+    by false e = bytes_of-text (byte ∷ bytes) are
+
+pub hex_of-some : (word bytes : List ℕ) → hex_of word ≡ Some bytes → AreBytes bytes × (bytes_text bytes ≡ word)
+unfolding hex_of
+hex_of-some [] bytes h = absurd (cc)
+hex_of-some (first ∷ rest) bytes h = by (bytes_eq (first ∷ rest) (codes "-")) refl h
+  where
+    written : (made : List ℕ) → hex_text made ≡ first ∷ rest → bytes_text made ≡ first ∷ rest
+    written [] e = cc
+    written (byte ∷ more) e = e
+
+    by : (is : Bool) → bytes_eq (first ∷ rest) (codes "-") ≡ is → cond is (Some []) (bytes_of (first ∷ rest)) ≡ Some bytes
+        → AreBytes bytes × (bytes_text bytes ≡ first ∷ rest)
+    by true e k =
+        let same : [] ≡ bytes = cc in
+        let P : List ℕ → Type 0 = λ made. AreBytes made × (bytes_text made ≡ first ∷ rest) in
+        subst P same (λ i. lit< tt, sym (words_same (first ∷ rest) (codes "-") e))
+    by false e k =
+        let s = bytes_of-some (first ∷ rest) bytes k in
+        (s.0, written bytes s.1)
+
+-- `-` is no byte
+pub hex-dash : (word : List ℕ) → bytes_eq word (codes "-") ≡ true → hex_of word ≡ Some []
+unfolding hex_of
+hex-dash [] e = cc
+hex-dash (first ∷ rest) e = rw e refl
+
+-- another word is pairs of digits
+pub hex-pairs : (word : List ℕ) → (length word == 0) ≡ false → bytes_eq word (codes "-") ≡ false → hex_of word ≡ bytes_of word
+unfolding hex_of
+hex-pairs [] some e = cc
+hex-pairs (first ∷ rest) some e = rw e refl
+
+-- a word of an odd number of digits, or of none, is no bytes
+pub hex-odd : (word : List ℕ) → bytes_eq word (codes "-") ≡ false → ((count : ℕ) → 0 < count → length word ≡ 2 * count → ⊥)
+    → hex_of word ≡ None
+unfolding hex_of
+hex-odd [] e odd = refl
+hex-odd (first ∷ rest) e odd = rw e (by (bytes_of (first ∷ rest)) refl)
+  where
+    by : (found : Option (List ℕ)) → bytes_of (first ∷ rest) ≡ found → found ≡ None
+    by None f = refl
+    by (Some bytes) f =
+        let even : length (first ∷ rest) ≡ 2 * length bytes = bytes_of-length (first ∷ rest) bytes f in
+        absurd (odd (length bytes) (omega arith) even)
+
+-- all digits were read
+pub hex-made : (digits bytes : List ℕ) (len : ℕ) → length digits ≡ 2 * len
+    → bytes_of digits ≡ onto bytes (bytes_of (drop (2 * len) digits)) → bytes_of digits ≡ Some bytes
+hex-made digits bytes len even made =
+    let gone : drop (2 * len) digits ≡ [] = drop_all (2 * len) digits (omega arith) in
+    made ∙ ap (λ (rest : List ℕ). onto bytes (bytes_of rest)) gone ∙ ap (λ (whole : List ℕ). Some whole) (append-nil bytes)
 
 -- octets and their digits
 pub octets_of-text : (bytes : List ℕ) → (0 < length bytes) × (length bytes ≤ octets_max) × AreBytes bytes

@@ -6,7 +6,7 @@ use Rattle.std.proofs.lemmas.List.Splits.{join_with_byte-slice_split}
 use Rattle.rows.specs.Text.{words_text}
 use Rattle.script.specs.declared.event.Event.{Event}
 use Rattle.script.specs.declared.event.Event.TheVariants.{Begin, Insert, Set, Delete, Get, Commit, Abort, Flush, Push, Deliver, Show, Open}
-use Rattle.script.specs.declared.event.Event.TheVariants.{Ask, Run, Stop, Start}
+use Rattle.script.specs.declared.event.Event.TheVariants.{Ask, Run, Stop, Start, Version, Dump, Restart, Raw}
 use Rattle.script.specs.declared.setup.Setup.{Setup}
 use Rattle.script.specs.declared.faults.Reason.{Reason}
 use Rattle.script.specs.declared.faults.Reason.TheVariants.{NotText, BadSetting, UnknownEvent, BadWords, NoTable}
@@ -56,6 +56,10 @@ some_words naming (Show index) = omega arith
 some_words naming (Open replica plan) = omega arith
 some_words naming (Ask replica) = omega arith
 some_words naming (Run replica) = omega arith
+some_words naming (Version replica) = omega arith
+some_words naming (Dump replica) = omega arith
+some_words naming (Restart replica boot) = omega arith
+some_words naming (Raw node bytes) = omega arith
 
 -- what the words of a line give, where it is that of an event
 pub given-line : (setup : Setup) (naming : ℕ → List ℕ) (event : Event) (line : List ℕ) → setup.workers < 2 ^ 64 → setup.replicas < 2 ^ 64
@@ -93,6 +97,10 @@ at_tables-fine setup naming (Show index) named form h = cc
 at_tables-fine setup naming (Open replica plan) named form h = plan-not-bad setup.schema naming plan form named (opened-bad replica _ h)
 at_tables-fine setup naming (Ask replica) named form h = cc
 at_tables-fine setup naming (Run replica) named form h = cc
+at_tables-fine setup naming (Version replica) named form h = cc
+at_tables-fine setup naming (Dump replica) named form h = cc
+at_tables-fine setup naming (Restart replica boot) named form h = cc
+at_tables-fine setup naming (Raw node bytes) named form h = cc
 
 -- the first word
 first_word-is : (line first : List ℕ) (words : List (List ℕ)) → line_words line ≡ first ∷ words → first_word line ≡ first
@@ -154,6 +162,10 @@ kept_tables setup line (Show index) s = refl
 kept_tables setup line (Open replica plan) s = ap (opened (Some replica)) (plan-read setup.schema plan s.form s.named s.found)
 kept_tables setup line (Ask replica) s = refl
 kept_tables setup line (Run replica) s = refl
+kept_tables setup line (Version replica) s = refl
+kept_tables setup line (Dump replica) s = refl
+kept_tables setup line (Restart replica boot) s = refl
+kept_tables setup line (Raw node bytes) s = refl
 
 event-read : (setup : Setup) (line : List ℕ) (event : Event) → setup.workers < 2 ^ 64 → setup.replicas < 2 ^ 64
     → IsEventLine setup line event → words_event setup (line_words line) ≡ Ok event

@@ -11,7 +11,7 @@ use Rattle.std.proofs.Math.ListN.{length-map}
 use Rattle.rows.specs.Text.{value_text}
 use Rattle.script.specs.declared.event.Event.{Event}
 use Rattle.script.specs.declared.event.Event.TheVariants.{Insert, Set, Delete, Get, Commit, Abort, Flush, Push, Deliver, Show, Open}
-use Rattle.script.specs.declared.event.Event.TheVariants.{Ask, Run, Stop}
+use Rattle.script.specs.declared.event.Event.TheVariants.{Ask, Run, Stop, Version, Dump, Restart, Raw}
 use Rattle.script.specs.declared.event.Node.{Node}
 use Rattle.script.specs.declared.event.Node.TheVariants.{Primary, Replica}
 use Rattle.script.specs.declared.setup.Setup.{Setup}
@@ -23,10 +23,10 @@ use Rattle.script.specs.Events.{HasLine, IsPossible, IsThere, IsValue}
 use Rattle.script.specs.Values.{HasWord}
 use Rattle.script.specs.Tables.{table_called}
 use Rattle.script.specs.EventLines.{event_names, setting_names}
-use Rattle.script.specs.Inner.WordReading.{both, two, made, number_of, below_of, value_of, values_of}
+use Rattle.script.specs.Inner.WordReading.{both, two, made, number_of, below_of, value_of, values_of, hex_of}
 use Rattle.script.specs.Inner.Reading.{placed, or_bad_words, row_of, row_id, node_of, begin_of, commit_of}
 use Rattle.script.specs.Inner.WordReading.{or_no_table, table_of}
-use Rattle.script.specs.Inner.Reading.{abort_of, flush_of, stop_of, start_of, push_of}
+use Rattle.script.specs.Inner.Reading.{abort_of, flush_of, stop_of, start_of, pair_of, raw_of}
 use Rattle.script.specs.Inner.Reading.{deliver_of, show_of, replica_of, insert_of, set_of, delete_of, get_of, open_of}
 use Rattle.script.specs.Inner.PlanReading.{plan_of}
 use Rattle.script.specs.Inner.Reading.{opened}
@@ -38,7 +38,7 @@ use Rattle.script.specs.Inner.PlanReading.{plan_of}
 use Rattle.script.proofs.Tables.{named_so}
 use Rattle.script.proofs.PlanLaws.{IsPlanSound, plan-sound}
 use Rattle.script.proofs.Numbers.{number_of-some, below_of-some, first-is, words_same}
-use Rattle.script.proofs.Hex.{both-some, two-some, made-some}
+use Rattle.script.proofs.Hex.{both-some, two-some, made-some, hex_of-some}
 use Rattle.script.proofs.Values.{value_of-some, values_of-some}
 
 -- words are those of an event that a line can have, whose tables have these names
@@ -186,19 +186,52 @@ unfolding start_of
 start-sound setup [] = (record { named = tt; form = tt; possible = tt; spelled = refl }, tt)
 start-sound setup (word ∷ words) = refl
 
-push-sound : (setup : Setup) (words : List (List ℕ)) → IsSound setup (codes "push") words (or_bad_words (push_of setup.workers words))
-unfolding push_of two_of
-push-sound setup [] = refl
-push-sound setup (worker ∷ []) = refl
-push-sound setup (worker ∷ seq ∷ []) =
-    plain setup (codes "push") (worker ∷ seq ∷ []) (both (below_of setup.workers worker) (number_of seq) Push) refl
+-- an event of a number below a limit, and another one
+pair-sound : (setup : Setup) (name : List ℕ) (limit : ℕ) (make : ℕ × ℕ → Event) (words : List (List ℕ)) → is_known name ≡ true
+    → ((one other : ℕ) → one < limit → other < 2 ^ 64
+    → IsSound setup name (decimal one ∷ decimal other ∷ []) (Ok (make (one, other))))
+    → IsSound setup name words (or_bad_words (made make (pair_of limit words)))
+unfolding pair_of two_of
+pair-sound setup name limit make [] known good = known
+pair-sound setup name limit make (one ∷ []) known good = known
+pair-sound setup name limit make (one ∷ other ∷ []) known good =
+    plain setup name (one ∷ other ∷ []) (made make (two (below_of limit one) (number_of other))) known
     (λ event e.
-    let p = both-some (below_of setup.workers worker) (number_of seq) Push event e in
-    let w = below_of-some setup.workers worker p.0 p.2 in
-    let t = number_of-some seq p.1 p.3 in
-    let P : Event → Type 0 = λ it. IsSound setup (codes "push") (worker ∷ seq ∷ []) (Ok it) in
-    subst P p.4 (record { named = tt; form = t.0; possible = w.0; spelled = rw w.1 (rw t.1 refl) }, tt))
-push-sound setup (worker ∷ seq ∷ other ∷ words) = refl
+    let p = made-some make (two (below_of limit one) (number_of other)) event e in
+    let q = two-some (below_of limit one) (number_of other) p.0 p.1 in
+    let a = below_of-some limit one p.0.0 q.0 in
+    let b = number_of-some other p.0.1 q.1 in
+    let P : Event → Type 0 = λ it. IsSound setup name (one ∷ other ∷ []) (Ok it) in
+    let Q : List ℕ → Type 0 = λ word. IsSound setup name (word ∷ decimal p.0.1 ∷ []) (Ok (make p.0)) in
+    let R : List ℕ → Type 0 = λ word. IsSound setup name (one ∷ word ∷ []) (Ok (make p.0)) in
+    subst P p.2 (subst R b.1 (subst Q a.1 (good p.0.0 p.0.1 a.0 b.0))))
+pair-sound setup name limit make (one ∷ other ∷ more ∷ words) known good = known
+
+push-sound : (setup : Setup) (words : List (List ℕ))
+    → IsSound setup (codes "push") words (or_bad_words (made (λ it. Push it.0 it.1) (pair_of setup.workers words)))
+push-sound setup words =
+    pair-sound setup (codes "push") setup.workers (λ it. Push it.0 it.1) words refl
+    (λ worker seq below small. (record { named = tt; form = small; possible = below; spelled = refl }, tt))
+
+restart-sound : (setup : Setup) (words : List (List ℕ))
+    → IsSound setup (codes "restart") words (or_bad_words (made (λ it. Restart it.0 it.1) (pair_of setup.replicas words)))
+restart-sound setup words =
+    pair-sound setup (codes "restart") setup.replicas (λ it. Restart it.0 it.1) words refl
+    (λ replica boot below small. (record { named = tt; form = small; possible = (below, small); spelled = refl }, tt))
+
+raw-sound : (setup : Setup) (words : List (List ℕ)) → IsSound setup (codes "raw") words (or_bad_words (raw_of setup.replicas words))
+unfolding raw_of two_of
+raw-sound setup [] = refl
+raw-sound setup (node ∷ []) = refl
+raw-sound setup (node ∷ digits ∷ []) =
+    plain setup (codes "raw") (node ∷ digits ∷ []) (both (node_of setup.replicas node) (hex_of digits) Raw) refl
+    (λ event e.
+    let p = both-some (node_of setup.replicas node) (hex_of digits) Raw event e in
+    let n = node_of-some setup.replicas node p.0 p.2 in
+    let h = hex_of-some digits p.1 p.3 in
+    let P : Event → Type 0 = λ it. IsSound setup (codes "raw") (node ∷ digits ∷ []) (Ok it) in
+    subst P p.4 (record { named = tt; form = h.0; possible = (n.0, h.0); spelled = rw n.1 (rw h.1 refl) }, tt))
+raw-sound setup (node ∷ digits ∷ other ∷ words) = refl
 
 deliver-sound : (setup : Setup) (words : List (List ℕ))
     → IsSound setup (codes "deliver") words (or_bad_words (deliver_of setup.replicas words))
@@ -227,31 +260,45 @@ show-sound setup (index ∷ []) =
     subst P p.2 (record { named = tt; form = t.0; possible = tt; spelled = rw t.1 refl }, tt))
 show-sound setup (index ∷ other ∷ words) = refl
 
-ask-sound : (setup : Setup) (words : List (List ℕ)) → IsSound setup (codes "ask") words (or_bad_words (made Ask
-    (replica_of setup.replicas words)))
+-- an event that has nothing but the number of a replica
+replica-sound : (setup : Setup) (name : List ℕ) (make : ℕ → Event) (words : List (List ℕ)) → is_known name ≡ true
+    → ((number : ℕ) → number < setup.replicas → IsSound setup name (decimal number ∷ []) (Ok (make number)))
+    → IsSound setup name words (or_bad_words (made make (replica_of setup.replicas words)))
 unfolding replica_of one_of
-ask-sound setup [] = refl
-ask-sound setup (replica ∷ []) =
-    plain setup (codes "ask") (replica ∷ []) (made Ask (below_of setup.replicas replica)) refl
+replica-sound setup name make [] known good = known
+replica-sound setup name make (replica ∷ []) known good =
+    plain setup name (replica ∷ []) (made make (below_of setup.replicas replica)) known
     (λ event e.
-    let p = made-some Ask (below_of setup.replicas replica) event e in
+    let p = made-some make (below_of setup.replicas replica) event e in
     let t = below_of-some setup.replicas replica p.0 p.1 in
-    let P : Event → Type 0 = λ it. IsSound setup (codes "ask") (replica ∷ []) (Ok it) in
-    subst P p.2 (record { named = tt; form = tt; possible = t.0; spelled = rw t.1 refl }, tt))
-ask-sound setup (replica ∷ other ∷ words) = refl
+    let P : Event → Type 0 = λ it. IsSound setup name (replica ∷ []) (Ok it) in
+    let Q : List ℕ → Type 0 = λ word. IsSound setup name (word ∷ []) (Ok (make p.0)) in
+    subst P p.2 (subst Q t.1 (good p.0 t.0)))
+replica-sound setup name make (replica ∷ other ∷ words) known good = known
 
-run-sound : (setup : Setup) (words : List (List ℕ)) → IsSound setup (codes "run") words (or_bad_words (made Run
-    (replica_of setup.replicas words)))
-unfolding replica_of one_of
-run-sound setup [] = refl
-run-sound setup (replica ∷ []) =
-    plain setup (codes "run") (replica ∷ []) (made Run (below_of setup.replicas replica)) refl
-    (λ event e.
-    let p = made-some Run (below_of setup.replicas replica) event e in
-    let t = below_of-some setup.replicas replica p.0 p.1 in
-    let P : Event → Type 0 = λ it. IsSound setup (codes "run") (replica ∷ []) (Ok it) in
-    subst P p.2 (record { named = tt; form = tt; possible = t.0; spelled = rw t.1 refl }, tt))
-run-sound setup (replica ∷ other ∷ words) = refl
+ask-sound : (setup : Setup) (words : List (List ℕ))
+    → IsSound setup (codes "ask") words (or_bad_words (made Ask (replica_of setup.replicas words)))
+ask-sound setup words =
+    replica-sound setup (codes "ask") Ask words refl
+    (λ number below. (record { named = tt; form = tt; possible = below; spelled = refl }, tt))
+
+run-sound : (setup : Setup) (words : List (List ℕ))
+    → IsSound setup (codes "run") words (or_bad_words (made Run (replica_of setup.replicas words)))
+run-sound setup words =
+    replica-sound setup (codes "run") Run words refl
+    (λ number below. (record { named = tt; form = tt; possible = below; spelled = refl }, tt))
+
+version-sound : (setup : Setup) (words : List (List ℕ))
+    → IsSound setup (codes "version") words (or_bad_words (made Version (replica_of setup.replicas words)))
+version-sound setup words =
+    replica-sound setup (codes "version") Version words refl
+    (λ number below. (record { named = tt; form = tt; possible = below; spelled = refl }, tt))
+
+dump-sound : (setup : Setup) (words : List (List ℕ))
+    → IsSound setup (codes "dump") words (or_bad_words (made Dump (replica_of setup.replicas words)))
+dump-sound setup words =
+    replica-sound setup (codes "dump") Dump words refl
+    (λ number below. (record { named = tt; form = tt; possible = below; spelled = refl }, tt))
 
 delete-sound : (setup : Setup) (words : List (List ℕ)) → IsSound setup (codes "delete") words (delete_of setup.schema words)
 unfolding delete_of three_of
@@ -385,10 +432,12 @@ unknown : (first : List ℕ) → bytes_eq first (codes "begin") ≡ false → by
     → bytes_eq first (codes "stop") ≡ false → bytes_eq first (codes "start") ≡ false
     → bytes_eq first (codes "push") ≡ false → bytes_eq first (codes "deliver") ≡ false
     → bytes_eq first (codes "show") ≡ false → bytes_eq first (codes "open") ≡ false → bytes_eq first (codes "ask") ≡ false
-    → bytes_eq first (codes "run") ≡ false
+    → bytes_eq first (codes "run") ≡ false → bytes_eq first (codes "version") ≡ false → bytes_eq first (codes "dump") ≡ false
+    → bytes_eq first (codes "restart") ≡ false → bytes_eq first (codes "raw") ≡ false
     → is_known first ≡ false
-unknown first e0 e1 e2 e3 e4 e5 e6 e7 s0 s1 e8 e9 e10 e11 e12 e13 =
-    rw e0 (rw e1 (rw e2 (rw e3 (rw e4 (rw e5 (rw e6 (rw e7 (rw s0 (rw s1 (rw e8 (rw e9 (rw e10 (rw e11 (rw e12 (rw e13 refl)))))))))))))))
+unknown first e0 e1 e2 e3 e4 e5 e6 e7 s0 s1 e8 e9 e10 e11 e12 e13 v0 v1 v2 v3 =
+    rw e0 (rw e1 (rw e2 (rw e3 (rw e4 (rw e5 (rw e6 (rw e7 (rw s0 (rw s1 (rw e8 (rw e9 (rw e10 (rw e11 (rw e12 (rw e13
+    (rw v0 (rw v1 (rw v2 (rw v3 refl)))))))))))))))))))
 
 no_event : (setup : Setup) (first : List ℕ) (words : List (List ℕ)) → is_known first ≡ false → (is : Bool) → sets first ≡ is
     → IsSound setup first words (cond is (Err BadSetting) (Err UnknownEvent))
@@ -407,6 +456,8 @@ event-sound setup first words =
     chosen setup first (codes "get") words (get_of setup.schema words) _ (bytes_eq first (codes "get")) refl (get-sound setup words) (λ e4.
     chosen setup first (codes "open") words (open_of setup.schema setup.replicas words) _ (bytes_eq first (codes "open")) refl
     (open-sound setup words) (λ e11.
+    chosen setup first (codes "raw") words (or_bad_words (raw_of setup.replicas words)) _ (bytes_eq first (codes "raw")) refl
+    (raw-sound setup words) (λ v3.
     chosen setup first (codes "begin") words (or_bad_words (begin_of words)) _ (bytes_eq first (codes "begin")) refl
     (begin-sound setup words) (λ e0.
     chosen setup first (codes "commit") words (or_bad_words (commit_of setup.workers words)) _ (bytes_eq first (codes "commit")) refl
@@ -419,8 +470,8 @@ event-sound setup first words =
     (stop-sound setup words) (λ s0.
     chosen setup first (codes "start") words (or_bad_words (start_of words)) _ (bytes_eq first (codes "start")) refl
     (start-sound setup words) (λ s1.
-    chosen setup first (codes "push") words (or_bad_words (push_of setup.workers words)) _ (bytes_eq first (codes "push")) refl
-    (push-sound setup words) (λ e8.
+    chosen setup first (codes "push") words (or_bad_words (made (λ it. Push it.0 it.1) (pair_of setup.workers words))) _ (bytes_eq first
+    (codes "push")) refl (push-sound setup words) (λ e8.
     chosen setup first (codes "deliver") words (or_bad_words (deliver_of setup.replicas words)) _ (bytes_eq first
     (codes "deliver")) refl (deliver-sound setup words) (λ e9.
     chosen setup first (codes "show") words (or_bad_words (show_of words)) _ (bytes_eq first (codes "show")) refl
@@ -429,4 +480,11 @@ event-sound setup first words =
     (codes "ask")) refl (ask-sound setup words) (λ e12.
     chosen setup first (codes "run") words (or_bad_words (made Run (replica_of setup.replicas words))) _ (bytes_eq first
     (codes "run")) refl (run-sound setup words) (λ e13.
-    no_event setup first words (unknown first e0 e1 e2 e3 e4 e5 e6 e7 s0 s1 e8 e9 e10 e11 e12 e13) (sets first) refl))))))))))))))))
+    chosen setup first (codes "version") words (or_bad_words (made Version (replica_of setup.replicas words))) _ (bytes_eq first
+    (codes "version")) refl (version-sound setup words) (λ v0.
+    chosen setup first (codes "dump") words (or_bad_words (made Dump (replica_of setup.replicas words))) _ (bytes_eq first
+    (codes "dump")) refl (dump-sound setup words) (λ v1.
+    chosen setup first (codes "restart") words (or_bad_words (made (λ it. Restart it.0 it.1) (pair_of setup.replicas words))) _
+    (bytes_eq first (codes "restart")) refl (restart-sound setup words) (λ v2.
+    no_event setup first words (unknown first e0 e1 e2 e3 e4 e5 e6 e7 s0 s1 e8 e9 e10 e11 e12 e13 v0 v1 v2 v3)
+    (sets first) refl))))))))))))))))))))

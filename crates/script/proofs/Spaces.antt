@@ -6,7 +6,7 @@ use Rattle.std.proofs.lemmas.List.Elements.{All-cons}
 use Rattle.rows.specs.Text.{value_text}
 use Rattle.script.specs.declared.event.Event.{Event}
 use Rattle.script.specs.declared.event.Event.TheVariants.{Begin, Insert, Set, Delete, Get, Commit, Abort, Flush, Push, Deliver, Show, Open}
-use Rattle.script.specs.declared.event.Event.TheVariants.{Ask, Run, Stop, Start}
+use Rattle.script.specs.declared.event.Event.TheVariants.{Ask, Run, Stop, Start, Version, Dump, Restart, Raw}
 use Rattle.script.specs.declared.event.Node.{Node}
 use Rattle.script.specs.declared.event.Node.TheVariants.{Primary, Replica}
 use Rattle.script.specs.Text.{is_name}
@@ -14,7 +14,7 @@ use Rattle.script.specs.EventText.{event_words, tables_in, node_text}
 use Rattle.script.specs.Events.{HasLine, IsPossible, IsThere}
 use Rattle.script.specs.Tables.{AreNamed}
 use Rattle.script.proofs.PlanLaws.{plan-plain}
-use Rattle.script.proofs.WordSpaces.{value-plain, values-plain}
+use Rattle.script.proofs.WordSpaces.{bytes-plain, value-plain, values-plain}
 use Rattle.script.proofs.Plain.{IsNoSpace, plain-by-test, decimal-plain, name-plain}
 use Rattle.script.proofs.WordSplitting.{IsPlain}
 
@@ -73,3 +73,12 @@ event-plain workers replicas naming (Ask replica) w r named form possible =
     (plain-by-test (codes "ask") refl, (decimal-plain replica (omega arith), tt))
 event-plain workers replicas naming (Run replica) w r named form possible =
     (plain-by-test (codes "run") refl, (decimal-plain replica (omega arith), tt))
+event-plain workers replicas naming (Version replica) w r named form possible =
+    (plain-by-test (codes "version") refl, (decimal-plain replica (omega arith), tt))
+event-plain workers replicas naming (Dump replica) w r named form possible =
+    (plain-by-test (codes "dump") refl, (decimal-plain replica (omega arith), tt))
+event-plain workers replicas naming (Restart replica boot) w r named form possible =
+    let there = possible.0 in
+    (plain-by-test (codes "restart") refl, (decimal-plain replica (omega arith), (decimal-plain boot form, tt)))
+event-plain workers replicas naming (Raw node bytes) w r named form possible =
+    (plain-by-test (codes "raw") refl, (node-plain replicas node r possible.0, (bytes-plain bytes form, tt)))

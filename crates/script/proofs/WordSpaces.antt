@@ -1,6 +1,6 @@
--- No word of a value has a space.
+-- No word of a value, or of bytes, has a space.
 use Rattle.std.proofs.Common.{ℕ, suc, ◌/◌, ◌%◌, ◌<◌, ◌^◌, false, List, [], ◌∷◌, map, ℤ, pos, negsuc, refl, arith}
-use Rattle.std.proofs.Common.{FitsSigned, decimal}
+use Rattle.std.proofs.Common.{FitsSigned, codes, decimal}
 use Rattle.std.specs.Int.{w64}
 use Rattle.std.specs.Fmt.{signed_decimal, digit_glyph}
 use Rattle.std.specs.List.{AllByRecursion}
@@ -11,7 +11,8 @@ use Rattle.rows.specs.declared.value.Value.TheVariants.{Int, Octets}
 use Rattle.rows.specs.Spelling.{AreBytes}
 use Rattle.rows.specs.Text.{value_text, hex_text}
 use Rattle.script.specs.Values.{HasWord}
-use Rattle.script.proofs.Plain.{IsNoSpace, decimal-plain}
+use Rattle.script.specs.EventText.{bytes_text}
+use Rattle.script.proofs.Plain.{IsNoSpace, plain-by-test, decimal-plain}
 use Rattle.script.proofs.WordSplitting.{IsPlain}
 
 signed-plain : (z : ℤ) → FitsSigned w64 z → IsPlain (signed_decimal z)
@@ -33,6 +34,10 @@ hex-plain (byte ∷ bytes) are =
     (digit-plain (byte / 16) (omega arith))
     (All-cons IsNoSpace (digit_glyph false (byte % 16)) (hex_text bytes) (digit-plain (byte % 16) (omega arith))
     (hex-plain bytes (λ i. are (suc i))))
+
+pub bytes-plain : (bytes : List ℕ) → AreBytes bytes → IsPlain (bytes_text bytes)
+bytes-plain [] are = plain-by-test (codes "-") refl
+bytes-plain (byte ∷ bytes) are = hex-plain (byte ∷ bytes) are
 
 pub value-plain : (value : Value) → HasWord value → IsPlain (value_text value)
 value-plain (Int number) fits = signed-plain number fits

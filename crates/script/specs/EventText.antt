@@ -1,12 +1,12 @@
 -- The line of an event, as a script has it.
 use Rattle.std.specs.Prelude.{ℕ, List, [], ◌∷◌, ◌++◌, map, codes, decimal}
 use Rattle.rows.specs.declared.kind.Kind.{Kind}
-use Rattle.rows.specs.Text.{value_text, words_text}
+use Rattle.rows.specs.Text.{hex_text, value_text, words_text}
 use Rattle.script.specs.PlanText.{plan_words, plan_tables}
 use Rattle.script.specs.Tables.{name_in}
 use Rattle.script.specs.declared.event.Event.{Event}
 use Rattle.script.specs.declared.event.Event.TheVariants.{Begin, Insert, Set, Delete, Get, Commit, Abort, Flush, Push, Deliver, Show, Open}
-use Rattle.script.specs.declared.event.Event.TheVariants.{Ask, Run, Stop, Start}
+use Rattle.script.specs.declared.event.Event.TheVariants.{Ask, Run, Stop, Start, Version, Dump, Restart, Raw}
 use Rattle.script.specs.declared.event.Node.{Node}
 use Rattle.script.specs.declared.event.Node.TheVariants as nodes
 use Rattle.script.specs.declared.output.Output.{Output}
@@ -16,6 +16,11 @@ use Rattle.script.specs.OutputText.{output_text}
 abbrev pub node_text : Node → List ℕ
 node_text nodes.Primary = codes "p"
 node_text (nodes.Replica number) = codes "r" ++ decimal number
+
+-- bytes by themselves: two digits of hexadecimal each; `-` where there are none
+abbrev pub bytes_text : List ℕ → List ℕ
+bytes_text [] = codes "-"
+bytes_text (byte ∷ bytes) = hex_text (byte ∷ bytes)
 
 -- the words of an event, whose tables have these names
 abbrev pub event_words : (ℕ → List ℕ) → Event → List (List ℕ)
@@ -38,6 +43,10 @@ event_words naming (Show index) = codes "show" ∷ decimal index ∷ []
 event_words naming (Open replica plan) = codes "open" ∷ decimal replica ∷ plan_words naming plan
 event_words naming (Ask replica) = codes "ask" ∷ decimal replica ∷ []
 event_words naming (Run replica) = codes "run" ∷ decimal replica ∷ []
+event_words naming (Version replica) = codes "version" ∷ decimal replica ∷ []
+event_words naming (Dump replica) = codes "dump" ∷ decimal replica ∷ []
+event_words naming (Restart replica boot) = codes "restart" ∷ decimal replica ∷ decimal boot ∷ []
+event_words naming (Raw node bytes) = codes "raw" ∷ node_text node ∷ bytes_text bytes ∷ []
 
 -- the tables that an event names
 abbrev pub tables_in : Event → List ℕ

@@ -22,7 +22,7 @@ IsValue (values.Int number) = Unit {0}
 IsValue (values.Octets bytes) = AreBytes bytes
 
 -- an event that may be asked for: the workers and replicas that it names are there, the identifier of a row that it
--- changes has 64 bits, and its values can be held
+-- changes has 64 bits, and its values and bytes can be held
 abbrev pub IsPossible : ℕ → ℕ → Event → Type 0
 IsPossible workers replicas events.Begin = Unit {0}
 IsPossible workers replicas (events.Insert transaction table row values) = (row.0 < 2 ^ 64) × AllByRecursion IsValue values
@@ -40,9 +40,13 @@ IsPossible workers replicas (events.Show index) = Unit {0}
 IsPossible workers replicas (events.Open replica plan) = replica < replicas
 IsPossible workers replicas (events.Ask replica) = replica < replicas
 IsPossible workers replicas (events.Run replica) = replica < replicas
+IsPossible workers replicas (events.Version replica) = replica < replicas
+IsPossible workers replicas (events.Dump replica) = replica < replicas
+IsPossible workers replicas (events.Restart replica boot) = (replica < replicas) × (boot < 2 ^ 64)
+IsPossible workers replicas (events.Raw node bytes) = IsThere replicas node × AreBytes bytes
 
 -- an event that a line can have: a column is a number of 8 bits, the count of a flush one of 32 and each other number
--- one of 64, a row is put in with at least one value, and words can have the values and the plan
+-- one of 64, a row is put in with at least one value, and words can have the values, the bytes and the plan
 abbrev pub HasLine : Event → Type 0
 HasLine events.Begin = Unit {0}
 HasLine (events.Insert transaction table row values) =
@@ -62,3 +66,7 @@ HasLine (events.Show index) = index < 2 ^ 64
 HasLine (events.Open replica plan) = HasPlanWords plan
 HasLine (events.Ask replica) = Unit {0}
 HasLine (events.Run replica) = Unit {0}
+HasLine (events.Version replica) = Unit {0}
+HasLine (events.Dump replica) = Unit {0}
+HasLine (events.Restart replica boot) = boot < 2 ^ 64
+HasLine (events.Raw node bytes) = AreBytes bytes

@@ -1,5 +1,5 @@
 -- The lines of outputs: one, but two for a run that waits for a frame, one for each datagram that was sent, and as many as
--- it has for a report.
+-- it has for a report or for the text of tables.
 use Rattle.std.specs.Prelude.{ℕ, List, [], ◌∷◌, ◌++◌, codes, decimal}
 use Rattle.std.specs.List.{flat_map}
 use Rattle.rows.specs.Text.{hex_text, value_text, line_text}
@@ -11,7 +11,7 @@ use Rattle.script.specs.declared.output.Output.TheVariants.{Tx, Accepted, Exists
 use Rattle.script.specs.declared.output.Output.TheVariants.{Conflict, ReadOnly, NumbersUsedUp, Foreign, Failed, Durable, Sent, NoFrame}
 use Rattle.script.specs.declared.output.Output.TheVariants.{NeverSent, Stored, Repeat, Ahead, Head, Ignored, Shown, Opened, BatchFull}
 use Rattle.script.specs.declared.output.Output.TheVariants.{BadPlan, Busy, Empty, NoBatch, WaitingHead, Waiting, Report, Inconsistent}
-use Rattle.script.specs.declared.output.Output.TheVariants.{Broken, Memory, Stopped, Running}
+use Rattle.script.specs.declared.output.Output.TheVariants.{Broken, Memory, Stopped, Running, Version, Dump, Boot, BootUsed, Forged}
 
 -- the number of a plan's fault
 abbrev pub fault_number : PlanFault → ℕ
@@ -49,6 +49,8 @@ word_of WaitingHead = codes "waiting head"
 word_of Inconsistent = codes "inconsistent"
 word_of Broken = codes "broken"
 word_of Memory = codes "memory"
+word_of BootUsed = codes "boot used"
+word_of Forged = codes "forged"
 word_of other = []
 
 -- a line of words and a number
@@ -77,6 +79,9 @@ output_text (Sent list) = flat_map sent_text list
 output_text (Shown bytes) = line_text (hex_text bytes ∷ [])
 output_text (Waiting worker seq want) = waiting_text worker seq ++ sent_text want
 output_text (Report text) = text
+output_text (Version version) = numbered (codes "version") version
+output_text (Dump text) = text
+output_text (Boot boot) = numbered (codes "boot") boot
 output_text other = line_text (word_of other ∷ [])
 
 -- the text of outputs

@@ -1,5 +1,5 @@
 use plans::Plan;
-use rows::{Row, RowId, Value};
+use rows::{ByteList, Row, RowId, Value};
 
 /// A node that a datagram is delivered to.
 #[derive(Clone, Copy, Debug, PartialEq, Eq)]
@@ -87,5 +87,23 @@ pub enum Event {
     /// A replica runs its batch.
     Run {
         replica: u8,
+    },
+    /// A replica tells which version its tables are at.
+    Version {
+        replica: u8,
+    },
+    /// A replica tells its tables, as text.
+    Dump {
+        replica: u8,
+    },
+    /// A replica is started anew, by the number of this start of it.
+    Restart {
+        replica: u8,
+        boot: u64,
+    },
+    /// Bytes are handed to a node as a datagram, whether they are one or not.
+    Raw {
+        node: Node,
+        bytes: ByteList,
     },
 }

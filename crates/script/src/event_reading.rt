@@ -4,19 +4,19 @@ ghost use Rattle.std.specs.Prelude.{◌≡◌, ◌<◌, ◌^◌, map, Some, None
 ghost use Rattle.script.specs.Inner.LineFaults.{Gives, OrMemory, because};
 ghost use Rattle.script.specs.Inner.WordReading.{below_of};
 ghost use Rattle.script.specs.EventLines.{IsEventLine, IsEventFault};
-ghost use Rattle.script.specs.Inner.Reading.{is_setting, node_of, begin_of, commit_of, abort_of, flush_of, push_of, deliver_of};
+ghost use Rattle.script.specs.Inner.Reading.{is_setting, node_of, begin_of, commit_of, abort_of, flush_of, pair_of, deliver_of};
 ghost use Rattle.script.specs.Inner.Reading.{show_of, stop_of, start_of, replica_of, row_of, insert_of, set_of, delete_of, get_of};
 ghost use Rattle.script.specs.Inner.Reading.{one_of, two_of, three_of, four_of, five_of, three_and_more};
-ghost use Rattle.script.specs.Inner.Reading.{open_of, or_bad_words, replica_event, network_event, primary_event, event_of};
+ghost use Rattle.script.specs.Inner.Reading.{open_of, raw_of, or_bad_words, replica_event, network_event, primary_event, event_of};
 
 use crate::event::{Event, Node};
 use crate::faults::{LineFault, Reason};
 use crate::plan_reading::read_plan_words;
 use crate::setup::Setup;
 use crate::table_names::named_table;
-use crate::value_reading::read_values;
+use crate::value_reading::{read_bytes, read_values};
 use crate::word_reading::{number, number_below, small_number, value_of, words_of};
-use rows::{Row, RowId, Schema};
+use rows::{ByteList, Row, RowId, Schema};
 use std::alloc::Global;
 
 /// Reads the line of an event.
@@ -35,8 +35,8 @@ pub fn read_event(alloc: Global, setup: &Setup, line: &[u8]) -> Result<Event, Li
     read_table_event(alloc, setup, first, rest)
 }
 
-/// The event of a line whose first word is this, and the others behind it: an event on a table, or
-/// another one.
+/// The event of a line whose first word is this, and the others behind it: an event on a table or of
+/// bytes, or another one.
 #[tactic(auto, unfolding(crate::specs::Inner::Reading::event_of))]
 fn read_table_event(
     alloc: Global,
@@ -56,6 +56,8 @@ fn read_table_event(
         read_get(&setup.schema, words)
     } else if first == b"open".as_slice() {
         read_open(alloc, setup, words)
+    } else if first == b"raw".as_slice() {
+        read_raw(alloc, setup, words)
     } else {
         read_primary_event(setup, first, words)
     }
@@ -89,7 +91,10 @@ fn read_network_event(setup: &Setup, first: &[u8], words: &[&[u8]]) -> Result<Ev
     ensures { result ≡ because (network_event setup.now first.now (map (λ word. word.now) words.now)) }
 {
     if first == b"push".as_slice() {
-        or_bad_words(read_push(setup, words))
+        match read_pair(setup.workers, words) {
+            Some((worker, seq)) => Ok(Event::Push { worker, seq }),
+            None => Err(LineFault::Because(Reason::BadWords)),
+        }
     } else if first == b"deliver".as_slice() {
         or_bad_words(read_deliver(setup, words))
     } else if first == b"show".as_slice() {
@@ -112,6 +117,21 @@ fn read_replica_event(setup: &Setup, first: &[u8], words: &[&[u8]]) -> Result<Ev
     } else if first == b"run".as_slice() {
         match read_replica(setup, words) {
             Some(replica) => Ok(Event::Run { replica }),
+            None => Err(LineFault::Because(Reason::BadWords)),
+        }
+    } else if first == b"version".as_slice() {
+        match read_replica(setup, words) {
+            Some(replica) => Ok(Event::Version { replica }),
+            None => Err(LineFault::Because(Reason::BadWords)),
+        }
+    } else if first == b"dump".as_slice() {
+        match read_replica(setup, words) {
+            Some(replica) => Ok(Event::Dump { replica }),
+            None => Err(LineFault::Because(Reason::BadWords)),
+        }
+    } else if first == b"restart".as_slice() {
+        match read_pair(setup.replicas, words) {
+            Some((replica, boot)) => Ok(Event::Restart { replica, boot }),
             None => Err(LineFault::Because(Reason::BadWords)),
         }
     } else if is_setting(first) {
@@ -204,15 +224,13 @@ fn count_of(word: &[u8]) -> Option<u32>
     u32::try_from(number(word)?).ok()
 }
 
-#[tactic(auto, unfolding(crate::specs::Inner::Reading::push_of))]
-fn read_push(setup: &Setup, words: &[&[u8]]) -> Option<Event>
-    ensures { result ≡ push_of setup.now.workers (map (λ word. word.now) words.now) }
+/// A number of a worker or of a replica, and another number.
+#[tactic(auto, unfolding(crate::specs::Inner::Reading::pair_of))]
+fn read_pair(limit: u8, words: &[&[u8]]) -> Option<(u8, u64)>
+    ensures { result ≡ pair_of limit (map (λ word. word.now) words.now) }
 {
-    let (worker, seq) = two_words(words)?;
-    Some(Event::Push {
-        worker: number_below(worker, setup.workers)?,
-        seq: number(seq)?,
-    })
+    let (one, other) = two_words(words)?;
+    Some((number_below(one, limit)?, number(other)?))
 }
 
 #[tactic(auto, unfolding(crate::specs::Inner::Reading::deliver_of))]
@@ -369,6 +387,24 @@ fn read_open(alloc: Global, setup: &Setup, words: &[&[u8]]) -> Result<Event, Lin
     };
     let plan = read_plan_words(alloc, &setup.schema, plan)?;
     Ok(Event::Open { replica, plan })
+}
+
+/// Reads `raw NODE HEX`.
+#[tactic(auto, unfolding(crate::specs::Inner::Reading::raw_of))]
+fn read_raw(alloc: Global, setup: &Setup, words: &[&[u8]]) -> Result<Event, LineFault>
+    ensures { Gives (or_bad_words (raw_of setup.now.replicas (map (λ word. word.now) words.now))) result }
+{
+    let Some((node, digits)) = two_words(words) else {
+        return Err(LineFault::Because(Reason::BadWords));
+    };
+    let Some(node) = read_node(setup, node) else {
+        return Err(LineFault::Because(Reason::BadWords));
+    };
+    let bytes = read_bytes(alloc, digits)?;
+    Ok(Event::Raw {
+        node,
+        bytes: ByteList::from_vec(bytes),
+    })
 }
 
 /// The one word that there is, where there are no others.

@@ -93,6 +93,18 @@ fn push_event(text: &mut Vec<u8>, schema: &Schema, event: &Event) -> Result<(), 
         Event::Open { replica, plan } => push_open(text, schema, *replica, plan),
         Event::Ask { replica } => push_one(text, "ask", u64::from(*replica)),
         Event::Run { replica } => push_one(text, "run", u64::from(*replica)),
+        Event::Version { replica } => push_one(text, "version", u64::from(*replica)),
+        Event::Dump { replica } => push_one(text, "dump", u64::from(*replica)),
+        Event::Restart { replica, boot } => push_two(
+            text,
+            "restart",
+            u64::from(*replica),
+            Word::Number(*boot),
+        ),
+        Event::Raw { node, bytes } => {
+            let words = [node_word(*node), Word::Bytes(bytes.as_slice())];
+            push_words(text, "raw", &words)
+        }
     }
 }
 

@@ -4,7 +4,7 @@ ghost use Rattle.std.specs.Prelude.{◌≡◌, ◌∷◌, [], ◌++◌, map, OnO
 ghost use Rattle.rows.specs.Text.{value_text, words_text, line_text};
 ghost use Rattle.script.specs.Inner.Lines.{word_text, tail_text};
 
-use rows::{Value, append_number, append_value};
+use rows::{Value, append_hex, append_number, append_value};
 use std::alloc::AllocError;
 
 /// A word that is written.
@@ -15,6 +15,8 @@ pub enum Word<'a> {
     Value(&'a Value),
     /// A text, and a number right behind it.
     Numbered(&'a str, u64),
+    /// Bytes in hexadecimal, or `-` for none.
+    Bytes(&'a [u8]),
 }
 
 /// Adds a line of these words, the first of which is a text, with its end.
@@ -67,6 +69,13 @@ fn push_word(text: &mut Vec<u8>, word: &Word) -> Result<(), AllocError>
         Word::Numbered(word, number) => {
             text.extend_from_slice(word.as_bytes())?;
             append_number(text, *number)
+        }
+        Word::Bytes(bytes) => {
+            if bytes.is_empty() {
+                text.push(b'-')?;
+                return Ok(());
+            }
+            append_hex(text, bytes)
         }
     }
 }

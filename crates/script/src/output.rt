@@ -75,6 +75,16 @@ pub enum Output {
     Waiting { worker: u8, seq: u64, want: Sent },
     /// The report of a batch, with its ends of lines.
     Report(ByteList),
+    /// The replica's tables are at the version of that number.
+    Version(u64),
+    /// The text of a replica's tables, with its ends of lines.
+    Dump(ByteList),
+    /// The replica was started by that number.
+    Boot(u64),
+    /// The replica was started by that number before.
+    BootUsed,
+    /// The bytes are a datagram that was never sent.
+    Forged,
     /// The frames are not those of one list of commits. No run answers it.
     Inconsistent,
     /// The replica is broken.

@@ -35,6 +35,9 @@ pub fn push_output(text: &mut Vec<u8>, output: &Output) -> Result<(), AllocError
             push_sent(text, want)
         }
         Output::Report(report) => text.extend_from_slice(report.as_slice()),
+        Output::Version(version) => push_numbered(text, "version", *version),
+        Output::Dump(dump) => text.extend_from_slice(dump.as_slice()),
+        Output::Boot(boot) => push_numbered(text, "boot", *boot),
         other => push_line(text, word_of(other), &[]),
     }
 }
@@ -125,6 +128,8 @@ fn word_of(output: &Output) -> &'static str
         Output::Inconsistent => "inconsistent",
         Output::Broken => "broken",
         Output::Memory => "memory",
+        Output::BootUsed => "boot used",
+        Output::Forged => "forged",
         Output::Tx { .. } => "",
         Output::Value(_) => "",
         Output::Ticket(_) => "",
@@ -137,5 +142,8 @@ fn word_of(output: &Output) -> &'static str
         Output::BadPlan(_) => "",
         Output::Waiting { .. } => "",
         Output::Report(_) => "",
+        Output::Version(_) => "",
+        Output::Dump(_) => "",
+        Output::Boot(_) => "",
     }
 }

@@ -1,15 +1,15 @@
-//! Values, and the words that are them.
+//! Values and bytes, and the words that are them.
 
 ghost use Rattle.std.specs.Prelude.{◌≡◌, map, None, Some, IfOk, IfErr, MatchOption};
 ghost use Rattle.rows.specs.Text.{value_text};
 ghost use Rattle.rows.specs.declared.value.Value.{Value};
 ghost use Rattle.script.specs.Laws.{WordsDetermineValues};
 ghost use Rattle.script.specs.Inner.LineFaults.{OrMemory};
-ghost use Rattle.script.specs.Inner.WordReading.{values_of};
+ghost use Rattle.script.specs.Inner.WordReading.{values_of, hex_of};
 ghost use Rattle.script.specs.Values.{HasWord};
 
 use crate::faults::{LineFault, Reason};
-use crate::word_reading::value_of;
+use crate::word_reading::{byte_of, value_of};
 use rows::Value;
 use std::alloc::Global;
 
@@ -43,6 +43,33 @@ pub fn read_values(alloc: Global, words: &[&[u8]]) -> Result<Vec<Value>, LineFau
         }
     }
     Ok(values)
+}
+
+/// The bytes of pairs of lower-case hexadecimal digits, of any number of them; `-` is none.
+///
+/// Fails with `BadWords` where the word is neither, or with `Memory`.
+pub fn read_bytes(alloc: Global, word: &[u8]) -> Result<Vec<u8>, LineFault>
+    ensures ok { IfOk result (λ bytes. hex_of word.now ≡ Some bytes.items) }
+    ensures err { IfErr result (OrMemory (λ reason. (reason ≡ Reason.BadWords) × (hex_of word.now ≡ None))) }
+{
+    let mut bytes = Vec::new(alloc);
+    if word == b"-".as_slice() {
+        return Ok(bytes);
+    }
+    if word.is_empty() || word.len() % 2 != 0 {
+        return Err(LineFault::Because(Reason::BadWords));
+    }
+    for index in 0..word.len() / 2 {
+        match byte_of(word[2 * index], word[2 * index + 1]) {
+            Some(byte) => {
+                if bytes.push(byte).is_err() {
+                    return Err(LineFault::Memory);
+                }
+            }
+            None => return Err(LineFault::Because(Reason::BadWords)),
+        }
+    }
+    Ok(bytes)
 }
 
 /// A word is that of one value alone. It does nothing: its contract says so of the text of values,

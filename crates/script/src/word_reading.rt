@@ -127,7 +127,7 @@ fn octets_of(digits: &[u8]) -> Option<Octets>
 
 /// The byte of two hexadecimal digits.
 #[tactic(auto, unfolding(crate::specs::Inner::WordReading::byte_of))]
-fn byte_of(high: u8, low: u8) -> Option<u8>
+pub fn byte_of(high: u8, low: u8) -> Option<u8>
     ensures { result ≡ byte_of high low }
 {
     Some(hex_digit(high)? * 16 + hex_digit(low)?)

@@ -20,7 +20,7 @@ use std::io::{ErrorKind, Write};
 const PIECE: usize = 8192;
 
 /// Writes the text of outputs: a line for each, but two for a run that waits for a frame and as
-/// many as it has for a report. It is not flushed.
+/// many as it has for a report or for the text of tables. It is not flushed.
 ///
 /// Fails with `Memory` before anything is written, and with `Write` where a beginning was.
 pub fn write_text_of<W: Write>(

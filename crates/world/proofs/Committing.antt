@@ -34,15 +34,18 @@ use Rattle.script.specs.declared.output.Output.TheVariants as outputs
 use Rattle.world.specs.Outputs.{of_look, packets_of}
 use Rattle.world.specs.Parts.{Parts}
 use Rattle.world.specs.Steps.{World, open_draft, change_happens, commit_happens, abort_happens, on_draft, push_happens, deliver_happens}
-use Rattle.world.specs.Steps.{stop_happens}
+use Rattle.world.specs.Steps.{stop_happens, delivered, raw_happens, is_forged}
 use Rattle.world.specs.Stops.{stopped_at, whole_in, closed}
-use Rattle.world.specs.Inner.Sound.{Sound, AreLists, Means}
-use Rattle.world.specs.Standing.{world_of}
+use Rattle.world.specs.Inner.Boots.{IsOfBoot}
+use Rattle.world.specs.Inner.Sound.{Sound, AreLists, IsAnswer, Means}
+use Rattle.world.specs.Standing.{boots_at, world_of}
+use Rattle.world.proofs.Boots.{of-boot}
 use Rattle.world.proofs.Datagrams.{frame-read, head-read}
 use Rattle.world.proofs.Durable.{legal-front, stream-grows}
 use Rattle.world.proofs.FedLaws.{FedLaws}
 use Rattle.world.proofs.Lists.{get-set, get-append, get-one, All-get}
 use Rattle.world.proofs.Moves.{Sound-drafts, Sound-sent, Sound-one, Sound-pending, Sound-grown, Sound-apart}
+use Rattle.world.proofs.Raw.{unforged}
 use Rattle.world.proofs.Streams.{frame-at, get-take, get-drop, counts-length, counts-are, counts-spelled}
 use Rattle.world.proofs.Worlds.{beside_of}
 
@@ -213,12 +216,12 @@ start-sound shape p false sound = sound
 -- a frame of the durable list tells the truth of it
 frame-means : (p : Parts) (worker seq : ℕ) (frame : Frame) → AreLists p.primary
     → slice_get (stream_of p.primary.durable worker) seq ≡ Some frame
-    → Means p.primary.workers p.primary.durable p.replicas (reading (frame_spelling frame))
+    → Means p.primary.workers p.primary.durable p.boots p.replicas (reading (frame_spelling frame))
 frame-means p worker seq frame lists h =
     let durable = p.primary.durable in
     let at = frame-at durable worker seq frame h in
     let sendable = All-get IsSendable (stream_of durable worker) (lists.sendable worker) seq frame h in
-    subst (Means p.primary.workers durable p.replicas) (sym (frame-read frame sendable)) (record {
+    subst (Means p.primary.workers durable p.boots p.replicas) (sym (frame-read frame sendable)) (record {
       tells =
           ap (λ (w : ℕ). slice_get (stream_of durable w) frame.seq) at.worker_is
           ∙ ap (slice_get (stream_of durable worker)) at.seq_is ∙ h;
@@ -240,8 +243,8 @@ durable-below p lists worker =
     omega arith
 
 head-means : (shape : Shape) (p : Parts) (replica boot request : ℕ) → AreLists p.primary → Sound shape p → IsAsk replica boot request
-    → ((r : Replica) → slice_get p.replicas replica ≡ Some r → request ≤ r.request)
-    → Means p.primary.workers p.primary.durable p.replicas (reading (spelling (head_for p.primary replica boot request)))
+    → ((r : Replica) → slice_get p.replicas replica ≡ Some r → IsOfBoot (boots_at p.boots replica) r.boot boot (request ≤ r.request))
+    → Means p.primary.workers p.primary.durable p.boots p.replicas (reading (spelling (head_for p.primary replica boot request)))
 head-means shape p replica boot request lists sound ask asked =
     let durable = p.primary.durable in
     let workers = p.primary.workers in
@@ -252,9 +255,10 @@ head-means shape p replica boot request lists sound ask asked =
     let read =
     head-read replica boot request (length durable) counts ask below
     (counts-spelled durable workers sound.primary_is.workers_some sound.primary_is.workers_few (durable-below p.primary lists)) in
-    subst (Means workers durable p.replicas) (sym read) (record {
+    subst (Means workers durable p.boots p.replicas) (sym read) (record {
       tells = (omega arith, counts-length durable (length durable) workers, counts-are durable workers legal.each);
-      requests = λ r here. record { asked = asked r here; fresh = λ waits same. (sound.fed replica r here).feeding.below };
+      requests = λ r here. of-boot (boots_at p.boots replica) r.boot boot (request ≤ r.request) (IsAnswer r request (length durable))
+          (λ few. record { asked = few; fresh = λ waits same. (sound.fed replica r here).feeding.below }) (asked r here);
     })
 
 -- the bytes that go to a replica, where frames are sent
@@ -267,31 +271,52 @@ packets-at replica (frame ∷ frames) (suc i) bytes h = packets-at replica frame
 
 want-means : (p : Parts) (replica worker from : ℕ) → AreLists p.primary → (i : ℕ) (bytes : List ℕ)
     → slice_get (packets_of (map (frame_to replica) (wanted p.primary worker from))) i ≡ Some bytes
-    → Means p.primary.workers p.primary.durable p.replicas (reading bytes)
+    → Means p.primary.workers p.primary.durable p.boots p.replicas (reading bytes)
 want-means p replica worker from lists i bytes h =
     let stream = stream_of p.primary.durable worker in
     let found = packets-at replica (wanted p.primary worker from) i bytes h in
     let at = sym (get-drop from stream i) ∙ get-take 16 (drop from stream) i found.0 found.1 in
-    subst (λ (b : List ℕ). Means p.primary.workers p.primary.durable p.replicas (reading b)) found.2
+    subst (λ (b : List ℕ). Means p.primary.workers p.primary.durable p.boots p.replicas (reading b)) found.2
     (frame-means p worker (from + i) found.0 lists at)
 
 answers-mean : (shape : Shape) (p : Parts) (datagram : Result Datagram WireFault) → AreLists p.primary → Sound shape p
-    → Means p.primary.workers p.primary.durable p.replicas datagram
+    → Means p.primary.workers p.primary.durable p.boots p.replicas datagram
     → (i : ℕ) (bytes : List ℕ) → slice_get (packets_of (answers_to p.primary datagram)) i ≡ Some bytes
-    → Means p.primary.workers p.primary.durable p.replicas (reading bytes)
+    → Means p.primary.workers p.primary.durable p.boots p.replicas (reading bytes)
 answers-mean shape p (Err fault) lists sound means i bytes h = absurd (none-some bytes h)
 answers-mean shape p (Ok (datagrams.Frame worker seq commit last entries)) lists sound means i bytes h = absurd (none-some bytes h)
 answers-mean shape p (Ok (datagrams.Ask replica boot request)) lists sound means i bytes h =
-    subst (λ (b : List ℕ). Means p.primary.workers p.primary.durable p.replicas (reading b))
+    subst (λ (b : List ℕ). Means p.primary.workers p.primary.durable p.boots p.replicas (reading b))
     (sym (get-one (spelling (head_for p.primary replica boot request)) i bytes h))
     (head-means shape p replica boot request lists sound means.requests.0 means.requests.1)
 answers-mean shape p (Ok (datagrams.Head replica boot request version counts)) lists sound means i bytes h = absurd (none-some bytes h)
 answers-mean shape p (Ok (datagrams.Want replica worker from)) lists sound means i bytes h = want-means p replica worker from lists i bytes
     h
 
+-- bytes that come to the primary
+hand-sound : (shape : Shape) (p : Parts) (bytes : List ℕ) → AreLists p.primary → Sound shape p
+    → Means p.primary.workers p.primary.durable p.boots p.replicas (reading bytes)
+    → Sound shape (beside_of (delivered (world_of p) bytes nodes.Primary).1 p)
+hand-sound shape p bytes lists sound means =
+    Sound-sent shape p (packets_of (answers p.primary bytes)) sound (answers-mean shape p (reading bytes) lists sound means)
+
 pub deliver-sound : (shape : Shape) (p : Parts) (index : ℕ) (found : Option (List ℕ)) → AreLists p.primary → Sound shape p
     → slice_get p.sent index ≡ found → Sound shape (beside_of (deliver_happens (world_of p) nodes.Primary found).1 p)
 deliver-sound shape p index None lists sound here = sound
-deliver-sound shape p index (Some bytes) lists sound here =
-    Sound-sent shape p (packets_of (answers p.primary bytes)) sound
-    (answers-mean shape p (reading bytes) lists sound (sound.sent_is index bytes here))
+deliver-sound shape p index (Some bytes) lists sound here = hand-sound shape p bytes lists sound (sound.sent_is index bytes here)
+
+-- bytes that are not forged
+pub raw-means : (shape : Shape) (p : Parts) (bytes : List ℕ) → Sound shape p → is_forged p.sent bytes ≡ false
+    → Means p.primary.workers p.primary.durable p.boots p.replicas (reading bytes)
+raw-means shape p bytes sound =
+    unforged (Means p.primary.workers p.primary.durable p.boots p.replicas) p.sent bytes (λ fault. record { tells = tt; requests = tt })
+    sound.sent_is
+
+pub raw-sound : (shape : Shape) (p : Parts) (bytes : List ℕ) → AreLists p.primary → Sound shape p
+    → Sound shape (beside_of (raw_happens (world_of p) nodes.Primary bytes).1 p)
+raw-sound shape p bytes lists sound = by (is_forged p.sent bytes) refl
+  where
+    by : (forged : Bool) → is_forged p.sent bytes ≡ forged
+        → Sound shape (beside_of (cond forged (outputs.Forged, world_of p) (delivered (world_of p) bytes nodes.Primary)).1 p)
+    by true e = sound
+    by false e = hand-sound shape p bytes lists sound (raw-means shape p bytes sound e)

@@ -108,12 +108,12 @@ frame-reads P faults frames frame =
     by false false (Some entries) =
         frames (slice_index body 0) (big_number 8 (drop 1 body)) (big_number 8 (drop 9 body)) (slice_index body 17 == 1) entries
 
--- a Head, also one of which no spelling is read, reads as no other datagram, and its request and version as themselves
+-- a Head, also one of which no spelling is read, reads as no other datagram, and its boot, request and version as themselves
 pub head-reads : (P : Result Datagram WireFault → Type 0) → ((fault : WireFault) → P (Err fault))
-    → (replica boot request version : ℕ) (counts : List ℕ) → request < 2 ^ 64 → version < 2 ^ 64
-    → ((boot' : ℕ) (counts' : List ℕ) → P (Ok (datagrams.Head replica boot' request version counts')))
+    → (replica boot request version : ℕ) (counts : List ℕ) → boot < 2 ^ 64 → request < 2 ^ 64 → version < 2 ^ 64
+    → ((counts' : List ℕ) → P (Ok (datagrams.Head replica boot request version counts')))
     → P (reading (spelling (datagrams.Head replica boot request version counts)))
-head-reads P faults replica boot request version counts request_below version_below heads =
+head-reads P faults replica boot request version counts boot_below request_below version_below heads =
     tested P bytes faults (by (nat_lt (length body) 26) refused)
   where
     bytes : List ℕ
@@ -127,21 +127,21 @@ head-reads P faults replica boot request version counts request_below version_be
         not (nat_lt (slice_index body 0) REPLICAS_MAX) || (slice_index body 25 == 0) || nat_lt WORKERS_MAX (slice_index body 25)
         || not (length body == 26 + 8 * slice_index body 25)
 
-    boot' : ℕ
-    boot' = big_number 8 (drop 1 body)
-
     counts' : List ℕ
     counts' = counts_at (slice_index body 25) (drop 26 body)
 
-    read : P (Ok (datagrams.Head replica boot' (big_number 8 (drop 9 body)) (big_number 8 (drop 17 body)) counts'))
+    read : P (Ok (datagrams.Head replica (big_number 8 (drop 1 body)) (big_number 8 (drop 9 body)) (big_number 8 (drop 17 body)) counts'))
     read =
-        subst (λ (n : ℕ). P (Ok (datagrams.Head replica boot' n (big_number 8 (drop 17 body)) counts')))
+        subst (λ (n : ℕ). P (Ok (datagrams.Head replica n (big_number 8 (drop 9 body)) (big_number 8 (drop 17 body)) counts')))
+        (sym (big_number-reads_back 8 boot (drop 9 body) boot_below))
+        (subst (λ (n : ℕ). P (Ok (datagrams.Head replica boot n (big_number 8 (drop 17 body)) counts')))
         (sym (big_number-reads_back 8 request (drop 17 body) request_below))
-        (subst (λ (n : ℕ). P (Ok (datagrams.Head replica boot' request n counts')))
-        (sym (big_number-reads_back 8 version (drop 25 body) version_below)) (heads boot' counts'))
+        (subst (λ (n : ℕ). P (Ok (datagrams.Head replica boot request n counts')))
+        (sym (big_number-reads_back 8 version (drop 25 body) version_below)) (heads counts')))
 
     by : (a b : Bool) → P (ok_or (cond a None
-        (cond b None (Some (datagrams.Head replica boot' (big_number 8 (drop 9 body)) (big_number 8 (drop 17 body)) counts')))) Body)
+        (cond b None (Some (datagrams.Head replica (big_number 8 (drop 1 body)) (big_number 8 (drop 9 body)) (big_number 8 (drop 17 body))
+        counts')))) Body)
     by true b = faults Body
     by false true = faults Body
     by false false = read

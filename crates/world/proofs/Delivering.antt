@@ -1,5 +1,5 @@
 -- What the primary or a replica makes of a datagram is what a delivery may.
-use Rattle.std.proofs.Common.{◌≡◌, ℕ, ◌<◌, ◌++◌, ◌⊎◌, inl, inr, List, [], ◌∷◌, length, Bool, false, cond, Option, Some}
+use Rattle.std.proofs.Common.{◌≡◌, ℕ, ◌<◌, ◌++◌, ◌⊎◌, inl, inr, List, [], ◌∷◌, length, Bool, true, false, cond, Option, Some}
 use Rattle.std.proofs.Common.{None, slice_get, refl, sym, ap}
 use Rattle.std.proofs.Common.{subst, ◌∙◌, arith}
 use Rattle.std.proofs.lemmas.List.{append-nil}
@@ -9,16 +9,18 @@ use Rattle.dispatcher.specs.declared.outcome.Got.{Got}
 use Rattle.dispatcher.specs.declared.outcome.Got.TheVariants as gots
 use Rattle.dispatcher.specs.State.{Replica}
 use Rattle.dispatcher.specs.Steps.{received}
-use Rattle.script.specs.declared.event.Event.TheVariants.{Deliver}
+use Rattle.script.specs.declared.event.Event.{Event}
+use Rattle.script.specs.declared.event.Event.TheVariants.{Deliver, Raw}
 use Rattle.script.specs.declared.event.Node.TheVariants as nodes
+use Rattle.script.specs.declared.output.Output.{Output}
 use Rattle.script.specs.declared.output.Output.TheVariants as outputs
 use Rattle.script.specs.declared.sent.Sent.{Sent}
 use Rattle.world.specs.Outputs.{of_got, of_answers, packets_of, sent_from}
 use Rattle.world.specs.Parts.{Parts}
 use Rattle.world.specs.Standing.{world_of}
-use Rattle.world.specs.Steps.{happens, delivered, deliver_happens}
-use Rattle.world.specs.Inner.CoreSteps.{HappensBeside, MayStep, with_replica, got_by, to_replica, come_by}
-use Rattle.world.proofs.Moving.{beside, beside_same, replica_same}
+use Rattle.world.specs.Steps.{World, happens, delivered, deliver_happens, raw_happens, is_forged}
+use Rattle.world.specs.Inner.CoreSteps.{HappensBeside, MayStep, MaySendAnswers, with_replica, got_by, to_replica, come_by}
+use Rattle.world.proofs.Moving.{beside, beside_same, beside_memory, replica_same}
 
 -- what comes to the primary, by what is found at the index
 comes : (p : Parts) (index : ℕ) (found : Option (List ℕ)) → p.stopped ≡ false → slice_get p.sent index ≡ found
@@ -31,35 +33,87 @@ comes p index found running at =
     running
     ∙ ap (deliver_happens (world_of p) nodes.Primary) at
 
+-- ---- the primary's answers
+
+-- an empty list of answers
+pub none_answered : (p : Parts) (outs : List Out) → length outs ≡ 0 → MaySendAnswers p outs outputs.Ignored p
+none_answered p [] none = inl (refl, ap (λ (sent : List (List ℕ)). record p { sent = sent }) (sym (append-nil p.sent)))
+none_answered p (out ∷ outs) none = absurd (omega arith)
+
+-- answers that are all sent
+pub all_answered : (p : Parts) (outs : List Out) (list : List Sent) (sent : List (List ℕ)) → 0 < length outs
+    → list ≡ sent_from (length p.sent) outs → sent ≡ p.sent ++ packets_of outs
+    → MaySendAnswers p outs (outputs.Sent list) (record p { sent = sent })
+all_answered p [] list sent some list_is sent_is = absurd (omega arith)
+all_answered p (out ∷ outs) list sent some list_is sent_is =
+    inl (ap outputs.Sent list_is, ap (λ (s : List (List ℕ)). record p { sent = s }) sent_is)
+
+-- what is told where these answers are sent, and the parts then; and in the world
+abbrev told_at : Parts → List Out → Output × Parts
+told_at p outs = (of_answers (length p.sent) outs, record p { sent = p.sent ++ packets_of outs })
+
+abbrev told_in : Parts → List Out → Output × World
+told_in p outs = (of_answers (length p.sent) outs, world_of (record p { sent = p.sent ++ packets_of outs }))
+
+-- answers that are sent, or not for want of memory, are what an event gives by which bytes come to the primary
+pub answers_told : (p old : Parts) (seen : p ≡ old) (event : Event) (bytes : List ℕ) → p.stopped ≡ false
+    → happens (world_of p) event ≡ delivered (world_of p) bytes nodes.Primary → (outs : List Out) (output : Output) (new : Parts)
+    → outs ≡ answers p.primary bytes → MaySendAnswers old outs output new → HappensBeside old event output new
+answers_told p old seen event bytes running is outs output new outs_are (inl made) =
+    let same : ◌≡◌ {A = Output × Parts} (output, new) (told_at old outs) = cc (made.0, made.1) in
+    let told : told_at p outs ≡ (output, new) = ap (λ (x : Parts). told_at x outs) seen ∙ sym same in
+    subst (λ (x : Output × Parts). HappensBeside old event x.0 x.1) told
+    (beside p old (record p { sent = p.sent ++ packets_of outs }) event (of_answers (length p.sent) outs) seen
+    (is ∙ ap (told_in p) (sym outs_are)) running refl refl refl refl)
+answers_told p old seen event bytes running is outs output new outs_are (inr memory) =
+    beside_memory old new event output memory.0 memory.1
+
+-- ---- bytes that are handed over as they are
+
+module _ (p old : Parts) (seen : p ≡ old) (bytes : List ℕ) where
+  -- what happens with bytes that come to the primary, by whether they are forged
+  raw_comes : (forged : Bool) → p.stopped ≡ false → is_forged p.sent bytes ≡ forged
+      → happens (world_of p) (Raw nodes.Primary bytes)
+      ≡ cond forged (outputs.Forged, world_of p) (delivered (world_of p) bytes nodes.Primary)
+  raw_comes forged running is =
+      ap (λ (stopped : Bool). cond stopped (outputs.Stopped, world_of p) (raw_happens (world_of p) nodes.Primary bytes)) running
+      ∙ ap (λ (b : Bool). cond b (outputs.Forged, world_of p) (delivered (world_of p) bytes nodes.Primary)) is
+
+  pub raw_forged : p.stopped ≡ false → is_forged p.sent bytes ≡ true → HappensBeside old (Raw nodes.Primary bytes) outputs.Forged old
+  raw_forged running is = beside_same p old (Raw nodes.Primary bytes) outputs.Forged seen (raw_comes true running is)
+
+  pub raw_answered : p.stopped ≡ false → is_forged p.sent bytes ≡ false → (outs : List Out) (output : Output) (new : Parts)
+      → outs ≡ answers p.primary bytes → MaySendAnswers old outs output new → HappensBeside old (Raw nodes.Primary bytes) output new
+  raw_answered running is = answers_told p old seen (Raw nodes.Primary bytes) bytes running (raw_comes false running is)
+
+  pub raw_refused : (number : ℕ) → is_forged p.sent bytes ≡ true → MayStep old (Raw (nodes.Replica number) bytes) outputs.Forged old
+  raw_refused number is =
+      subst (λ (x : Parts). MayStep x (Raw (nodes.Replica number) bytes) outputs.Forged x) seen
+      (inl (ap
+      (λ (b : Bool). cond {A = Output × Parts} b (outputs.Forged, p) (to_replica p number bytes (slice_get p.replicas number))) is))
+
+  pub raw_came : (number : ℕ) (before after : Replica) (got : Got) → is_forged p.sent bytes ≡ false
+      → slice_get p.replicas number ≡ Some before
+      → ((got ≡ gots.Memory) × (after ≡ before) × ((received before bytes).0 ≡ gots.Stored)) ⊎ (received before bytes ≡ (got, after))
+      → MayStep old (Raw (nodes.Replica number) bytes) (of_got got) (with_replica p number after)
+  raw_came number before after got is there (inl memory) =
+      inr (ap of_got memory.0, sym (replica_same p old seen number before after there memory.1) ∙ seen)
+  raw_came number before after got is there (inr came) =
+      subst (λ (x : Parts). MayStep x (Raw (nodes.Replica number) bytes) (of_got got) (with_replica p number after)) seen
+      (inl (ap (λ (b : Bool). cond {A = Output × Parts} b (outputs.Forged, p) (to_replica p number bytes (slice_get p.replicas number))) is
+      ∙ ap (to_replica p number bytes) there ∙ ap (got_by p number) came))
+
+-- ---- datagrams that were sent
+
 module _ (p old : Parts) (seen : p ≡ old) (index : ℕ) where
   pub never_sent : p.stopped ≡ false → slice_get p.sent index ≡ None → HappensBeside old (Deliver index nodes.Primary) outputs.NeverSent old
   never_sent running at = beside_same p old (Deliver index nodes.Primary) outputs.NeverSent seen (comes p index None running at)
 
   module _ (bytes : List ℕ) (at : slice_get p.sent index ≡ Some bytes) where
-    -- the primary's answers, all sent
-    answered : (outs : List Out) → outs ≡ answers p.primary bytes
-        → delivered (world_of p) bytes nodes.Primary
-        ≡ (of_answers (length p.sent) outs, world_of (record p { sent = p.sent ++ packets_of outs }))
-    answered outs is =
-        ap (λ outs. (of_answers (length p.sent) outs, world_of (record p { sent = p.sent ++ packets_of outs }))) (sym is)
-
-    pub nothing_sent : p.stopped ≡ false → (outs : List Out) → outs ≡ answers p.primary bytes → length outs ≡ 0
-        → HappensBeside old (Deliver index nodes.Primary) outputs.Ignored old
-    nothing_sent running [] is none =
-        beside_same p old (Deliver index nodes.Primary) outputs.Ignored seen
-        (comes p index (Some bytes) running at ∙ answered [] is
-        ∙ ap (λ (sent : List (List ℕ)). (outputs.Ignored, world_of (record p { sent = sent }))) (append-nil p.sent))
-    nothing_sent running (out ∷ outs) is none = absurd (omega arith)
-
-    pub all_sent : p.stopped ≡ false → (outs : List Out) (list : List Sent) (sent : List (List ℕ)) → outs ≡ answers p.primary bytes
-        → 0 < length outs
-        → list ≡ sent_from (length p.sent) outs → sent ≡ p.sent ++ packets_of outs
-        → HappensBeside old (Deliver index nodes.Primary) (outputs.Sent list) (record p { sent = sent })
-    all_sent running [] list sent is some list_is sent_is = absurd (omega arith)
-    all_sent running (out ∷ outs) list sent is some list_is sent_is =
-        beside p old (record p { sent = sent }) (Deliver index nodes.Primary) (outputs.Sent list) seen
-        (comes p index (Some bytes) running at ∙ answered (out ∷ outs) is
-        ∙ ap (λ (x : List Sent × List (List ℕ)). (outputs.Sent x.0, world_of (record p { sent = x.1 }))) (sym cc)) running refl refl refl
+    -- what the primary makes of a datagram that was sent
+    pub delivered_to : p.stopped ≡ false → (outs : List Out) (output : Output) (new : Parts) → outs ≡ answers p.primary bytes
+        → MaySendAnswers old outs output new → HappensBeside old (Deliver index nodes.Primary) output new
+    delivered_to running = answers_told p old seen (Deliver index nodes.Primary) bytes running (comes p index (Some bytes) running at)
 
     pub came_to : (number : ℕ) (before after : Replica) (got : Got) → slice_get p.replicas number ≡ Some before
         → ((got ≡ gots.Memory) × (after ≡ before) × ((received before bytes).0 ≡ gots.Stored)) ⊎ (received before bytes ≡ (got, after))

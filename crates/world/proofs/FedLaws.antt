@@ -1,6 +1,6 @@
 -- What is known of replicas that are fed from a list of commits.
 use Rattle.dispatcher.specs.Feeding.{FreshIsFed, CommitsKeepFed, BytesKeepFed, TrueHeadGoesOn, OpenKeepsFed, AskKeepsFed, RunKeepsFed}
-use Rattle.dispatcher.specs.Feeding.{ReadyIsAnswered}
+use Rattle.dispatcher.specs.Feeding.{ReadyIsAnswered, DumpIsTables, StepsKeepNames}
 
 pub record FedLaws : Type 0 where
   pub fresh : FreshIsFed
@@ -11,3 +11,5 @@ pub record FedLaws : Type 0 where
   pub asking : AskKeepsFed
   pub running : RunKeepsFed
   pub ready : ReadyIsAnswered
+  pub dump : DumpIsTables
+  pub names : StepsKeepNames

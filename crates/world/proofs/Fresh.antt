@@ -4,6 +4,7 @@ use Rattle.std.proofs.Common.{Some, Result, Ok, Err}
 use Rattle.std.proofs.Common.{refl, sym, ap, subst, ◌∙◌, inl, inr, arith}
 use Rattle.std.specs.List.{slice_get, slice_set, AllByRecursion}
 use Rattle.std.proofs.lemmas.List.{length-append, length-set, take-append-drop}
+use Rattle.std.proofs.lemmas.List.Elements.{Contains-push}
 use Rattle.std.proofs.lemmas.Option.{none-some, same_Some}
 use Rattle.rows.specs.declared.commit.Commit.{Commit}
 use Rattle.rows.specs.declared.limits.TheConstants.{REPLICAS_MAX}
@@ -16,7 +17,9 @@ use Rattle.primary.specs.Steps.{committed, flushed}
 use Rattle.script.specs.declared.setup.Setup.{Setup}
 use Rattle.world.specs.Steps.{World, Member, Batch, fresh, fresh_from, opening_world, with_member, stop_happens}
 use Rattle.world.specs.Stops.{whole_in}
+use Rattle.world.specs.Inner.Boots.{IsInBoot, IsOfBoot}
 use Rattle.world.specs.Inner.Fresh.{IsFreshBatch, IsFreshMember, IsFreshHead, IsFreshReading, Fresh}
+use Rattle.world.proofs.Boots.{of-boot-stays}
 use Rattle.world.proofs.Lists.{get-set, get-append, All-get}
 
 -- ---- more commits
@@ -40,6 +43,7 @@ member-grows : (durable more : List Commit) (number : ℕ) (m : Member) → IsFr
     → IsFreshMember (durable ++ more) number m
 member-grows durable more number m h = record {
   number_is = h.number_is;
+  below = let below = h.below in omega (arith, length-append durable more);
   boot_is = h.boot_is;
   batch_is = λ batch has.
       let asked = (h.batch_is batch has).asked in
@@ -113,6 +117,8 @@ Fresh-sent w more h fresh = record {
 -- what a replica is to keep as it changes
 pub record Follows (durable : List Commit) (old new : Member) : Type 0 where
   pub number_is : new.number ≡ old.number
+  pub below : new.version ≤ length durable
+  pub boots_are : new.boots ≡ old.boots
   pub boot_is : new.boot ≡ old.boot
   pub batch_is : (batch : Batch) → new.batch ≡ Some batch → IsFreshBatch durable batch
   pub asked : old.request ≤ new.request
@@ -120,10 +126,12 @@ pub record Follows (durable : List Commit) (old new : Member) : Type 0 where
 
 -- a replica of the same request and batch
 pub alike : (durable : List Commit) (number : ℕ) (old new : Member) → IsFreshMember durable number old → new.number ≡ old.number
-    → new.boot ≡ old.boot → new.request ≡ old.request → new.batch ≡ old.batch
+    → new.boots ≡ old.boots → new.boot ≡ old.boot → new.request ≡ old.request → new.batch ≡ old.batch → new.version ≤ length durable
     → Follows durable old new
-alike durable number old new h number_is boot_is request_is batch_is = record {
+alike durable number old new h number_is boots_are boot_is request_is batch_is below = record {
   number_is = number_is;
+  below = below;
+  boots_are = boots_are;
   boot_is = boot_is;
   batch_is = λ batch has. h.batch_is batch (sym batch_is ∙ has);
   asked = omega arith;
@@ -143,17 +151,19 @@ reading-follows durable members i old new here follows (Ok (datagrams.Ask replic
   h.0,
   λ m there. elim (get-set members i new replica m there) [
     | inl same ↦
-        let before = h.1 old (ap (slice_get members) same.0 ∙ here) in
         let asked = follows.asked in
-        subst (λ (other : Member). request ≤ other.request) (sym same.1) (omega arith)
+        subst (λ (other : Member). IsOfBoot other.boots other.boot boot (request ≤ other.request)) (sym same.1)
+        (of-boot-stays old.boots new.boots old.boot new.boot boot (request ≤ old.request) (request ≤ new.request) follows.boots_are
+        follows.boot_is (λ before. omega arith) (h.1 old (ap (slice_get members) same.0 ∙ here)))
     | inr stays ↦ h.1 m stays
   ],
 )
 reading-follows durable members i old new here follows (Ok (datagrams.Head replica boot request version counts)) h = (
   h.0,
   λ m there. elim (get-set members i new replica m there) [
-    | inl same ↦ subst (λ (other : Member). IsFreshHead other request version) (sym same.1)
-        (follows.heads request version (h.1 old (ap (slice_get members) same.0 ∙ here)))
+    | inl same ↦ subst (λ (other : Member). IsOfBoot other.boots other.boot boot (IsFreshHead other request version)) (sym same.1)
+        (of-boot-stays old.boots new.boots old.boot new.boot boot (IsFreshHead old request version) (IsFreshHead new request version)
+        follows.boots_are follows.boot_is (follows.heads request version) (h.1 old (ap (slice_get members) same.0 ∙ here)))
     | inr stays ↦ h.1 m stays
   ],
 )
@@ -170,7 +180,10 @@ changed w i old new h here follows = record {
         subst (IsFreshMember w.primary.durable j) (sym same.1)
         (record {
           number_is = follows.number_is ∙ is.number_is ∙ sym same.0;
-          boot_is = follows.boot_is ∙ is.boot_is;
+          below = follows.below;
+          boot_is =
+              subst (IsInBoot new.boots) (sym follows.boot_is)
+              (subst (λ (boots : List ℕ). IsInBoot boots old.boot) (sym follows.boots_are) is.boot_is);
           batch_is = follows.batch_is;
         })
     | inr stays ↦ h.members_are j m stays
@@ -194,7 +207,12 @@ started-fresh workers number (suc count) zero m here =
     let same : fresh workers number ≡ m = same_Some (fresh workers number) m here in
     let index : number ≡ number + 0 = omega arith in
     subst (IsFreshMember [] (number + 0)) same
-    (record { number_is = index; boot_is = refl; batch_is = λ batch has. absurd (none-some batch has) })
+    (record {
+      number_is = index;
+      below = omega arith;
+      boot_is = record { had = Contains-push [] 1; below = omega arith };
+      batch_is = λ batch has. absurd (none-some batch has);
+    })
 started-fresh workers number (suc count) (suc i) m here =
     let index : suc number + i ≡ number + suc i = omega arith in
     subst (λ (n : ℕ). IsFreshMember [] n m) index (started-fresh workers (suc number) count i m here)

@@ -27,10 +27,13 @@ use Rattle.script.specs.declared.output.Output.{Output}
 use Rattle.script.specs.declared.output.Output.TheVariants as outputs
 use Rattle.world.specs.Outputs.{of_answers, packets_of}
 use Rattle.world.specs.Steps.{World, Member, Batch, send, push_happens, head_happens, datagram_happens, on_member, member_output}
-use Rattle.world.specs.Steps.{deliver_happens, shown, known_of, with_known}
+use Rattle.world.specs.Steps.{deliver_happens, shown, known_of, with_known, delivered, raw_happens, is_forged}
 use Rattle.world.proofs.Datagrams.{frame-reads, head-reads}
+use Rattle.world.specs.Inner.Boots.{IsOfBoot}
 use Rattle.world.specs.Inner.Fresh.{IsFreshBatch, IsFreshMember, IsFreshHead, IsFreshReading, Fresh}
+use Rattle.world.proofs.Boots.{of-boot}
 use Rattle.world.proofs.Fresh.{Fresh-sent, Follows, alike, Fresh-member}
+use Rattle.world.proofs.Raw.{unforged}
 use Rattle.world.proofs.Serving.{IsNoReport, Serves, quiet}
 
 -- one more datagram is sent
@@ -45,7 +48,7 @@ push-serves w event (Some frame) h =
     send-serves w w event (frame_spelling frame) h
     (frame-reads (IsFreshReading w.primary.durable w.members) (λ fault. tt) (λ worker seq commit last entries. tt) frame)
 
-answers-silent : (index : ℕ) (outs : List Out) → IsNoReport (of_answers index outs)
+pub answers-silent : (index : ℕ) (outs : List Out) → IsNoReport (of_answers index outs)
 answers-silent index [] = tt
 answers-silent index (out ∷ outs) = tt
 
@@ -67,13 +70,14 @@ answers-fresh w (Ok (datagrams.Ask replica boot request)) h told =
     let version = length w.primary.durable in
     let numbered = h.numbered in (
       head-reads (IsFreshReading w.primary.durable w.members) (λ fault. tt) replica boot request version
-          (counts_of w.primary.durable version w.primary.workers) told.0.request_below (omega arith)
-          (λ boot' counts'. (
+          (counts_of w.primary.durable version w.primary.workers) told.0.boot_below told.0.request_below (omega arith)
+          (λ counts'. (
             omega arith,
-            λ m there. record {
-              asked = told.1 m there;
-              above = λ batch has same. ((h.members_are replica m there).batch_is batch has).asked;
-            },
+            λ m there. of-boot m.boots m.boot boot (request ≤ m.request) (IsFreshHead m request version)
+                (λ asked. record {
+                  asked = asked;
+                  above = λ batch has same. ((h.members_are replica m there).batch_is batch has).asked;
+                }) (told.1 m there),
           )),
       tt,
     )
@@ -88,7 +92,7 @@ record Takes (durable : List Commit) (m : Member) (answer : Output × Member) : 
 -- a replica that keeps its request and its batch
 keeps : (durable : List Commit) (i : ℕ) (m : Member) (output : Output) → IsFreshMember durable i m → IsNoReport output
     → Takes durable m (output, m)
-keeps durable i m output is silent = record { follows = alike durable i m m is refl refl refl refl; silent = silent }
+keeps durable i m output is silent = record { follows = alike durable i m m is refl refl refl refl refl is.below; silent = silent }
 
 frame-takes : (durable : List Commit) (i : ℕ) (m : Member) (worker seq : ℕ) (a b c : Bool) → IsFreshMember durable i m
     → Takes durable m (cond a (outputs.Ignored, m)
@@ -97,7 +101,10 @@ frame-takes durable i m worker seq true b c is = keeps durable i m outputs.Ignor
 frame-takes durable i m worker seq false true c is = keeps durable i m outputs.Repeat is tt
 frame-takes durable i m worker seq false false true is = keeps durable i m outputs.Ahead is tt
 frame-takes durable i m worker seq false false false is =
-    record { follows = alike durable i m (record m { known = with_known m.known worker seq }) is refl refl refl refl; silent = tt }
+    record {
+      follows = alike durable i m (record m { known = with_known m.known worker seq }) is refl refl refl refl refl is.below;
+      silent = tt;
+    }
 
 -- a Head of the batch's own request
 fetched-takes : (durable : List Commit) (i : ℕ) (m : Member) (version : ℕ) (counts : List ℕ) (plans : List Plan) (asked_at : ℕ)
@@ -108,6 +115,8 @@ fetched-takes durable i m version counts plans asked_at (Some fetched) is has ab
 fetched-takes durable i m version counts plans asked_at None is has above below = record {
   follows = record {
     number_is = refl;
+    below = is.below;
+    boots_are = refl;
     boot_is = refl;
     batch_is = λ batch now. subst (IsFreshBatch durable) (same_Some new batch now) (record {
       asked = (is.batch_is old has).asked;
@@ -142,7 +151,9 @@ head-takes durable i m version counts (Some batch) is has above below =
 
 own-takes : (durable : List Commit) (members : List Member) (i : ℕ) (m : Member) (replica boot request version : ℕ) (counts : List ℕ)
     → slice_get members i ≡ Some m → IsFreshMember durable i m
-    → version ≤ length durable → ((other : Member) → slice_get members replica ≡ Some other → IsFreshHead other request version)
+    → version ≤ length durable
+    → ((other : Member) → slice_get members replica ≡ Some other
+    → IsOfBoot other.boots other.boot boot (IsFreshHead other request version))
     → (own : Bool) → ((replica == m.number) && (boot == m.boot) && (request == m.request)) ≡ own
     → Takes durable m (cond own (head_happens m version counts m.batch) (outputs.Ignored, m))
 own-takes durable members i m replica boot request version counts here is below told false e = keeps durable i m outputs.Ignored is tt
@@ -150,7 +161,7 @@ own-takes durable members i m replica boot request version counts here is below 
     let parts = and_parts ((replica == m.number) && (boot == m.boot)) (request == m.request) e in
     let front = and_parts (replica == m.number) (boot == m.boot) parts.0 in
     let index : replica ≡ i = eqb-true replica m.number front.0 ∙ is.number_is in
-    let head = told m (ap (slice_get members) index ∙ here) in
+    let head = (told m (ap (slice_get members) index ∙ here)).holds (eqb-true boot m.boot front.1) in
     head-takes durable i m version counts m.batch is refl (λ batch has. head.above batch has (eqb-true request m.request parts.1)) below
 
 datagram-takes : (durable : List Commit) (shape : Shape) (workers : ℕ) (members : List Member) (i : ℕ) (m : Member)
@@ -187,14 +198,29 @@ bytes-serve w event bytes i (Some m) h here told = by m.broken
         (reading bytes) told in
         quiet w event (member_output w answer) (Fresh-member w i m answer.1 h here takes.follows) takes.silent
 
+-- bytes that are handed to a node
+hand-serves : (w : World) (event : Event) (bytes : List ℕ) (node : Node) → Fresh w
+    → IsFreshReading w.primary.durable w.members (reading bytes) → Serves w event (delivered w bytes node)
+hand-serves w event bytes nodes.Primary h told =
+    quiet w event _ (Fresh-sent w (packets_of (answers w.primary bytes)) h (answers-fresh w (reading bytes) h told))
+    (answers-silent (length w.sent) (answers w.primary bytes))
+hand-serves w event bytes (nodes.Replica number) h told =
+    bytes-serve w event bytes number (slice_get w.members number) h refl told
+
 pub deliver-serves : (w : World) (event : Event) (index : ℕ) (node : Node) (found : Option (List ℕ)) → Fresh w
     → slice_get w.sent index ≡ found → Serves w event (deliver_happens w node found)
 deliver-serves w event index node None h there = quiet w event (outputs.NeverSent, w) h tt
-deliver-serves w event index nodes.Primary (Some bytes) h there =
-    quiet w event _ (Fresh-sent w (packets_of (answers w.primary bytes)) h
-    (answers-fresh w (reading bytes) h (h.sent_is index bytes there))) (answers-silent (length w.sent) (answers w.primary bytes))
-deliver-serves w event index (nodes.Replica number) (Some bytes) h there =
-    bytes-serve w event bytes number (slice_get w.members number) h refl (h.sent_is index bytes there)
+deliver-serves w event index node (Some bytes) h there = hand-serves w event bytes node h (h.sent_is index bytes there)
+
+pub raw-serves : (w : World) (event : Event) (node : Node) (bytes : List ℕ) → Fresh w → Serves w event (raw_happens w node bytes)
+raw-serves w event node bytes h = by (is_forged w.sent bytes) refl
+  where
+    by : (forged : Bool) → is_forged w.sent bytes ≡ forged
+        → Serves w event (cond forged (outputs.Forged, w) (delivered w bytes node))
+    by true e = quiet w event (outputs.Forged, w) h tt
+    by false e =
+        hand-serves w event bytes node h
+        (unforged (IsFreshReading w.primary.durable w.members) w.sent bytes (λ fault. tt) h.sent_is e)
 
 pub show-serves : (w : World) (event : Event) (found : Option (List ℕ)) → Fresh w → Serves w event (shown found, w)
 show-serves w event None h = quiet w event (outputs.NeverSent, w) h tt

@@ -1,7 +1,8 @@
 -- Each step of a fresh world leaves one, and a report that it answers is that of the batch of the replica that ran.
-use Rattle.std.proofs.Common.{◌≡◌, ℕ, ◌+◌, ◌^◌, ◌<◌, ◌≤◌, Bool, true, false, cond, ◌==◌, List, [], ◌∷◌, length, Option, Some, None, Result}
-use Rattle.std.proofs.Common.{Ok, Err, nat_le, refl, sym, ap, subst, ◌∙◌, inl, inr, arith}
-use Rattle.std.specs.List.{slice_get, slice_set}
+use Rattle.std.proofs.Common.{◌≡◌, ℕ, ◌+◌, ◌<◌, ◌≤◌, Bool, true, false, cond, ◌==◌, List, [], ◌∷◌, length, Option, Some, None, Result}
+use Rattle.std.proofs.Common.{◌^◌, Ok, Err, nat_le, refl, sym, ap, subst, ◌∙◌, inl, inr, arith}
+use Rattle.std.specs.List.{slice_get, slice_set, Contains, AllByRecursion}
+use Rattle.std.specs.Option.{option_and_then, is_none}
 use Rattle.std.proofs.lemmas.Option.{none-some, same_Some, slice_get_within}
 use Rattle.rows.specs.declared.limits.TheConstants.{REPLICAS_MAX, WAITING_QUERIES_MAX}
 use Rattle.rows.specs.Shape.{shape_of}
@@ -12,21 +13,25 @@ use Rattle.plans.specs.declared.faults.PlanFault.{PlanFault}
 use Rattle.mvcc.specs.Transactions.{insert_answer, set_answer, delete_answer, get_answer}
 use Rattle.plans.specs.Checking.{checked}
 use Rattle.dispatcher.specs.State.{Fetched}
+use Rattle.dispatcher.specs.Steps.{ready}
+use Rattle.script.specs.Events.{IsPossible}
 use Rattle.script.specs.declared.event.Event.{Event}
 use Rattle.script.specs.declared.event.Event.TheVariants as events
 use Rattle.script.specs.declared.event.Node.TheVariants as nodes
 use Rattle.script.specs.declared.output.Output.{Output}
 use Rattle.script.specs.declared.output.Output.TheVariants as outputs
 use Rattle.world.specs.Steps.{World, Member, Batch, open_draft, happens, with_member, send, on_member, open_happens, ask_happens, new_batch}
-use Rattle.world.specs.Steps.{ask_bytes, run_happens, fetched_happens, answer_happens, lacking, want_bytes}
-use Rattle.world.specs.Allowed.{RunIsCut, RunIsCutAt, MayHappen}
+use Rattle.world.specs.Steps.{ask_bytes, run_happens, fetched_happens, answer_happens, lacking, want_bytes, dump_at}
+use Rattle.world.specs.Steps.{restarted, restart_happens, had_boot}
+use Rattle.world.specs.Allowed.{RunIsCut, RunIsCutAt, MayHappen, ready_member}
 use Rattle.world.proofs.Lists.{get-set_same}
 use Rattle.world.proofs.Datagrams.{ask-read, ask-kept, want-reads}
-use Rattle.world.specs.Inner.Fresh.{IsFreshBatch, IsFreshReading, Fresh}
+use Rattle.world.specs.Inner.Fresh.{IsFreshBatch, IsFreshReading, Fresh, HasBoot}
+use Rattle.world.proofs.Restarts.{never-had, Fresh-restarted}
 use Rattle.world.proofs.Fresh.{Fresh-drafts, Fresh-sent, Follows, alike, Fresh-member}
 use Rattle.world.proofs.Serving.{IsNoReport, Serves, quiet, change-serves, look-serves, commit-serves, abort-serves, flush-serves}
 use Rattle.world.proofs.Serving.{stop-serves, start-serves, unless-serves}
-use Rattle.world.proofs.FreshDatagrams.{send-serves, push-serves, deliver-serves, show-serves}
+use Rattle.world.proofs.FreshDatagrams.{send-serves, push-serves, deliver-serves, raw-serves, show-serves}
 
 -- ---- batches
 
@@ -45,27 +50,36 @@ open-serves w event plan i (Some m) h here = by m.broken (nat_le WAITING_QUERIES
     by false true check = quiet w event (outputs.BatchFull, w) h tt
     by false false (Err fault) = quiet w event (outputs.BadPlan fault, w) h tt
     by false false (Ok fits) =
-        quiet w event _ (Fresh-member w i m _ h here (alike w.primary.durable i m _ (h.members_are i m here) refl refl refl refl)) tt
+        quiet w event _ (Fresh-member w i m _ h here (alike w.primary.durable i m _ (h.members_are i m here) refl refl refl refl refl
+        (h.members_are i m here).below)) tt
 
 -- an Ask of a request that its replica has made
 ask-fresh : (w : World) (members : List Member) (i : ℕ) (m : Member) (request : ℕ) → Fresh w → slice_get w.members i ≡ Some m
-    → ((other : Member) → slice_get members m.number ≡ Some other → request ≤ other.request)
+    → ((other : Member) → slice_get members m.number ≡ Some other → (other.boots ≡ m.boots) × (request ≤ other.request))
     → IsFreshReading w.primary.durable members (reading (ask_bytes m request))
 ask-fresh w members i m request h here made =
     let is = h.members_are i m here in
     let number_is = is.number_is in
-    let boot_is = is.boot_is in
     let few = h.few in
     let within = slice_get_within w.members i m here in
     let number_below : m.number < REPLICAS_MAX = omega arith in
-    let boot_below : m.boot < 2 ^ 64 = omega arith in
-    subst (IsFreshReading w.primary.durable members) (sym (ask-read m.number m.boot request number_below boot_below))
-    (ask-kept m.number m.boot request number_below boot_below, λ other there. let asked = made other there in omega arith)
+    let boot_below = is.boot_is.below in
+    subst (IsFreshReading w.primary.durable members) (sym (ask-read m.number m.boot request number_below boot_below)) (
+      ask-kept m.number m.boot request number_below boot_below,
+      λ other there.
+          let is_made = made other there in
+          record {
+            had = subst (λ (boots : List ℕ). Contains boots m.boot) (sym is_made.0) is.boot_is.had;
+            holds = λ same. let asked = is_made.1 in omega arith;
+          },
+    )
 
 -- a new batch asks at what is durable now, and no Head of its request was sent
-new-follows : (w : World) (m : Member) → Follows w.primary.durable m (new_batch w m)
-new-follows w m = record {
+new-follows : (w : World) (m : Member) → m.version ≤ length w.primary.durable → Follows w.primary.durable m (new_batch w m)
+new-follows w m below = record {
   number_is = refl;
+  below = below;
+  boots_are = refl;
   boot_is = refl;
   batch_is =
       λ batch has. subst (IsFreshBatch w.primary.durable) (same_Some new batch has)
@@ -85,7 +99,7 @@ again-serves w event i m plans asked_at None h here =
     send-serves w w event (ask_bytes m m.request) h (ask-fresh w w.members i m m.request h here (λ other there.
     let same : m ≡ other = same_Some m other (sym here ∙ ap (slice_get w.members) (sym (h.members_are i m here).number_is) ∙ there) in
     let asked = ap (λ (x : Member). x.request) same in
-    omega arith))
+    (ap (λ (x : Member). x.boots) (sym same), omega arith)))
 
 asks : (w : World) (event : Event) (i : ℕ) (m : Member) (batch : Option Batch) → Fresh w → slice_get w.members i ≡ Some m
     → Serves w event (ask_happens w m batch)
@@ -96,10 +110,11 @@ asks w event i m None h here = by (length m.waiting == 0)
     by true = quiet w event (outputs.Empty, w) h tt
     by false =
         send-serves (with_member w (new_batch w m)) w event (ask_bytes m (m.request + 1))
-        (Fresh-member w i m (new_batch w m) h here (new-follows w m))
+        (Fresh-member w i m (new_batch w m) h here (new-follows w m (h.members_are i m here).below))
         (ask-fresh w (slice_set w.members m.number (new_batch w m)) i m (m.request + 1) h here (λ other there.
-        let asked = ap (λ (x : Member). x.request) (get-set_same w.members m.number (new_batch w m) other there) in
-        omega arith))
+        let same = get-set_same w.members m.number (new_batch w m) other there in
+        let asked = ap (λ (x : Member). x.request) same in
+        (ap (λ (x : Member). x.boots) same, omega arith)))
 
 ask-serves : (w : World) (event : Event) (i : ℕ) (found : Option Member) → Fresh w → slice_get w.members i ≡ found
     → Serves w event (on_member w found (λ m. cond m.broken (outputs.Broken, w) (ask_happens w m m.batch)))
@@ -113,9 +128,12 @@ ask-serves w event i (Some m) h here = by m.broken
 -- ---- reports
 
 -- the batch is over, at the version that was fetched for it
-done-follows : (w : World) (i : ℕ) (m : Member) (version : ℕ) → Follows w.primary.durable m (record m { version = version; batch = None })
-done-follows w i m version = record {
+done-follows : (w : World) (i : ℕ) (m : Member) (version : ℕ) → version ≤ length w.primary.durable
+    → Follows w.primary.durable m (record m { version = version; batch = None })
+done-follows w i m version below = record {
   number_is = refl;
+  below = below;
+  boots_are = refl;
   boot_is = refl;
   batch_is = λ batch has. absurd (none-some batch has);
   asked = omega arith;
@@ -135,8 +153,8 @@ lacking-serves w i m plans asked_at fetched None h here has =
     let batch : Batch = record { plans = plans; asked_at = asked_at; fetched = Some fetched } in
     let is = ((h.members_are i m here).batch_is batch has).fetched_is fetched refl in
     record {
-      fresh = Fresh-member w i m _ h here (done-follows w i m fetched.version);
-      reports = (i, m, batch, refl, here, has, (fetched, refl, is.0, is.1, refl));
+      fresh = Fresh-member w i m _ h here (done-follows w i m fetched.version is.1);
+      rows = (i, m, batch, refl, here, has, (fetched, refl, is.0, is.1, refl));
     }
 
 fetched-serves : (w : World) (i : ℕ) (m : Member) (plans : List Plan) (asked_at : ℕ) (fetched : Option Fetched) → Fresh w
@@ -161,14 +179,40 @@ run-serves w i (Some m) h here = by m.broken
     by true = quiet w (events.Run i) (outputs.Broken, w) h tt
     by false = runs w i m m.batch h here refl
 
+-- what a replica is ready for was fetched
+ready-fetched : (broken : Bool) (lacks : List ℕ → Option (ℕ × ℕ)) (found : Option Fetched) (fetched : Fetched)
+    → ready broken lacks found ≡ Some fetched → found ≡ Some fetched
+ready-fetched true lacks found fetched h = absurd (none-some fetched h)
+ready-fetched false lacks None fetched h = absurd (none-some fetched h)
+ready-fetched false lacks (Some other) fetched h = by (is_none (lacks other.counts)) h
+  where
+    by : (b : Bool) → cond b (Some other) None ≡ Some fetched → Some other ≡ Some fetched
+    by true h = h
+    by false h = absurd (none-some fetched h)
+
+fetched-batch : (w : World) (i : ℕ) (m : Member) (fetched : Fetched) (batch : Option Batch) → Fresh w → slice_get w.members i ≡ Some m
+    → m.batch ≡ batch → option_and_then (λ (b : Batch). b.fetched) batch ≡ Some fetched
+    → (b : Batch) × (m.batch ≡ Some b) × (b.asked_at ≤ fetched.version) × (fetched.version ≤ length w.primary.durable)
+fetched-batch w i m fetched None h here has is = absurd (none-some fetched is)
+fetched-batch w i m fetched (Some batch) h here has is =
+    let fresh = ((h.members_are i m here).batch_is batch has).fetched_is fetched is in (batch, has, fresh.0, fresh.1)
+
+-- for its batch, which asked when no more was durable; and it is durable
+pub ready-batch : (w : World) (i : ℕ) (m : Member) (fetched : Fetched) → Fresh w → slice_get w.members i ≡ Some m
+    → ready_member m ≡ Some fetched
+    → (b : Batch) × (m.batch ≡ Some b) × (b.asked_at ≤ fetched.version) × (fetched.version ≤ length w.primary.durable)
+ready-batch w i m fetched h here is =
+    fetched-batch w i m fetched m.batch h here refl
+    (ready-fetched m.broken (lacking m.known) (option_and_then (λ (b : Batch). b.fetched) m.batch) fetched is)
+
 cut-serves : (w : World) (event : Event) (i : ℕ) (found : Option Member) (output : Output) (new : World) → Fresh w
     → slice_get w.members i ≡ found → RunIsCut w found output new → Serves w event (output, new)
 cut-serves w event i None output new h here cut = absurd cut
 cut-serves w event i (Some m) output new h here cut = elim cut.2 [
   | inl memory ↦ is outputs.Memory (record m { version = cut.0.version }) memory.0 memory.1 tt
-      (alike w.primary.durable i m _ (h.members_are i m here) refl refl refl refl)
+      (alike w.primary.durable i m _ (h.members_are i m here) refl refl refl refl refl (ready-batch w i m cut.0 h here cut.1).3)
   | inr broken ↦ is outputs.Broken (record m { broken = true }) broken.0 broken.1 tt
-      (alike w.primary.durable i m _ (h.members_are i m here) refl refl refl refl)
+      (alike w.primary.durable i m _ (h.members_are i m here) refl refl refl refl refl (h.members_are i m here).below)
 ]
   where
     is : (answer : Output) (changed : Member) → output ≡ answer → new ≡ with_member w changed → IsNoReport answer
@@ -176,39 +220,77 @@ cut-serves w event i (Some m) output new h here cut = elim cut.2 [
     is answer changed e f silent follows =
         quiet w event (output, new) (subst Fresh (sym f) (Fresh-member w i m changed h here follows)) (subst IsNoReport (sym e) silent)
 
+-- ---- looks at a replica
+
+version-serves : (w : World) (event : Event) (found : Option Member) → Fresh w
+    → Serves w event (on_member w found (λ m. (outputs.Version m.version, w)))
+version-serves w event None h = quiet w event (outputs.Ignored, w) h tt
+version-serves w event (Some m) h = quiet w event (outputs.Version m.version, w) h tt
+
+dump-serves : (w : World) (i : ℕ) (found : Option Member) → Fresh w → slice_get w.members i ≡ found
+    → Serves w (events.Dump i) (on_member w found (λ m. cond m.broken (outputs.Broken, w) (outputs.Dump (dump_at w m.version), w)))
+dump-serves w i None h here = quiet w (events.Dump i) (outputs.Ignored, w) h tt
+dump-serves w i (Some m) h here = by m.broken
+  where
+    by : (b : Bool) → Serves w (events.Dump i) (cond b (outputs.Broken, w) (outputs.Dump (dump_at w m.version), w))
+    by true = quiet w (events.Dump i) (outputs.Broken, w) h tt
+    by false =
+        let below = (h.members_are i m here).below in
+        let numbered = h.numbered in
+        record { fresh = h; rows = (i, m, refl, here, (omega arith, below, refl)) }
+
+-- ---- restarts
+
+restart-serves : (w : World) (event : Event) (i boot : ℕ) (found : Option Member) → Fresh w → slice_get w.members i ≡ found → boot < 2 ^ 64
+    → Serves w event (on_member w found (λ m. restart_happens w m boot))
+restart-serves w event i boot None h here below = quiet w event (outputs.Ignored, w) h tt
+restart-serves w event i boot (Some m) h here below = by (had_boot m.boots boot) refl
+  where
+    by : (used : Bool) → had_boot m.boots boot ≡ used
+        → Serves w event (cond used (outputs.BootUsed, w) (outputs.Boot boot, with_member w (restarted w.primary.workers m boot)))
+    by true e = quiet w event (outputs.BootUsed, w) h tt
+    by false e =
+        quiet w event (outputs.Boot boot, with_member w (restarted w.primary.workers m boot))
+        (Fresh-restarted w i boot m h here (never-had m.boots boot e) below) tt
+
 -- ---- any step
 
-happens-serves : (w : World) (event : Event) → Fresh w → Serves w event (happens w event)
-happens-serves w events.Begin h = unless-serves w _ _ h (quiet w events.Begin _ (Fresh-drafts w _ h) tt)
-happens-serves w (events.Insert transaction table row values) h =
+happens-serves : (w : World) (event : Event) → HasBoot event → Fresh w → Serves w event (happens w event)
+happens-serves w events.Begin is h = unless-serves w _ _ h (quiet w events.Begin _ (Fresh-drafts w _ h) tt)
+happens-serves w (events.Insert transaction table row values) is h =
     unless-serves w _ _ h (change-serves w _ transaction (open_draft w.transactions transaction)
     (λ draft. insert_answer (shape_of w.primary.schema) w.primary.durable draft table row.0 values) h)
-happens-serves w (events.Set transaction table row column value) h =
+happens-serves w (events.Set transaction table row column value) is h =
     unless-serves w _ _ h (change-serves w _ transaction (open_draft w.transactions transaction)
     (λ draft. set_answer (shape_of w.primary.schema) w.primary.durable draft table row.0 column value) h)
-happens-serves w (events.Delete transaction table row) h =
+happens-serves w (events.Delete transaction table row) is h =
     unless-serves w _ _ h (change-serves w _ transaction (open_draft w.transactions transaction)
     (λ draft. delete_answer (shape_of w.primary.schema) w.primary.durable draft table row.0) h)
-happens-serves w (events.Get transaction table row column) h =
+happens-serves w (events.Get transaction table row column) is h =
     unless-serves w _ _ h (look-serves w _ (open_draft w.transactions transaction)
     (λ draft. get_answer (shape_of w.primary.schema) w.primary.durable draft table row.0 column) h)
-happens-serves w (events.Commit transaction worker) h =
+happens-serves w (events.Commit transaction worker) is h =
     unless-serves w _ _ h (commit-serves w _ transaction worker (open_draft w.transactions transaction) h)
-happens-serves w (events.Abort transaction) h =
+happens-serves w (events.Abort transaction) is h =
     unless-serves w _ _ h (abort-serves w _ transaction (open_draft w.transactions transaction) h)
-happens-serves w (events.Flush count) h = unless-serves w _ _ h (flush-serves w _ count w.primary.failed h)
-happens-serves w (events.Stop bytes) h = unless-serves w _ _ h (stop-serves w _ bytes h)
-happens-serves w events.Start h = start-serves w _ w.stopped h
-happens-serves w (events.Push worker seq) h =
+happens-serves w (events.Flush count) is h = unless-serves w _ _ h (flush-serves w _ count w.primary.failed h)
+happens-serves w (events.Stop bytes) is h = unless-serves w _ _ h (stop-serves w _ bytes h)
+happens-serves w events.Start is h = start-serves w _ w.stopped h
+happens-serves w (events.Push worker seq) is h =
     unless-serves w _ _ h (push-serves w _ (slice_get (stream_of w.primary.durable worker) seq) h)
-happens-serves w (events.Deliver index nodes.Primary) h =
+happens-serves w (events.Deliver index nodes.Primary) is h =
     unless-serves w _ _ h (deliver-serves w _ index nodes.Primary (slice_get w.sent index) h refl)
-happens-serves w (events.Deliver index (nodes.Replica number)) h =
+happens-serves w (events.Deliver index (nodes.Replica number)) is h =
     deliver-serves w _ index (nodes.Replica number) (slice_get w.sent index) h refl
-happens-serves w (events.Show index) h = show-serves w _ (slice_get w.sent index) h
-happens-serves w (events.Open replica plan) h = open-serves w _ plan replica (slice_get w.members replica) h refl
-happens-serves w (events.Ask replica) h = ask-serves w _ replica (slice_get w.members replica) h refl
-happens-serves w (events.Run replica) h = run-serves w replica (slice_get w.members replica) h refl
+happens-serves w (events.Show index) is h = show-serves w _ (slice_get w.sent index) h
+happens-serves w (events.Open replica plan) is h = open-serves w _ plan replica (slice_get w.members replica) h refl
+happens-serves w (events.Ask replica) is h = ask-serves w _ replica (slice_get w.members replica) h refl
+happens-serves w (events.Run replica) is h = run-serves w replica (slice_get w.members replica) h refl
+happens-serves w (events.Version replica) is h = version-serves w _ (slice_get w.members replica) h
+happens-serves w (events.Dump replica) is h = dump-serves w replica (slice_get w.members replica) h refl
+happens-serves w (events.Restart replica boot) is h = restart-serves w _ replica boot (slice_get w.members replica) h refl is
+happens-serves w (events.Raw nodes.Primary bytes) is h = unless-serves w _ _ h (raw-serves w _ nodes.Primary bytes h)
+happens-serves w (events.Raw (nodes.Replica number) bytes) is h = raw-serves w _ (nodes.Replica number) bytes h
 
 cut-event : (w : World) (event : Event) (output : Output) (new : World) → Fresh w → RunIsCutAt w event output new
     → Serves w event (output, new)
@@ -216,12 +298,23 @@ cut-event w (events.Run replica) output new h cut =
     cut-serves w (events.Run replica) replica (slice_get w.members replica) output new h refl cut
 cut-event w other output new h cut = absurd cut
 
-pub step-serves : (old : World) (event : Event) (output : Output) (new : World) → Fresh old → MayHappen old event output new
-    → Serves old event (output, new)
-step-serves old event output new h may = elim may [
-  | inl made ↦ subst (Serves old event) made (happens-serves old event h)
+pub step-serves : (old : World) (event : Event) (output : Output) (new : World) → HasBoot event → Fresh old
+    → MayHappen old event output new → Serves old event (output, new)
+step-serves old event output new is h may = elim may [
+  | inl made ↦ subst (Serves old event) made (happens-serves old event is h)
   | inr other ↦ elim other [
     | inl memory ↦ quiet old event (output, new) (subst Fresh (sym memory.1) h) (subst IsNoReport (sym memory.0) tt)
     | inr cut ↦ cut-event old event output new h cut
   ]
 ]
+
+-- the boots of events that are possible have 64 bits
+possible-boot : (workers replicas : ℕ) (event : Event) → IsPossible workers replicas event → HasBoot event
+possible-boot workers replicas (events.Restart replica boot) h = h.1
+possible-boot workers replicas other h = tt
+
+pub possible-boots : (workers replicas : ℕ) (todo : List Event) → AllByRecursion (IsPossible workers replicas) todo
+    → AllByRecursion HasBoot todo
+possible-boots workers replicas [] all = tt
+possible-boots workers replicas (event ∷ todo) all =
+    (possible-boot workers replicas event all.0, possible-boots workers replicas todo all.1)

@@ -45,7 +45,8 @@ use Rattle.world.specs.Theorem.{IsBeginning, IsFaultless}
 use Rattle.world.specs.Steps.{World, Member, Batch, open_draft, happens, opening_world, with_member, send, on_draft, change_happens}
 use Rattle.world.specs.Steps.{commit_happens, abort_happens, push_happens, head_happens, datagram_happens, on_member, member_output}
 use Rattle.world.specs.Steps.{deliver_happens, shown, open_happens, ask_happens, new_batch, ask_bytes, run_happens}
-use Rattle.world.specs.Steps.{answer_happens, fetched_happens, lacking, known_of, with_known, unless_stopped, stop_happens}
+use Rattle.world.specs.Steps.{answer_happens, fetched_happens, lacking, known_of, with_known, unless_stopped, stop_happens, dump_at}
+use Rattle.world.specs.Steps.{is_forged, delivered, restarted, restart_happens, had_boot}
 use Rattle.world.specs.Stops.{whole_in}
 use Rattle.world.specs.Inner.Honest.{IsBegun, IsHonest}
 use Rattle.world.specs.Allowed.{RunIsCut, RunIsCutAt, MayHappen}
@@ -383,6 +384,37 @@ run-fine w (Some m) = by m.broken
     by true = plain w w outputs.Broken refl refl tt
     by false = run-batch w m m.batch
 
+-- ---- looks at a replica
+
+version-fine : (w : World) (found : Option Member) → IsFine w (on_member w found (λ m. (outputs.Version m.version, w)))
+version-fine w None = plain w w outputs.Ignored refl refl tt
+version-fine w (Some m) = plain w w (outputs.Version m.version) refl refl tt
+
+dump-fine : (w : World) (found : Option Member)
+    → IsFine w (on_member w found (λ m. cond m.broken (outputs.Broken, w) (outputs.Dump (dump_at w m.version), w)))
+dump-fine w None = plain w w outputs.Ignored refl refl tt
+dump-fine w (Some m) = by m.broken
+  where
+    by : (b : Bool) → IsFine w (cond b (outputs.Broken, w) (outputs.Dump (dump_at w m.version), w))
+    by true = plain w w outputs.Broken refl refl tt
+    by false = plain w w (outputs.Dump (dump_at w m.version)) refl refl tt
+
+raw-fine : (w : World) (node : Node) (bytes : List ℕ) (forged : Bool)
+    → IsFine w (cond forged (outputs.Forged, w) (delivered w bytes node))
+raw-fine w node bytes true = plain w w outputs.Forged refl refl tt
+raw-fine w node bytes false = deliver-fine w node (Some bytes)
+
+-- ---- restarts
+
+restart-fine : (w : World) (boot : ℕ) (found : Option Member) → IsFine w (on_member w found (λ m. restart_happens w m boot))
+restart-fine w boot None = plain w w outputs.Ignored refl refl tt
+restart-fine w boot (Some m) = by (had_boot m.boots boot)
+  where
+    by : (used : Bool)
+        → IsFine w (cond used (outputs.BootUsed, w) (outputs.Boot boot, with_member w (restarted w.primary.workers m boot)))
+    by true = plain w w outputs.BootUsed refl refl tt
+    by false = plain w (with_member w (restarted w.primary.workers m boot)) (outputs.Boot boot) refl refl tt
+
 -- ---- stops and starts
 
 stop-fine : (w : World) (bytes : ℕ) → IsFine w (stop_happens w bytes)
@@ -439,6 +471,11 @@ happens-fine w (events.Show index) = show-fine w (slice_get w.sent index)
 happens-fine w (events.Open replica plan) = open-fine w plan (slice_get w.members replica)
 happens-fine w (events.Ask replica) = ask-fine w (slice_get w.members replica)
 happens-fine w (events.Run replica) = run-fine w (slice_get w.members replica)
+happens-fine w (events.Version replica) = version-fine w (slice_get w.members replica)
+happens-fine w (events.Dump replica) = dump-fine w (slice_get w.members replica)
+happens-fine w (events.Restart replica boot) = restart-fine w boot (slice_get w.members replica)
+happens-fine w (events.Raw nodes.Primary bytes) = served w _ (raw-fine w nodes.Primary bytes (is_forged w.sent bytes))
+happens-fine w (events.Raw (nodes.Replica number) bytes) = raw-fine w (nodes.Replica number) bytes (is_forged w.sent bytes)
 
 cut-fine : (w : World) (found : Option Member) (output : Output) (new : World) → RunIsCut w found output new → IsFine w (output, new)
 cut-fine w None output new cut = absurd cut

@@ -1,5 +1,6 @@
 pub mod Lists
 pub mod FedLaws
+pub mod Boots
 pub mod Durable
 pub mod Streams
 pub mod Worlds
@@ -13,14 +14,20 @@ pub mod Placing
 pub mod Changing
 pub mod Committing
 pub mod Told
+pub mod Named
 pub mod Whole
 pub mod Defined
 pub mod Honest
+pub mod Raw
 pub mod Fresh
 pub mod Serving
 pub mod FreshDatagrams
 pub mod Freshness
+pub mod Databases
 pub mod Reports
+pub mod Dumps
+pub mod Moments
+pub mod Restarts
 pub mod Delivering
 pub mod Moving
 pub mod Requested

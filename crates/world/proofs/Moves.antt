@@ -18,8 +18,10 @@ use Rattle.world.specs.Parts.{Parts}
 use Rattle.world.specs.Inner.CoreSteps.{with_replica, with_sent}
 use Rattle.world.specs.Steps.{World}
 use Rattle.world.proofs.Lists.{get-set, get-append, get-one, set-same}
+use Rattle.world.specs.Inner.Boots.{IsInBoot, IsOfBoot}
 use Rattle.world.specs.Inner.Sound.{Sound, IsFed, IsAnswer, IsOfRequests, Means, awaits}
-use Rattle.world.specs.Standing.{world_of}
+use Rattle.world.specs.Standing.{boots_at, world_of}
+use Rattle.world.proofs.Boots.{of-boot-stays}
 use Rattle.world.proofs.Durable.{frame-stays, counts-stay}
 use Rattle.world.proofs.FedLaws.{FedLaws}
 use Rattle.world.proofs.Worlds.{seen}
@@ -56,43 +58,46 @@ answer-moves old new request version moves answer =
           let version = still.1 in omega arith;
     }
 
-requests-move : (replicas : List Replica) (i : ℕ) (old new : Replica) → slice_get replicas i ≡ Some old → Moves old new
-    → (datagram : Result Datagram WireFault) → IsOfRequests replicas datagram → IsOfRequests (slice_set replicas i new) datagram
-requests-move replicas i old new at moves (Err fault) h = tt
-requests-move replicas i old new at moves (Ok (datagrams.Frame worker seq commit last entries)) h = tt
-requests-move replicas i old new at moves (Ok (datagrams.Ask replica boot request)) h = (
+requests-move : (boots : List (List ℕ)) (replicas : List Replica) (i : ℕ) (old new : Replica) → slice_get replicas i ≡ Some old
+    → Moves old new → (datagram : Result Datagram WireFault) → IsOfRequests boots replicas datagram
+    → IsOfRequests boots (slice_set replicas i new) datagram
+requests-move boots replicas i old new at moves (Err fault) h = tt
+requests-move boots replicas i old new at moves (Ok (datagrams.Frame worker seq commit last entries)) h = tt
+requests-move boots replicas i old new at moves (Ok (datagrams.Ask replica boot request)) h = (
   h.0,
   λ r here. elim (get-set replicas i new replica r here) [
     | inl same ↦
-        let asked = h.1 old (ap (slice_get replicas) same.0 ∙ at) in
         let grows = moves.request_grows in
-        let e : r.request ≡ new.request = ap (λ (r : Replica). r.request) same.1 in
-        omega arith
+        subst (λ (r : Replica). IsOfBoot (boots_at boots replica) r.boot boot (request ≤ r.request)) (sym same.1)
+        (of-boot-stays (boots_at boots replica) (boots_at boots replica) old.boot new.boot boot (request ≤ old.request)
+        (request ≤ new.request) refl moves.boot_stays (λ asked. omega arith) (h.1 old (ap (slice_get replicas) same.0 ∙ at)))
     | inr other ↦ h.1 r other
   ],
 )
-requests-move replicas i old new at moves (Ok (datagrams.Head replica boot request version counts)) h =
+requests-move boots replicas i old new at moves (Ok (datagrams.Head replica boot request version counts)) h =
     λ r here. elim (get-set replicas i new replica r here) [
-      | inl same ↦ subst (λ (r : Replica). IsAnswer r request version) (sym same.1)
-          (answer-moves old new request version moves (h old (ap (slice_get replicas) same.0 ∙ at)))
+      | inl same ↦ subst (λ (r : Replica). IsOfBoot (boots_at boots replica) r.boot boot (IsAnswer r request version)) (sym same.1)
+          (of-boot-stays (boots_at boots replica) (boots_at boots replica) old.boot new.boot boot (IsAnswer old request version)
+          (IsAnswer new request version) refl moves.boot_stays (answer-moves old new request version moves)
+          (h old (ap (slice_get replicas) same.0 ∙ at)))
       | inr other ↦ h r other
     ]
-requests-move replicas i old new at moves (Ok (datagrams.Want replica worker from)) h = tt
+requests-move boots replicas i old new at moves (Ok (datagrams.Want replica worker from)) h = tt
 
-means-moves : (workers : ℕ) (durable : List Commit) (replicas : List Replica) (i : ℕ) (old new : Replica)
+means-moves : (workers : ℕ) (durable : List Commit) (boots : List (List ℕ)) (replicas : List Replica) (i : ℕ) (old new : Replica)
     → slice_get replicas i ≡ Some old → Moves old new
-    → (datagram : Result Datagram WireFault) → Means workers durable replicas datagram
-    → Means workers durable (slice_set replicas i new) datagram
-means-moves workers durable replicas i old new at moves datagram h =
-    record { tells = h.tells; requests = requests-move replicas i old new at moves datagram h.requests }
+    → (datagram : Result Datagram WireFault) → Means workers durable boots replicas datagram
+    → Means workers durable boots (slice_set replicas i new) datagram
+means-moves workers durable boots replicas i old new at moves datagram h =
+    record { tells = h.tells; requests = requests-move boots replicas i old new at moves datagram h.requests }
 
-goes-fed : (shape : Shape) (workers : ℕ) (durable : List Commit) (i : ℕ) (old new : Replica) → IsFed shape workers durable i old
-    → Goes shape durable old new → IsFed shape workers durable i new
-goes-fed shape workers durable i old new fed goes = record {
+goes-fed : (shape : Shape) (workers : ℕ) (durable : List Commit) (boots : List ℕ) (i : ℕ) (old new : Replica)
+    → IsFed shape workers durable boots i old → Goes shape durable old new → IsFed shape workers durable boots i new
+goes-fed shape workers durable boots i old new fed goes = record {
   feeding = goes.feeding;
   workers_are = goes.moves.workers_stay ∙ fed.workers_are;
   number_is = goes.moves.number_stays ∙ fed.number_is;
-  boot_is = goes.moves.boot_stays ∙ fed.boot_is;
+  boot_is = subst (IsInBoot boots) (sym goes.moves.boot_stays) fed.boot_is;
 }
 
 pub Sound-replica : (shape : Shape) (p : Parts) (i : ℕ) (old new : Replica) → Sound shape p → slice_get p.replicas i ≡ Some old
@@ -101,16 +106,17 @@ Sound-replica shape p i old new sound at goes = record {
   setup_is = sound.setup_is;
   primary_is = sound.primary_is;
   drafts_are = sound.drafts_are;
+  boots_there = sound.boots_there ∙ sym (length-set p.replicas i new);
   asked_there = sound.asked_there ∙ sym (length-set p.replicas i new);
   few = let few = sound.few in omega (arith, length-set p.replicas i new);
   fed = λ j r here. elim (get-set p.replicas i new j r here) [
-    | inl same ↦ subst (λ (j : ℕ). IsFed shape p.primary.workers p.primary.durable j r) (sym same.0)
-        (subst (λ (r : Replica). IsFed shape p.primary.workers p.primary.durable i r) (sym same.1)
-        (goes-fed shape p.primary.workers p.primary.durable i old new (sound.fed i old at) goes))
+    | inl same ↦ subst (λ (j : ℕ). IsFed shape p.primary.workers p.primary.durable (boots_at p.boots j) j r) (sym same.0)
+        (subst (λ (r : Replica). IsFed shape p.primary.workers p.primary.durable (boots_at p.boots i) i r) (sym same.1)
+        (goes-fed shape p.primary.workers p.primary.durable (boots_at p.boots i) i old new (sound.fed i old at) goes))
     | inr other ↦ sound.fed j r other
   ];
   sent_is =
-      λ j bytes here. means-moves p.primary.workers p.primary.durable p.replicas i old new at goes.moves (reading bytes)
+      λ j bytes here. means-moves p.primary.workers p.primary.durable p.boots p.replicas i old new at goes.moves (reading bytes)
       (sound.sent_is j bytes here);
 }
 
@@ -138,6 +144,7 @@ Sound-noted shape p asked_at sound same = record {
   setup_is = sound.setup_is;
   primary_is = sound.primary_is;
   drafts_are = sound.drafts_are;
+  boots_there = sound.boots_there;
   asked_there = same ∙ sound.asked_there;
   few = sound.few;
   fed = sound.fed;
@@ -147,12 +154,14 @@ Sound-noted shape p asked_at sound same = record {
 -- ---- datagrams
 
 pub Sound-sent : (shape : Shape) (p : Parts) (more : List (List ℕ)) → Sound shape p
-    → ((i : ℕ) (bytes : List ℕ) → slice_get more i ≡ Some bytes → Means p.primary.workers p.primary.durable p.replicas (reading bytes))
+    → ((i : ℕ) (bytes : List ℕ) → slice_get more i ≡ Some bytes
+    → Means p.primary.workers p.primary.durable p.boots p.replicas (reading bytes))
     → Sound shape (record p { sent = p.sent ++ more })
 Sound-sent shape p more sound means = record {
   setup_is = sound.setup_is;
   primary_is = sound.primary_is;
   drafts_are = sound.drafts_are;
+  boots_there = sound.boots_there;
   asked_there = sound.asked_there;
   few = sound.few;
   fed = sound.fed;
@@ -162,11 +171,11 @@ Sound-sent shape p more sound means = record {
 }
 
 pub Sound-one : (shape : Shape) (p : Parts) (bytes : List ℕ) → Sound shape p
-    → Means p.primary.workers p.primary.durable p.replicas (reading bytes)
+    → Means p.primary.workers p.primary.durable p.boots p.replicas (reading bytes)
     → Sound shape (with_sent p bytes)
 Sound-one shape p bytes sound means =
     Sound-sent shape p (bytes ∷ []) sound
-    (λ i other here. subst (λ (bytes : List ℕ). Means p.primary.workers p.primary.durable p.replicas (reading bytes))
+    (λ i other here. subst (λ (bytes : List ℕ). Means p.primary.workers p.primary.durable p.boots p.replicas (reading bytes))
     (sym (get-one bytes i other here)) means)
 
 -- ---- transactions
@@ -178,6 +187,7 @@ Sound-drafts shape p transactions sound are = record {
   setup_is = sound.setup_is;
   primary_is = sound.primary_is;
   drafts_are = are;
+  boots_there = sound.boots_there;
   asked_there = sound.asked_there;
   few = sound.few;
   fed = sound.fed;
@@ -197,15 +207,16 @@ Sound-pending shape p pending sound = record {
     workers_few = sound.primary_is.workers_few;
   };
   drafts_are = sound.drafts_are;
+  boots_there = sound.boots_there;
   asked_there = sound.asked_there;
   few = sound.few;
   fed = sound.fed;
   sent_is = sound.sent_is;
 }
 
-fed-grows : (laws : FedLaws) (shape : Shape) (workers : ℕ) (durable more : List Commit) (i : ℕ) (r : Replica)
-    → IsLegal shape workers (durable ++ more) → IsFed shape workers durable i r → IsFed shape workers (durable ++ more) i r
-fed-grows laws shape workers durable more i r legal fed = record {
+fed-grows : (laws : FedLaws) (shape : Shape) (workers : ℕ) (durable more : List Commit) (boots : List ℕ) (i : ℕ) (r : Replica)
+    → IsLegal shape workers (durable ++ more) → IsFed shape workers durable boots i r → IsFed shape workers (durable ++ more) boots i r
+fed-grows laws shape workers durable more boots i r legal fed = record {
   feeding =
       laws.commits shape durable more r (subst (λ (n : ℕ). IsLegal shape n (durable ++ more)) (sym fed.workers_are) legal)
       fed.feeding;
@@ -224,9 +235,10 @@ tells-stay workers durable more (Ok (datagrams.Head replica boot request version
     (omega (arith, length-append durable more), h.1, counts-stay durable more version counts h.0 h.2)
 tells-stay workers durable more (Ok (datagrams.Want replica worker from)) h = tt
 
-means-grows : (workers : ℕ) (durable more : List Commit) (replicas : List Replica) (datagram : Result Datagram WireFault)
-    → Means workers durable replicas datagram → Means workers (durable ++ more) replicas datagram
-means-grows workers durable more replicas datagram h =
+means-grows : (workers : ℕ) (durable more : List Commit) (boots : List (List ℕ)) (replicas : List Replica)
+    (datagram : Result Datagram WireFault) → Means workers durable boots replicas datagram
+    → Means workers (durable ++ more) boots replicas datagram
+means-grows workers durable more boots replicas datagram h =
     record { tells = tells-stay workers durable more datagram h.tells; requests = h.requests }
 
 -- what is durable grows, and other commits are pending behind it
@@ -246,10 +258,11 @@ Sound-grown laws shape p more pending legal sound =
       drafts_are =
           λ i draft here. let known = sound.drafts_are i draft here in
           omega (arith, length-append durable more);
+      boots_there = sound.boots_there;
       asked_there = sound.asked_there;
       few = sound.few;
-      fed = λ i r here. fed-grows laws shape workers durable more i r legal (sound.fed i r here);
-      sent_is = λ i bytes here. means-grows workers durable more p.replicas (reading bytes) (sound.sent_is i bytes here);
+      fed = λ i r here. fed-grows laws shape workers durable more (boots_at p.boots i) i r legal (sound.fed i r here);
+      sent_is = λ i bytes here. means-grows workers durable more p.boots p.replicas (reading bytes) (sound.sent_is i bytes here);
     }
 
 -- the primary fails, stops or starts, or its journal changes
@@ -263,6 +276,7 @@ Sound-apart shape p failed stopped journal sound = record {
     workers_few = sound.primary_is.workers_few;
   };
   drafts_are = sound.drafts_are;
+  boots_there = sound.boots_there;
   asked_there = sound.asked_there;
   few = sound.few;
   fed = sound.fed;

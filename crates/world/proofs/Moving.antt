@@ -31,13 +31,15 @@ use Rattle.world.proofs.Slots.{set_same, slot_same}
 
 -- what happens in the world, where the replicas stay and the primary runs
 pub beside : (p old new : Parts) (event : Event) (output : Output) → p ≡ old → happens (world_of p) event ≡ (output, world_of new)
-    → new.stopped ≡ false → new.setup ≡ p.setup → new.replicas ≡ p.replicas → new.asked_at ≡ p.asked_at
+    → new.stopped ≡ false → new.setup ≡ p.setup → new.replicas ≡ p.replicas → new.boots ≡ p.boots
+    → new.asked_at ≡ p.asked_at
     → HappensBeside old event output new
-beside p old new event output seen is running setup replicas asked_at =
+beside p old new event output seen is running setup replicas boots asked_at =
     subst (λ x. HappensBeside x event output new) seen (record {
       happens = inl is;
       setup = setup;
       replicas = replicas;
+      boots = boots;
       asked_at = asked_at;
       kept = λ keeps stopped. absurd (false≢true (sym running ∙ stopped));
     })
@@ -47,14 +49,14 @@ pub beside_same : (p old : Parts) (event : Event) (output : Output) → p ≡ ol
     → HappensBeside old event output old
 beside_same p old event output seen is =
     subst (λ x. HappensBeside x event output x) seen
-    (record { happens = inl is; setup = refl; replicas = refl; asked_at = refl; kept = λ keeps. keeps })
+    (record { happens = inl is; setup = refl; replicas = refl; boots = refl; asked_at = refl; kept = λ keeps. keeps })
 
 -- memory is wanted, and nothing has changed
 pub beside_memory : (old new : Parts) (event : Event) (output : Output) → output ≡ outputs.Memory → new ≡ old
     → HappensBeside old event output new
 beside_memory old new event output memory same =
     subst (λ x. HappensBeside old event output x) (sym same)
-    (record { happens = inr (inl (memory, refl)); setup = refl; replicas = refl; asked_at = refl; kept = λ keeps. keeps })
+    (record { happens = inr (inl (memory, refl)); setup = refl; replicas = refl; boots = refl; asked_at = refl; kept = λ keeps. keeps })
 
 -- a primary that runs serves
 runs_on : (p : Parts) (next : Output × World) → p.stopped ≡ false → unless_stopped (world_of p) next ≡ next
@@ -82,7 +84,7 @@ module _ (p old : Parts) (seen : p ≡ old) (running : p.stopped ≡ false) (num
         → HappensBeside old event output (with_slots p left)
     by_slot slot output left at is =
         beside p old (with_slots p left) event output seen (is_change ∙ ap (change_in (world_of p) number change) at
-        ∙ is) running refl refl refl
+        ∙ is) running refl refl refl refl
 
     pub change_nothing : (left : List (Option Draft)) → open_draft p.transactions number ≡ None
         → left ≡ slice_set p.transactions number None
@@ -155,7 +157,8 @@ module _ (p old : Parts) (seen : p ≡ old) (running : p.stopped ≡ false) (num
   gave_up slot left at is =
       let world = world_of p in
       beside p old (with_slots p left) (events.Abort number) (on_draft world slot (λ draft. abort_happens world number)).0 seen
-      (runs_on p _ running ∙ ap (λ slot. on_draft world slot (λ draft. abort_happens world number)) at ∙ by slot at) running refl refl refl
+      (runs_on p _ running ∙ ap (λ slot. on_draft world slot (λ draft. abort_happens world number)) at ∙ by slot at) running refl refl
+      refl refl
     where
       by : (slot : Option Draft) → open_draft p.transactions number ≡ slot
           → on_draft (world_of p) slot (λ draft. abort_happens (world_of p) number)
@@ -168,20 +171,21 @@ module _ (p old : Parts) (seen : p ≡ old) (running : p.stopped ≡ false) (num
     commit_by : (slot : Option Draft) (output : Output) (new : Parts) → open_draft p.transactions number ≡ slot
         → on_draft (world_of p) slot (λ draft. commit_happens (world_of p) number worker draft (commit_answer p.primary worker draft))
         ≡ (output, world_of new)
-        → new.stopped ≡ false → new.setup ≡ p.setup → new.replicas ≡ p.replicas → new.asked_at ≡ p.asked_at
+        → new.stopped ≡ false → new.setup ≡ p.setup → new.replicas ≡ p.replicas → new.boots ≡ p.boots
+        → new.asked_at ≡ p.asked_at
         → HappensBeside old (events.Commit number worker) output new
-    commit_by slot output new at is runs setup replicas asked_at =
+    commit_by slot output new at is runs setup replicas boots asked_at =
         beside p old new (events.Commit number worker) output seen
         (runs_on p _ running ∙ ap (λ slot. on_draft (world_of p) slot
         (λ draft. commit_happens (world_of p) number worker draft (commit_answer p.primary worker draft))) at ∙ is)
-        runs setup replicas asked_at
+        runs setup replicas boots asked_at
 
     pub commit_nothing : (left : List (Option Draft)) → open_draft p.transactions number ≡ None
         → left ≡ slice_set p.transactions number None
         → HappensBeside old (events.Commit number worker) outputs.NoTx (with_slots p left)
     commit_nothing left at is =
         commit_by None outputs.NoTx (with_slots p left) at (ap (λ x. (outputs.NoTx, world_of x)) (put_same p number None left at is))
-        running refl refl refl
+        running refl refl refl refl
 
     pub commit_taken : (draft : Draft) (ticket : ℕ) (primary : Primary) (journal : List ℕ) (left : List (Option Draft))
         → open_draft p.transactions number ≡ Some draft → left ≡ slice_set p.transactions number None
@@ -193,7 +197,7 @@ module _ (p old : Parts) (seen : p ≡ old) (running : p.stopped ≡ false) (num
         (ap (commit_happens (world_of p) number worker draft) ok
         ∙ ap (λ (x : Primary × List (Option Draft)).
         (outputs.Ticket ticket, world_of (record p { primary = x.0; journal = journal; transactions = x.1 })))
-        (sym cc)) running refl refl refl
+        (sym cc)) running refl refl refl refl
 
     pub commit_refused : (draft : Draft) (fault : CommitFault) (primary : Primary) (journal : List ℕ) (left : List (Option Draft))
         → open_draft p.transactions number ≡ Some draft → left ≡ slice_set p.transactions number None
@@ -204,7 +208,8 @@ module _ (p old : Parts) (seen : p ≡ old) (running : p.stopped ≡ false) (num
         commit_by (Some draft) (of_commit fault) (record p { primary = primary; journal = journal; transactions = left }) at
         (ap (commit_happens (world_of p) number worker draft) refused
         ∙ ap (λ (x : Primary × List (Option Draft)).
-        (of_commit fault, world_of (record p { primary = x.0; journal = journal; transactions = x.1 }))) (sym cc)) running refl refl refl
+        (of_commit fault, world_of (record p { primary = x.0; journal = journal; transactions = x.1 }))) (sym cc)) running refl refl
+        refl refl
 
   -- a transaction that is put back leaves all as it was
   pub put_back_same : (draft after : Draft) (left : List (Option Draft)) → open_draft p.transactions number ≡ Some draft

@@ -1,6 +1,6 @@
 -- The parts by what the primary's node is, and what a stop and a start make of it.
-use Rattle.std.proofs.Common.{◌≡◌, ℕ, zero, suc, ◌+◌, ◌<◌, ◌++◌, List, [], ◌∷◌, length, take, drop, true, false, Option, None, refl, sym}
-use Rattle.std.proofs.Common.{ap, subst, ◌∙◌, inl, inr, arith}
+use Rattle.std.proofs.Common.{◌≡◌, ℕ, zero, suc, ◌+◌, ◌<◌, ◌++◌, List, [], ◌∷◌, length, replicate, take, drop, true, false, Option, None}
+use Rattle.std.proofs.Common.{refl, sym, ap, subst, ◌∙◌, inl, inr, arith}
 use Rattle.std.specs.List.{slice_set}
 use Rattle.std.proofs.lemmas.Bool.{false≢true}
 use Rattle.rows.specs.declared.commit.Commit.{Commit}
@@ -26,8 +26,8 @@ use Rattle.world.specs.Stops.{stopped_at, closed}
 use Rattle.world.proofs.Stops.{stop-recovered}
 
 -- the parts, by the primary's node
-abbrev pub parts_with : Setup → PrimaryNode → List (Option Draft) → List (List ℕ) → List Replica → List ℕ → Parts
-parts_with setup node transactions sent replicas asked_at = record {
+abbrev pub parts_with : Setup → PrimaryNode → List (Option Draft) → List (List ℕ) → List Replica → List (List ℕ) → List ℕ → Parts
+parts_with setup node transactions sent replicas boots asked_at = record {
   setup = setup;
   primary = primary_in setup node;
   stopped = is_stopped node;
@@ -35,15 +35,17 @@ parts_with setup node transactions sent replicas asked_at = record {
   transactions = transactions;
   sent = sent;
   replicas = replicas;
+  boots = boots;
   asked_at = asked_at;
 }
 
 -- what the parts are where the primary's node is known
 pub node_seen : (setup : Setup) (node known : PrimaryNode) (transactions : List (Option Draft)) (sent : List (List ℕ))
-    (replicas : List Replica) (asked_at : List ℕ) (old : Parts) → node ≡ known
-    → parts_with setup node transactions sent replicas asked_at ≡ old → parts_with setup known transactions sent replicas asked_at ≡ old
-node_seen setup node known transactions sent replicas asked_at old is seen =
-    sym (ap (λ (n : PrimaryNode). parts_with setup n transactions sent replicas asked_at) is) ∙ seen
+    (replicas : List Replica) (boots : List (List ℕ)) (asked_at : List ℕ) (old : Parts) → node ≡ known
+    → parts_with setup node transactions sent replicas boots asked_at ≡ old
+    → parts_with setup known transactions sent replicas boots asked_at ≡ old
+node_seen setup node known transactions sent replicas boots asked_at old is seen =
+    sym (ap (λ (n : PrimaryNode). parts_with setup n transactions sent replicas boots asked_at) is) ∙ seen
 
 -- a journal without bytes keeps nothing
 pub nothing_kept : (workers : ℕ) (shape : Shape) (bytes : List ℕ) → bytes ≡ [] → IsRecovered workers shape bytes [] 0
@@ -53,19 +55,20 @@ nothing_kept workers shape bytes is =
 
 -- the parts at the beginning, where the primary has started on an empty journal
 pub parts_made : (setup copy : Setup) (core : Core State) (transactions : List (Option Draft)) (sent : List (List ℕ))
-    (replicas : List Replica) (asked_at : List ℕ) → copy ≡ setup
+    (replicas : List Replica) (boots : List (List ℕ)) (asked_at : List ℕ) → copy ≡ setup
     → core.primary ≡ record { schema = setup.schema; workers = setup.workers; durable = []; pending = []; failed = false }
     → core.journal.bytes ≡ journal_text setup.workers (shape_of setup.schema) core.primary.durable → transactions ≡ [] → sent ≡ []
-    → replicas ≡ replicas_from (shape_of setup.schema) setup.workers 0 setup.replicas → asked_at ≡ zeros setup.replicas
-    → parts_with copy (Running core) transactions sent replicas asked_at ≡ parts_started setup
-parts_made setup copy core transactions sent replicas asked_at same primary text none unsent made noted =
+    → replicas ≡ replicas_from setup.schema setup.workers 0 setup.replicas → boots ≡ replicate setup.replicas (1 ∷ [])
+    → asked_at ≡ zeros setup.replicas
+    → parts_with copy (Running core) transactions sent replicas boots asked_at ≡ parts_started setup
+parts_made setup copy core transactions sent replicas boots asked_at same primary text none unsent made first noted =
     let start = parts_started setup in
     let bytes = text ∙ ap (λ (p : Primary). journal_text setup.workers (shape_of setup.schema) p.durable) primary in
     let all
-    : (copy, core.primary, core.journal.bytes, transactions, sent, replicas, asked_at)
-    ≡ (setup, start.primary, start.journal, [], [], start.replicas, start.asked_at)
-    = cc (same, primary, bytes, none, unsent, made, noted) in
-    ap (λ (x : Setup × Primary × List ℕ × List (Option Draft) × List (List ℕ) × List Replica × List ℕ). record {
+    : (copy, core.primary, core.journal.bytes, transactions, sent, replicas, boots, asked_at)
+    ≡ (setup, start.primary, start.journal, [], [], start.replicas, start.boots, start.asked_at)
+    = cc (same, primary, bytes, none, unsent, made, first, noted) in
+    ap (λ (x : Setup × Primary × List ℕ × List (Option Draft) × List (List ℕ) × List Replica × List (List ℕ) × List ℕ). record {
       setup = x.0;
       primary = x.1;
       stopped = false;
@@ -73,7 +76,8 @@ parts_made setup copy core transactions sent replicas asked_at same primary text
       transactions = x.3;
       sent = x.4;
       replicas = x.5;
-      asked_at = x.6;
+      boots = x.6;
+      asked_at = x.7;
     }) all
 
 -- transactions that are given up one after the other
@@ -130,7 +134,7 @@ module _ (stops : StopsAreRecovered) (setup : Setup) (p : Primary) (bytes : ℕ)
 -- ---- stops and starts
 
 module _ (setup : Setup) (p : Primary) (journal : List ℕ) (transactions : List (Option Draft)) (sent : List (List ℕ))
-    (replicas : List Replica) (asked_at : List ℕ) where
+    (replicas : List Replica) (boots : List (List ℕ)) (asked_at : List ℕ) where
   abbrev running : Parts
   running = record {
     setup = setup;
@@ -140,6 +144,7 @@ module _ (setup : Setup) (p : Primary) (journal : List ℕ) (transactions : List
     transactions = transactions;
     sent = sent;
     replicas = replicas;
+    boots = boots;
     asked_at = asked_at;
   }
 
@@ -152,6 +157,7 @@ module _ (setup : Setup) (p : Primary) (journal : List ℕ) (transactions : List
     transactions = slots;
     sent = sent;
     replicas = replicas;
+    boots = boots;
     asked_at = asked_at;
   }
 
@@ -172,6 +178,7 @@ module _ (setup : Setup) (p : Primary) (journal : List ℕ) (transactions : List
             (outputs.Stopped, record w { primary = x.0; stopped = true; transactions = x.1 })) happened);
         setup = refl;
         replicas = refl;
+        boots = refl;
         asked_at = refl;
         kept = λ keeps is. (
           count,
@@ -188,6 +195,7 @@ module _ (setup : Setup) (p : Primary) (journal : List ℕ) (transactions : List
         happens = inl (ap (λ (x : Primary). (outputs.Durable (length x.durable), record w { primary = x; stopped = false })) (sym same));
         setup = refl;
         replicas = refl;
+        boots = refl;
         asked_at = refl;
         kept = λ keeps is. absurd (false≢true is);
       })
@@ -201,6 +209,7 @@ module _ (setup : Setup) (p : Primary) (journal : List ℕ) (transactions : List
         happens = inr (inl (refl, refl));
         setup = refl;
         replicas = refl;
+        boots = refl;
         asked_at = refl;
         kept = λ keeps is. (count, found);
       })

@@ -1,7 +1,7 @@
 -- Opening a query and asking for a version do at a replica of sound parts what they do at its member.
-use Rattle.std.proofs.Common.{◌≡◌, ℕ, ◌+◌, ◌^◌, ◌<◌, ◌≤◌, Bool, true, false, cond, ◌==◌, List, [], ◌∷◌, ◌++◌, length, Option, Some, None}
-use Rattle.std.proofs.Common.{Result, Ok, Err, nat_le, refl, sym, ap, subst, ◌∙◌, arith}
-use Rattle.std.specs.List.{slice_get, slice_set, slice_index}
+use Rattle.std.proofs.Common.{◌≡◌, ℕ, ◌+◌, ◌^◌, ◌%◌, ◌<◌, ◌≤◌, Bool, true, false, cond, ◌==◌, List, [], ◌∷◌, ◌++◌, length, Option, Some}
+use Rattle.std.proofs.Common.{None, Result, Ok, Err, nat_le, refl, sym, ap, subst, ◌∙◌, arith}
+use Rattle.std.specs.List.{slice_get, slice_set, slice_index, Contains}
 use Rattle.std.specs.Option.{option_map}
 use Rattle.std.proofs.lemmas.List.{length-set}
 use Rattle.std.proofs.lemmas.Option.{same_Some, slice_get_within}
@@ -28,11 +28,13 @@ use Rattle.world.specs.Parts.{Parts}
 use Rattle.world.specs.Inner.CoreSteps.{with_replica, with_sent, open_by, opening_query, ask_by, asking, sent_one}
 use Rattle.world.specs.Steps.{World, Member, open_happens, ask_happens, new_batch, send, ask_bytes, with_member, on_member}
 use Rattle.world.proofs.Lists.{set-same, get-set_same}
+use Rattle.world.specs.Inner.Boots.{IsOfBoot}
 use Rattle.world.specs.Inner.Sound.{Sound, IsFed, Means}
+use Rattle.world.proofs.Boots.{of-boot}
 use Rattle.world.proofs.FedLaws.{FedLaws}
 use Rattle.world.proofs.Datagrams.{ask-read, ask-kept}
-use Rattle.world.specs.Standing.{world_of, member_of, batch_of, members_of}
-use Rattle.world.proofs.Worlds.{members-asked}
+use Rattle.world.specs.Standing.{boots_at, world_of, member_of, batch_of, members_of}
+use Rattle.world.proofs.Worlds.{member_at, members-asked}
 use Rattle.world.proofs.Moves.{Goes, Follows, Sound-replica, Sound-noted, Sound-one}
 use Rattle.world.proofs.Replicas.{Follows-goes}
 
@@ -73,7 +75,7 @@ plan-goes laws shape durable r plan fed taken = record {
 pub query-opens : (laws : FedLaws) (shape : Shape) (p : Parts) (i : ℕ) (plan : Plan) (found : Option Replica) → Sound shape p
     → slice_get p.replicas i ≡ found
     → Follows shape
-    (on_member (world_of p) (option_map (member_of (slice_index p.asked_at i)) found) (λ m.
+    (on_member (world_of p) (option_map (member_at p i) found) (λ m.
     cond m.broken (outputs.Broken, world_of p) (cond (nat_le WAITING_QUERIES_MAX (length m.waiting)) (outputs.BatchFull, world_of p)
     (open_happens (world_of p) m plan (checked (shape_of p.primary.schema) plan)))))
     (open_by p i plan found)
@@ -86,7 +88,7 @@ query-opens laws shape p i plan (Some r) sound here =
     w = world_of p
 
     m : Member
-    m = member_of (slice_index p.asked_at i) r
+    m = member_at p i r
 
     there : Output × World
     there =
@@ -94,7 +96,7 @@ query-opens laws shape p i plan (Some r) sound here =
         (cond (nat_le WAITING_QUERIES_MAX (length r.waiting)) (outputs.BatchFull, w)
         (open_happens w m plan (checked (shape_of p.primary.schema) plan)))
 
-    fed : IsFed shape p.primary.workers p.primary.durable i r
+    fed : IsFed shape p.primary.workers p.primary.durable (boots_at p.boots i) i r
     fed = sound.fed i r here
 
     is : opened r plan
@@ -108,24 +110,24 @@ query-opens laws shape p i plan (Some r) sound here =
     by false true check is = (refl, sound)
     by false false (Err fault) is = (refl, sound)
     by false false (Ok fits) is =
-        Follows-goes shape p i r (outputs.Opened (length r.waiting + 1), member_of (slice_index p.asked_at i) (with_plan r plan))
+        Follows-goes shape p i r (outputs.Opened (length r.waiting + 1), member_at p i (with_plan r plan))
         (outputs.Opened (length r.waiting + 1)) (with_plan r plan)
         sound here refl (plan-goes laws shape p.primary.durable r plan fed.feeding is)
 
 -- ---- asking
 
-ask-means : (workers : ℕ) (durable : List Commit) (replicas : List Replica) (number boot request : ℕ) → number < REPLICAS_MAX
-    → boot < 2 ^ 64
-    → ((r : Replica) → slice_get replicas number ≡ Some r → request ≤ r.request)
-    → Means workers durable replicas (reading (spelling (datagrams.Ask number boot request)))
-ask-means workers durable replicas number boot request number_below boot_below asked =
-    subst (Means workers durable replicas) (sym (ask-read number boot request number_below boot_below))
+ask-means : (workers : ℕ) (durable : List Commit) (boots : List (List ℕ)) (replicas : List Replica) (number boot request : ℕ)
+    → number < REPLICAS_MAX → boot < 2 ^ 64
+    → ((r : Replica) → slice_get replicas number ≡ Some r → IsOfBoot (boots_at boots number) r.boot boot (request ≤ r.request))
+    → Means workers durable boots replicas (reading (spelling (datagrams.Ask number boot request)))
+ask-means workers durable boots replicas number boot request number_below boot_below asked =
+    subst (Means workers durable boots replicas) (sym (ask-read number boot request number_below boot_below))
     (record {
       tells = tt;
       requests = (
         ask-kept number boot request number_below boot_below,
-        λ r here. let few = asked r here in
-            omega arith,
+        λ r here. of-boot (boots_at boots number) r.boot boot (request ≤ r.request) (request % 2 ^ 64 ≤ r.request)
+            (λ few. omega arith) (asked r here),
       );
     })
 
@@ -138,7 +140,14 @@ number-below shape p i r sound here =
     omega arith
 
 boot-below : (shape : Shape) (p : Parts) (i : ℕ) (r : Replica) → Sound shape p → slice_get p.replicas i ≡ Some r → r.boot < 2 ^ 64
-boot-below shape p i r sound here = let boot = (sound.fed i r here).boot_is in omega arith
+boot-below shape p i r sound here = (sound.fed i r here).boot_is.below
+
+-- it asks in a boot that it had
+boot-had : (shape : Shape) (p : Parts) (i : ℕ) (r : Replica) → Sound shape p → slice_get p.replicas i ≡ Some r
+    → Contains (boots_at p.boots r.number) r.boot
+boot-had shape p i r sound here =
+    let fed = sound.fed i r here in
+    subst (λ (n : ℕ). Contains (boots_at p.boots n) r.boot) (sym fed.number_is) fed.boot_is.had
 
 -- a batch is made
 batch-goes : (laws : FedLaws) (shape : Shape) (durable : List Commit) (r : Replica) → IsFedFrom shape durable r
@@ -157,8 +166,8 @@ batch-goes laws shape durable r fed taken = record {
 asks-anew : (laws : FedLaws) (shape : Shape) (p : Parts) (i : ℕ) (r : Replica) → Sound shape p → slice_get p.replicas i ≡ Some r
     → asked r ≡ Ok (ask_for r.number r.boot (r.request + 1), with_batch r)
     → Follows shape
-    (send (with_member (world_of p) (new_batch (world_of p) (member_of (slice_index p.asked_at i) r)))
-    (ask_bytes (member_of (slice_index p.asked_at i) r) (r.request + 1)))
+    (send (with_member (world_of p) (new_batch (world_of p) (member_at p i r)))
+    (ask_bytes (member_at p i r) (r.request + 1)))
     (asking p i None (Ok (ask_for r.number r.boot (r.request + 1), with_batch r)))
 asks-anew laws shape p i r sound here taken =
     let bytes = spelling (datagrams.Ask r.number r.boot (r.request + 1)) in
@@ -166,28 +175,28 @@ asks-anew laws shape p i r sound here taken =
     let fed = sound.fed i r here in
     let made : List Member → Output × World =
     λ (members : List Member). (sent_one p bytes, record w { members = members; sent = p.sent ++ bytes ∷ [] }) in
-    let old = members_of p.replicas p.asked_at in
-    let new = member_of (length p.primary.durable) (with_batch r) in
+    let old = members_of p.replicas p.boots p.asked_at in
+    let new = member_of (boots_at p.boots i) (length p.primary.durable) (with_batch r) in
     let noted = slice_set p.asked_at i (length p.primary.durable) in
     let begun = with_replica p i (with_batch r) in (
       ap (λ (n : ℕ). made (slice_set old n new)) fed.number_is
-          ∙ ap made (sym (members-asked p.replicas p.asked_at i (with_batch r) (length p.primary.durable) sound.asked_there)),
+          ∙ ap made (sym (members-asked p.replicas p.boots p.asked_at i (with_batch r) (length p.primary.durable) sound.asked_there)),
       Sound-one shape (record begun { asked_at = noted }) bytes
           (Sound-noted shape begun noted
           (Sound-replica shape p i r (with_batch r) sound here (batch-goes laws shape p.primary.durable r fed.feeding taken))
           (length-set p.asked_at i (length p.primary.durable)))
-          (ask-means p.primary.workers p.primary.durable (slice_set p.replicas i (with_batch r)) r.number r.boot (r.request + 1)
+          (ask-means p.primary.workers p.primary.durable p.boots (slice_set p.replicas i (with_batch r)) r.number r.boot (r.request + 1)
           (number-below shape p i r sound here) (boot-below shape p i r sound here)
           (λ s there.
           let same : s ≡ with_batch r =
           get-set_same p.replicas i (with_batch r) s
           (ap (slice_get (slice_set p.replicas i (with_batch r))) (sym fed.number_is) ∙ there) in
           let e : s.request ≡ r.request + 1 = ap (λ (s : Replica). s.request) same in
-          omega arith)),
+          record { had = boot-had shape p i r sound here; holds = λ own. omega arith })),
     )
 
 asks-again : (shape : Shape) (p : Parts) (i : ℕ) (r : Replica) (queries : ReplicaBatch) → Sound shape p → slice_get p.replicas i ≡ Some r
-    → Follows shape (send (world_of p) (ask_bytes (member_of (slice_index p.asked_at i) r) r.request))
+    → Follows shape (send (world_of p) (ask_bytes (member_at p i r) r.request))
     (asking p i (Some queries) (Ok (ask_for r.number r.boot r.request, r)))
 asks-again shape p i r queries sound here =
     let bytes = spelling (datagrams.Ask r.number r.boot r.request) in
@@ -196,17 +205,17 @@ asks-again shape p i r queries sound here =
     ap (λ (replicas : List Replica). with_sent (record p { replicas = replicas }) bytes) (sym (set-same p.replicas i r here)) in (
       ap (λ (p' : Parts). (sent_one p bytes, world_of p')) same,
       subst (Sound shape) same (Sound-one shape p bytes sound
-          (ask-means p.primary.workers p.primary.durable p.replicas r.number r.boot r.request (number-below shape p i r sound here)
+          (ask-means p.primary.workers p.primary.durable p.boots p.replicas r.number r.boot r.request (number-below shape p i r sound here)
           (boot-below shape p i r sound here)
           (λ s there.
           let e : r ≡ s = same_Some r s (sym here ∙ ap (slice_get p.replicas) (sym fed.number_is) ∙ there) in
           let f : r.request ≡ s.request = ap (λ (s : Replica). s.request) e in
-          omega arith))),
+          record { had = boot-had shape p i r sound here; holds = λ own. omega arith }))),
     )
 
 asks-fetched : (shape : Shape) (p : Parts) (i : ℕ) (r : Replica) (plans : List Plan) (fetched : Option Fetched) → Sound shape p
     → slice_get p.replicas i ≡ Some r
-    → Follows shape (ask_happens (world_of p) (member_of (slice_index p.asked_at i) r)
+    → Follows shape (ask_happens (world_of p) (member_at p i r)
     (Some (record { plans = plans; asked_at = slice_index p.asked_at i; fetched = fetched })))
     (asking p i (Some (record { plans = plans; fetched = fetched })) (asked_by r (Some (record { plans = plans; fetched = fetched }))))
 asks-fetched shape p i r plans None sound here = asks-again shape p i r (record { plans = plans; fetched = None }) sound here
@@ -214,15 +223,15 @@ asks-fetched shape p i r plans (Some fetched) sound here = (refl, sound)
 
 asks-by : (laws : FedLaws) (shape : Shape) (p : Parts) (i : ℕ) (r : Replica) (batch : Option ReplicaBatch) → Sound shape p
     → slice_get p.replicas i ≡ Some r → asked r ≡ asked_by r batch
-    → Follows shape (ask_happens (world_of p) (member_of (slice_index p.asked_at i) r)
+    → Follows shape (ask_happens (world_of p) (member_at p i r)
     (option_map (batch_of (slice_index p.asked_at i)) batch)) (asking p i batch (asked_by r batch))
 asks-by laws shape p i r (Some queries) sound here is = asks-fetched shape p i r queries.plans queries.fetched sound here
 asks-by laws shape p i r None sound here is = by (length r.waiting == 0) is
   where
     by : (b : Bool) → asked r ≡ cond b (Err asks.Empty) (Ok (ask_for r.number r.boot (r.request + 1), with_batch r)) → Follows shape
         (cond b (outputs.Empty, world_of p)
-        (send (with_member (world_of p) (new_batch (world_of p) (member_of (slice_index p.asked_at i) r)))
-        (ask_bytes (member_of (slice_index p.asked_at i) r) (r.request + 1))))
+        (send (with_member (world_of p) (new_batch (world_of p) (member_at p i r)))
+        (ask_bytes (member_at p i r) (r.request + 1))))
         (asking p i None (cond b (Err asks.Empty) (Ok (ask_for r.number r.boot (r.request + 1), with_batch r))))
     by true is = (refl, sound)
     by false is = asks-anew laws shape p i r sound here is
@@ -230,7 +239,7 @@ asks-by laws shape p i r None sound here is = by (length r.waiting == 0) is
 pub version-asked : (laws : FedLaws) (shape : Shape) (p : Parts) (i : ℕ) (found : Option Replica) → Sound shape p
     → slice_get p.replicas i ≡ found
     → Follows shape
-    (on_member (world_of p) (option_map (member_of (slice_index p.asked_at i)) found)
+    (on_member (world_of p) (option_map (member_at p i) found)
     (λ m. cond m.broken (outputs.Broken, world_of p) (ask_happens (world_of p) m m.batch)))
     (ask_by p i found)
 version-asked laws shape p i None sound here = (refl, sound)
@@ -238,7 +247,7 @@ version-asked laws shape p i (Some r) sound here = by r.broken refl
   where
     by : (b : Bool) → r.broken ≡ b → Follows shape
         (cond b (outputs.Broken, world_of p)
-        (ask_happens (world_of p) (member_of (slice_index p.asked_at i) r) (option_map (batch_of (slice_index p.asked_at i)) r.batch)))
+        (ask_happens (world_of p) (member_at p i r) (option_map (batch_of (slice_index p.asked_at i)) r.batch)))
         (asking p i r.batch (cond b (Err asks.Broken) (asked_by r r.batch)))
     by true e = (refl, sound)
     by false e =

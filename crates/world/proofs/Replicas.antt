@@ -31,21 +31,21 @@ use Rattle.world.specs.Parts.{Parts}
 use Rattle.world.specs.Inner.CoreSteps.{with_replica, got_by, to_replica}
 use Rattle.world.specs.Steps.{World, Member, frame_happens, head_happens, datagram_happens, member_output, on_member, known_of, with_known}
 use Rattle.world.specs.Inner.Sound.{Sound, IsFed, Means, awaits}
-use Rattle.world.specs.Standing.{world_of, member_of, batch_of, known_in}
+use Rattle.world.specs.Standing.{boots_at, world_of, member_of, batch_of, known_in}
 use Rattle.world.proofs.FedLaws.{FedLaws}
-use Rattle.world.proofs.Worlds.{member-changes}
+use Rattle.world.proofs.Worlds.{member_at, member-changes}
 use Rattle.world.proofs.Moves.{Moves, Goes, Follows, Sound-replica, Follows-same, Moves-same}
 
 -- what a replica answers, as its member does
-abbrev pub answered : ℕ → Got × Replica → Output × Member
-answered at answer = (of_got answer.0, member_of at answer.1)
+abbrev pub answered : List ℕ → ℕ → Got × Replica → Output × Member
+answered had at answer = (of_got answer.0, member_of had at answer.1)
 
 -- the same answer, and what the replica may become
-abbrev Comes : ℕ → Replica → Output × Member → Got × Replica → Type 0
-Comes at r there here = (there ≡ answered at here) × Moves r here.1
+abbrev Comes : List ℕ → ℕ → Replica → Output × Member → Got × Replica → Type 0
+Comes had at r there here = (there ≡ answered had at here) × Moves r here.1
 
-Comes-same : (at : ℕ) (r : Replica) (answer : Got) → Comes at r (of_got answer, member_of at r) (answer, r)
-Comes-same at r answer = (refl, Moves-same r)
+Comes-same : (had : List ℕ) (at : ℕ) (r : Replica) (answer : Got) → Comes had at r (of_got answer, member_of had at r) (answer, r)
+Comes-same had at r answer = (refl, Moves-same r)
 
 -- ---- a frame
 
@@ -70,10 +70,10 @@ known-stored arrivals frame =
     ∙ ap (λ (known : List ℕ). slice_set (known_in arrivals) frame.worker (with_seq known frame.seq))
     (sym (known-at arrivals frame.worker))
 
-frame-comes : (at : ℕ) (r : Replica) (frame : Frame)
-    → Comes at r (frame_happens r.shape r.workers (member_of at r) frame.worker frame.seq frame.entries) (frame_comes r frame)
-frame-comes at r frame =
-    subst (λ (known : List ℕ). Comes at r
+frame-comes : (had : List ℕ) (at : ℕ) (r : Replica) (frame : Frame)
+    → Comes had at r (frame_happens r.shape r.workers (member_of had at r) frame.worker frame.seq frame.entries) (frame_comes r frame)
+frame-comes had at r frame =
+    subst (λ (known : List ℕ). Comes had at r
     (cond (not (nat_lt frame.worker r.workers) || not (list_all (λ entry. is_ok (fitting r.shape entry)) frame.entries))
     (outputs.Ignored, m)
     (cond (is_known known frame.seq) (outputs.Repeat, m)
@@ -90,18 +90,18 @@ frame-comes at r frame =
     stored = slice_set r.arrivals frame.worker (with_frame one frame)
 
     m : Member
-    m = member_of at r
+    m = member_of had at r
 
     takes : Bool → Bool → Taken × List Arrivals
     takes b c = cond b (takens.Repeat, r.arrivals) (cond c (takens.Ahead, r.arrivals) (takens.Stored, stored))
 
-    by : (a b c : Bool) → Comes at r
+    by : (a b c : Bool) → Comes had at r
         (cond a (outputs.Ignored, m) (cond b (outputs.Repeat, m)
         (cond c (outputs.Ahead, m) (outputs.Stored, record m { known = with_known (known_in r.arrivals) frame.worker frame.seq }))))
         (cond a (got.Ignored, r) (got_of (takes b c).0, record r { arrivals = (takes b c).1 }))
-    by true b c = Comes-same at r got.Ignored
-    by false true c = Comes-same at r got.Repeat
-    by false false true = Comes-same at r got.Ahead
+    by true b c = Comes-same had at r got.Ignored
+    by false true c = Comes-same had at r got.Repeat
+    by false false true = Comes-same had at r got.Ahead
     by false false false = (
       ap (λ (known : List (List ℕ)). (outputs.Stored, record m { known = known })) (sym (known-stored r.arrivals frame)),
       record {
@@ -119,22 +119,23 @@ frame-comes at r frame =
 abbrev pub batched : Replica → Option ReplicaBatch → Replica
 batched r batch = record r { batch = batch }
 
-ignored : (at : ℕ) (r : Replica) (b : Bool) → Comes at r (outputs.Ignored, member_of at r) (cond b (got.Ignored, r) (got.Ignored, r))
-ignored at r true = Comes-same at r got.Ignored
-ignored at r false = Comes-same at r got.Ignored
+ignored : (had : List ℕ) (at : ℕ) (r : Replica) (b : Bool)
+    → Comes had at r (outputs.Ignored, member_of had at r) (cond b (got.Ignored, r) (got.Ignored, r))
+ignored had at r true = Comes-same had at r got.Ignored
+ignored had at r false = Comes-same had at r got.Ignored
 
-head-batch : (at : ℕ) (r : Replica) (version : ℕ) (counts : List ℕ) (plans : List Plan) (fetched : Option Fetched)
+head-batch : (had : List ℕ) (at : ℕ) (r : Replica) (version : ℕ) (counts : List ℕ) (plans : List Plan) (fetched : Option Fetched)
     → (is_none fetched ≡ true → goes_on r version counts ≡ true)
-    → Comes at (batched r (Some (record { plans = plans; fetched = fetched })))
-    (head_happens (member_of at (batched r (Some (record { plans = plans; fetched = fetched })))) version counts
+    → Comes had at (batched r (Some (record { plans = plans; fetched = fetched })))
+    (head_happens (member_of had at (batched r (Some (record { plans = plans; fetched = fetched })))) version counts
     (Some (record { plans = plans; asked_at = at; fetched = fetched })))
     (own_head_comes (batched r (Some (record { plans = plans; fetched = fetched }))) version counts)
-head-batch at r version counts plans (Some fetched) passes =
-    ignored at (batched r (Some (record { plans = plans; fetched = Some fetched }))) (goes_on r version counts)
-head-batch at r version counts plans None passes =
+head-batch had at r version counts plans (Some fetched) passes =
+    ignored had at (batched r (Some (record { plans = plans; fetched = Some fetched }))) (goes_on r version counts)
+head-batch had at r version counts plans None passes =
     let old = batched r (Some (record { plans = plans; fetched = None })) in
     let new = batched r (Some (record { plans = plans; fetched = Some (record { version = version; counts = counts }) })) in
-    subst (λ (b : Bool). Comes at old (outputs.Head version, member_of at new) (cond b (got.Head version, new) (got.Ignored, old)))
+    subst (λ (b : Bool). Comes had at old (outputs.Head version, member_of had at new) (cond b (got.Head version, new) (got.Ignored, old)))
     (sym (passes refl)) (
       refl,
       record {
@@ -146,47 +147,50 @@ head-batch at r version counts plans None passes =
       },
     )
 
-head-comes : (at : ℕ) (r : Replica) (version : ℕ) (counts : List ℕ) (batch : Option ReplicaBatch)
+head-comes : (had : List ℕ) (at : ℕ) (r : Replica) (version : ℕ) (counts : List ℕ) (batch : Option ReplicaBatch)
     → (awaits (batched r batch) ≡ true → goes_on r version counts ≡ true)
-    → Comes at (batched r batch) (head_happens (member_of at (batched r batch)) version counts (option_map (batch_of at) batch))
+    → Comes had at (batched r batch) (head_happens (member_of had at (batched r batch)) version counts (option_map (batch_of at) batch))
     (own_head_comes (batched r batch) version counts)
-head-comes at r version counts None passes = ignored at (batched r None) (goes_on r version counts)
-head-comes at r version counts (Some queries) passes = head-batch at r version counts queries.plans queries.fetched passes
+head-comes had at r version counts None passes = ignored had at (batched r None) (goes_on r version counts)
+head-comes had at r version counts (Some queries) passes = head-batch had at r version counts queries.plans queries.fetched passes
 
 -- ---- any datagram
 
-datagram-comes : (laws : FedLaws) (shape : Shape) (workers : ℕ) (durable : List Commit) (replicas : List Replica) (i at : ℕ) (r : Replica)
-    (datagram : Result Datagram WireFault) → IsFed shape workers durable i r
-    → slice_get replicas i ≡ Some r → Means workers durable replicas datagram
-    → Comes at r (datagram_happens r.shape r.workers (member_of at r) datagram) (datagram_comes r datagram)
-datagram-comes laws shape workers durable replicas i at r (Err fault) fed here means = Comes-same at r got.Ignored
-datagram-comes laws shape workers durable replicas i at r (Ok (datagrams.Frame worker seq commit last entries)) fed here means =
-    frame-comes at r (record { worker = worker; seq = seq; commit = commit; last = last; entries = entries })
-datagram-comes laws shape workers durable replicas i at r (Ok
-    (datagrams.Ask replica boot request)) fed here means = Comes-same at r got.Ignored
-datagram-comes laws shape workers durable replicas i at r (Ok (datagrams.Head replica boot request version counts)) fed here means =
+datagram-comes : (laws : FedLaws) (shape : Shape) (workers : ℕ) (durable : List Commit) (boots : List (List ℕ)) (replicas : List Replica)
+    (i : ℕ) (had : List ℕ) (at : ℕ) (r : Replica) (datagram : Result Datagram WireFault)
+    → IsFed shape workers durable (boots_at boots i) i r → slice_get replicas i ≡ Some r → Means workers durable boots replicas datagram
+    → Comes had at r (datagram_happens r.shape r.workers (member_of had at r) datagram) (datagram_comes r datagram)
+datagram-comes laws shape workers durable boots replicas i had at r (Err fault) fed here means = Comes-same had at r got.Ignored
+datagram-comes laws shape workers durable boots replicas i had at r (Ok (datagrams.Frame worker seq commit last entries)) fed here means =
+    frame-comes had at r (record { worker = worker; seq = seq; commit = commit; last = last; entries = entries })
+datagram-comes laws shape workers durable boots replicas i had at r (Ok
+    (datagrams.Ask replica boot request)) fed here means = Comes-same had at r got.Ignored
+datagram-comes laws shape workers durable boots replicas i had at r (Ok
+    (datagrams.Head replica boot request version counts)) fed here means =
     by ((replica == r.number) && (boot == r.boot) && (request == r.request)) refl
   where
-    by : (own : Bool) → ((replica == r.number) && (boot == r.boot) && (request == r.request)) ≡ own → Comes at r
-        (cond own (head_happens (member_of at r) version counts (option_map (batch_of at) r.batch)) (outputs.Ignored, member_of at r))
+    by : (own : Bool) → ((replica == r.number) && (boot == r.boot) && (request == r.request)) ≡ own → Comes had at r
+        (cond own (head_happens (member_of had at r) version counts (option_map (batch_of at) r.batch))
+        (outputs.Ignored, member_of had at r))
         (cond own (own_head_comes r version counts) (got.Ignored, r))
-    by false e = Comes-same at r got.Ignored
+    by false e = Comes-same had at r got.Ignored
     by true e =
         let parts = and_parts ((replica == r.number) && (boot == r.boot)) (request == r.request) e in
         let front = and_parts (replica == r.number) (boot == r.boot) parts.0 in
-        let answer = means.requests r (ap (slice_get replicas) (eqb-true replica r.number front.0 ∙ fed.number_is) ∙ here) in
-        head-comes at r version counts r.batch
+        let said = means.requests r (ap (slice_get replicas) (eqb-true replica r.number front.0 ∙ fed.number_is) ∙ here) in
+        let answer = said.holds (eqb-true boot r.boot front.1) in
+        head-comes had at r version counts r.batch
         (λ waits. laws.head shape durable r version counts fed.feeding means.tells.0 (means.tells.1 ∙ sym fed.workers_are) means.tells.2
         (answer.fresh waits (eqb-true request r.request parts.1)))
-datagram-comes laws shape workers durable replicas i at r (Ok
-    (datagrams.Want replica worker from)) fed here means = Comes-same at r got.Ignored
+datagram-comes laws shape workers durable boots replicas i had at r (Ok
+    (datagrams.Want replica worker from)) fed here means = Comes-same had at r got.Ignored
 
 -- ---- bytes
 
 -- a replica that goes on, and the member that does as it does
 pub Follows-goes : (shape : Shape) (p : Parts) (i : ℕ) (r : Replica) (there : Output × Member) (output : Output) (new : Replica)
     → Sound shape p → slice_get p.replicas i ≡ Some r
-    → there ≡ (output, member_of (slice_index p.asked_at i) new) → Goes shape p.primary.durable r new
+    → there ≡ (output, member_at p i new) → Goes shape p.primary.durable r new
     → Follows shape (member_output (world_of p) there) (output, with_replica p i new)
 Follows-goes shape p i r there output new sound here same goes =
     let number = goes.moves.number_stays ∙ (sound.fed i r here).number_is in (
@@ -195,30 +199,33 @@ Follows-goes shape p i r there output new sound here same goes =
     )
 
 pub bytes-come : (laws : FedLaws) (shape : Shape) (p : Parts) (i : ℕ) (bytes : List ℕ) (found : Option Replica) → Sound shape p
-    → Means p.primary.workers p.primary.durable p.replicas (reading bytes) → slice_get p.replicas i ≡ found
+    → Means p.primary.workers p.primary.durable p.boots p.replicas (reading bytes) → slice_get p.replicas i ≡ found
     → Follows shape
-    (on_member (world_of p) (option_map (member_of (slice_index p.asked_at i)) found)
+    (on_member (world_of p) (option_map (member_at p i) found)
     (λ m. cond m.broken (outputs.Broken, world_of p)
     (member_output (world_of p) (datagram_happens (shape_of p.primary.schema) p.primary.workers m (reading bytes)))))
     (to_replica p i bytes found)
 bytes-come laws shape p i bytes None sound means here = (refl, sound)
 bytes-come laws shape p i bytes (Some r) sound means here = by r.broken refl
   where
+    had : List ℕ
+    had = boots_at p.boots i
+
     at : ℕ
     at = slice_index p.asked_at i
 
-    fed : IsFed shape p.primary.workers p.primary.durable i r
+    fed : IsFed shape p.primary.workers p.primary.durable (boots_at p.boots i) i r
     fed = sound.fed i r here
 
-    came : Comes at r (datagram_happens r.shape r.workers (member_of at r) (reading bytes)) (datagram_comes r (reading bytes))
-    came = datagram-comes laws shape p.primary.workers p.primary.durable p.replicas i at r (reading bytes) fed here means
+    came : Comes had at r (datagram_happens r.shape r.workers (member_of had at r) (reading bytes)) (datagram_comes r (reading bytes))
+    came = datagram-comes laws shape p.primary.workers p.primary.durable p.boots p.replicas i had at r (reading bytes) fed here means
 
-    same : datagram_happens (shape_of p.primary.schema) p.primary.workers (member_of at r) (reading bytes) ≡ answered at
+    same : datagram_happens (shape_of p.primary.schema) p.primary.workers (member_of had at r) (reading bytes) ≡ answered had at
         (datagram_comes r (reading bytes))
     same =
-        ap (λ (shape : Shape). datagram_happens shape p.primary.workers (member_of at r) (reading bytes))
+        ap (λ (shape : Shape). datagram_happens shape p.primary.workers (member_of had at r) (reading bytes))
         (sound.primary_is.shape_is ∙ sym fed.feeding.shape_is)
-        ∙ ap (λ (workers : ℕ). datagram_happens r.shape workers (member_of at r) (reading bytes))
+        ∙ ap (λ (workers : ℕ). datagram_happens r.shape workers (member_of had at r) (reading bytes))
         (sym fed.workers_are)
         ∙ came.0
 
@@ -231,7 +238,7 @@ bytes-come laws shape p i bytes (Some r) sound means here = by r.broken refl
 
     by : (b : Bool) → r.broken ≡ b → Follows shape
         (cond b (outputs.Broken, world_of p)
-        (member_output (world_of p) (datagram_happens (shape_of p.primary.schema) p.primary.workers (member_of at r) (reading bytes))))
+        (member_output (world_of p) (datagram_happens (shape_of p.primary.schema) p.primary.workers (member_of had at r) (reading bytes))))
         (got_by p i (cond b (got.Broken, r) (datagram_comes r (reading bytes))))
     by true whole = Follows-same shape p i r outputs.Broken sound here
     by false whole =

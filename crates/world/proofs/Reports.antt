@@ -5,9 +5,8 @@ use Rattle.std.proofs.lemmas.List.{append-nil, append_assoc}
 use Rattle.rows.specs.declared.commit.Commit.{Commit}
 use Rattle.rows.specs.Shape.{shape_of}
 use Rattle.rows.specs.Tables.{Tables}
-use Rattle.rows.specs.Commits.{tables_after}
-use Rattle.dispatcher.specs.Feeding.{IsFedFrom}
 use Rattle.dispatcher.specs.Report.{report_of}
+use Rattle.dispatcher.specs.TableText.{names_of, table_text}
 use Rattle.world.proofs.Durable.{tables-stay}
 use Rattle.script.specs.declared.event.Event.{Event}
 use Rattle.script.specs.declared.output.Output.{Output}
@@ -16,15 +15,14 @@ use Rattle.script.specs.declared.setup.Setup.{Setup}
 use Rattle.world.specs.Parts.{Parts, parts_started}
 use Rattle.world.specs.Steps.{World, opening_world}
 use Rattle.world.specs.Allowed.{MayHappen, RunsBy, Runs, Allowed}
-use Rattle.world.specs.Standing.{world_of, AreFed, TablesAgree}
-use Rattle.world.specs.Theorem.{ReportsItsBatch, IsBeginning, IsFaultless, IsStep, IsCoreStep, OfEachRun, HasExactReports}
-use Rattle.world.specs.Theorem.{HasGrowingList, HasLegalList, HasNoFault, CoresStand, AllowedRunsAreExact}
-use Rattle.world.specs.Inner.Fresh.{Fresh}
+use Rattle.world.specs.Standing.{world_of}
+use Rattle.world.specs.Theorem.{SaysRows, IsBeginning, IsFaultless, IsStep, IsCoreStep, OfEachRun, HasExactReports}
+use Rattle.world.specs.Theorem.{HasGrowingList, HasLegalList, HasNoFault, AllowedRunsAreExact}
+use Rattle.world.specs.Inner.Fresh.{Fresh, HasBoot}
 use Rattle.world.specs.Inner.Honest.{IsHonest}
 use Rattle.world.proofs.Fresh.{opening-fresh}
-use Rattle.world.proofs.Freshness.{step-serves}
+use Rattle.world.proofs.Freshness.{step-serves, possible-boots}
 use Rattle.world.proofs.Honest.{step-fine, opening-honest}
-use Rattle.world.proofs.Lists.{All-get}
 use Rattle.world.proofs.Worlds.{world-started}
 
 -- ---- one list
@@ -33,10 +31,10 @@ pub begins-through : (first mid last : List Commit) → IsBeginning first mid �
 begins-through first mid last one two =
     (one.0 ++ two.0, two.1 ∙ ap (λ (l : List Commit). l ++ two.0) one.1 ∙ append_assoc first one.0 two.0)
 
--- a report stays exact when commits come behind
-report-stays : (more : List Commit) (old : World) (event : Event) (output : Output) → ReportsItsBatch old.primary.durable old event output
-    → ReportsItsBatch (old.primary.durable ++ more) old event output
-report-stays more old event (outputs.Report text) h =
+-- what is said of rows stays exact when commits come behind
+rows-stay : (more : List Commit) (old : World) (event : Event) (output : Output) → SaysRows old.primary.durable old event output
+    → SaysRows (old.primary.durable ++ more) old event output
+rows-stay more old event (outputs.Report text) h =
     let version = h.6.0.version in
     let same = tables-stay (shape_of old.primary.schema) old.primary.durable more version h.6.3 in (
       h.0,
@@ -53,7 +51,16 @@ report-stays more old event (outputs.Report text) h =
         h.6.4 ∙ ap (λ (tables : Tables). report_of tables version h.2.plans) (sym same),
       ),
     )
-report-stays more old event other h = tt
+rows-stay more old event (outputs.Dump text) h =
+    let version = h.1.version in
+    let same = tables-stay (shape_of old.primary.schema) old.primary.durable more version h.4.1 in (
+      h.0,
+      h.1,
+      h.2,
+      h.3,
+      (h.4.0, h.4.1, h.4.2 ∙ ap (table_text (names_of old.primary.schema) version) (sym same)),
+    )
+rows-stay more old event other h = tt
 
 -- a step by what is durable at it is one by every list that goes on from that
 pub step-by : (commits : List Commit) (old : World) (event : Event) (output : Output) (new : World)
@@ -61,9 +68,9 @@ pub step-by : (commits : List Commit) (old : World) (event : Event) (output : Ou
     → IsStep old.primary.durable old event output new → IsStep commits old event output new
 step-by commits old event output new begins step = record {
   happens = step.happens;
-  reports =
-      subst (λ (l : List Commit). ReportsItsBatch l old event output) (sym begins.1)
-      (report-stays begins.0 old event output step.reports);
+  rows =
+      subst (λ (l : List Commit). SaysRows l old event output) (sym begins.1)
+      (rows-stay begins.0 old event output step.rows);
   durable = step.durable;
   faultless = step.faultless;
 }
@@ -81,32 +88,32 @@ run-grows durable Step grows old end (event ∷ todo) (output ∷ done) run =
 
 -- ---- the world, whoever makes it
 
-runs-exact : (old end : World) (todo : List Event) (done : List Output) → IsHonest old → Fresh old → Runs old todo done end
-    → RunsBy (IsStep end.primary.durable) old todo done end
-runs-exact old end [] [] honest fresh run = run
-runs-exact old end [] (output ∷ done) honest fresh run = absurd run
-runs-exact old end (event ∷ todo) [] honest fresh run = absurd run
-runs-exact old end (event ∷ todo) (output ∷ done) honest fresh run =
+runs-exact : (old end : World) (todo : List Event) (done : List Output) → AllByRecursion HasBoot todo → IsHonest old → Fresh old
+    → Runs old todo done end → RunsBy (IsStep end.primary.durable) old todo done end
+runs-exact old end [] [] boots honest fresh run = run
+runs-exact old end [] (output ∷ done) boots honest fresh run = absurd run
+runs-exact old end (event ∷ todo) [] boots honest fresh run = absurd run
+runs-exact old end (event ∷ todo) (output ∷ done) boots honest fresh run =
     let fine = step-fine old event output run.0 run.1 in
-    let serves = step-serves old event output run.0 fresh run.1 in
+    let serves = step-serves old event output run.0 boots.0 fresh run.1 in
     let step : IsStep old.primary.durable old event output run.0 =
-    record { happens = run.1; reports = serves.reports; durable = fine.grows; faultless = fine.output honest } in
+    record { happens = run.1; rows = serves.rows; durable = fine.grows; faultless = fine.output honest } in
     let begins = run-grows (λ (w : World). w.primary.durable) MayHappen
     (λ first e o second may. (step-fine first e o second may).grows) old end (event ∷ todo) (output ∷ done) run in (
       run.0,
       step-by end.primary.durable old event output run.0 begins step,
-      runs-exact run.0 end todo done (fine.honest honest) serves.fresh run.2,
+      runs-exact run.0 end todo done boots.1 (fine.honest honest) serves.fresh run.2,
     )
 
 pub allowed-exact : AllowedRunsAreExact
-allowed-exact setup todo done end few run =
-    runs-exact (opening_world setup) end todo done (opening-honest setup)
+allowed-exact setup todo done end few possible run =
+    runs-exact (opening_world setup) end todo done (possible-boots setup.workers setup.replicas todo possible) (opening-honest setup)
     (opening-fresh setup few) run
 
 -- ---- what follows of a run of the cores
 
 -- a run of states that are seen in another way
-run-seen : {State Other : Type 0} (see : State → Other) (Step : State → Event → Output → State → Type 0)
+pub run-seen : {State Other : Type 0} (see : State → Other) (Step : State → Event → Output → State → Type 0)
     (As : Other → Event → Output → Other → Type 0)
     → ((old : State) (event : Event) (output : Output) (new : State) → Step old event output new → As (see old) event output (see new))
     → (old end : State) (todo : List Event) (done : List Output) → RunsBy Step old todo done end → RunsBy As (see old) todo done (see end)
@@ -140,7 +147,7 @@ run-allowed setup todo done run =
 pub run-reports : OfEachRun HasExactReports
 run-reports setup todo done run = (
   world_of run.end,
-  world-seen setup run.end.primary.durable _ (λ old event output new step. (step.happens, step.reports)) run.end todo done
+  world-seen setup run.end.primary.durable _ (λ old event output new step. (step.happens, step.rows)) run.end todo done
       run.steps,
 )
 
@@ -166,20 +173,3 @@ steps-faultless commits old end (event ∷ todo) (output ∷ done) run =
 pub run-faultless : OfEachRun HasNoFault
 run-faultless setup todo done run =
     steps-faultless run.end.primary.durable (parts_started setup) run.end todo done run.steps
-
--- what is held at a version is told by the one list
-agree : (p : Parts) → AreFed p → TablesAgree p
-agree p fed i j r other here there whole sound same =
-    let shape = shape_of p.primary.schema in
-    let first = All-get (IsFedFrom shape p.primary.durable) p.replicas fed i r here in
-    let second = All-get (IsFedFrom shape p.primary.durable) p.replicas fed j other there in
-    first.tables_are whole ∙ ap (tables_after shape p.primary.durable) same ∙ sym (second.tables_are sound)
-
-pub run-stands : OfEachRun CoresStand
-run-stands setup todo done run = (
-  world-started setup,
-  run.end,
-  run-seen (λ (p : Parts). p) (IsCoreStep run.end.primary.durable) _
-      (λ old event output new step. (step.0.happens, step.1, step.2, agree new step.1))
-      (parts_started setup) run.end todo done run.steps,
-)

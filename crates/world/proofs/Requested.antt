@@ -1,6 +1,6 @@
 -- A step of the world leaves as many workers and replicas, and no replica makes more requests than datagrams are sent.
 use Rattle.std.proofs.Common.{◌≡◌, ℕ, zero, suc, ◌+◌, ◌≤◌, Bool, true, false, cond, not, ◌||◌, ◌&&◌, ◌==◌, List, [], ◌∷◌, ◌++◌, length}
-use Rattle.std.proofs.Common.{Option, None, Some, IfSome, Result, Ok, Err, nat_le, nat_lt, refl, sym, ap, subst, ◌∙◌, inl, inr, arith}
+use Rattle.std.proofs.Common.{drop, Option, None, Some, IfSome, Result, Ok, Err, nat_le, nat_lt, refl, sym, ap, subst, ◌∙◌, inl, inr, arith}
 use Rattle.std.specs.List.{slice_get, AllByRecursion, list_all}
 use Rattle.std.specs.Result.{is_ok}
 use Rattle.std.proofs.lemmas.List.{append-nil, length-append, length-set}
@@ -33,7 +33,8 @@ use Rattle.world.specs.Parts.{Parts}
 use Rattle.world.specs.Steps.{World, Member, Batch, fresh_from, opening_world, open_draft, happens, with_member, on_draft}
 use Rattle.world.specs.Steps.{change_happens, commit_happens, push_happens, head_happens, datagram_happens, on_member}
 use Rattle.world.specs.Steps.{deliver_happens, open_happens, ask_happens, new_batch, ask_bytes, run_happens}
-use Rattle.world.specs.Steps.{want_bytes, fetched_happens, answer_happens, lacking, known_of, unless_stopped}
+use Rattle.world.specs.Steps.{want_bytes, fetched_happens, answer_happens, lacking, known_of, unless_stopped, is_forged, delivered}
+use Rattle.world.specs.Steps.{restarted, restart_happens, had_boot}
 use Rattle.world.specs.Allowed.{RunIsCut, MayHappen}
 use Rattle.world.specs.Standing.{world_of, members_of}
 use Rattle.world.specs.Inner.Invariant.{IsReady, IsRequested, IsKept}
@@ -208,6 +209,27 @@ module _ (w : World) where
     | inr broken ↦ subst (λ (v : World). Counts w (output, v)) (sym broken.1) (counts_stays i m _ output here refl)
   ]
 
+  telling : (found : Option Member) → Counts w (on_member w found (λ m. (outputs.Version m.version, w)))
+  telling None = unchanged _
+  telling (Some m) = unchanged _
+
+  handing : (node : Node) (bytes : List ℕ) (forged : Bool) → Counts w (cond forged (outputs.Forged, w) (delivered w bytes node))
+  handing node bytes true = unchanged _
+  handing node bytes false = delivering node (Some bytes)
+
+  restarting : (i : ℕ) (m : Member) (boot : ℕ) (used : Bool) → slice_get w.members i ≡ Some m
+      → Counts w (cond used (outputs.BootUsed, w) (outputs.Boot boot, with_member w (restarted w.primary.workers m boot)))
+  restarting i m boot true here = unchanged _
+  restarting i m boot false here =
+      subst (λ (sent : List (List ℕ)). Counts w
+      (outputs.Boot boot, record (with_member w (restarted w.primary.workers m boot)) { sent = sent })) (append-nil w.sent)
+      (counts_member i m (restarted w.primary.workers m boot) (outputs.Boot boot) [] here (omega arith))
+
+  restarts : (i : ℕ) (boot : ℕ) (found : Option Member) → slice_get w.members i ≡ found
+      → Counts w (on_member w found (λ m. restart_happens w m boot))
+  restarts i boot None here = unchanged _
+  restarts i boot (Some m) here = restarting i m boot (had_boot m.boots boot) here
+
   -- ---- stops and starts
 
   starting : (stopped : Bool)
@@ -252,6 +274,11 @@ module _ (w : World) where
       (λ m here. opening replica m plan (checked (shape_of w.primary.schema) plan) here)
   happening (events.Ask replica) = on_members replica (slice_get w.members replica) _ refl (λ m here. asking replica m m.batch here)
   happening (events.Run replica) = on_members replica (slice_get w.members replica) _ refl (λ m here. running replica m m.batch here)
+  happening (events.Version replica) = telling (slice_get w.members replica)
+  happening (events.Dump replica) = on_members replica (slice_get w.members replica) _ refl (λ m here. unchanged _)
+  happening (events.Restart replica boot) = restarts replica boot (slice_get w.members replica) refl
+  happening (events.Raw nodes.Primary bytes) = serving _ (handing nodes.Primary bytes (is_forged w.sent bytes))
+  happening (events.Raw (nodes.Replica number) bytes) = handing (nodes.Replica number) bytes (is_forged w.sent bytes)
 
   pub step-counts : (event : Event) (output : Output) (new : World) → MayHappen w event output new → Counts w (output, new)
   step-counts event output new (inl made) = subst (Counts w) made (happening event)
@@ -272,21 +299,21 @@ opening-requested setup = none_asked setup.workers 0 setup.replicas
 
 -- ---- the parts
 
-members-length : (replicas : List Replica) (asked_at : List ℕ) → length (members_of replicas asked_at) ≡ length replicas
-members-length [] asked_at = refl
-members-length (r ∷ replicas) [] = ap suc (members-length replicas [])
-members-length (r ∷ replicas) (at ∷ asked_at) = ap suc (members-length replicas asked_at)
+members-length : (replicas : List Replica) (boots : List (List ℕ)) (asked_at : List ℕ)
+    → length (members_of replicas boots asked_at) ≡ length replicas
+members-length [] boots asked_at = refl
+members-length (r ∷ replicas) boots asked_at = ap suc (members-length replicas (drop 1 boots) (drop 1 asked_at))
 
 -- the world has as many replicas
 pub as-many : (p : Parts) → length (world_of p).members ≡ length p.replicas
-as-many p = members-length p.replicas p.asked_at
+as-many p = members-length p.replicas p.boots p.asked_at
 
-requests-made : (replicas : List Replica) (asked_at : List ℕ) (count : ℕ)
-    → AllByRecursion (λ (m : Member). m.request ≤ count) (members_of replicas asked_at)
+requests-made : (replicas : List Replica) (boots : List (List ℕ)) (asked_at : List ℕ) (count : ℕ)
+    → AllByRecursion (λ (m : Member). m.request ≤ count) (members_of replicas boots asked_at)
     → AllByRecursion (λ (r : Replica). r.request ≤ count) replicas
-requests-made [] asked_at count all = tt
-requests-made (r ∷ replicas) [] count all = (all.0, requests-made replicas [] count all.1)
-requests-made (r ∷ replicas) (at ∷ asked_at) count all = (all.0, requests-made replicas asked_at count all.1)
+requests-made [] boots asked_at count all = tt
+requests-made (r ∷ replicas) boots asked_at count all =
+    (all.0, requests-made replicas (drop 1 boots) (drop 1 asked_at) count all.1)
 
 snapshots-known : (durable : ℕ) (transactions : List (Option Draft))
     → ((i : ℕ) (draft : Draft) → slice_get transactions i ≡ Some (Some draft) → draft.snapshot ≤ durable)
@@ -304,7 +331,9 @@ kept-ready p kept = record {
   workers_few = kept.sound.primary_is.workers_few;
   whole = kept.honest.whole;
   kept = kept.journal;
+  boots_there = kept.sound.boots_there;
   asked_there = kept.sound.asked_there;
+  few = kept.sound.few;
   snapshots = snapshots-known (length p.primary.durable) p.transactions kept.sound.drafts_are;
-  requests = requests-made p.replicas p.asked_at (length p.sent) kept.requested;
+  requests = requests-made p.replicas p.boots p.asked_at (length p.sent) kept.requested;
 }

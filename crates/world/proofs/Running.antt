@@ -31,11 +31,11 @@ use Rattle.world.specs.Steps.{World, Member, Batch, run_happens, fetched_happens
 use Rattle.world.specs.Steps.{lacking, lacking_from}
 use Rattle.world.specs.Allowed.{ready_member, RunIsCut}
 use Rattle.world.specs.Inner.Sound.{Sound, Means, awaits, awaits_by}
-use Rattle.world.specs.Standing.{world_of, member_of, batch_of, known_in}
+use Rattle.world.specs.Standing.{boots_at, world_of, member_of, batch_of, known_in}
 use Rattle.world.proofs.Datagrams.{want-reads}
 use Rattle.world.proofs.FedLaws.{FedLaws}
 use Rattle.world.proofs.Lists.{set-same}
-use Rattle.world.proofs.Worlds.{member-changes}
+use Rattle.world.proofs.Worlds.{member_at, member-changes}
 use Rattle.world.proofs.Moves.{Moves, Follows, Sound-replica, Sound-one, Follows-same}
 use Rattle.world.proofs.Replicas.{Follows-goes}
 
@@ -108,17 +108,17 @@ broken-moves r none = record {
 }
 
 -- its member at the version that was fetched
-caught-member : (at : ℕ) (r : Replica) (fetched : Fetched) (tables : Tables)
-    → member_of at (at_fetched r fetched tables) ≡ record (member_of at r) { version = fetched.version }
-caught-member at r fetched tables =
-    let m = member_of at r in
+caught-member : (had : List ℕ) (at : ℕ) (r : Replica) (fetched : Fetched) (tables : Tables)
+    → member_of had at (at_fetched r fetched tables) ≡ record (member_of had at r) { version = fetched.version }
+caught-member had at r fetched tables =
+    let m = member_of had at r in
     ap (λ (known : List (List ℕ)). record m { known = known; version = fetched.version }) (known-dropped r.arrivals fetched.counts)
 
-finished-member : (at : ℕ) (r : Replica) (fetched : Fetched) (tables : Tables)
-    → member_of at (record (at_fetched r fetched tables) { batch = None })
-    ≡ record (member_of at r) { version = fetched.version; batch = None }
-finished-member at r fetched tables =
-    let m = member_of at r in
+finished-member : (had : List ℕ) (at : ℕ) (r : Replica) (fetched : Fetched) (tables : Tables)
+    → member_of had at (record (at_fetched r fetched tables) { batch = None })
+    ≡ record (member_of had at r) { version = fetched.version; batch = None }
+finished-member had at r fetched tables =
+    let m = member_of had at r in
     ap (λ (known : List (List ℕ)). record m { known = known; version = fetched.version; batch = None })
     (known-dropped r.arrivals fetched.counts)
 
@@ -134,39 +134,39 @@ module _ (laws : FedLaws) (shape : Shape) (p : Parts) (i : ℕ) (r : Replica) (s
         subst (λ (x : Run × Replica). Follows shape there (run_output p i x)) (sym pair) follows
 
     run-waits : (worker seq : ℕ)
-        → Follows shape (wait_happens (world_of p) worker seq (want_bytes (member_of (slice_index p.asked_at i) r) worker seq))
+        → Follows shape (wait_happens (world_of p) worker seq (want_bytes (member_at p i r) worker seq))
         (run_output p i (runs.Waiting worker seq (want_for r.number worker seq), r))
     run-waits worker seq =
         let bytes = spelling (datagrams.Want r.number worker seq) in
         let output = outputs.Waiting worker seq (record { index = length p.sent; len = length bytes }) in
         let same : with_sent p bytes ≡ with_sent (with_replica p i r) bytes =
         ap (λ (replicas : List Replica). with_sent (record p { replicas = replicas }) bytes) (sym (set-same p.replicas i r here)) in
-        let means : Means p.primary.workers p.primary.durable p.replicas (reading bytes) =
-        want-reads (Means p.primary.workers p.primary.durable p.replicas) (λ fault. record { tells = tt; requests = tt })
+        let means : Means p.primary.workers p.primary.durable p.boots p.replicas (reading bytes) =
+        want-reads (Means p.primary.workers p.primary.durable p.boots p.replicas) (λ fault. record { tells = tt; requests = tt })
         (λ replica worker from. record { tells = tt; requests = tt }) r.number worker seq in
         (ap (λ (p : Parts). (output, world_of p)) same, subst (Sound shape) same (Sound-one shape p bytes sound means))
 
     run-finishes : (plans : List Plan) (fetched : Fetched) (answer : Run) (after : Replica)
         → r.batch ≡ Some (record { plans = plans; fetched = Some fetched }) → ready_of r ≡ Some fetched → ReplicaRuns r answer after
-        → Follows shape (answer_happens (world_of p) (member_of (slice_index p.asked_at i) r) plans fetched None)
+        → Follows shape (answer_happens (world_of p) (member_at p i r) plans fetched None)
         (run_output p i (answer, after))
     run-finishes plans fetched answer after batch is_ready run =
         let fed = (sound.fed i r here).feeding in
         let durable = p.primary.durable in
-        let at = slice_index p.asked_at i in
         let tables = tables_after shape durable fetched.version in
         let end = record (at_fetched r fetched tables) { batch = None } in
         let text =
         λ (shape : Shape). report_of (tables_after shape durable fetched.version) fetched.version plans in
         let done =
         laws.ready shape durable r (record { plans = plans; fetched = Some fetched }) fetched answer after fed batch is_ready run in
-        let m = record (member_of at r) { version = fetched.version; batch = None } in
-        let there : Output × World = answer_happens (world_of p) (member_of at r) plans fetched None in
+        let m = record (member_at p i r) { version = fetched.version; batch = None } in
+        let there : Output × World = answer_happens (world_of p) (member_at p i r) plans fetched None in
         let pair : (answer, after) ≡ (runs.Answered (text shape), end) = cc in
         subst (λ (x : Run × Replica). Follows shape there (run_output p i x)) (sym pair)
         (Follows-goes shape p i r (outputs.Report (text (shape_of p.primary.schema)), m) (outputs.Report (text shape)) end sound here
         (ap (λ (s : Shape). (outputs.Report (text s), m)) sound.primary_is.shape_is
-        ∙ ap (λ (x : Member). (outputs.Report (text shape), x)) (sym (finished-member at r fetched tables)))
+        ∙ ap (λ (x : Member). (outputs.Report (text shape), x))
+        (sym (finished-member (boots_at p.boots i) (slice_index p.asked_at i) r fetched tables)))
         (record {
           feeding = subst (IsFedFrom shape durable) done.1 (laws.running shape durable r answer after fed (inl run));
           moves = finished-moves r fetched tables;
@@ -176,7 +176,7 @@ module _ (laws : FedLaws) (shape : Shape) (p : Parts) (i : ℕ) (r : Replica) (s
         → r.broken ≡ false → r.batch ≡ Some (record { plans = plans; fetched = Some fetched })
         → arrivals_lacking r.arrivals fetched.counts ≡ missing → RunsFetched r plans fetched missing answer after
         → ReplicaRuns r answer after
-        → Follows shape (answer_happens (world_of p) (member_of (slice_index p.asked_at i) r) plans fetched missing)
+        → Follows shape (answer_happens (world_of p) (member_at p i r) plans fetched missing)
         (run_output p i (answer, after))
     run-lacking plans fetched (Some missing) answer after whole batch is told run =
         run-same _ answer after (runs.Waiting missing.0 missing.1 (want_for r.number missing.0 missing.1)) told.1 told.0
@@ -193,19 +193,19 @@ module _ (laws : FedLaws) (shape : Shape) (p : Parts) (i : ℕ) (r : Replica) (s
 
     run-fetched : (plans : List Plan) (fetched : Option Fetched) (answer : Run) (after : Replica) → r.broken ≡ false
         → r.batch ≡ Some (record { plans = plans; fetched = fetched }) → RunsBatch r plans fetched answer after → ReplicaRuns r answer after
-        → Follows shape (fetched_happens (world_of p) (member_of (slice_index p.asked_at i) r) plans fetched)
+        → Follows shape (fetched_happens (world_of p) (member_at p i r) plans fetched)
         (run_output p i (answer, after))
     run-fetched plans None answer after whole batch told run =
         run-same _ answer after runs.WaitingHead told.1 told.0 (Follows-same shape p i r outputs.WaitingHead sound here)
     run-fetched plans (Some fetched) answer after whole batch told run =
-        let m = member_of (slice_index p.asked_at i) r in
+        let m = member_at p i r in
         subst (λ (o : Option (ℕ × ℕ)). Follows shape (answer_happens (world_of p) m plans fetched o) (run_output p i (answer, after)))
         (sym (lacking-same r.arrivals fetched.counts))
         (run-lacking plans fetched (arrivals_lacking r.arrivals fetched.counts) answer after whole batch refl told run)
 
     run-batch : (batch : Option ReplicaBatch) (answer : Run) (after : Replica) → r.broken ≡ false → r.batch ≡ batch
         → RunsWhole r batch answer after → ReplicaRuns r answer after
-        → Follows shape (run_happens (world_of p) (member_of (slice_index p.asked_at i) r)
+        → Follows shape (run_happens (world_of p) (member_at p i r)
         (option_map (batch_of (slice_index p.asked_at i)) batch)) (run_output p i (answer, after))
     run-batch None answer after whole e told run =
         run-same _ answer after runs.NoBatch told.1 told.0 (Follows-same shape p i r outputs.NoBatch sound here)
@@ -213,21 +213,21 @@ module _ (laws : FedLaws) (shape : Shape) (p : Parts) (i : ℕ) (r : Replica) (s
 
     pub replica-runs : (answer : Run) (after : Replica) → ReplicaRuns r answer after → Follows shape
         (cond r.broken (outputs.Broken, world_of p)
-        (run_happens (world_of p) (member_of (slice_index p.asked_at i) r) (option_map (batch_of (slice_index p.asked_at i)) r.batch)))
+        (run_happens (world_of p) (member_at p i r) (option_map (batch_of (slice_index p.asked_at i)) r.batch)))
         (run_output p i (answer, after))
     replica-runs answer after run = by r.broken refl run
       where
         by : (b : Bool) → r.broken ≡ b → RunsAs b r answer after → Follows shape
             (cond b (outputs.Broken, world_of p)
-            (run_happens (world_of p) (member_of (slice_index p.asked_at i) r) (option_map (batch_of (slice_index p.asked_at i)) r.batch)))
+            (run_happens (world_of p) (member_at p i r) (option_map (batch_of (slice_index p.asked_at i)) r.batch)))
             (run_output p i (answer, after))
         by true e told = run-same _ answer after runs.Broken told.1 told.0 (Follows-same shape p i r outputs.Broken sound here)
         by false e told = run-batch r.batch answer after e refl told run
 
 -- ---- a run that is cut short
 
-ready-same : (at : ℕ) (r : Replica) → ready_member (member_of at r) ≡ ready_of r
-ready-same at r = by r.broken r.batch
+ready-same : (had : List ℕ) (at : ℕ) (r : Replica) → ready_member (member_of had at r) ≡ ready_of r
+ready-same had at r = by r.broken r.batch
   where
     on : (held : Option Fetched)
         → unless_lacking (lacking (known_in r.arrivals)) held ≡ unless_lacking (arrivals_lacking r.arrivals) held
@@ -262,24 +262,25 @@ caught-up old fetched new caught = by (commits_of old.tables caught.commits) cau
 
 module _ (laws : FedLaws) (shape : Shape) (p : Parts) (i : ℕ) (r : Replica) (sound : Sound shape p) (here : slice_get p.replicas i ≡ Some r)
   where
-    memory-same : Ends shape p (member_of (slice_index p.asked_at i) r) (outputs.Memory, with_replica p i r)
+    memory-same : Ends shape p (member_at p i r) (outputs.Memory, with_replica p i r)
     memory-same =
         let follows = Follows-same shape p i r outputs.Memory sound here in
         (inl (refl, ap (λ (x : Output × World). x.1) (sym follows.0)), follows.1)
 
     memory-caught : (fetched : Fetched) (tables : Tables) → ready_of r ≡ Some fetched
         → IsFedFrom shape p.primary.durable (at_fetched r fetched tables)
-        → Ends shape p (member_of (slice_index p.asked_at i) r) (outputs.Memory, with_replica p i (at_fetched r fetched tables))
+        → Ends shape p (member_at p i r) (outputs.Memory, with_replica p i (at_fetched r fetched tables))
     memory-caught fetched tables is_ready feeding =
+        let had = boots_at p.boots i in
         let at = slice_index p.asked_at i in
         let after = at_fetched r fetched tables in (
           inr (
             fetched,
-            ready-same at r ∙ is_ready,
+            ready-same had at r ∙ is_ready,
             inl (
               refl,
               sym (member-changes p i after (sound.fed i r here).number_is)
-                  ∙ ap (with_member (world_of p)) (caught-member at r fetched tables),
+                  ∙ ap (with_member (world_of p)) (caught-member had at r fetched tables),
             ),
           ),
           Sound-replica shape p i r after sound here
@@ -288,12 +289,13 @@ module _ (laws : FedLaws) (shape : Shape) (p : Parts) (i : ℕ) (r : Replica) (s
 
     cut-broken : (fetched : Fetched) → ready_of r ≡ Some fetched → r.version < fetched.version
         → IsFedFrom shape p.primary.durable (broken_of r)
-        → Ends shape p (member_of (slice_index p.asked_at i) r) (outputs.Broken, with_replica p i (broken_of r))
+        → Ends shape p (member_at p i r) (outputs.Broken, with_replica p i (broken_of r))
     cut-broken fetched is_ready below feeding =
+        let had = boots_at p.boots i in
         let at = slice_index p.asked_at i in (
           inr (
             fetched,
-            ready-same at r ∙ is_ready,
+            ready-same had at r ∙ is_ready,
             inr (refl, sym (member-changes p i (broken_of r) (sound.fed i r here).number_is), below),
           ),
           Sound-replica shape p i r (broken_of r) sound here
@@ -301,9 +303,9 @@ module _ (laws : FedLaws) (shape : Shape) (p : Parts) (i : ℕ) (r : Replica) (s
         )
 
     pub cut-ends : (answer : Run) (after : Replica) → WantsMemory r answer after
-        → Ends shape p (member_of (slice_index p.asked_at i) r) (run_output p i (answer, after))
+        → Ends shape p (member_at p i r) (run_output p i (answer, after))
     cut-ends answer after wants =
-        let m = member_of (slice_index p.asked_at i) r in
+        let m = member_at p i r in
         let fed = laws.running shape p.primary.durable r answer after (sound.fed i r here).feeding (inr wants) in
         elim wants.2 [
           | inl memory ↦ subst (λ (a : Run). Ends shape p m (run_output p i (a, after))) (sym memory.0) (elim memory.1 [

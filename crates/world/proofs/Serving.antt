@@ -13,7 +13,7 @@ use Rattle.script.specs.declared.event.Event.{Event}
 use Rattle.script.specs.declared.output.Output.{Output}
 use Rattle.script.specs.declared.output.Output.TheVariants as outputs
 use Rattle.world.specs.Outputs.{of_change, of_look, of_commit}
-use Rattle.world.specs.Theorem.{ReportsItsBatch}
+use Rattle.world.specs.Theorem.{SaysRows}
 use Rattle.world.specs.Steps.{World, on_draft, change_happens, commit_happens, abort_happens, stop_happens, unless_stopped}
 use Rattle.world.specs.Inner.Fresh.{Fresh}
 use Rattle.world.proofs.Fresh.{Fresh-drafts, Fresh-committed, Fresh-flushed, Fresh-stopped, Fresh-started}
@@ -22,24 +22,26 @@ use Rattle.world.proofs.Committing.{commit-numbered}
 -- what a step is to be
 pub record Serves (old : World) (event : Event) (answer : Output × World) : Type 0 where
   pub fresh : Fresh answer.1
-  pub reports : ReportsItsBatch old.primary.durable old event answer.0
+  pub rows : SaysRows old.primary.durable old event answer.0
 
--- an output that is no report
+-- an output that says nothing of rows
 abbrev pub IsNoReport : Output → Type 0
 IsNoReport (outputs.Report text) = ⊥
+IsNoReport (outputs.Dump text) = ⊥
 IsNoReport other = Unit {0}
 
 no-report : (commits : List Commit) (old : World) (event : Event) (output : Output) → IsNoReport output
-    → ReportsItsBatch commits old event output
+    → SaysRows commits old event output
 no-report commits old event (outputs.Report text) h = absurd h
+no-report commits old event (outputs.Dump text) h = absurd h
 no-report commits old event other h = tt
 
 pub quiet : (old : World) (event : Event) (answer : Output × World) → Fresh answer.1 → IsNoReport answer.0 → Serves old event answer
-quiet old event answer fresh silent = record { fresh = fresh; reports = no-report old.primary.durable old event answer.0 silent }
+quiet old event answer fresh silent = record { fresh = fresh; rows = no-report old.primary.durable old event answer.0 silent }
 
 -- ---- transactions and commits
 
-change-silent : (fault : TxFault) → IsNoReport (of_change fault)
+pub change-silent : (fault : TxFault) → IsNoReport (of_change fault)
 change-silent changes.Exists = tt
 change-silent changes.Missing = tt
 change-silent changes.Unfit = tt
@@ -55,7 +57,7 @@ change-serves w event number (Some draft) answer h = by (answer draft)
     by (Ok new) = quiet w event (outputs.Accepted, _) (Fresh-drafts w (slice_set w.transactions number (Some new)) h) tt
     by (Err fault) = quiet w event (of_change fault, w) h (change-silent fault)
 
-look-silent : (answer : Result Value TxFault) → IsNoReport (of_look answer)
+pub look-silent : (answer : Result Value TxFault) → IsNoReport (of_look answer)
 look-silent (Ok value) = tt
 look-silent (Err fault) = change-silent fault
 
@@ -70,7 +72,7 @@ abort-serves w event number None h = quiet w event (outputs.NoTx, w) h tt
 abort-serves w event number (Some draft) h =
     quiet w event (outputs.Accepted, _) (Fresh-drafts w (slice_set w.transactions number None) h) tt
 
-commit-silent : (fault : CommitFault) → IsNoReport (of_commit fault)
+pub commit-silent : (fault : CommitFault) → IsNoReport (of_commit fault)
 commit-silent (faults.Conflict number) = tt
 commit-silent faults.ReadOnly = tt
 commit-silent faults.Failed = tt

@@ -1,24 +1,32 @@
 -- Each step of sound parts is one of their world, and leaves the parts of one.
-use Rattle.std.proofs.Common.{◌≡◌, ℕ, zero, suc, ◌+◌, ◌<◌, ◌≤◌, ◌⊎◌, Bool, true, false, cond, List, [], ◌∷◌, length, Option, Some, None}
-use Rattle.std.proofs.Common.{Result, Ok, Err, refl, sym, ap, subst, ◌∙◌, inl, inr, arith}
-use Rattle.std.specs.List.{slice_get, slice_index, AllByRecursion}
+use Rattle.std.proofs.Common.{◌≡◌, ℕ, zero, suc, ◌+◌, ◌^◌, ◌<◌, ◌≤◌, ◌⊎◌, Bool, true, false, cond, List, [], ◌∷◌, length, Option}
+use Rattle.std.proofs.Common.{Some, None}
+use Rattle.std.proofs.Common.{replicate, Result, Ok, Err, refl, sym, ap, subst, ◌∙◌, inl, inr, arith}
+use Rattle.std.specs.List.{slice_get, AllByRecursion}
 use Rattle.std.specs.Option.{option_map}
 use Rattle.std.proofs.lemmas.Bool.{false≢true}
+use Rattle.std.proofs.lemmas.List.{length-replicate}
+use Rattle.std.proofs.lemmas.List.Elements.{Contains-push}
 use Rattle.std.proofs.lemmas.Option.{none-some}
 use Rattle.rows.specs.declared.limits.TheConstants.{REPLICAS_MAX, WORKERS_MAX}
+use Rattle.rows.specs.declared.kind.Kind.{Kind}
 use Rattle.rows.specs.Shape.{Shape, AreTables, shape_of}
+use Rattle.rows.specs.Commits.{tables_after}
 use Rattle.update_log.specs.Streams.{stream_of}
 use Rattle.wire.specs.declared.out.Out.{Out}
 use Rattle.journal.specs.Recovery.{IsRecovered}
 use Rattle.journal.specs.Text.{journal_text}
 use Rattle.primary.specs.State.{Primary}
 use Rattle.dispatcher.specs.declared.faults.AskFault.{AskFault}
+use Rattle.dispatcher.specs.declared.faults.DumpFault.{DumpFault}
+use Rattle.dispatcher.specs.declared.faults.DumpFault.TheVariants as dumps
 use Rattle.dispatcher.specs.declared.faults.OpenFault.{OpenFault}
 use Rattle.dispatcher.specs.declared.outcome.Run.{Run}
 use Rattle.dispatcher.specs.declared.outcome.Run.TheVariants as runs
 use Rattle.plans.specs.declared.plan.Plan.{Plan}
 use Rattle.dispatcher.specs.State.{Replica}
-use Rattle.dispatcher.specs.Steps.{started, opened, asked, MayRun}
+use Rattle.dispatcher.specs.Steps.{started, opened, asked, dumped, MayRun}
+use Rattle.dispatcher.specs.TableText.{names_of, table_text}
 use Rattle.dispatcher.specs.Feeding.{IsFedFrom}
 use Rattle.mvcc.specs.Transactions.{insert_answer, set_answer, delete_answer, get_answer}
 use Rattle.script.specs.declared.event.Event.{Event}
@@ -30,18 +38,21 @@ use Rattle.script.specs.declared.setup.Setup.{Setup}
 use Rattle.world.specs.Parts.{Parts, parts_started, replicas_from, zeros}
 use Rattle.world.specs.Inner.CoreSteps.{HappensBeside, KeepsStopped, MayAnswer, MayStep, RunsBy, come_by, to_replica, open_by}
 use Rattle.world.specs.Inner.CoreSteps.{opening_query}
-use Rattle.world.specs.Inner.CoreSteps.{ask_by, asking, run_output}
+use Rattle.world.specs.Inner.CoreSteps.{ask_by, asking, run_output, raw_by, version_by, dump_by, of_dumped, restart_by}
+use Rattle.world.specs.Inner.CoreSteps.{with_restarted}
 use Rattle.world.specs.Theorem.{IsStep}
 use Rattle.world.specs.Steps.{World, Member, open_draft, happens, unless_stopped, on_member, deliver_happens, run_happens}
+use Rattle.world.specs.Steps.{raw_happens, is_forged, delivered, dump_at, restart_happens, had_boot}
 use Rattle.world.specs.Allowed.{MayHappen, RunIsCutAt}
 use Rattle.world.specs.Inner.Sound.{Sound, AreLists, IsFed}
-use Rattle.world.specs.Standing.{world_of, member_of, members_of, AreFed, JournalStands, JournalStandsAs}
+use Rattle.world.specs.Standing.{boots_at, world_of, members_of, AreFed, JournalStands, JournalStandsAs}
 use Rattle.world.specs.Inner.Honest.{IsHonest}
-use Rattle.world.specs.Inner.Fresh.{Fresh}
-use Rattle.world.specs.Inner.Invariant.{IsRequested, IsKept}
+use Rattle.world.specs.Inner.Fresh.{Fresh, HasBoot}
+use Rattle.world.proofs.Restarts.{restart-follows}
+use Rattle.world.specs.Inner.Invariant.{IsRequested, AreNamed, IsKept}
 use Rattle.world.proofs.Adding.{reads_same, insert-added, set-added, delete-added}
 use Rattle.world.proofs.FedLaws.{FedLaws}
-use Rattle.world.proofs.Worlds.{beside_of, members-get, world-started}
+use Rattle.world.proofs.Worlds.{beside_of, member_at, members-get, world-started}
 use Rattle.world.proofs.Moves.{Follows, Sound-apart}
 use Rattle.world.proofs.Fresh.{opening-fresh}
 use Rattle.world.proofs.Freshness.{step-serves}
@@ -51,16 +62,18 @@ use Rattle.world.proofs.Replicas.{bytes-come}
 use Rattle.world.proofs.Querying.{query-opens, version-asked}
 use Rattle.world.proofs.Running.{replica-runs, cut-ends, Cuts}
 use Rattle.world.proofs.Committing.{drafts-begun, change-sound, look-sound, abort-sound, commit-sound, flush-sound, stop-sound, start-sound}
-use Rattle.world.proofs.Committing.{push-sound, deliver-sound}
+use Rattle.world.proofs.Committing.{push-sound, deliver-sound, raw-means, raw-sound}
+use Rattle.world.proofs.Named.{started-named, stays-named}
+use Rattle.world.proofs.Slots.{all_at}
 
 -- ---- one step
 
 -- a step of the member that stands for a replica
 found-member : (shape : Shape) (p : Parts) (i : ℕ) (next : Member → Output × World) (here : Output × Parts)
-    → Follows shape (on_member (world_of p) (option_map (member_of (slice_index p.asked_at i)) (slice_get p.replicas i)) next) here
-    → Follows shape (on_member (world_of p) (slice_get (members_of p.replicas p.asked_at) i) next) here
+    → Follows shape (on_member (world_of p) (option_map (member_at p i) (slice_get p.replicas i)) next) here
+    → Follows shape (on_member (world_of p) (slice_get (members_of p.replicas p.boots p.asked_at) i) next) here
 found-member shape p i next here follows =
-    (ap (λ (found : Option Member). on_member (world_of p) found next) (members-get p.replicas p.asked_at i) ∙ follows.0, follows.1)
+    (ap (λ (found : Option Member). on_member (world_of p) found next) (members-get p.replicas p.boots p.asked_at i) ∙ follows.0, follows.1)
 
 bytes-delivered : (laws : FedLaws) (shape : Shape) (p : Parts) (index number : ℕ) (found : Option (List ℕ)) → Sound shape p
     → slice_get p.sent index ≡ found
@@ -69,6 +82,64 @@ bytes-delivered laws shape p index number None sound here = (refl, sound)
 bytes-delivered laws shape p index number (Some bytes) sound here =
     found-member shape p number _ _
     (bytes-come laws shape p number bytes (slice_get p.replicas number) sound (sound.sent_is index bytes here) refl)
+
+-- bytes that are handed over mean what was sent, or nothing, unless they are forged
+raw-delivered : (laws : FedLaws) (shape : Shape) (p : Parts) (number : ℕ) (bytes : List ℕ) → Sound shape p
+    → Follows shape (raw_happens (world_of p) (nodes.Replica number) bytes) (raw_by p number bytes (slice_get p.replicas number))
+raw-delivered laws shape p number bytes sound = by (is_forged p.sent bytes) refl
+  where
+    by : (forged : Bool) → is_forged p.sent bytes ≡ forged
+        → Follows shape (cond forged (outputs.Forged, world_of p) (delivered (world_of p) bytes (nodes.Replica number)))
+        (cond forged (outputs.Forged, p) (to_replica p number bytes (slice_get p.replicas number)))
+    by true e = (refl, sound)
+    by false e =
+        found-member shape p number _ _
+        (bytes-come laws shape p number bytes (slice_get p.replicas number) sound (raw-means shape p bytes sound e) refl)
+
+-- a replica that starts again
+restart-made : (laws : FedLaws) (shape : Shape) (p : Parts) (i boot : ℕ) (found : Option Replica) → Sound shape p
+    → slice_get p.replicas i ≡ found → boot < 2 ^ 64
+    → Follows shape (on_member (world_of p) (option_map (member_at p i) found) (λ m. restart_happens (world_of p) m boot))
+    (restart_by p i boot found)
+restart-made laws shape p i boot None sound here below = (refl, sound)
+restart-made laws shape p i boot (Some r) sound here below =
+    restart-follows laws shape p i boot r outputs.BootUsed (outputs.Boot boot) sound here below
+
+-- ---- looks at a replica
+
+version-told : (shape : Shape) (p : Parts) (i : ℕ) (found : Option Replica) → Sound shape p
+    → Follows shape
+    (on_member (world_of p) (option_map (member_at p i) found) (λ m. (outputs.Version m.version, world_of p)))
+    (version_by p found)
+version-told shape p i None sound = (refl, sound)
+version-told shape p i (Some r) sound = (refl, sound)
+
+tables-dumped : (laws : FedLaws) (shape : Shape) (p : Parts) (i : ℕ) (found : Option Replica) → Sound shape p → AreNamed p
+    → slice_get p.replicas i ≡ found
+    → Follows shape
+    (on_member (world_of p) (option_map (member_at p i) found)
+    (λ m. cond m.broken (outputs.Broken, world_of p) (outputs.Dump (dump_at (world_of p) m.version), world_of p)))
+    (dump_by p found)
+tables-dumped laws shape p i None sound named here = (refl, sound)
+tables-dumped laws shape p i (Some r) sound named here = (by r.broken refl, sound)
+  where
+    fed : IsFed shape p.primary.workers p.primary.durable (boots_at p.boots i) i r
+    fed = sound.fed i r here
+
+    names : r.names ≡ names_of p.primary.schema
+    names = all_at (λ (other : Replica). other.names ≡ names_of p.primary.schema) p.replicas i r here named
+
+    by : (broken : Bool) → r.broken ≡ broken
+        → ◌≡◌ {A = Output × World} (cond broken (outputs.Broken, world_of p) (outputs.Dump (dump_at (world_of p) r.version), world_of p))
+        (of_dumped (dumped r), world_of p)
+    by true e =
+        ap (λ (answer : Result (List ℕ) DumpFault). (of_dumped answer, world_of p))
+        (sym (ap (λ (b : Bool). cond b (Err dumps.Broken) (Ok (table_text r.names r.version r.tables))) e))
+    by false e =
+        ap (λ (answer : Result (List ℕ) DumpFault). (of_dumped answer, world_of p))
+        (sym (laws.dump shape p.primary.durable r fed.feeding e
+        ∙ ap (λ (x : List (List ℕ) × Shape). Ok (table_text x.0 r.version (tables_after x.1 p.primary.durable r.version)))
+        (cc (names, sound.primary_is.shape_is))))
 
 -- ---- what may happen
 
@@ -83,8 +154,8 @@ happens-beside : (shape : Shape) (p : Parts) (event : Event) (output : Output) (
     → Happens shape p event output new
 happens-beside shape p event output new sound uncut may after =
     let left : record (beside_of (world_of new) p) { journal = new.journal } ≡ new =
-    ap (λ (x : Setup × List Replica × List ℕ). record new { setup = x.0; replicas = x.1; asked_at = x.2 })
-    (cc (may.setup, may.replicas, may.asked_at)) in
+    ap (λ (x : Setup × List Replica × List (List ℕ) × List ℕ). record new { setup = x.0; replicas = x.1; boots = x.2; asked_at = x.3 })
+    (cc (may.setup, may.replicas, may.boots, may.asked_at)) in
     let before = beside_of (world_of new) p in
     (may.happens, subst (Sound shape) left (Sound-apart shape before before.primary.failed before.stopped new.journal (by may.happens)))
   where
@@ -122,16 +193,16 @@ run-made laws shape p i r answer after sound here (inl run) =
     let follows : Follows shape (happens (world_of p) (events.Run i)) (run_output p i (answer, after)) =
     found-member shape p i _ _
     (subst (λ (found : Option Replica). Follows shape
-    (on_member (world_of p) (option_map (member_of (slice_index p.asked_at i)) found)
+    (on_member (world_of p) (option_map (member_at p i) found)
     (λ m. cond m.broken (outputs.Broken, world_of p) (run_happens (world_of p) m m.batch)))
     (run_output p i (answer, after))) (sym here) (replica-runs laws shape p i r sound here answer after run)) in
     (inl follows.0, follows.1)
 run-made laws shape p i r answer after sound here (inr wants) =
     let ends = cut-ends laws shape p i r sound here answer after wants in
     let new = run_output p i (answer, after) in
-    let there : option_map (member_of (slice_index p.asked_at i)) (slice_get p.replicas i) ≡ Some (member_of (slice_index p.asked_at i) r) =
-    ap (option_map (member_of (slice_index p.asked_at i))) here in
-    let at = members-get p.replicas p.asked_at i ∙ there in
+    let there : option_map (member_at p i) (slice_get p.replicas i) ≡ Some (member_at p i r) =
+    ap (option_map (member_at p i)) here in
+    let at = members-get p.replicas p.boots p.asked_at i ∙ there in
     let same =
     subst (λ (found : Option Member). Cuts (world_of p) found new.0 (world_of new.1)) (sym at) ends.0 in
     (elim same [ inl memory ↦ inr (inl memory) | inr cut ↦ inr (inr cut) ], ends.1)
@@ -146,7 +217,8 @@ run-follows laws shape p i (Some r) output new sound here (inl run) =
 run-follows laws shape p i found output new sound here (inr memory) =
     (inr (inl (memory.0, ap world_of memory.1)), subst (Sound shape) (sym memory.1) sound)
 
-module _ (laws : FedLaws) (shape : Shape) (p : Parts) (sound : Sound shape p) (lists : p.stopped ≡ false → AreLists p.primary) where
+module _ (laws : FedLaws) (shape : Shape) (p : Parts) (sound : Sound shape p) (named : AreNamed p)
+    (lists : p.stopped ≡ false → AreLists p.primary) where
   may-follow : (event : Event) (output : Output) (new : Parts) → MayStep p event output new → Happens shape p event output new
   may-follow events.Begin output new may =
       happens-served shape p _ _ output new sound (λ cut. cut) lists may refl (λ lists. drafts-begun shape p sound)
@@ -206,6 +278,21 @@ module _ (laws : FedLaws) (shape : Shape) (p : Parts) (sound : Sound shape p) (l
       (found-member shape p replica _ _ (version-asked laws shape p replica (slice_get p.replicas replica) sound refl)) may
   may-follow (events.Run replica) output new may =
       run-follows laws shape p replica (slice_get p.replicas replica) output new sound refl may
+  may-follow (events.Version replica) output new may =
+      happens-called shape p (events.Version replica) (version_by p (slice_get p.replicas replica)) output new sound
+      (found-member shape p replica _ _ (version-told shape p replica (slice_get p.replicas replica) sound)) may
+  may-follow (events.Dump replica) output new may =
+      happens-called shape p (events.Dump replica) (dump_by p (slice_get p.replicas replica)) output new sound
+      (found-member shape p replica _ _ (tables-dumped laws shape p replica (slice_get p.replicas replica) sound named refl)) may
+  may-follow (events.Restart replica boot) output new may =
+      happens-called shape p (events.Restart replica boot) (restart_by p replica boot (slice_get p.replicas replica)) output new sound
+      (found-member shape p replica _ _ (restart-made laws shape p replica boot (slice_get p.replicas replica) sound refl may.0)) may.1
+  may-follow (events.Raw nodes.Primary bytes) output new may =
+      happens-served shape p _ _ output new sound (λ cut. cut) lists may refl (λ lists. raw-sound shape p bytes lists sound)
+  may-follow (events.Raw (nodes.Replica number) bytes) output new may =
+      happens-called shape p (events.Raw (nodes.Replica number) bytes) (raw_by p number bytes (slice_get p.replicas number)) output new
+      sound
+      (raw-delivered laws shape p number bytes sound) may
 
 -- ---- the journal
 
@@ -232,13 +319,37 @@ leaves-answer : (p : Parts) (here : Output × Parts) (output : Output) (new : Pa
 leaves-answer p here output new leaves (inl made) = subst (λ (x : Output × Parts). Leaves p x.1) made leaves
 leaves-answer p here output new leaves (inr memory) = subst (Leaves p) (sym memory.1) (leaves-same p)
 
+bytes-leave : (p : Parts) (number : ℕ) (bytes : List ℕ) (found : Option Replica) → Leaves p (to_replica p number bytes found).1
+bytes-leave p number bytes None = leaves-same p
+bytes-leave p number bytes (Some r) = record { primary = refl; stopped = refl; journal = refl }
+
 come-leaves : (p : Parts) (number : ℕ) (found : Option (List ℕ)) → Leaves p (come_by p number found).1
 come-leaves p number None = leaves-same p
-come-leaves p number (Some bytes) = by (slice_get p.replicas number)
+come-leaves p number (Some bytes) = bytes-leave p number bytes (slice_get p.replicas number)
+
+raw-leaves : (p : Parts) (number : ℕ) (bytes : List ℕ) → Leaves p (raw_by p number bytes (slice_get p.replicas number)).1
+raw-leaves p number bytes = by (is_forged p.sent bytes)
   where
-    by : (found : Option Replica) → Leaves p (to_replica p number bytes found).1
-    by None = leaves-same p
-    by (Some r) = record { primary = refl; stopped = refl; journal = refl }
+    by : (forged : Bool)
+        → Leaves p (cond {A = Output × Parts} forged (outputs.Forged, p) (to_replica p number bytes (slice_get p.replicas number))).1
+    by true = leaves-same p
+    by false = bytes-leave p number bytes (slice_get p.replicas number)
+
+restart-leaves : (p : Parts) (number boot : ℕ) (found : Option Replica) → Leaves p (restart_by p number boot found).1
+restart-leaves p number boot None = leaves-same p
+restart-leaves p number boot (Some r) = by (had_boot (boots_at p.boots number) boot)
+  where
+    by : (used : Bool) → Leaves p (cond {A = Output × Parts} used (outputs.BootUsed, p) (outputs.Boot boot, with_restarted p number boot)).1
+    by true = leaves-same p
+    by false = record { primary = refl; stopped = refl; journal = refl }
+
+version-leaves : (p : Parts) (found : Option Replica) → Leaves p (version_by p found).1
+version-leaves p None = leaves-same p
+version-leaves p (Some r) = leaves-same p
+
+dump-leaves : (p : Parts) (found : Option Replica) → Leaves p (dump_by p found).1
+dump-leaves p None = leaves-same p
+dump-leaves p (Some r) = leaves-same p
 
 open-leaves : (p : Parts) (number : ℕ) (plan : Plan) (found : Option Replica) → Leaves p (open_by p number plan found).1
 open-leaves p number plan None = leaves-same p
@@ -295,6 +406,15 @@ stays-kept p events.Start output new keeps may = may.kept keeps
 stays-kept p (events.Push worker seq) output new keeps may = may.kept keeps
 stays-kept p (events.Deliver index nodes.Primary) output new keeps may = may.kept keeps
 stays-kept p (events.Show index) output new keeps may = may.kept keeps
+stays-kept p (events.Version replica) output new keeps may =
+    leaves-keeps p new (leaves-answer p _ output new (version-leaves p (slice_get p.replicas replica)) may) keeps
+stays-kept p (events.Dump replica) output new keeps may =
+    leaves-keeps p new (leaves-answer p _ output new (dump-leaves p (slice_get p.replicas replica)) may) keeps
+stays-kept p (events.Restart replica boot) output new keeps may =
+    leaves-keeps p new (leaves-answer p _ output new (restart-leaves p replica boot (slice_get p.replicas replica)) may.1) keeps
+stays-kept p (events.Raw nodes.Primary bytes) output new keeps may = may.kept keeps
+stays-kept p (events.Raw (nodes.Replica number) bytes) output new keeps may =
+    leaves-keeps p new (leaves-answer p _ output new (raw-leaves p number bytes) may) keeps
 
 -- the journal's text, where the primary runs and has not failed
 abbrev pub HasText : Parts → Type 0
@@ -312,29 +432,33 @@ journal-stands p keeps text whole = by p.stopped refl
 
 -- ---- the beginning
 
-started-fed : (laws : FedLaws) (shape : Shape) (workers number : ℕ) → IsFed shape workers [] number (started shape workers number 1)
-started-fed laws shape workers number = record {
-  feeding = laws.fresh shape [] workers number 1 (record { each = tt; defined = refl });
+started-fed : (laws : FedLaws) (schema : List (List ℕ × List Kind)) (workers number : ℕ)
+    → IsFed (shape_of schema) workers [] (1 ∷ []) number (started schema workers number 1)
+started-fed laws schema workers number = record {
+  feeding = laws.fresh schema [] workers number 1 (record { each = tt; defined = refl });
   workers_are = refl;
   number_is = refl;
-  boot_is = refl;
+  boot_is = record { had = Contains-push [] 1; below = omega arith };
 }
 
-replicas-fed : (laws : FedLaws) (shape : Shape) (workers number count i : ℕ) (r : Replica)
-    → slice_get (replicas_from shape workers number count) i ≡ Some r → IsFed shape workers [] (number + i) r
-replicas-fed laws shape workers number zero i r h = absurd (none-some r h)
-replicas-fed laws shape workers number (suc count) zero r h =
-    let same : started shape workers number 1 ≡ r = cc in
+replicas-fed : (laws : FedLaws) (schema : List (List ℕ × List Kind)) (workers number count i : ℕ) (r : Replica)
+    → slice_get (replicas_from schema workers number count) i ≡ Some r
+    → IsFed (shape_of schema) workers [] (boots_at (replicate count (1 ∷ [])) i) (number + i) r
+replicas-fed laws schema workers number zero i r h = absurd (none-some r h)
+replicas-fed laws schema workers number (suc count) zero r h =
+    let same : started schema workers number 1 ≡ r = cc in
     let index : number ≡ number + 0 = omega arith in
-    subst (λ (n : ℕ). IsFed shape workers [] n r) index
-    (subst (IsFed shape workers [] number) same (started-fed laws shape workers number))
-replicas-fed laws shape workers number (suc count) (suc i) r h =
+    subst (λ (n : ℕ). IsFed (shape_of schema) workers [] (1 ∷ []) n r) index
+    (subst (IsFed (shape_of schema) workers [] (1 ∷ []) number) same (started-fed laws schema workers number))
+replicas-fed laws schema workers number (suc count) (suc i) r h =
     let index : suc number + i ≡ number + suc i = omega arith in
-    subst (λ (n : ℕ). IsFed shape workers [] n r) index (replicas-fed laws shape workers (suc number) count i r h)
+    subst (λ (n : ℕ). IsFed (shape_of schema) workers [] (boots_at (replicate count (1 ∷ [])) i) n r) index
+    (replicas-fed laws schema workers (suc number) count i r h)
 
-length-replicas : (shape : Shape) (workers number count : ℕ) → length (replicas_from shape workers number count) ≡ count
-length-replicas shape workers number zero = refl
-length-replicas shape workers number (suc count) = ap suc (length-replicas shape workers (suc number) count)
+length-replicas : (schema : List (List ℕ × List Kind)) (workers number count : ℕ)
+    → length (replicas_from schema workers number count) ≡ count
+length-replicas schema workers number zero = refl
+length-replicas schema workers number (suc count) = ap suc (length-replicas schema workers (suc number) count)
 
 length-zeros : (count : ℕ) → length (zeros count) ≡ count
 length-zeros zero = refl
@@ -349,10 +473,12 @@ parts-sound laws setup some workers few =
       setup_is = (refl, refl);
       primary_is = record { shape_is = refl; workers_some = some; workers_few = workers };
       drafts_are = λ i draft here. absurd (none-some (Some draft) here);
-      asked_there = length-zeros count ∙ sym (length-replicas shape setup.workers 0 count);
-      few = omega (arith, length-replicas shape setup.workers 0 count);
+      boots_there = length-replicate {A = List ℕ} count (1 ∷ []) ∙ sym (length-replicas setup.schema setup.workers 0 count);
+      asked_there = length-zeros count ∙ sym (length-replicas setup.schema setup.workers 0 count);
+      few = omega (arith, length-replicas setup.schema setup.workers 0 count);
       fed = λ i r here. let index : 0 + i ≡ i =
-          omega arith in subst (λ (n : ℕ). IsFed shape setup.workers [] n r) index (replicas-fed laws shape setup.workers 0 count i r here);
+          omega arith in subst (λ (n : ℕ). IsFed shape setup.workers [] (boots_at (replicate count (1 ∷ [])) i) n r) index
+          (replicas-fed laws setup.schema setup.workers 0 count i r here);
       sent_is = λ i bytes here. absurd (none-some bytes here);
     }
 
@@ -374,11 +500,17 @@ pub started-kept : (laws : FedLaws) (setup : Setup) → AreTables (shape_of setu
 started-kept laws setup tables some workers few = record {
   journal = λ stopped. absurd (false≢true stopped);
   tables = tables;
+  named = started-named setup.schema setup.workers 0 setup.replicas;
   sound = parts-sound laws setup some workers few;
   requested = subst IsRequested (sym (world-started setup)) (opening-requested setup);
   honest = subst IsHonest (sym (world-started setup)) (opening-honest setup);
   fresh = subst Fresh (sym (world-started setup)) (opening-fresh setup few);
 }
+
+-- an event of the cores that starts a replica again gives it a boot of 64 bits
+may-boot : (p : Parts) (event : Event) (output : Output) (new : Parts) → MayStep p event output new → HasBoot event
+may-boot p (events.Restart replica boot) output new may = may.0
+may-boot p other output new may = tt
 
 -- what a step of the parts of a world is, and that it leaves the parts of one
 pub record IsKeptStep (old : Parts) (event : Event) (output : Output) (new : Parts) : Type 0 where
@@ -394,16 +526,16 @@ pub step-keeps : (laws : FedLaws) (old : Parts) (event : Event) (output : Output
     → (old.stopped ≡ false → AreLists old.primary) → MayStep old event output new → IsKeptStep old event output new
 step-keeps laws old event output new kept lists may =
     let shape = shape_of old.primary.schema in
-    let first = may-follow laws shape old kept.sound lists event output new may in
+    let first = may-follow laws shape old kept.sound kept.named lists event output new may in
     let same = first.1.primary_is.shape_is in
     let sound = subst (λ (s : Shape). Sound s new) (sym same) first.1 in
     let fine = step-fine (world_of old) event output (world_of new) first.0 in
-    let serves = step-serves (world_of old) event output (world_of new) kept.fresh first.0 in
+    let serves = step-serves (world_of old) event output (world_of new) (may-boot old event output new may) kept.fresh first.0 in
     let stays = step-counts (world_of old) event output (world_of new) first.0 in
     let honest = fine.honest kept.honest in
     let journal = stays-kept old event output new kept.journal may in
     record {
-      step = record { happens = first.0; reports = serves.reports; durable = fine.grows; faultless = fine.output kept.honest };
+      step = record { happens = first.0; rows = serves.rows; durable = fine.grows; faultless = fine.output kept.honest };
       fed = fed-sound new sound;
       journal = λ text. journal-stands new journal text honest.whole;
       schema = stays.schema;
@@ -412,6 +544,7 @@ step-keeps laws old event output new kept lists may =
       kept = record {
         journal = journal;
         tables = subst AreTables (sym same) kept.tables;
+        named = stays-named laws.names old event output new stays.schema kept.named may;
         sound = sound;
         requested = stays.requested kept.requested;
         honest = honest;

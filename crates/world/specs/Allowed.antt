@@ -40,6 +40,15 @@ RunsBy {State} Step old (event ∷ events) (output ∷ outputs) new =
 RunsBy Step old [] (output ∷ outputs) new = ⊥
 RunsBy Step old (event ∷ events) [] new = ⊥
 
+-- a state through which a run goes: the first one, or one that a step of it left
+abbrev pub Passes : {State : Type 0} (Step : State → Event → Output → State → Type 0) (old : State) (events : List Event)
+    (outputs : List Output) (new : State) → RunsBy Step old events outputs new → State → Type 0
+Passes Step old [] [] new run state = state ≡ old
+Passes Step old (event ∷ events) (output ∷ outputs) new run state =
+    (state ≡ old) ⊎ Passes Step run.0 events outputs new run.2 state
+Passes Step old [] (output ∷ outputs) new run state = ⊥
+Passes Step old (event ∷ events) [] new run state = ⊥
+
 -- a run of the world
 abbrev pub Runs : World → List Event → List Output → World → Type 0
 Runs old events outputs new = RunsBy MayHappen old events outputs new

@@ -5,6 +5,7 @@ pub mod Allowed
 pub mod Worked
 pub mod Parts
 pub mod Standing
+pub mod Database
 pub mod Theorem
 pub mod Scripts
 pub mod Inner

@@ -9,6 +9,8 @@ use Rattle.dispatcher.specs.declared.faults.OpenFault.{OpenFault}
 use Rattle.dispatcher.specs.declared.faults.OpenFault.TheVariants as opens
 use Rattle.dispatcher.specs.declared.faults.AskFault.{AskFault}
 use Rattle.dispatcher.specs.declared.faults.AskFault.TheVariants as asks
+use Rattle.dispatcher.specs.declared.faults.DumpFault.{DumpFault}
+use Rattle.dispatcher.specs.declared.faults.DumpFault.TheVariants as dumps
 use Rattle.dispatcher.specs.declared.outcome.Got.{Got}
 use Rattle.dispatcher.specs.declared.outcome.Got.TheVariants as got
 use Rattle.wire.specs.declared.out.Out.{Out}
@@ -55,6 +57,11 @@ abbrev pub of_ask : AskFault → Output
 of_ask asks.Busy = outputs.Busy
 of_ask asks.Empty = outputs.Empty
 of_ask asks.Broken = outputs.Broken
+
+-- a refused dump
+abbrev pub of_dump : DumpFault → Output
+of_dump dumps.Broken = outputs.Broken
+of_dump dumps.Memory = outputs.Memory
 
 -- what a replica made of bytes
 abbrev pub of_got : Got → Output

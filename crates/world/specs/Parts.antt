@@ -1,6 +1,7 @@
 -- The parts of a world that the program steps: the cores, the open transactions, and every datagram that was ever sent.
-use Rattle.std.specs.Prelude.{ℕ, zero, suc, List, [], ◌∷◌, Option, Bool, false}
-use Rattle.rows.specs.Shape.{Shape, shape_of}
+use Rattle.std.specs.Prelude.{ℕ, zero, suc, List, [], ◌∷◌, Option, Bool, false, replicate}
+use Rattle.rows.specs.declared.kind.Kind.{Kind}
+use Rattle.rows.specs.Shape.{shape_of}
 use Rattle.journal.specs.Text.{journal_text}
 use Rattle.mvcc.specs.Draft.{Draft}
 use Rattle.primary.specs.State.{Primary}
@@ -21,13 +22,15 @@ pub record Parts : Type 0 where
   -- the bytes of every datagram that was ever sent, in order
   pub sent : List (List ℕ)
   pub replicas : List Replica
+  -- for each replica the boots that it had, in the order of its starts
+  pub boots : List (List ℕ)
   -- for each replica how many commits were durable when its newest batch asked
   pub asked_at : List ℕ
 
 -- this many replicas, fresh from their start with boot 1
-abbrev pub replicas_from : Shape → ℕ → ℕ → ℕ → List Replica
-replicas_from shape workers number zero = []
-replicas_from shape workers number (suc count) = replica_started shape workers number 1 ∷ replicas_from shape workers (suc number) count
+abbrev pub replicas_from : List (List ℕ × List Kind) → ℕ → ℕ → ℕ → List Replica
+replicas_from schema workers number zero = []
+replicas_from schema workers number (suc count) = replica_started schema workers number 1 ∷ replicas_from schema workers (suc number) count
 
 abbrev pub zeros : ℕ → List ℕ
 zeros zero = []
@@ -42,6 +45,7 @@ parts_started setup = record {
   journal = journal_text setup.workers (shape_of setup.schema) [];
   transactions = [];
   sent = [];
-  replicas = replicas_from (shape_of setup.schema) setup.workers 0 setup.replicas;
+  replicas = replicas_from setup.schema setup.workers 0 setup.replicas;
+  boots = replicate setup.replicas (1 ∷ []);
   asked_at = zeros setup.replicas;
 }

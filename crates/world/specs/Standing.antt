@@ -1,6 +1,6 @@
 -- Where the cores stand: the world that the parts make, and that each replica there is fed from the one list of durable
 -- commits.
-use Rattle.std.specs.Prelude.{◌≡◌, ℕ, List, [], ◌∷◌, map, Bool, true, false, Some, slice_get}
+use Rattle.std.specs.Prelude.{◌≡◌, ℕ, List, [], ◌∷◌, drop, map, Bool, true, false, Some, slice_get, slice_index, slice_index_or}
 use Rattle.std.specs.List.{AllByRecursion}
 use Rattle.std.specs.Option.{option_map}
 use Rattle.rows.specs.Shape.{shape_of}
@@ -20,10 +20,11 @@ batch_of asked_at batch = record { plans = batch.plans; asked_at = asked_at; fet
 abbrev pub known_in : List Arrivals → List (List ℕ)
 known_in arrivals = map (λ (of_worker : Arrivals). of_worker.known) arrivals
 
--- a replica, as the world has it: its tables are left out, and which frames it still keeps
-abbrev pub member_of : ℕ → Replica → Member
-member_of asked_at r = record {
+-- a replica that had these boots, as the world has it: its tables are left out, and which frames it still keeps
+abbrev pub member_of : List ℕ → ℕ → Replica → Member
+member_of boots asked_at r = record {
   number = r.number;
+  boots = boots;
   boot = r.boot;
   request = r.request;
   known = known_in r.arrivals;
@@ -33,11 +34,15 @@ member_of asked_at r = record {
   broken = r.broken;
 }
 
--- the replicas, each with how many commits were durable when its newest batch asked
-abbrev pub members_of : List Replica → List ℕ → List Member
-members_of [] asked_at = []
-members_of (r ∷ replicas) [] = member_of 0 r ∷ members_of replicas []
-members_of (r ∷ replicas) (at ∷ asked_at) = member_of at r ∷ members_of replicas asked_at
+-- the boots that the replica of this number had; none where there is no such replica
+abbrev pub boots_at : List (List ℕ) → ℕ → List ℕ
+boots_at boots number = slice_index_or boots number []
+
+-- the replicas, each with the boots that it had, and with how many commits were durable when its newest batch asked
+abbrev pub members_of : List Replica → List (List ℕ) → List ℕ → List Member
+members_of [] boots asked_at = []
+members_of (r ∷ replicas) boots asked_at =
+    member_of (boots_at boots 0) (slice_index asked_at 0) r ∷ members_of replicas (drop 1 boots) (drop 1 asked_at)
 
 -- the world that the parts make
 abbrev pub world_of : Parts → World
@@ -46,13 +51,13 @@ world_of p = record {
   stopped = p.stopped;
   transactions = p.transactions;
   sent = p.sent;
-  members = members_of p.replicas p.asked_at;
+  members = members_of p.replicas p.boots p.asked_at;
 }
 
--- two replicas that stand at one version hold the same tables; a broken one stands at none
-abbrev pub TablesAgree : Parts → Type 0
-TablesAgree p =
-    (i j : ℕ) (r other : Replica) → slice_get p.replicas i ≡ Some r → slice_get p.replicas j ≡ Some other → r.broken ≡ false
+-- two replicas of two moments that stand at one version hold the same tables; a broken one stands at none
+abbrev pub TablesAgree : Parts → Parts → Type 0
+TablesAgree p q =
+    (i j : ℕ) (r other : Replica) → slice_get p.replicas i ≡ Some r → slice_get q.replicas j ≡ Some other → r.broken ≡ false
     → other.broken ≡ false
     → r.version ≡ other.version → r.tables ≡ other.tables
 

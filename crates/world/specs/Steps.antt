@@ -3,8 +3,9 @@
 use Rattle.std.specs.Prelude.{ℕ, zero, suc, ◌+◌, List, [], ◌∷◌, ◌++◌, length, Bool, true, false, Option, None, Some, Result, Ok, Err}
 use Rattle.std.specs.Prelude.{slice_get, slice_set, slice_index_or, replicate, ◌==◌, ◌||◌, ◌&&◌, not, nat_lt, nat_le, if◌then◌else◌}
 use Rattle.std.specs.Prelude.{is_ok}
-use Rattle.std.specs.List.{list_all}
+use Rattle.std.specs.List.{list_all, list_any}
 use Rattle.std.specs.Option.{option_and_then}
+use Rattle.std.specs.Str.{bytes_eq}
 use Rattle.rows.specs.Limits.{waiting_queries_max}
 use Rattle.rows.specs.declared.entry.Entry.{Entry}
 use Rattle.rows.specs.Shape.{Shape, shape_of}
@@ -28,6 +29,7 @@ use Rattle.plans.specs.declared.faults.PlanFault.{PlanFault}
 use Rattle.plans.specs.Checking.{checked}
 use Rattle.dispatcher.specs.State.{Fetched}
 use Rattle.dispatcher.specs.Report.{report_of}
+use Rattle.dispatcher.specs.TableText.{names_of, table_text}
 use Rattle.script.specs.declared.event.Event.{Event}
 use Rattle.script.specs.declared.event.Event.TheVariants as events
 use Rattle.script.specs.declared.event.Node.{Node}
@@ -47,8 +49,11 @@ pub record Batch : Type 0 where
 -- a replica
 pub record Member : Type 0 where
   pub number : ℕ
+  -- the boots that it had, in the order of its starts
+  pub boots : List ℕ
+  -- the boot that it is in: the newest of those
   pub boot : ℕ
-  -- how many requests it has made
+  -- how many requests it has made in that
   pub request : ℕ
   -- by worker, the seqs of its known frames, each once, in rising order
   pub known : List (List ℕ)
@@ -73,6 +78,7 @@ pub record World : Type 0 where
 abbrev pub fresh : ℕ → ℕ → Member
 fresh workers number = record {
   number = number;
+  boots = 1 ∷ [];
   boot = 1;
   request = 0;
   known = replicate workers [];
@@ -81,6 +87,14 @@ fresh workers number = record {
   batch = None;
   broken = false;
 }
+
+-- whether a boot is one of these
+abbrev pub had_boot : List ℕ → ℕ → Bool
+had_boot boots boot = list_any (λ had. had == boot) boots
+
+-- a replica that starts again in this boot: all that it knew is gone, and its queries and its batch with that
+abbrev pub restarted : ℕ → Member → ℕ → Member
+restarted workers m boot = record (fresh workers m.number) { boots = m.boots ++ boot ∷ []; boot = boot }
 
 abbrev pub fresh_from : ℕ → ℕ → ℕ → List Member
 fresh_from workers number zero = []
@@ -217,6 +231,14 @@ abbrev pub deliver_happens : World → Node → Option (List ℕ) → Output × 
 deliver_happens w node None = (outputs.NeverSent, w)
 deliver_happens w node (Some bytes) = delivered w bytes node
 
+-- whether bytes are a datagram that was never sent: the network makes none up
+abbrev pub is_forged : List (List ℕ) → List ℕ → Bool
+is_forged sent bytes = is_ok (reading bytes) && not (list_any (λ other. bytes_eq other bytes) sent)
+
+-- bytes that are handed over as they are, unless they are forged
+abbrev pub raw_happens : World → Node → List ℕ → Output × World
+raw_happens w node bytes = if is_forged w.sent bytes then (outputs.Forged, w) else delivered w bytes node
+
 abbrev pub shown : Option (List ℕ) → Output
 shown None = outputs.NeverSent
 shown (Some bytes) = outputs.Shown bytes
@@ -284,6 +306,20 @@ abbrev pub run_happens : World → Member → Option Batch → Output × World
 run_happens w m None = (outputs.NoBatch, w)
 run_happens w m (Some batch) = fetched_happens w m batch.plans batch.fetched
 
+-- ---- looks at a replica
+
+-- the text of the tables after exactly the first commits of the durable list, up to a version
+abbrev pub dump_at : World → ℕ → List ℕ
+dump_at w version =
+    table_text (names_of w.primary.schema) version (tables_after (shape_of w.primary.schema) w.primary.durable version)
+
+-- ---- restarts
+
+-- a replica starts again, in a boot that it never had
+abbrev pub restart_happens : World → Member → ℕ → Output × World
+restart_happens w m boot =
+    if had_boot m.boots boot then (outputs.BootUsed, w) else (outputs.Boot boot, with_member w (restarted w.primary.workers m boot))
+
 -- ---- the step
 
 -- what an event answers, and the world after it. Being out of memory aside.
@@ -325,6 +361,13 @@ happens w (events.Ask replica) =
     on_member w (slice_get w.members replica) (λ m. if m.broken then (outputs.Broken, w) else ask_happens w m m.batch)
 happens w (events.Run replica) =
     on_member w (slice_get w.members replica) (λ m. if m.broken then (outputs.Broken, w) else run_happens w m m.batch)
+happens w (events.Version replica) = on_member w (slice_get w.members replica) (λ m. (outputs.Version m.version, w))
+happens w (events.Dump replica) =
+    on_member w (slice_get w.members replica)
+    (λ m. if m.broken then (outputs.Broken, w) else (outputs.Dump (dump_at w m.version), w))
+happens w (events.Restart replica boot) = on_member w (slice_get w.members replica) (λ m. restart_happens w m boot)
+happens w (events.Raw nodes.Primary bytes) = unless_stopped w (raw_happens w nodes.Primary bytes)
+happens w (events.Raw (nodes.Replica number) bytes) = raw_happens w (nodes.Replica number) bytes
 
 -- the outputs of a list of events, out of memory aside
 abbrev pub outputs_of : World → List Event → List Output

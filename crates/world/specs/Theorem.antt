@@ -1,5 +1,6 @@
 -- The theorem: what one step of the world keeps, and what a run of it is. And the promises that follow of each run.
-use Rattle.std.specs.Prelude.{◌≡◌, ℕ, ◌≤◌, List, ◌++◌, length, Some, slice_get}
+use Rattle.std.specs.Prelude.{◌≡◌, ℕ, ◌^◌, ◌<◌, ◌≤◌, List, ◌∷◌, ◌++◌, length, map, Some, slice_get, codes, decimal}
+use Rattle.std.specs.Option.{option_map}
 use Rattle.std.specs.List.{AllByRecursion}
 use Rattle.rows.specs.declared.commit.Commit.{Commit}
 use Rattle.rows.specs.Limits.{replicas_max}
@@ -7,14 +8,18 @@ use Rattle.rows.specs.Shape.{shape_of}
 use Rattle.rows.specs.Commits.{IsLegal, tables_after}
 use Rattle.dispatcher.specs.State.{Fetched}
 use Rattle.dispatcher.specs.Report.{report_of}
+use Rattle.dispatcher.specs.TableText.{names_of, table_text}
+use Rattle.script.specs.Events.{IsPossible}
 use Rattle.script.specs.declared.event.Event.{Event}
 use Rattle.script.specs.declared.event.Event.TheVariants as events
 use Rattle.script.specs.declared.output.Output.{Output}
 use Rattle.script.specs.declared.output.Output.TheVariants as outputs
+use Rattle.script.specs.declared.output.Output.TheVariants.{Dump}
 use Rattle.script.specs.declared.setup.Setup.{Setup}
 use Rattle.world.specs.Parts.{Parts, parts_started}
 use Rattle.world.specs.Steps.{World, Member, Batch, opening_world}
-use Rattle.world.specs.Allowed.{MayHappen, RunsBy, Runs}
+use Rattle.world.specs.Allowed.{MayHappen, RunsBy, Passes, Runs}
+use Rattle.world.specs.Database.{Reader, Database, new_database, Goes}
 use Rattle.world.specs.Standing.{world_of, AreFed, TablesAgree, JournalStands}
 
 -- ---- what a step keeps
@@ -28,13 +33,23 @@ IsReportOf commits w batch text =
     × (batch.asked_at ≤ fetched.version) × (fetched.version ≤ length w.primary.durable)
     × (text ≡ report_of (tables_after (shape_of w.primary.schema) commits fetched.version) fetched.version batch.plans)
 
--- a report that is answered is that of the batch of the replica that ran
-abbrev pub ReportsItsBatch : List Commit → World → Event → Output → Type 0
-ReportsItsBatch commits old event (outputs.Report text) =
+-- the text of tables: those after exactly the commits of the list up to a version that is durable
+abbrev pub IsDumpOf : List Commit → World → ℕ → List ℕ → Type 0
+IsDumpOf commits w version text =
+    (version < 2 ^ 64) × (version ≤ length w.primary.durable)
+    × (text ≡ table_text (names_of w.primary.schema) version (tables_after (shape_of w.primary.schema) commits version))
+
+-- what an output says of rows: a report is that of the batch of the replica that ran, and a dump that of the version of the
+-- replica that was looked at
+abbrev pub SaysRows : List Commit → World → Event → Output → Type 0
+SaysRows commits old event (outputs.Report text) =
     (replica : ℕ) × (member : Member) × (batch : Batch)
     × (event ≡ events.Run replica) × (slice_get old.members replica ≡ Some member) × (member.batch ≡ Some batch)
     × IsReportOf commits old batch text
-ReportsItsBatch commits old event other = Unit {0}
+SaysRows commits old event (outputs.Dump text) =
+    (replica : ℕ) × (member : Member) × (event ≡ events.Dump replica) × (slice_get old.members replica ≡ Some member)
+    × IsDumpOf commits old member.version text
+SaysRows commits old event other = Unit {0}
 
 -- a list of commits is the beginning of another
 abbrev pub IsBeginning : List Commit → List Commit → Type 0
@@ -50,11 +65,11 @@ IsFaultless other = Unit {0}
 
 -- ---- a run
 
--- one step of the world, by a list of commits: what it answers and leaves may happen, a report is exact by that list, what
+-- one step of the world, by a list of commits: what it answers and leaves may happen, what it says of rows is exact by that list, what
 -- was durable is the beginning of what is durable, and no damage is told
 pub record IsStep (commits : List Commit) (old : World) (event : Event) (output : Output) (new : World) : Type 0 where
   pub happens : MayHappen old event output new
-  pub reports : ReportsItsBatch commits old event output
+  pub rows : SaysRows commits old event output
   pub durable : IsBeginning old.primary.durable new.primary.durable
   pub faultless : IsFaultless output
 
@@ -83,10 +98,21 @@ RunsWith Fact setup events outputs =
     × RunsBy (λ old event output new. MayHappen old event output new × Fact end.primary.durable old event output new)
     (opening_world setup) events outputs end
 
--- each report is exact by the one list that is durable at the end, and no older than its batch
+-- each report and each dump is exact by the one list that is durable at the end, and no report is older than its batch
 abbrev pub HasExactReports : Setup → List Event → List Output → Type 0
 HasExactReports setup events outputs =
-    RunsWith (λ commits old event output new. ReportsItsBatch commits old event output) setup events outputs
+    RunsWith (λ commits old event output new. SaysRows commits old event output) setup events outputs
+
+-- a text that begins by telling this version, as that of a dump does
+abbrev pub TellsVersion : ℕ → List ℕ → Type 0
+TellsVersion version text = (rest : List ℕ) × (text ≡ codes "version " ++ decimal version ++ 32 ∷ rest)
+
+-- two dumps that tell one version are equal, of whatever replicas and at whatever moments
+abbrev pub HasOneDumpOfVersion : Setup → List Event → List Output → Type 0
+HasOneDumpOfVersion setup events outputs =
+    (version i j : ℕ) (text other : List ℕ) → version < 2 ^ 64
+    → slice_get outputs i ≡ Some (Dump text) → slice_get outputs j ≡ Some (Dump other)
+    → TellsVersion version text → TellsVersion version other → text ≡ other
 
 -- each step keeps what is durable
 abbrev pub HasGrowingList : Setup → List Event → List Output → Type 0
@@ -102,19 +128,37 @@ HasLegalList setup events outputs =
 abbrev pub HasNoFault : Setup → List Event → List Output → Type 0
 HasNoFault setup events outputs = AllByRecursion IsFaultless outputs
 
+-- one step of the cores that leaves every replica fed from what is durable, and that on the journal
+abbrev pub StandsStep : Parts → Event → Output → Parts → Type 0
+StandsStep old event output new = MayHappen (world_of old) event output (world_of new) × AreFed new × JournalStands new
+
 -- the cores stand where the world does from the beginning on, every replica is fed from what is durable there, the journal
--- stands for that, and replicas at one version hold the same tables
+-- stands for that, and replicas at one version hold the same tables, at whatever two moments of the run
 abbrev pub CoresStand : Setup → List Event → List Output → Type 0
 CoresStand setup events outputs =
     (world_of (parts_started setup) ≡ opening_world setup)
-    × (end : Parts)
-    × RunsBy (λ old event output new.
-    MayHappen (world_of old) event output (world_of new) × AreFed new × JournalStands new × TablesAgree new)
-    (parts_started setup) events outputs end
+    × (end : Parts) × (run : RunsBy StandsStep (parts_started setup) events outputs end)
+    × ((p q : Parts) → Passes StandsStep (parts_started setup) events outputs end run p
+    → Passes StandsStep (parts_started setup) events outputs end run q → TablesAgree p q)
 
--- and each run of the world itself, whoever makes it, is by the one list that is durable at its end
+-- and each run of the world itself by events that are possible, whoever makes it, is by the one list that is durable at its end
 abbrev pub AllowedRunsAreExact : Type 0
 AllowedRunsAreExact =
     (setup : Setup) (events : List Event) (outputs : List Output) (end : World) → setup.replicas ≤ replicas_max
-    → Runs (opening_world setup) events outputs end
+    → AllByRecursion (IsPossible setup.workers setup.replicas) events → Runs (opening_world setup) events outputs end
     → RunsBy (IsStep end.primary.durable) (opening_world setup) events outputs end
+
+-- ---- the database that users see
+
+abbrev pub reader_of : Member → Reader
+reader_of m = record { version = m.version; batch = option_map (λ (batch : Batch). (batch.plans, batch.asked_at)) m.batch }
+
+abbrev pub database_of : World → Database
+database_of w = record { commits = w.primary.durable; readers = map reader_of w.members }
+
+-- each run of the world by events that are possible, whoever makes it, is one of the database
+abbrev pub RunsAreOfDatabase : Type 0
+RunsAreOfDatabase =
+    (setup : Setup) (events : List Event) (outputs : List Output) (end : World) → setup.replicas ≤ replicas_max
+    → AllByRecursion (IsPossible setup.workers setup.replicas) events → Runs (opening_world setup) events outputs end
+    → RunsBy (λ old event output new. Goes setup.schema old output new) (new_database setup.replicas) events outputs (database_of end)

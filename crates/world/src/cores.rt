@@ -9,6 +9,7 @@ ghost use Rattle.world.specs.Parts.{Parts, parts_started};
 ghost use Rattle.world.specs.Inner.CoreSteps.{KeepsStopped};
 ghost use Rattle.world.specs.Inner.Sound.{AreLists};
 
+use crate::boot_list::BootList;
 use crate::primary_node::PrimaryNode;
 use crate::stopping::start_on;
 use dispatcher::ReplicaCore;
@@ -22,8 +23,8 @@ use store::PlainStore;
 
 /// What the world was made for, the primary, each replica on a store of its own, the transactions
 /// in the order of their `begin` (none where one is no longer open), every datagram that was ever
-/// sent, at its own length, and for each replica how many commits were durable when its newest
-/// batch asked.
+/// sent, at its own length, and for each replica the boots that it had, and how many commits were
+/// durable when its newest batch asked.
 #[derive(Debug, Drop)]
 pub struct Cores {
     pub alloc: Global,
@@ -32,6 +33,7 @@ pub struct Cores {
     pub transactions: Vec<Option<Transaction>>,
     pub sent: Vec<ByteList>,
     pub replicas: Vec<ReplicaCore<PlainStore>>,
+    pub boots: Vec<BootList>,
     pub asked_at: Vec<u64>,
 }
 
@@ -49,6 +51,7 @@ impl Model for Cores {
       transactions = c.transactions.items;
       sent = c.sent.items;
       replicas = c.replicas.items;
+      boots = c.boots.items;
       asked_at = c.asked_at.items;
     } };
 }
@@ -66,10 +69,12 @@ impl Cores {
         let workers = setup.workers;
         let mut cores = Vec::new(alloc);
         let mut asked_at = Vec::new(alloc);
+        let mut boots = Vec::new(alloc);
         for number in 0..setup.replicas {
             let store = PlainStore::new(alloc, schema)?;
             cores.push(ReplicaCore::start(alloc, store, schema, workers, number, 1)?)?;
             asked_at.push(0)?;
+            boots.push(BootList::of_one(alloc, 1)?)?;
         }
         let Ok(primary) = start_on(alloc, MemJournal::new(alloc), schema, workers) else {
             return Err(AllocError);
@@ -81,6 +86,7 @@ impl Cores {
             transactions: Vec::new(alloc),
             sent: Vec::new(alloc),
             replicas: cores,
+            boots,
             asked_at,
         })
     }

@@ -9,18 +9,20 @@
 //! `specs/` says what may happen: the world as its users see it (`Steps.antt`), what a stop of the
 //! primary leaves (`Stops.antt`) and which outputs are allowed (`Allowed.antt`), the cores as parts
 //! and the world that they make (`Parts.antt`, `Standing.antt`), what a step and a run are
-//! (`Theorem.antt`), and what a script's run reads and prints (`Scripts.antt`). What only helps
-//! proofs stands in `specs/Inner`.
+//! (`Theorem.antt`), what a script's run reads and prints (`Scripts.antt`), and the promise to users
+//! on one page (`Database.antt`). What only helps proofs stands in `specs/Inner`.
 //!
 //! It stands on `primary` and `dispatcher`, which know nothing of each other, on `journal` for what
 //! a primary's journal keeps, on `mvcc` for transactions, on `plans` for queries, and on `script` for
 //! events and outputs.
 #![tactic(auto)]
 
+mod boot_list;
 mod cores;
 mod faults;
 mod naming;
 mod primary_node;
+mod restarting;
 mod script_running;
 mod simulator;
 mod stepping;
@@ -37,6 +39,8 @@ pub use script::{
 };
 pub use script_running::{Echo, run_script};
 pub use simulator::run;
-pub use theorem::{allowed_runs_are_exact, runs_keep_promises, stops_keep_what_stands};
+pub use theorem::{
+    allowed_runs_are_exact, runs_are_of_database, runs_keep_promises, stops_keep_what_stands,
+};
 pub use worked::worked_scripts;
 pub use world::World;

@@ -1,9 +1,9 @@
 //! What the refusals of the cores are called among the outputs.
 
 ghost use Rattle.std.specs.Prelude.{◌≡◌};
-ghost use Rattle.world.specs.Outputs.{of_change, of_changed, of_look, of_commit, of_open, of_ask, of_got};
+ghost use Rattle.world.specs.Outputs.{of_change, of_changed, of_look, of_commit, of_open, of_ask, of_dump, of_got};
 
-use dispatcher::{AskFault, Got, OpenFault};
+use dispatcher::{AskFault, DumpFault, Got, OpenFault};
 use mvcc::TxFault;
 use primary::CommitFault;
 use rows::Value;
@@ -76,6 +76,16 @@ pub fn ask_output(fault: AskFault) -> Output
         AskFault::Busy => Output::Busy,
         AskFault::Empty => Output::Empty,
         AskFault::Broken => Output::Broken,
+    }
+}
+
+/// A refused dump.
+pub fn dump_output(fault: DumpFault) -> Output
+    ensures { result ≡ of_dump fault }
+{
+    match fault {
+        DumpFault::Broken => Output::Broken,
+        DumpFault::Memory => Output::Memory,
     }
 }
 

@@ -5,10 +5,11 @@ ghost use Rattle.std.specs.Prelude.{◌≡◌, ◌<◌, ◌≤◌, [], ◌++◌,
 ghost use Rattle.world.specs.Outputs.{sent_from, packets_of};
 ghost use Rattle.world.specs.Inner.Invariant.{IsReady};
 ghost use Rattle.script.specs.Events.{IsPossible, IsThere};
-ghost use Rattle.world.specs.Inner.CoreSteps.{HappensBeside, MayStep, sent_one, with_sent};
+ghost use Rattle.world.specs.Inner.CoreSteps.{HappensBeside, MayStep, MaySendAnswers, sent_one, with_sent};
+ghost use Rattle.world.specs.Steps.{is_forged as are_forged};
 
 use crate::cores::Cores;
-use crate::naming::{ask_output, got_output, open_output};
+use crate::naming::{ask_output, dump_output, got_output, open_output};
 use crate::primary_node::PrimaryNode;
 use dispatcher::Run;
 use plans::Plan;
@@ -16,7 +17,7 @@ use primary::FlushFault;
 use rows::ByteList;
 use script::{Event, Node, Output, Sent, SentList};
 use std::alloc::{AllocError, Global};
-use wire::{Out, Packet};
+use wire::{Out, Packet, read};
 
 /// Bytes of an Ask.
 const ASK_LEN: usize = 23;
@@ -71,6 +72,10 @@ impl Cores {
             Event::Open { replica, plan } => self.open(*replica, plan),
             Event::Ask { replica } => self.ask(*replica),
             Event::Run { replica } => self.run(*replica),
+            Event::Version { replica } => self.version(*replica),
+            Event::Dump { replica } => self.dump(*replica),
+            Event::Restart { replica, boot } => self.restart(*replica, *boot),
+            Event::Raw { node, bytes } => self.raw(*node, bytes),
         }
     }
 
@@ -144,10 +149,17 @@ impl Cores {
         let Ok(outs) = primary.on_bytes(bytes.as_slice()) else {
             return Output::Memory;
         };
+        self.send_answers(outs.as_slice())
+    }
+
+    /// Sends what the primary answers; when out of memory nothing is sent.
+    fn send_answers(&mut self, outs: &[Out]) -> Output
+        ensures { MaySendAnswers self.old outs.now result self.new }
+    {
         if outs.is_empty() {
             return Output::Ignored;
         }
-        match send_all(self.alloc, &mut self.sent, outs.as_slice()) {
+        match send_all(self.alloc, &mut self.sent, outs) {
             Ok(list) => Output::Sent(list),
             Err(_) => Output::Memory,
         }
@@ -162,6 +174,43 @@ impl Cores {
         };
         let replica = &mut self.replicas[number as usize];
         got_output(replica.on_bytes(bytes.as_slice()))
+    }
+
+    /// Hands bytes to a node as they are, unless they are a datagram that was never sent.
+    fn raw(&mut self, node: Node, bytes: &ByteList) -> Output
+        requires { IsThere (length self.old.replicas) node }
+        ensures { MayStep self.old (Event.Raw node bytes.now) result self.new }
+    {
+        match node {
+            Node::Primary => self.raw_to_primary(bytes.as_slice()),
+            Node::Replica(number) => self.raw_to_replica(bytes.as_slice(), number),
+        }
+    }
+
+    fn raw_to_primary(&mut self, bytes: &[u8]) -> Output
+        ensures { HappensBeside self.old (Event.Raw Node.Primary bytes.now) result self.new }
+    {
+        let PrimaryNode::Running(primary) = &self.primary else {
+            return Output::Stopped;
+        };
+        if is_forged(self.sent.as_slice(), bytes) {
+            return Output::Forged;
+        }
+        let Ok(outs) = primary.on_bytes(bytes) else {
+            return Output::Memory;
+        };
+        self.send_answers(outs.as_slice())
+    }
+
+    fn raw_to_replica(&mut self, bytes: &[u8], number: u8) -> Output
+        requires { number < length self.old.replicas }
+        ensures { MayStep self.old (Event.Raw (Node.Replica number) bytes.now) result self.new }
+    {
+        if is_forged(self.sent.as_slice(), bytes) {
+            return Output::Forged;
+        }
+        let replica = &mut self.replicas[number as usize];
+        got_output(replica.on_bytes(bytes))
     }
 
     fn show(&self, index: u64) -> Output
@@ -257,6 +306,31 @@ impl Cores {
             Run::Memory => Output::Memory,
         }
     }
+
+    /// Tells a replica's version; of a broken one the last at which it was whole.
+    fn version(&self, number: u8) -> Output
+        requires { number < length self.now.replicas }
+        ensures { MayStep self.now (Event.Version number) result self.now }
+    {
+        Output::Version(self.replicas[number as usize].version())
+    }
+
+    fn dump(&self, number: u8) -> Output
+        requires { number < length self.now.replicas }
+        ensures { MayStep self.now (Event.Dump number) result self.now }
+    {
+        match self.replicas[number as usize].dump() {
+            Ok(text) => Output::Dump(ByteList::from_vec(text)),
+            Err(fault) => dump_output(fault),
+        }
+    }
+}
+
+/// Whether bytes are a datagram that is not among those that were sent.
+fn is_forged(sent: &[ByteList], bytes: &[u8]) -> bool
+    ensures { result ≡ are_forged sent.now bytes.now }
+{
+    read(bytes).is_ok() && !sent.iter().any(|other| other.as_slice() == bytes)
 }
 
 /// The same plan once more. Fails only when out of memory.

@@ -7,7 +7,7 @@ ghost use Rattle.script.specs.Events.{IsPossible};
 ghost use Rattle.world.specs.Parts.{parts_started};
 ghost use Rattle.world.specs.Allowed.{MayHappen};
 ghost use Rattle.world.specs.Standing.{world_of, AreFed, JournalStands};
-ghost use Rattle.world.specs.Theorem.{ReportsItsBatch, IsBeginning, IsFaultless};
+ghost use Rattle.world.specs.Theorem.{SaysRows, IsBeginning, IsFaultless};
 ghost use Rattle.rows.specs.Limits.{workers_max, replicas_max};
 
 use crate::cores::Cores;
@@ -56,7 +56,7 @@ impl World {
     pub fn step(&mut self, event: &Event) -> Output
         requires possible { IsPossible self.old.primary.workers (length self.old.replicas) event.now }
         ensures happens { MayHappen (world_of self.old) event.now result (world_of self.new) }
-        ensures reports { ReportsItsBatch self.old.primary.durable (world_of self.old) event.now result }
+        ensures rows { SaysRows self.old.primary.durable (world_of self.old) event.now result }
         ensures durable { IsBeginning self.old.primary.durable self.new.primary.durable }
         ensures fed { AreFed self.new }
         ensures journal { JournalStands self.new }

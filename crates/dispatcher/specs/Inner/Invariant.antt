@@ -13,6 +13,7 @@ use Rattle.dispatcher.specs.declared.batch.Batch.{Batch as HeldBatch}
 use Rattle.dispatcher.specs.declared.batch.Fetched.{Fetched as HeldFetched}
 use Rattle.dispatcher.specs.declared.replica_core.ReplicaCore.TheInside.{Inside}
 use Rattle.dispatcher.specs.State.{Replica, Batch, Fetched}
+use Rattle.dispatcher.specs.TableText.{names_of}
 
 abbrev pub fetched_of : HeldFetched → Fetched
 fetched_of held = record { version = held.version; counts = held.counts }
@@ -24,6 +25,7 @@ batch_of held = record { plans = held.plans.items; fetched = option_map fetched_
 abbrev pub replica_of : {S Place Fault : Type 0} → (S → Tables) → Inside S Place Fault → Replica
 replica_of tables a = record {
   shape = shape_of a.schema;
+  names = names_of a.schema;
   workers = a.workers;
   number = a.number;
   boot = a.boot;

@@ -9,11 +9,11 @@ use Rattle.rows.specs.declared.row_id.RowId.{RowId}
 use Rattle.plans.specs.declared.plan.Plan.{Plan}
 use Rattle.script.specs.declared.faults.Reason.{Reason}
 use Rattle.script.specs.declared.faults.Reason.TheVariants.{BadSetting, UnknownEvent, BadWords}
-use Rattle.script.specs.Inner.WordReading.{number_of, below_of, value_of, values_of, table_of, both, two, made}
+use Rattle.script.specs.Inner.WordReading.{number_of, below_of, value_of, values_of, hex_of, table_of, both, two, made}
 use Rattle.script.specs.Inner.PlanReading.{plan_of}
 use Rattle.script.specs.declared.event.Event.{Event}
 use Rattle.script.specs.declared.event.Event.TheVariants.{Begin, Insert, Set, Delete, Get, Commit, Abort, Flush, Push, Deliver, Show, Open}
-use Rattle.script.specs.declared.event.Event.TheVariants.{Ask, Run, Stop, Start}
+use Rattle.script.specs.declared.event.Event.TheVariants.{Ask, Run, Stop, Start, Version, Dump, Restart, Raw}
 use Rattle.script.specs.declared.event.Node.{Node}
 use Rattle.script.specs.declared.event.Node.TheVariants.{Primary, Replica}
 use Rattle.script.specs.declared.setup.Setup.{Setup}
@@ -87,8 +87,9 @@ unfoldable pub start_of : List (List ℕ) → Option Event
 start_of [] = Some Start
 start_of (word ∷ words) = None
 
-unfoldable pub push_of : ℕ → List (List ℕ) → Option Event
-push_of workers words = given (two_of words) (λ it. both (below_of workers it.0) (number_of it.1) Push)
+-- a number below a limit, and another one
+unfoldable pub pair_of : ℕ → List (List ℕ) → Option (ℕ × ℕ)
+pair_of limit words = given (two_of words) (λ it. two (below_of limit it.0) (number_of it.1))
 
 unfoldable pub deliver_of : ℕ → List (List ℕ) → Option Event
 deliver_of replicas words = given (two_of words) (λ it. both (number_of it.0) (node_of replicas it.1) Deliver)
@@ -134,6 +135,9 @@ unfoldable pub open_of : List (List ℕ × List Kind) → ℕ → List (List ℕ
 open_of schema replicas (replica ∷ plan) = opened (below_of replicas replica) (plan_of schema plan)
 open_of schema replicas [] = Err BadWords
 
+unfoldable pub raw_of : ℕ → List (List ℕ) → Option Event
+raw_of replicas words = given (two_of words) (λ it. both (node_of replicas it.0) (hex_of it.1) Raw)
+
 abbrev pub or_bad_words : Option Event → Result Event Reason
 or_bad_words None = Err BadWords
 or_bad_words (Some event) = Ok event
@@ -141,17 +145,20 @@ or_bad_words (Some event) = Ok event
 abbrev pub is_setting : List ℕ → Bool
 is_setting word = list_any (λ name. bytes_eq word name) setting_names
 
--- the event that asks a replica for its newest version, and the one that has it run its batch
+-- events of a replica that are numbers alone
 unfoldable pub replica_event : ℕ → List ℕ → List (List ℕ) → Result Event Reason
 replica_event replicas first words =
     if bytes_eq first (codes "ask") then or_bad_words (made Ask (replica_of replicas words)) else
     if bytes_eq first (codes "run") then or_bad_words (made Run (replica_of replicas words)) else
+    if bytes_eq first (codes "version") then or_bad_words (made Version (replica_of replicas words)) else
+    if bytes_eq first (codes "dump") then or_bad_words (made Dump (replica_of replicas words)) else
+    if bytes_eq first (codes "restart") then or_bad_words (made (λ it. Restart it.0 it.1) (pair_of replicas words)) else
     if is_setting first then Err BadSetting else Err UnknownEvent
 
 -- events of the network
 unfoldable pub network_event : Setup → List ℕ → List (List ℕ) → Result Event Reason
 network_event setup first words =
-    if bytes_eq first (codes "push") then or_bad_words (push_of setup.workers words) else
+    if bytes_eq first (codes "push") then or_bad_words (made (λ it. Push it.0 it.1) (pair_of setup.workers words)) else
     if bytes_eq first (codes "deliver") then or_bad_words (deliver_of setup.replicas words) else
     if bytes_eq first (codes "show") then or_bad_words (show_of words) else replica_event setup.replicas first words
 
@@ -172,4 +179,5 @@ event_of setup first words =
     if bytes_eq first (codes "set") then set_of setup.schema words else
     if bytes_eq first (codes "delete") then delete_of setup.schema words else
     if bytes_eq first (codes "get") then get_of setup.schema words else
-    if bytes_eq first (codes "open") then open_of setup.schema setup.replicas words else primary_event setup first words
+    if bytes_eq first (codes "open") then open_of setup.schema setup.replicas words else
+    if bytes_eq first (codes "raw") then or_bad_words (raw_of setup.replicas words) else primary_event setup first words

@@ -1,7 +1,7 @@
--- What words stand for: numbers, values and tables.
+-- What words stand for: numbers, bytes, values and tables.
 use Rattle.std.specs.Prelude.{ℕ, suc, zero, ◌^◌, ◌*◌, ◌+◌, ◌-◌, List, [], ◌∷◌, length, drop, nat_lt, nat_le}
 use Rattle.std.specs.Prelude.{◌==◌, ◌&&◌}
-use Rattle.std.specs.Prelude.{Option, None, Some, Result, Ok, Err, ℤ, pos, negsuc, if◌then◌else◌, slice_index, decimal}
+use Rattle.std.specs.Prelude.{Option, None, Some, Result, Ok, Err, ℤ, pos, negsuc, if◌then◌else◌, slice_index, codes, decimal}
 use Rattle.std.specs.Str.{bytes_eq}
 use Rattle.std.specs.Str.Parse.{digits_value}
 use Rattle.rows.specs.declared.kind.Kind.{Kind}
@@ -68,6 +68,11 @@ abbrev pub bytes_of : List ℕ → Option (List ℕ)
 bytes_of [] = Some []
 bytes_of (high ∷ []) = None
 bytes_of (high ∷ low ∷ digits) = both (byte_of high low) (bytes_of digits) (λ byte bytes. byte ∷ bytes)
+
+-- the bytes that a word is by itself: `-`, or pairs of digits
+unfoldable pub hex_of : List ℕ → Option (List ℕ)
+hex_of [] = None
+hex_of (first ∷ rest) = if bytes_eq (first ∷ rest) (codes "-") then Some [] else bytes_of (first ∷ rest)
 
 -- 1 to 64 bytes
 abbrev pub sized : Option (List ℕ) → Option (List ℕ)

@@ -1,24 +1,27 @@
 -- Only for proofs: what the call that an event is answers and leaves. Beside the replicas that is what happens in the world;
 -- what a call on a replica does is told by the replica's own definitions.
 use Rattle.std.specs.Prelude.{◌≡◌, ℕ, List, [], ◌∷◌, ◌++◌, length, true, Option, None, Some, Result, Ok, Err, slice_get, slice_set, ◌⊎◌}
+use Rattle.std.specs.Prelude.{◌^◌, ◌<◌, if◌then◌else◌}
 use Rattle.wire.specs.declared.out.Out.{Out}
 use Rattle.plans.specs.declared.plan.Plan.{Plan}
 use Rattle.dispatcher.specs.declared.faults.OpenFault.{OpenFault}
 use Rattle.dispatcher.specs.declared.faults.AskFault.{AskFault}
+use Rattle.dispatcher.specs.declared.faults.DumpFault.{DumpFault}
 use Rattle.dispatcher.specs.declared.outcome.Got.{Got}
 use Rattle.dispatcher.specs.declared.outcome.Run.{Run}
 use Rattle.dispatcher.specs.declared.outcome.Run.TheVariants as runs
 use Rattle.dispatcher.specs.State.{Replica, Batch as ReplicaBatch}
-use Rattle.dispatcher.specs.Steps.{opened, asked, received, MayRun}
+use Rattle.dispatcher.specs.Steps.{started as replica_started, opened, asked, received, dumped, MayRun}
 use Rattle.script.specs.declared.event.Event.{Event}
 use Rattle.script.specs.declared.event.Event.TheVariants as events
 use Rattle.script.specs.declared.event.Node.TheVariants as nodes
 use Rattle.script.specs.declared.output.Output.{Output}
 use Rattle.script.specs.declared.output.Output.TheVariants as outputs
-use Rattle.world.specs.Outputs.{of_open, of_ask, of_got}
+use Rattle.world.specs.Outputs.{of_open, of_ask, of_got, of_dump, of_answers, packets_of}
 use Rattle.world.specs.Parts.{Parts}
 use Rattle.world.specs.Allowed.{MayHappen}
-use Rattle.world.specs.Standing.{world_of, JournalKeeps}
+use Rattle.world.specs.Standing.{boots_at, world_of, JournalKeeps}
+use Rattle.world.specs.Steps.{is_forged, had_boot}
 
 -- ---- beside the replicas
 
@@ -26,11 +29,12 @@ use Rattle.world.specs.Standing.{world_of, JournalKeeps}
 abbrev pub KeepsStopped : Parts → Type 0
 KeepsStopped p = p.stopped ≡ true → JournalKeeps p
 
--- what happens in the world, where the replicas and what is noted of them stay
+-- what happens in the world, where the replicas, their boots and what is noted of them stay
 pub record HappensBeside (old : Parts) (event : Event) (output : Output) (new : Parts) : Type 0 where
   pub happens : MayHappen (world_of old) event output (world_of new)
   pub setup : new.setup ≡ old.setup
   pub replicas : new.replicas ≡ old.replicas
+  pub boots : new.boots ≡ old.boots
   pub asked_at : new.asked_at ≡ old.asked_at
   pub kept : KeepsStopped old → KeepsStopped new
 
@@ -86,6 +90,22 @@ abbrev pub ask_by : Parts → ℕ → Option Replica → Output × Parts
 ask_by p number None = (outputs.Ignored, p)
 ask_by p number (Some replica) = asking p number replica.batch (asked replica)
 
+-- the boots with one more of a replica
+abbrev pub with_boot : List (List ℕ) → ℕ → ℕ → List (List ℕ)
+with_boot boots number boot = slice_set boots number (boots_at boots number ++ boot ∷ [])
+
+-- a replica starts again in this boot, also where it was broken
+abbrev pub with_restarted : Parts → ℕ → ℕ → Parts
+with_restarted p number boot = record p {
+  replicas = slice_set p.replicas number (replica_started p.primary.schema p.primary.workers number boot);
+  boots = with_boot p.boots number boot;
+}
+
+abbrev pub restart_by : Parts → ℕ → ℕ → Option Replica → Output × Parts
+restart_by p number boot None = (outputs.Ignored, p)
+restart_by p number boot (Some replica) =
+    if had_boot (boots_at p.boots number) boot then (outputs.BootUsed, p) else (outputs.Boot boot, with_restarted p number boot)
+
 -- a run that waits for a frame sends its Want
 abbrev pub run_output : Parts → ℕ → Run × Replica → Output × Parts
 run_output p number (runs.NoBatch, replica) = (outputs.NoBatch, with_replica p number replica)
@@ -106,6 +126,30 @@ RunsBy old number None output new = ⊥
 RunsBy old number (Some replica) output new =
     (answer : Run) × (after : Replica) × MayRun replica answer after × (run_output old number (answer, after) ≡ (output, new))
 
+-- what sending the primary's answers tells and leaves: out of memory nothing is sent
+abbrev pub MaySendAnswers : Parts → List Out → Output → Parts → Type 0
+MaySendAnswers old outs output new =
+    ((output ≡ of_answers (length old.sent) outs) × (new ≡ record old { sent = old.sent ++ packets_of outs }))
+    ⊎ ((output ≡ outputs.Memory) × (new ≡ old))
+
+-- bytes that are handed to a replica, unless they are forged
+abbrev pub raw_by : Parts → ℕ → List ℕ → Option Replica → Output × Parts
+raw_by p number bytes found = if is_forged p.sent bytes then (outputs.Forged, p) else to_replica p number bytes found
+
+-- ---- looks at a replica
+
+abbrev pub version_by : Parts → Option Replica → Output × Parts
+version_by p None = (outputs.Ignored, p)
+version_by p (Some replica) = (outputs.Version replica.version, p)
+
+abbrev pub of_dumped : Result (List ℕ) DumpFault → Output
+of_dumped (Ok text) = outputs.Dump text
+of_dumped (Err fault) = of_dump fault
+
+abbrev pub dump_by : Parts → Option Replica → Output × Parts
+dump_by p None = (outputs.Ignored, p)
+dump_by p (Some replica) = (of_dumped (dumped replica), p)
+
 -- ---- any event
 
 -- what a call answers and leaves, or `memory`, and nothing has changed
@@ -119,4 +163,10 @@ MayStep old (events.Open replica plan) output new = MayAnswer old (open_by old r
 MayStep old (events.Ask replica) output new = MayAnswer old (ask_by old replica (slice_get old.replicas replica)) output new
 MayStep old (events.Run replica) output new =
     RunsBy old replica (slice_get old.replicas replica) output new ⊎ ((output ≡ outputs.Memory) × (new ≡ old))
+MayStep old (events.Version replica) output new = MayAnswer old (version_by old (slice_get old.replicas replica)) output new
+MayStep old (events.Dump replica) output new = MayAnswer old (dump_by old (slice_get old.replicas replica)) output new
+MayStep old (events.Restart number boot) output new =
+    (boot < 2 ^ 64) × MayAnswer old (restart_by old number boot (slice_get old.replicas number)) output new
+MayStep old (events.Raw (nodes.Replica number) bytes) output new =
+    MayAnswer old (raw_by old number bytes (slice_get old.replicas number)) output new
 MayStep old other output new = HappensBeside old other output new

@@ -9,7 +9,10 @@ use Rattle.wire.specs.declared.faults.WireFault.{WireFault}
 use Rattle.wire.specs.Reading.{reading}
 use Rattle.wire.specs.Spelling.{IsAsk}
 use Rattle.dispatcher.specs.State.{Fetched}
+use Rattle.script.specs.declared.event.Event.{Event}
+use Rattle.script.specs.declared.event.Event.TheVariants as events
 use Rattle.world.specs.Steps.{World, Member, Batch}
+use Rattle.world.specs.Inner.Boots.{IsInBoot, IsOfBoot}
 
 -- a batch asked at a version that is durable, and what was fetched for it is at least as new
 pub record IsFreshBatch (durable : List Commit) (batch : Batch) : Type 0 where
@@ -17,14 +20,15 @@ pub record IsFreshBatch (durable : List Commit) (batch : Batch) : Type 0 where
   pub fetched_is : (fetched : Fetched) → batch.fetched ≡ Some fetched → (batch.asked_at ≤ fetched.version)
       × (fetched.version ≤ length durable)
 
--- a replica of its number, with a fresh batch
+-- a replica of its number, in a boot that it had, at a version that is durable, with a fresh batch
 pub record IsFreshMember (durable : List Commit) (number : ℕ) (m : Member) : Type 0 where
   pub number_is : m.number ≡ number
-  pub boot_is : m.boot ≡ 1
+  pub below : m.version ≤ length durable
+  pub boot_is : IsInBoot m.boots m.boot
   pub batch_is : (batch : Batch) → m.batch ≡ Some batch → IsFreshBatch durable batch
 
--- a Head of this request and version, against the replica that it goes to: the request was made, and where it is the
--- newest one the version is at least what was durable when the batch asked
+-- a Head of this request and version, against the replica that it goes to in its own boot: the request was made, and where it
+-- is the newest one the version is at least what was durable when the batch asked
 pub record IsFreshHead (m : Member) (request version : ℕ) : Type 0 where
   pub asked : request ≤ m.request
   pub above : (batch : Batch) → m.batch ≡ Some batch → request ≡ m.request → batch.asked_at ≤ version
@@ -34,9 +38,11 @@ abbrev pub IsFreshReading : List Commit → List Member → Result Datagram Wire
 IsFreshReading durable members (Err fault) = Unit {0}
 IsFreshReading durable members (Ok (datagrams.Frame worker seq commit last entries)) = Unit {0}
 IsFreshReading durable members (Ok (datagrams.Ask replica boot request)) =
-    IsAsk replica boot request × ((m : Member) → slice_get members replica ≡ Some m → request ≤ m.request)
+    IsAsk replica boot request
+    × ((m : Member) → slice_get members replica ≡ Some m → IsOfBoot m.boots m.boot boot (request ≤ m.request))
 IsFreshReading durable members (Ok (datagrams.Head replica boot request version counts)) =
-    (version ≤ length durable) × ((m : Member) → slice_get members replica ≡ Some m → IsFreshHead m request version)
+    (version ≤ length durable)
+    × ((m : Member) → slice_get members replica ≡ Some m → IsOfBoot m.boots m.boot boot (IsFreshHead m request version))
 IsFreshReading durable members (Ok (datagrams.Want replica worker from)) = Unit {0}
 
 pub record Fresh (w : World) : Type 0 where
@@ -44,3 +50,8 @@ pub record Fresh (w : World) : Type 0 where
   pub few : length w.members ≤ REPLICAS_MAX
   pub members_are : (i : ℕ) (m : Member) → slice_get w.members i ≡ Some m → IsFreshMember w.primary.durable i m
   pub sent_is : (i : ℕ) (bytes : List ℕ) → slice_get w.sent i ≡ Some bytes → IsFreshReading w.primary.durable w.members (reading bytes)
+
+-- an event that starts a replica again gives it a boot of 64 bits
+abbrev pub HasBoot : Event → Type 0
+HasBoot (events.Restart replica boot) = boot < 2 ^ 64
+HasBoot other = Unit {0}

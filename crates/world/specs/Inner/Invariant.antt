@@ -1,9 +1,10 @@
 -- Only for proofs: what every world keeps.
 use Rattle.std.specs.Prelude.{◌≡◌, ◌<◌, ◌≤◌, length, false, IfSome}
 use Rattle.std.specs.List.{AllByRecursion}
-use Rattle.rows.specs.declared.limits.TheConstants.{WORKERS_MAX}
+use Rattle.rows.specs.declared.limits.TheConstants.{REPLICAS_MAX, WORKERS_MAX}
 use Rattle.rows.specs.Shape.{AreTables, shape_of}
 use Rattle.dispatcher.specs.State.{Replica}
+use Rattle.dispatcher.specs.TableText.{names_of}
 use Rattle.world.specs.Parts.{Parts}
 use Rattle.world.specs.Steps.{World, Member}
 use Rattle.world.specs.Standing.{world_of}
@@ -20,7 +21,9 @@ pub record IsReady (p : Parts) : Type 0 where
   pub workers_few : p.primary.workers ≤ WORKERS_MAX
   pub whole : p.primary.failed ≡ false
   pub kept : KeepsStopped p
+  pub boots_there : length p.boots ≡ length p.replicas
   pub asked_there : length p.asked_at ≡ length p.replicas
+  pub few : length p.replicas ≤ REPLICAS_MAX
   pub snapshots : AllByRecursion (λ slot. IfSome slot (λ draft. draft.snapshot ≤ length p.primary.durable)) p.transactions
   pub requests : AllByRecursion (λ (replica : Replica). replica.request ≤ length p.sent) p.replicas
 
@@ -28,11 +31,16 @@ pub record IsReady (p : Parts) : Type 0 where
 abbrev pub IsRequested : World → Type 0
 IsRequested w = AllByRecursion (λ (m : Member). m.request ≤ length w.sent) w.members
 
--- the parts of every world: its journal keeps what is durable, its tables are in their limits, the cores are sound, each
--- request was sent, nothing is damaged, and what was fetched is no older than its batch
+-- each replica has the names of the schema's tables
+abbrev pub AreNamed : Parts → Type 0
+AreNamed p = AllByRecursion (λ (r : Replica). r.names ≡ names_of p.primary.schema) p.replicas
+
+-- the parts of every world: its journal keeps what is durable, its tables are in their limits and have their names, the cores
+-- are sound, each request was sent, nothing is damaged, and what was fetched is no older than its batch
 pub record IsKept (p : Parts) : Type 0 where
   pub journal : KeepsStopped p
   pub tables : AreTables (shape_of p.primary.schema)
+  pub named : AreNamed p
   pub sound : Sound (shape_of p.primary.schema) p
   pub requested : IsRequested (world_of p)
   pub honest : IsHonest (world_of p)

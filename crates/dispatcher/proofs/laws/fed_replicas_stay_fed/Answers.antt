@@ -2,6 +2,8 @@
 use Rattle.dispatcher.proofs.CatchingUp.{Merges}
 use Rattle.dispatcher.proofs.Feeding.{Arriving, fresh-fed, commits-feed, truth-stays, bytes-feed, head-goes-on, open-feeds}
 use Rattle.dispatcher.proofs.Feeding.{ask-feeds, same-tables}
+use Rattle.dispatcher.proofs.Dumping.{dump-tables}
+use Rattle.dispatcher.proofs.Names.{bytes-names, open-names, ask-names, run-names}
 use Rattle.dispatcher.proofs.Reports.{run-feeds, run-consistent, answer-reports, ready-answers}
 use Rattle.dispatcher.proofs.laws.fed_replicas_stay_fed.Goals as goal
 
@@ -119,3 +121,9 @@ returns-clause-ready c =
 
 pub returns-clause-tables : goal.returns-clause-tables
 returns-clause-tables c = same-tables
+
+pub returns-clause-dump : goal.returns-clause-dump
+returns-clause-dump c = dump-tables
+
+pub returns-clause-names : goal.returns-clause-names
+returns-clause-names c = record { by_bytes = bytes-names; by_open = open-names; by_ask = ask-names; by_run = run-names }

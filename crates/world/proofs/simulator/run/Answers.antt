@@ -38,7 +38,7 @@ loop-event-preserved c =
           (c.loop-event.invariant.behind (c.step-output.result ∷ more) end
           (step_first _ _ end c.args.events.now c.loop-event.event-index c.event-item.result c.step-output.result more
           c.loop-event-test.true c.event-item.is
-          (record { happens = done.happens; reports = done.reports; durable = done.durable; faultless = done.faultless })
+          (record { happens = done.happens; rows = done.rows; durable = done.durable; faultless = done.faultless })
           done.fed done.journal steps));
     }
 

@@ -11,7 +11,7 @@ returns c =
     let inside = c.self.inside in
     let seen =
     node_seen inside.setup inside.primary (Running c.in-Running.field-0) inside.transactions.items inside.sent.items inside.replicas.items
-    inside.asked_at.items c.args.self.now c.in-Running.is c.self.view_is in
+    inside.boots.items inside.asked_at.items c.args.self.now c.in-Running.is c.self.view_is in
     let left = c.take_open.ensures.left in
     elim c.match-take_open.branch [
       | in-None w ↦ rw (c.in-Running.is, w.result-is) (gave_up _ _ seen refl c.args.number None c.take_open.new.transactions.items

@@ -10,7 +10,7 @@ returns-in_default-take_open c =
     let inside = c.self.inside in
     let seen =
     node_seen inside.setup inside.primary (Running c.in-Running.primary) inside.transactions.items inside.sent.items inside.replicas.items
-    inside.asked_at.items c.args.self.now c.in-Running.is c.self.view_is in
+    inside.boots.items inside.asked_at.items c.args.self.now c.in-Running.is c.self.view_is in
     commit_nothing _ _ seen refl c.args.number c.args.worker
     c.take_open.new.transactions.items (sym c.take_open.ensures.taken ∙ c.in_default-take_open.is) c.take_open.ensures.left
 
@@ -19,7 +19,7 @@ returns-in-Err-default-Memory c =
     let inside = c.self.inside in
     let seen =
     node_seen inside.setup inside.primary (Running c.in-Running.primary) inside.transactions.items inside.sent.items inside.replicas.items
-    inside.asked_at.items c.args.self.now c.in-Running.is c.self.view_is in
+    inside.boots.items inside.asked_at.items c.args.self.now c.in-Running.is c.self.view_is in
     let refused = c.in-Err-default-Memory.ensures.refused in
     let journal = c.in-Err-default-Memory.ensures.journal in
     let left = rw (c.take_open.ensures.left) at c.put_back.ensures in

@@ -16,7 +16,7 @@ returns-in-None c =
     let inside = c.self.inside in
     let seen =
     node_seen inside.setup inside.primary (Running c.in-Running.primary) inside.transactions.items inside.sent.items inside.replicas.items
-    inside.asked_at.items c.args.self.now c.in-Running.is c.self.view_is in
+    inside.boots.items inside.asked_at.items c.args.self.now c.in-Running.is c.self.view_is in
     let primary = c.in-Running.primary.primary in
     let there = rw (c.as_slice.ensures.value, c.in-None.is) at c.find_open.ensures in
     look_nothing _ _ seen refl c.args.number (Get c.args.number c.args.table c.args.row c.args.column)
@@ -27,7 +27,7 @@ get-requires c =
     let inside = c.self.inside in
     let seen =
     node_seen inside.setup inside.primary (Running c.in-Running.primary) inside.transactions.items inside.sent.items inside.replicas.items
-    inside.asked_at.items c.args.self.now c.in-Running.is c.self.view_is in
+    inside.boots.items inside.asked_at.items c.args.self.now c.in-Running.is c.self.view_is in
     let primary = c.in-Running.primary.primary in
     let there = rw (c.as_slice.ensures.value, c.in-Some.is) at c.find_open.ensures in
     let snapshots = rw (← seen) at c.requires.snapshots in
@@ -41,7 +41,7 @@ returns-in-Some c =
     let inside = c.self.inside in
     let seen =
     node_seen inside.setup inside.primary (Running c.in-Running.primary) inside.transactions.items inside.sent.items inside.replicas.items
-    inside.asked_at.items c.args.self.now c.in-Running.is c.self.view_is in
+    inside.boots.items inside.asked_at.items c.args.self.now c.in-Running.is c.self.view_is in
     let primary = c.in-Running.primary.primary in
     let draft = c.in-Some.transaction.now in
     let there = rw (c.as_slice.ensures.value, c.in-Some.is) at c.find_open.ensures in

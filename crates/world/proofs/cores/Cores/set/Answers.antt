@@ -16,7 +16,7 @@ returns-in_default-take_open c =
     let inside = c.self.inside in
     let seen =
     node_seen inside.setup inside.primary (Running c.in-Running.primary) inside.transactions.items inside.sent.items inside.replicas.items
-    inside.asked_at.items c.args.self.now c.in-Running.is c.self.view_is in
+    inside.boots.items inside.asked_at.items c.args.self.now c.in-Running.is c.self.view_is in
     let primary = c.in-Running.primary.primary in
     rw c.in-Running.is (change_nothing _ _ seen refl c.args.number (Set c.args.number c.args.table c.args.row c.args.column c.args.value)
     (λ draft. set_answer (shape_of primary.schema) primary.durable draft c.args.table c.args.row.0 c.args.column c.args.value) refl
@@ -27,7 +27,7 @@ set-set-requires c =
     let inside = c.self.inside in
     let seen =
     node_seen inside.setup inside.primary (Running c.in-Running.primary) inside.transactions.items inside.sent.items inside.replicas.items
-    inside.asked_at.items c.args.self.now c.in-Running.is c.self.view_is in
+    inside.boots.items inside.asked_at.items c.args.self.now c.in-Running.is c.self.view_is in
     let primary = c.in-Running.primary.primary in
     let snapshots = rw (← seen) at c.requires.snapshots in
     let within =
@@ -40,7 +40,7 @@ returns c =
     let inside = c.self.inside in
     let seen =
     node_seen inside.setup inside.primary (Running c.in-Running.primary) inside.transactions.items inside.sent.items inside.replicas.items
-    inside.asked_at.items c.args.self.now c.in-Running.is c.self.view_is in
+    inside.boots.items inside.asked_at.items c.args.self.now c.in-Running.is c.self.view_is in
     let primary = c.in-Running.primary.primary in
     let event = Set c.args.number c.args.table c.args.row c.args.column c.args.value in
     let change = λ (draft : Draft). set_answer

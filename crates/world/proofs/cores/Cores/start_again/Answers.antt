@@ -9,20 +9,22 @@ returns-in-Ok c =
     let inside = c.self.inside in
     let seen =
     node_seen inside.setup inside.primary (Stopped c.in-Stopped.journal c.in-Stopped.kept) inside.transactions.items inside.sent.items
-    inside.replicas.items inside.asked_at.items c.args.self.now c.in-Stopped.is c.self.view_is in
+    inside.replicas.items inside.boots.items inside.asked_at.items c.args.self.now c.in-Stopped.is c.self.view_is in
     let kept = (rw (← seen) at c.requires.kept) refl in
     let same = (rw c.replace-old.ensures.value at c.in-Ok.ensures.ok) c.in-Stopped.kept.items kept.0 kept.1 in
     let core = c.in-Ok.primary in
     rw c.durable-durable.ensures (start_done inside.setup core.primary core.journal.bytes inside.transactions.items inside.sent.items
-    inside.replicas.items inside.asked_at.items c.args.self.now c.in-Stopped.kept.items c.in-Stopped.journal.bytes seen same)
+    inside.replicas.items inside.boots.items inside.asked_at.items c.args.self.now c.in-Stopped.kept.items c.in-Stopped.journal.bytes
+    seen same)
 
 pub returns-in-Err : goal.returns-in-Err
 returns-in-Err c =
     let inside = c.self.inside in
     let seen =
     node_seen inside.setup inside.primary (Stopped c.in-Stopped.journal c.in-Stopped.kept) inside.transactions.items inside.sent.items
-    inside.replicas.items inside.asked_at.items c.args.self.now c.in-Stopped.is c.self.view_is in
+    inside.replicas.items inside.boots.items inside.asked_at.items c.args.self.now c.in-Stopped.is c.self.view_is in
     let kept = (rw (← seen) at c.requires.kept) refl in
     let back = (rw c.replace-old.ensures.value at c.in-Err.ensures.err) c.in-Stopped.kept.items kept.0 kept.1 in
     start_lacks inside.setup c.args.self.now.primary [] inside.transactions.items inside.sent.items inside.replicas.items
-    inside.asked_at.items c.args.self.now c.in-Stopped.kept.items c.in-Stopped.journal.bytes c.in-Err.back.bytes back.0 seen back.1
+    inside.boots.items inside.asked_at.items c.args.self.now c.in-Stopped.kept.items c.in-Stopped.journal.bytes c.in-Err.back.bytes
+    back.0 seen back.1

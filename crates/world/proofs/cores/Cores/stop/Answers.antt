@@ -10,7 +10,7 @@ commits_kept-requires c =
     let inside = c.self.inside in
     let seen =
     node_seen inside.setup inside.primary (Running c.in-Running.primary) inside.transactions.items inside.sent.items inside.replicas.items
-    inside.asked_at.items c.args.self.now c.in-Running.is c.self.view_is in
+    inside.boots.items inside.asked_at.items c.args.self.now c.in-Running.is c.self.view_is in
     let core = c.in-Running.primary in
     let set = rw (← seen) at c.requires.setup_is in
     let whole = rw (← seen) at c.requires.whole in
@@ -23,7 +23,7 @@ returns c =
     let inside = c.self.inside in
     let seen =
     node_seen inside.setup inside.primary (Running c.in-Running.primary) inside.transactions.items inside.sent.items inside.replicas.items
-    inside.asked_at.items c.args.self.now c.in-Running.is c.self.view_is in
+    inside.boots.items inside.asked_at.items c.args.self.now c.in-Running.is c.self.view_is in
     let core = c.in-Running.primary in
     let set = rw (← seen) at c.requires.setup_is in
     let whole = rw (← seen) at c.requires.whole in
@@ -39,4 +39,4 @@ returns c =
     omega (arith, ap length over, closed_length inside.transactions.items, inside.transactions.ok.0) in
     let slots = with_items_is inside.transactions c.close_all.new.transactions size ∙ over in
     stop_done inside.setup core.primary core.journal.bytes inside.transactions.items inside.sent.items inside.replicas.items
-    inside.asked_at.items c.args.self.now c.args.bytes found.0 content kept _ _ seen set same found.1 c.of.ensures slots
+    inside.boots.items inside.asked_at.items c.args.self.now c.args.bytes found.0 content kept _ _ seen set same found.1 c.of.ensures slots

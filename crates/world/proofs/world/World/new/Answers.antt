@@ -15,6 +15,8 @@ invariant_of-result c =
       asking = e.ask;
       running = e.run;
       ready = e.ready;
+      dump = e.dump;
+      names = e.names;
     } in
     rw c.in_ok-cores.ensures
     (started-kept laws c.args.setup.now c.keeps_limits.ensures c.requires.some c.requires.workers c.requires.replicas)

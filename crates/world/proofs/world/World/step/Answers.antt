@@ -22,6 +22,8 @@ invariant_of-self c =
       asking = e.ask;
       running = e.run;
       ready = e.ready;
+      dump = e.dump;
+      names = e.names;
     } in
     (step-keeps laws c.self.inside.cores c.args.event.now c.happen-output.result c.happen-output.new.self c.self.invariant
     c.keeps_core.ensures.lists c.happen-output.ensures).kept
@@ -38,13 +40,15 @@ returns c =
       asking = e.ask;
       running = e.run;
       ready = e.ready;
+      dump = e.dump;
+      names = e.names;
     } in
     let done =
     step-keeps laws c.self.inside.cores c.args.event.now c.happen-output.result c.happen-output.new.self c.self.invariant
     c.keeps_core.ensures.lists c.happen-output.ensures in
     rw (← c.self.view_is) (record {
       happens = done.step.happens;
-      reports = done.step.reports;
+      rows = done.step.rows;
       durable = done.step.durable;
       fed = done.fed;
       journal = done.journal c.keeps_core-2.ensures.text;

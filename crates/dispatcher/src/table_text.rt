@@ -1,0 +1,140 @@
+//! The text of a store's tables.
+
+ghost use Rattle.std.specs.Prelude.{◌≡◌, ◌++◌, ◌<◌, length, true, IfOk, OnOk};
+ghost use Rattle.rows.specs.Shape.{shape_of, kinds_in};
+ghost use Rattle.rows.specs.Tables.{shape_in, kinds_of, rows_of};
+ghost use Rattle.dispatcher.specs.TableText.{names_of, row_count, table_text};
+ghost use Rattle.dispatcher.specs.Inner.Walk.{or_none, columns_text, row_text_at, rows_text_at};
+
+use rows::{Schema, append_number, append_value};
+use std::alloc::{AllocError, Global};
+use store::Store;
+
+/// The text of a whole store's tables at this version: a line `version V rows N`, N being the rows
+/// of all tables; then for each table in the schema's order, and for each of its rows in rising
+/// identifier, a line of the table's name, the row's identifier and its values, parted by one space.
+/// Numbers are decimal, octets `x` and lower-case hexadecimal. Each line is ended by 0a. Fails only
+/// when out of memory.
+pub fn table_text<S: Store>(
+    alloc: Global,
+    store: &S,
+    schema: &Schema,
+    version: u64,
+) -> Result<Vec<u8>, AllocError>
+    requires whole { S.is_whole store.now ≡ true }
+    requires shape { shape_in (S.tables store.now) ≡ shape_of schema.now }
+    ensures { IfOk result (λ text. text.items ≡ table_text (names_of schema.now) version (S.tables store.now)) }
+{
+    let tables = table_count(schema);
+    let mut text = Vec::new(alloc);
+    text.extend_from_slice(b"version ")?;
+    append_number(&mut text, version)?;
+    text.extend_from_slice(b" rows ")?;
+    append_number(&mut text, row_count(store, tables))?;
+    text.push(b'\n')?;
+    for table in 0..tables {
+        append_table(&mut text, store, schema, table)?;
+    }
+    Ok(text)
+}
+
+/// How many tables a schema has.
+fn table_count(schema: &Schema) -> u8
+    ensures { result ≡ length schema.now }
+{
+    schema.keeps_limits();
+    schema.len() as u8
+}
+
+/// How many rows the tables of a store have together, of which there are so many. It is summed in
+/// 128 bits, since each table may have as many rows as a `usize` counts.
+fn row_count<S: Store>(store: &S, tables: u8) -> u128
+    requires whole { S.is_whole store.now ≡ true }
+    requires all { tables ≡ length (S.tables store.now) }
+    ensures { result ≡ row_count (S.tables store.now) }
+{
+    let mut count: u128 = 0;
+    for table in 0..tables {
+        count += store.len(table) as u128;
+    }
+    count
+}
+
+/// Appends the lines of a table's rows, in rising identifier; nothing where there is no table of that
+/// number.
+fn append_table<S: Store>(
+    text: &mut Vec<u8>,
+    store: &S,
+    schema: &Schema,
+    table: u8,
+) -> Result<(), AllocError>
+    requires whole { S.is_whole store.now ≡ true }
+    requires shape { shape_in (S.tables store.now) ≡ shape_of schema.now }
+    ensures { OnOk result (text.new.items ≡ text.old.items ++ rows_text_at (names_of schema.now) (S.tables store.now) table) }
+{
+    let Some(name) = schema.name(table as usize) else {
+        return Ok(());
+    };
+    let columns = column_count(schema, table as usize);
+    for i in 0..store.len(table) {
+        append_row(text, store, table, name, columns, i)?;
+    }
+    Ok(())
+}
+
+/// How many columns a table of a schema has; 0 where there is no table of that number.
+fn column_count(schema: &Schema, table: usize) -> usize
+    ensures { result ≡ length (kinds_in (shape_of schema.now) table) }
+{
+    match schema.kinds(table) {
+        Some(kinds) => kinds.len(),
+        None => 0,
+    }
+}
+
+/// Appends the line of the row at an index of a table's order, whose name and whose number of columns
+/// these are.
+fn append_row<S: Store>(
+    text: &mut Vec<u8>,
+    store: &S,
+    table: u8,
+    name: &str,
+    columns: usize,
+    i: usize,
+) -> Result<(), AllocError>
+    requires whole { S.is_whole store.now ≡ true }
+    requires columns { columns ≡ length (kinds_of (S.tables store.now) table) }
+    requires within { i < length (rows_of (S.tables store.now) table) }
+    ensures { OnOk result (text.new.items ≡ text.old.items ++ row_text_at name.now (rows_of (S.tables store.now) table) i) }
+{
+    store.keeps_kinds();
+    let id = store.id_at(table, i);
+    let Some(place) = store.find(table, id) else {
+        unreachable!();
+    };
+    text.extend_from_slice(name.as_bytes())?;
+    text.push(b' ')?;
+    append_number(text, id.0)?;
+    append_columns(text, store, table, place, columns)?;
+    text.push(b'\n')?;
+    Ok(())
+}
+
+/// Appends the values of the row at a place, each behind a space. They are read in their place.
+fn append_columns<S: Store>(
+    text: &mut Vec<u8>,
+    store: &S,
+    table: u8,
+    place: S::Place,
+    columns: usize,
+) -> Result<(), AllocError>
+    requires whole { S.is_whole store.now ≡ true }
+    requires all { columns ≡ length (or_none (S.values_at store.now table place)) }
+    ensures { OnOk result (text.new.items ≡ text.old.items ++ columns_text (or_none (S.values_at store.now table place))) }
+{
+    for column in 0..columns {
+        text.push(b' ')?;
+        append_value(text, &store.value(table, place, column))?;
+    }
+    Ok(())
+}

@@ -1,0 +1,143 @@
+//! The slow world's datagrams: how they are spelled, and how they are read.
+
+use crate::slow_bytes::{are_changes, behind, number_at, push_number};
+use std::alloc::{AllocError, Global};
+
+/// How many workers there are at the most.
+pub const WORKERS: usize = 16;
+
+/// A datagram without the changes of a frame.
+#[derive(Clone, Copy)]
+pub enum Datagram {
+    Frame {
+        worker: u8,
+        seq: u64,
+    },
+    Ask(Request),
+    Head {
+        request: Request,
+        version: u64,
+        counts: [u64; WORKERS],
+    },
+    Want {
+        worker: u8,
+        from: u64,
+    },
+}
+
+/// Who asks: a replica, its start, and how often it has asked.
+#[derive(Clone, Copy)]
+pub struct Request {
+    pub replica: u8,
+    pub boot: u64,
+    pub request: u64,
+}
+
+/// The datagram of this kind with this body.
+pub fn spelled(alloc: Global, kind: u64, body: &[u8]) -> Result<Vec<u8>, AllocError> {
+    let mut bytes = Vec::new(alloc);
+    push_number(&mut bytes, 0x4244, 2)?;
+    push_number(&mut bytes, 1, 1)?;
+    push_number(&mut bytes, kind, 1)?;
+    push_number(&mut bytes, body.len().saturating_add(6) as u64, 2)?;
+    bytes.extend_from_slice(body)?;
+    Ok(bytes)
+}
+
+/// Adds who asks.
+pub fn push_request(body: &mut Vec<u8>, request: &Request) -> Result<(), AllocError> {
+    push_number(body, u64::from(request.replica), 1)?;
+    push_number(body, request.boot, 8)?;
+    push_number(body, request.request, 8)
+}
+
+/// An Ask.
+pub fn ask(alloc: Global, request: &Request) -> Result<Vec<u8>, AllocError> {
+    let mut body = Vec::new(alloc);
+    push_request(&mut body, request)?;
+    spelled(alloc, 2, body.as_slice())
+}
+
+/// A Want.
+pub fn want(alloc: Global, replica: u8, worker: u8, from: u64) -> Result<Vec<u8>, AllocError> {
+    let mut body = Vec::new(alloc);
+    push_number(&mut body, u64::from(replica), 1)?;
+    push_number(&mut body, u64::from(worker), 1)?;
+    push_number(&mut body, from, 8)?;
+    spelled(alloc, 4, body.as_slice())
+}
+
+/// A number of one byte that is below 16.
+fn below_sixteen(bytes: &[u8], from: usize) -> Option<u8> {
+    match bytes.get(from) {
+        Some(byte) if *byte < 16 => Some(*byte),
+        _ => None,
+    }
+}
+
+/// The datagram that the bytes are; none where they are none.
+pub fn read(bytes: &[u8]) -> Option<Datagram> {
+    if number_at(bytes, 0, 2)? != 0x4244 || number_at(bytes, 2, 1)? != 1 {
+        return None;
+    }
+    let kind = number_at(bytes, 3, 1)?;
+    let len = number_at(bytes, 4, 2)?;
+    if len != bytes.len() as u64 || len > 1200 {
+        return None;
+    }
+    match kind {
+        1 => read_frame(bytes),
+        2 if len == 23 => Some(Datagram::Ask(read_request(bytes)?)),
+        3 => read_head(bytes),
+        4 if len == 16 => read_want(bytes),
+        _ => None,
+    }
+}
+
+fn read_frame(bytes: &[u8]) -> Option<Datagram> {
+    let worker = below_sixteen(bytes, 6)?;
+    let seq = number_at(bytes, 7, 8)?;
+    let commit = number_at(bytes, 15, 8)?;
+    let last = number_at(bytes, 23, 1)?;
+    let count = number_at(bytes, 24, 2)?;
+    if commit >= 1 && last <= 1 && count >= 1 && are_changes(behind(bytes, 26), count) {
+        Some(Datagram::Frame { worker, seq })
+    } else {
+        None
+    }
+}
+
+fn read_request(bytes: &[u8]) -> Option<Request> {
+    Some(Request {
+        replica: below_sixteen(bytes, 6)?,
+        boot: number_at(bytes, 7, 8)?,
+        request: number_at(bytes, 15, 8)?,
+    })
+}
+
+fn read_head(bytes: &[u8]) -> Option<Datagram> {
+    let request = read_request(bytes)?;
+    let version = number_at(bytes, 23, 8)?;
+    let workers = number_at(bytes, 31, 1)?;
+    let len = workers.saturating_mul(8).saturating_add(32);
+    if workers < 1 || workers > 16 || len != bytes.len() as u64 {
+        return None;
+    }
+    let mut counts = [0; WORKERS];
+    for (index, count) in counts.iter_mut().enumerate() {
+        *count = number_at(bytes, index.saturating_mul(8).saturating_add(32), 8).unwrap_or(0);
+    }
+    Some(Datagram::Head {
+        request,
+        version,
+        counts,
+    })
+}
+
+fn read_want(bytes: &[u8]) -> Option<Datagram> {
+    below_sixteen(bytes, 6)?;
+    Some(Datagram::Want {
+        worker: below_sixteen(bytes, 7)?,
+        from: number_at(bytes, 8, 8)?,
+    })
+}

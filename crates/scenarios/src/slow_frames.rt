@@ -1,0 +1,147 @@
+//! The slow world's frames: each time all commits of a worker are cut again.
+
+use crate::slow_bytes::{change_len, push_change, push_number};
+use crate::slow_datagrams::{Request, push_request, spelled};
+use crate::slow_rows::{Settings, Table, Written};
+use std::alloc::{AllocError, Global};
+
+/// How many bytes a frame has at the most.
+const FRAME_MAX: u64 = 1200;
+
+/// How many of them stand before its changes.
+const FRAME_FRONT: u64 = 26;
+
+/// A committed change, and the number of the frame in which it goes.
+#[derive(Clone, Copy)]
+pub struct Placed {
+    pub seq: u64,
+    pub written: Written,
+}
+
+/// The changes of a worker's commits up to that number, each with its frame.
+pub fn stream(
+    alloc: Global,
+    tables: &'static [Table],
+    written: &[Written],
+    worker: u8,
+    version: u64,
+) -> Result<Vec<Placed>, AllocError> {
+    let mut placed = Vec::new(alloc);
+    let mut seq: u64 = 0;
+    let mut commit: u64 = 0;
+    let mut size: u64 = 0;
+    for entry in written {
+        if entry.worker != worker || entry.commit > version {
+            continue;
+        }
+        let len = change_len(tables, &entry.change);
+        let goes_on = entry.commit == commit && size.saturating_add(len) <= FRAME_MAX;
+        if !goes_on && commit != 0 {
+            seq = seq.saturating_add(1);
+        }
+        size = if goes_on { size } else { FRAME_FRONT };
+        size = size.saturating_add(len);
+        commit = entry.commit;
+        placed.push(Placed {
+            seq,
+            written: *entry,
+        })?;
+    }
+    Ok(placed)
+}
+
+/// How many frames these are.
+pub fn frame_count(placed: &[Placed]) -> u64 {
+    match placed.last() {
+        None => 0,
+        Some(last) => last.seq.saturating_add(1),
+    }
+}
+
+/// Which commit a frame is of; 0 where there is no such frame.
+fn commit_at(placed: &[Placed], seq: u64) -> u64 {
+    for entry in placed {
+        if entry.seq == seq {
+            return entry.written.commit;
+        }
+    }
+    0
+}
+
+/// A frame's datagram; none where there is no such frame.
+pub fn frame(
+    alloc: Global,
+    tables: &'static [Table],
+    placed: &[Placed],
+    worker: u8,
+    seq: u64,
+) -> Result<Option<Vec<u8>>, AllocError> {
+    let commit = commit_at(placed, seq);
+    if commit == 0 {
+        return Ok(None);
+    }
+    let mut count: u64 = 0;
+    let mut last: u64 = 1;
+    for entry in placed {
+        if entry.seq == seq {
+            count = count.saturating_add(1);
+        }
+        if entry.seq > seq && entry.written.commit == commit {
+            last = 0;
+        }
+    }
+    let mut body = Vec::new(alloc);
+    push_number(&mut body, u64::from(worker), 1)?;
+    push_number(&mut body, seq, 8)?;
+    push_number(&mut body, commit, 8)?;
+    push_number(&mut body, last, 1)?;
+    push_number(&mut body, count, 2)?;
+    push_changes(&mut body, tables, placed, seq)?;
+    Ok(Some(spelled(alloc, 1, body.as_slice())?))
+}
+
+/// Adds the changes of a frame.
+fn push_changes(
+    body: &mut Vec<u8>,
+    tables: &'static [Table],
+    placed: &[Placed],
+    seq: u64,
+) -> Result<(), AllocError> {
+    for entry in placed {
+        if entry.seq == seq {
+            push_change(body, tables, &entry.written.change)?;
+        }
+    }
+    Ok(())
+}
+
+/// The Head that answers a request where so many commits are durable.
+pub fn head(
+    alloc: Global,
+    settings: &Settings,
+    written: &[Written],
+    durable: u64,
+    request: &Request,
+) -> Result<Vec<u8>, AllocError> {
+    let mut body = Vec::new(alloc);
+    push_request(&mut body, request)?;
+    push_number(&mut body, durable, 8)?;
+    push_number(&mut body, u64::from(settings.workers), 1)?;
+    for worker in 0..settings.workers {
+        let count = count_of(alloc, settings, written, worker, durable)?;
+        push_number(&mut body, count, 8)?;
+    }
+    spelled(alloc, 3, body.as_slice())
+}
+
+/// How many frames a worker's commits up to that number have.
+pub fn count_of(
+    alloc: Global,
+    settings: &Settings,
+    written: &[Written],
+    worker: u8,
+    version: u64,
+) -> Result<u64, AllocError> {
+    let placed = stream(alloc, settings.tables, written, worker, version)?;
+    Ok(frame_count(placed.as_slice()))
+}

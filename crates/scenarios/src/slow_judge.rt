@@ -1,0 +1,124 @@
+//! The slow world as a judge of what a script printed, event by event.
+
+use crate::slow_batches::missing;
+use crate::slow_bytes::behind;
+use crate::slow_events::{Event, Script};
+use crate::slow_replicas::{Batch, put_replica, replica_of};
+use crate::slow_tally::Tally;
+use crate::slow_world::{World, step};
+use std::alloc::{AllocError, Global};
+
+/// The first event of a script whose lines are not allowed, by its place; that behind the last
+/// where more is printed than the events answer. None where all that is printed is allowed.
+pub fn judge(
+    alloc: Global,
+    script: &Script,
+    printed: &[u8],
+    tally: &mut Tally,
+) -> Result<Option<usize>, AllocError> {
+    let mut world = World::new(alloc, script.settings)?;
+    let mut rest = printed;
+    for (place, event) in script.events.iter().enumerate() {
+        match judge_event(&mut world, alloc, script, event, rest)? {
+            None => return Ok(Some(place)),
+            Some(len) => {
+                tally.add(event, rest);
+                rest = behind(rest, len);
+            }
+        }
+    }
+    tally.add_sent(world.sent.as_slice());
+    if rest.is_empty() {
+        Ok(None)
+    } else {
+        Ok(Some(script.events.len()))
+    }
+}
+
+/// Judges what an event answers, in front of what is printed: of how many bytes its lines are; none
+/// where they are not allowed.
+fn judge_event(
+    world: &mut World,
+    alloc: Global,
+    script: &Script,
+    event: &Event,
+    printed: &[u8],
+) -> Result<Option<usize>, AllocError> {
+    if printed.starts_with(b"memory\n") {
+        refuse_memory(world, event);
+        return Ok(Some(7));
+    }
+    if printed.starts_with(b"broken\n") && breaks(world, event) {
+        return Ok(Some(7));
+    }
+    let mut lines = String::new(alloc);
+    step(world, alloc, script, event, &mut lines)?;
+    if printed.starts_with(lines.as_bytes()) {
+        return Ok(Some(lines.len()));
+    }
+    if !stands_elsewhere(world, event) {
+        return Ok(None);
+    }
+    let mut others = String::new(alloc);
+    step(world, alloc, script, event, &mut others)?;
+    if printed.starts_with(others.as_bytes()) {
+        Ok(Some(others.len()))
+    } else {
+        Ok(None)
+    }
+}
+
+/// The version that a replica fetched, where it has all frames up to it.
+fn ready_version(world: &World, number: u8) -> Option<u64> {
+    let replica = replica_of(world, number);
+    match replica.batch {
+        Batch::Fetched(version, counts)
+            if !replica.broken && missing(world, number, counts.as_slice()).is_none() => {
+            Some(version)
+        }
+        _ => None,
+    }
+}
+
+/// An event was refused memory. It changed nothing, but that a run may have brought its replica to
+/// the version that it fetched.
+fn refuse_memory(world: &mut World, event: &Event) {
+    if let Event::Run { replica: number } = event {
+        if let Some(version) = ready_version(world, *number) {
+            let mut replica = replica_of(world, *number);
+            replica.other = Some(version);
+            put_replica(world, *number, replica);
+        }
+    }
+}
+
+/// Whether an event is a run that may break its replica; from now on it is broken then.
+fn breaks(world: &mut World, event: &Event) -> bool {
+    let Event::Run { replica: number } = event else {
+        return false;
+    };
+    if ready_version(world, *number).is_none() {
+        return false;
+    }
+    let mut replica = replica_of(world, *number);
+    replica.broken = true;
+    put_replica(world, *number, replica);
+    true
+}
+
+/// Whether an event asks at which version its replica stands, and this may be another one; from
+/// now on it is that one then.
+fn stands_elsewhere(world: &mut World, event: &Event) -> bool {
+    let number = match event {
+        Event::Version { replica } | Event::Dump { replica } => *replica,
+        _ => return false,
+    };
+    let mut replica = replica_of(world, number);
+    let Some(version) = replica.other else {
+        return false;
+    };
+    replica.version = version;
+    replica.other = None;
+    put_replica(world, number, replica);
+    true
+}

@@ -1,0 +1,190 @@
+//! How often each kind of event gave each kind of answer.
+
+use crate::slow_bytes::number_at;
+use crate::slow_events::{Event, Node};
+use std::alloc::{AllocError, Global};
+
+/// Kinds of events, by the words with which they begin.
+pub const KINDS: [&str; 22] = [
+    "begin",
+    "insert",
+    "set",
+    "delete",
+    "get",
+    "commit",
+    "abort",
+    "flush",
+    "stop",
+    "start",
+    "push",
+    "deliver p",
+    "deliver r",
+    "show",
+    "open",
+    "ask",
+    "run",
+    "version",
+    "dump",
+    "restart",
+    "raw p",
+    "raw r",
+];
+
+/// Kinds of answers, by what they begin with; where two fit, the first is meant.
+pub const ANSWERS: [&str; 41] = [
+    "tx ",
+    "ok\n",
+    "exists\n",
+    "missing\n",
+    "unfit\n",
+    "too many entries\n",
+    "no tx\n",
+    "value ",
+    "ticket ",
+    "conflict ",
+    "read only\n",
+    "numbers used up\n",
+    "durable ",
+    "stopped\n",
+    "running\n",
+    "sent ",
+    "no frame\n",
+    "stored\n",
+    "repeat\n",
+    "ahead\n",
+    "head ",
+    "ignored\n",
+    "never sent\n",
+    "42440101",
+    "42440102",
+    "42440103",
+    "42440104",
+    "opened ",
+    "batch full\n",
+    "bad plan ",
+    "busy\n",
+    "empty\n",
+    "no batch\n",
+    "waiting head\n",
+    "waiting ",
+    "version ",
+    "boot used\n",
+    "boot ",
+    "forged\n",
+    "memory\n",
+    "broken\n",
+];
+
+/// The place of an event's kind.
+fn kind_of(event: &Event) -> usize {
+    match event {
+        Event::Begin => 0,
+        Event::Insert { .. } => 1,
+        Event::Set { .. } => 2,
+        Event::Delete { .. } => 3,
+        Event::Get { .. } => 4,
+        Event::Commit { .. } => 5,
+        Event::Abort { .. } => 6,
+        Event::Flush { .. } => 7,
+        Event::Stop { .. } => 8,
+        Event::Start => 9,
+        Event::Push { .. } => 10,
+        Event::Deliver {
+            node: Node::Primary,
+            ..
+        } => 11,
+        Event::Deliver { .. } => 12,
+        Event::Show { .. } => 13,
+        Event::Open { .. } => 14,
+        Event::Ask { .. } => 15,
+        Event::Run { .. } => 16,
+        Event::Version { .. } => 17,
+        Event::Dump { .. } => 18,
+        Event::Restart { .. } => 19,
+        Event::Raw {
+            node: Node::Primary,
+            ..
+        } => 20,
+        Event::Raw { .. } => 21,
+    }
+}
+
+/// How often each kind of event gave each kind of answer.
+#[derive(Drop)]
+pub struct Tally {
+    counts: Vec<u64>,
+    /// How many frames were sent that do not end their commit.
+    long_commits: u64,
+}
+
+impl Tally {
+    pub fn new(alloc: Global) -> Result<Self, AllocError> {
+        let counts = vec![in alloc; 0u64; KINDS.len() * ANSWERS.len()]?;
+        Ok(Tally {
+            counts,
+            long_commits: 0,
+        })
+    }
+
+    /// Counts an event that gave these lines.
+    pub fn add(&mut self, event: &Event, lines: &[u8]) {
+        for (answer, words) in ANSWERS.iter().enumerate() {
+            if lines.starts_with(words.as_bytes()) {
+                let place = place_of(kind_of(event), answer);
+                if let Some(count) = self.counts.get_mut(place) {
+                    *count = count.saturating_add(1);
+                }
+                return;
+            }
+        }
+    }
+
+    /// Counts the frames among these datagrams that do not end their commit.
+    pub fn add_sent(&mut self, sent: &[Vec<u8>]) {
+        for bytes in sent {
+            let kind = number_at(bytes.as_slice(), 3, 1).unwrap_or(0);
+            let last = number_at(bytes.as_slice(), 23, 1).unwrap_or(1);
+            if kind == 1 && last == 0 {
+                self.long_commits = self.long_commits.saturating_add(1);
+            }
+        }
+    }
+
+    /// How many frames were sent that do not end their commit.
+    pub fn long_commits(&self) -> u64 {
+        self.long_commits
+    }
+
+    /// How often events of that kind gave answers of that kind, which is one of the lists above.
+    pub fn count(&self, kind: &str, answer: &str) -> u64 {
+        let kind = place_in(&KINDS, kind);
+        let answer = place_in(&ANSWERS, answer);
+        self.counts
+            .get(place_of(kind, answer))
+            .copied()
+            .unwrap_or(0)
+    }
+
+    /// How often any event gave answers of that kind.
+    pub fn count_of_answer(&self, answer: &str) -> u64 {
+        let mut count: u64 = 0;
+        for kind in KINDS {
+            count = count.saturating_add(self.count(kind, answer));
+        }
+        count
+    }
+}
+
+fn place_of(kind: usize, answer: usize) -> usize {
+    kind.saturating_mul(ANSWERS.len()).saturating_add(answer)
+}
+
+/// The place of these words; the length of the list where they are not in it.
+fn place_in(list: &[&str], words: &str) -> usize {
+    for (place, other) in list.iter().enumerate() {
+        if other.as_bytes() == words.as_bytes() {
+            return place;
+        }
+    }
+    list.len()
+}

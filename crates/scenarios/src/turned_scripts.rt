@@ -1,0 +1,151 @@
+//! What a judge is good for is what it refuses: each text here is that of a drawn script, turned
+//! in one place.
+
+use crate::drawn_numbers::{draw, pick};
+use crate::drawn_scripts::{drawn_script, text_of};
+use crate::scripts::printed;
+use crate::slow_events::Script;
+use crate::slow_judge::judge;
+use crate::slow_tally::Tally;
+use std::alloc::{AllocError, Global};
+use std::test::Fail;
+
+/// What may stand in a line's place.
+const LINES: [&str; 22] = [
+    "ok\n",
+    "exists\n",
+    "missing\n",
+    "unfit\n",
+    "no tx\n",
+    "read only\n",
+    "ticket 1\n",
+    "conflict 1\n",
+    "durable 0\n",
+    "stopped\n",
+    "running\n",
+    "no frame\n",
+    "stored\n",
+    "repeat\n",
+    "ahead\n",
+    "ignored\n",
+    "never sent\n",
+    "busy\n",
+    "empty\n",
+    "no batch\n",
+    "waiting head\n",
+    "broken\n",
+];
+
+/// Where the line begins that stands behind this place.
+fn line_behind(text: &[u8], place: usize) -> usize {
+    for (index, byte) in text.iter().enumerate() {
+        if index >= place && *byte == b'\n' {
+            return index.saturating_add(1);
+        }
+    }
+    text.len()
+}
+
+/// Adds the text from the first place up to the second.
+fn push_part(turned: &mut Vec<u8>, text: &[u8], from: usize, to: usize) -> Result<(), AllocError> {
+    for (index, byte) in text.iter().enumerate() {
+        if index >= from && index < to {
+            turned.push(*byte)?;
+        }
+    }
+    Ok(())
+}
+
+/// The text with these bytes in place of those from the first place up to the second.
+fn replaced(
+    alloc: Global,
+    text: &[u8],
+    from: usize,
+    to: usize,
+    others: &[u8],
+) -> Result<Vec<u8>, AllocError> {
+    let mut turned = Vec::new(alloc);
+    push_part(&mut turned, text, 0, from)?;
+    turned.extend_from_slice(others)?;
+    push_part(&mut turned, text, to, text.len())?;
+    Ok(turned)
+}
+
+/// The place of the first digit from a place on; the text's length where there is none.
+fn digit_behind(text: &[u8], place: usize) -> usize {
+    for (index, byte) in text.iter().enumerate() {
+        if index >= place && byte.is_ascii_digit() {
+            return index;
+        }
+    }
+    text.len()
+}
+
+/// The text with one digit higher by one; 0 in place of 9.
+fn with_other_digit(alloc: Global, text: &[u8], place: usize) -> Result<Vec<u8>, AllocError> {
+    let place = digit_behind(text, place);
+    let other = match text.get(place) {
+        Some(b'9') => b'0',
+        Some(digit) => digit.saturating_add(1),
+        None => b'0',
+    };
+    replaced(alloc, text, place, place.saturating_add(1), &[other])
+}
+
+/// The text turned in one place.
+fn turned(state: &mut u64, alloc: Global, text: &[u8]) -> Result<Vec<u8>, AllocError> {
+    let place = draw(state, text.len().max(1));
+    let begin = line_behind(text, place);
+    let end = line_behind(text, begin);
+    match draw(state, 6) {
+        0 => with_other_digit(alloc, text, place),
+        1 => replaced(alloc, text, begin, end, &[]),
+        2 => replaced(alloc, text, place, text.len(), &[]),
+        3 => replaced(alloc, text, begin, begin, pick(state, &LINES).as_bytes()),
+        4 => replaced(
+            alloc,
+            text,
+            text.len(),
+            text.len(),
+            pick(state, &LINES).as_bytes(),
+        ),
+        _ => replaced(alloc, text, begin, end, pick(state, &LINES).as_bytes()),
+    }
+}
+
+/// Whether the judge refuses what a script printed once it is turned, at each of so many tries.
+fn are_refused(
+    state: &mut u64,
+    alloc: Global,
+    script: &Script,
+    text: &[u8],
+    tries: usize,
+) -> Result<bool, AllocError> {
+    let mut tally = Tally::new(alloc)?;
+    for _ in 0..tries {
+        let other = turned(state, alloc, text)?;
+        if other.as_slice() != text
+            && judge(alloc, script, other.as_slice(), &mut tally)?.is_none()
+        {
+            return Ok(false);
+        }
+    }
+    Ok(true)
+}
+
+/// Whether the judge refuses what the script of a seed prints, once it is turned.
+fn is_refused(alloc: Global, seed: u64, tries: usize) -> Result<bool, Fail> {
+    let script = drawn_script(alloc, seed)?;
+    let text = text_of(alloc, &script)?;
+    let printed = printed(alloc, text.as_bytes())?;
+    let mut state = seed;
+    Ok(are_refused(&mut state, alloc, &script, printed.as_slice(), tries)?)
+}
+
+#[test]
+fn turned_texts_are_refused(rt: HostRuntime) -> Result<(), Fail> {
+    for seed in 0..100 {
+        assert!(rt; is_refused(rt.alloc(), seed, 30)?, "at seed {seed}");
+    }
+    Ok(())
+}
