@@ -35,14 +35,16 @@ pub fn stops_keep_what_stands()
 }
 
 /// Whatever is allowed in the world by events that are possible, whoever answers it, keeps what is
-/// durable, speaks of no damage, and reports by the one list that is durable at the end. No code takes part.
+/// durable, speaks of no damage, and reports by the one list that is durable at the end. No code
+/// takes part.
 pub fn allowed_runs_are_exact()
     ensures { AllowedRunsAreExact }
 {}
 
 /// Whatever is allowed in the world by events that are possible is, as users see it, a run of a
-/// list of commits that only grows, of replicas that each stand at a version of it, and of batches that are each answered at one
-/// version, at least as new as the list was when they asked. No code takes part.
+/// list of commits that only grows, of replicas that each stand at a version of it, and of batches
+/// that are each answered at one version, at least as new as the list was when they asked. No code
+/// takes part.
 pub fn runs_are_of_database()
     ensures { RunsAreOfDatabase }
 {}
