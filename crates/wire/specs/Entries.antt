@@ -1,9 +1,8 @@
 -- The entries that bytes spell one behind the other.
-use Rattle.std.specs.Prelude.{◌≡◌, ℕ, zero, suc, List, [], ◌∷◌, drop, Option, None, Some}
+use Rattle.std.specs.Prelude.{ℕ, zero, suc, List, [], ◌∷◌, drop, Option, None, Some}
 use Rattle.std.specs.Option.{option_map}
 use Rattle.rows.specs.declared.entry.Entry.{Entry}
 use Rattle.rows.specs.Reading.{entry_at}
-use Rattle.rows.specs.Spelling.{AreBytes}
 
 -- the list behind a first entry
 abbrev pub behind : Option (Entry × ℕ) → (ℕ → Option (List Entry)) → Option (List Entry)
@@ -20,8 +19,3 @@ entries_filling (suc count) bytes = behind (entry_at bytes) (λ len. entries_fil
 abbrev pub or_none : Option (List Entry) → List Entry
 or_none None = []
 or_none (Some entries) = entries
-
--- bytes that this many entries fill
-pub record AreFilled (count : ℕ) (bytes : List ℕ) : Type 0 where
-  pub filled : entries_filling count bytes ≡ Some (or_none (entries_filling count bytes))
-  pub are_bytes : AreBytes bytes

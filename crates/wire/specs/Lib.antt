@@ -2,3 +2,4 @@ pub mod Entries
 pub mod Spelling
 pub mod Reading
 pub mod Laws
+pub mod Inner

@@ -24,7 +24,8 @@ pub struct LentEntries<'a> {
 impl<'a> Model for LentEntries<'a> {
     ghost use Rattle.std.specs.Prelude.{List};
     ghost use Rattle.rows.specs.declared.entry.Entry.{Entry};
-    ghost use Rattle.wire.specs.Entries.{entries_filling, or_none, AreFilled};
+    ghost use Rattle.wire.specs.Entries.{entries_filling, or_none};
+    ghost use Rattle.wire.specs.Inner.Filling.{AreFilled};
 
     ghost Value = { List Entry };
 
