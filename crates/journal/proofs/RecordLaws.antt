@@ -20,28 +20,30 @@ use Rattle.rows.specs.Spelling.{AreBytes, HasSpelling, entry_spelling}
 use Rattle.rows.proofs.Bytes.{AreBytes-drop, AreBytes-take, cut_1, cut_2, cut_8, number_fits}
 use Rattle.journal.specs.declared.numbered_commit.NumberedCommit.{NumberedCommit}
 use Rattle.journal.specs.Inner.Reading.{entries_filling, commit_in, record_at}
-use Rattle.journal.specs.Recovery.{IsBeginning, HasRecord, record_len_min, record_len_max, is_record_len, is_torn, IsRecordAt, IsDamaged}
+use Rattle.journal.specs.Recovery.{IsBeginning, HasRecord, entry_len_min, entry_len_max, record_front_len, record_len_min, record_len_max}
+use Rattle.journal.specs.Recovery.{is_record_len, is_torn, IsRecordAt, IsDamaged}
 use Rattle.journal.specs.Text.{record_body, record_of}
 use Rattle.journal.proofs.Filling.{filling-length, filling-spelled, filling-again}
 
 -- ---- how long records are
 
-entry_least : (entry : Entry) → 10 ≤ length (entry_spelling entry)
+entry_least : (entry : Entry) → entry_len_min ≤ length (entry_spelling entry)
 entry_least (Insert table row content) = omega arith
 entry_least (Patch table row offset content) = omega arith
 entry_least (Delete table row) = omega arith
 
-pub entry_most : (entry : Entry) → HasSpelling entry → length (entry_spelling entry) ≤ 524
+pub entry_most : (entry : Entry) → HasSpelling entry → length (entry_spelling entry) ≤ entry_len_max
 entry_most (Insert table row content) fits = omega (arith, fits.few)
 entry_most (Patch table row offset content) fits = omega (arith, fits.few)
 entry_most (Delete table row) fits = omega arith
 
-entries_least : (entries : List Entry) → 10 * length entries ≤ length (flat_map entry_spelling entries)
+entries_least : (entries : List Entry) → entry_len_min * length entries ≤ length (flat_map entry_spelling entries)
 entries_least [] = omega arith
 entries_least (entry ∷ entries) =
     omega (arith, entry_least entry, entries_least entries, length-append (entry_spelling entry) (flat_map entry_spelling entries))
 
-entries_most : (entries : List Entry) → AllByRecursion HasSpelling entries → length (flat_map entry_spelling entries) ≤ 524 * length entries
+entries_most : (entries : List Entry) → AllByRecursion HasSpelling entries
+    → length (flat_map entry_spelling entries) ≤ entry_len_max * length entries
 entries_most [] fits = omega arith
 entries_most (entry ∷ entries) fits =
     omega (
@@ -60,7 +62,7 @@ body_long : (number : ℕ) (commit : Commit) → HasRecord commit → IsLong (le
 body_long number commit held =
     let least = entries_least commit.entries in
     let most = entries_most commit.entries held.spelled in
-    let size : length (record_body number commit) ≡ 11 + length (flat_map entry_spelling commit.entries) = omega arith in
+    let size : length (record_body number commit) ≡ record_front_len + length (flat_map entry_spelling commit.entries) = omega arith in
     record { least = omega (arith, held.some); most = omega (arith, held.few) }
 
 is_record_len-long : (len : ℕ) → IsLong len → is_record_len len ≡ true

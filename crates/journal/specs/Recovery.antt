@@ -2,13 +2,13 @@
 --
 -- Kept is the longest list that a journal may be of whose text begins the bytes. What stands behind its text is nothing,
 -- or what a stop left of a record; anything else is refused, by what it is.
-use Rattle.std.specs.Prelude.{◌≡◌, ◌⊎◌, ℕ, ◌+◌, ◌^◌, ◌<◌, ◌≤◌, List, [], ◌∷◌, ◌++◌, length, drop, nat_lt}
+use Rattle.std.specs.Prelude.{◌≡◌, ◌⊎◌, ℕ, ◌+◌, ◌*◌, ◌^◌, ◌<◌, ◌≤◌, List, [], ◌∷◌, ◌++◌, length, drop, nat_lt}
 use Rattle.std.specs.Prelude.{Bool, true, false, not, ◌&&◌, ◌||◌}
 use Rattle.std.specs.List.{AllByRecursion}
 use Rattle.byteorder.specs.Endian.{big_number}
 use Rattle.rows.specs.declared.commit.Commit.{Commit}
 use Rattle.rows.specs.Commits.{IsLegal}
-use Rattle.rows.specs.Limits.{commit_entries_max}
+use Rattle.rows.specs.Limits.{row_width_max, commit_entries_max}
 use Rattle.rows.specs.Shape.{Shape}
 use Rattle.rows.specs.Spelling.{HasSpelling}
 use Rattle.journal.specs.declared.faults.JournalFault.{JournalFault}
@@ -42,12 +42,23 @@ abbrev pub IsKeptUpTo : ℕ → Shape → List ℕ → List Commit → ℕ → T
 IsKeptUpTo workers shape bytes commits offset =
     IsKept workers shape bytes commits × (offset ≡ length (journal_text workers shape commits))
 
+-- how many bytes an entry takes: at least a delete, which is nothing behind its row, at most an insert of the widest row
+abbrev pub entry_len_min : ℕ
+entry_len_min = 1 + 1 + 8
+
+abbrev pub entry_len_max : ℕ
+entry_len_max = 1 + 1 + 8 + 2 + row_width_max
+
+-- how many bytes of a record stand between its length and its entries: the worker, the number, and how many entries
+abbrev pub record_front_len : ℕ
+record_front_len = 1 + 8 + 2
+
 -- how many bytes a record takes behind its length: at least a delete, at most 4096 inserts of the widest rows
 abbrev pub record_len_min : ℕ
-record_len_min = 21
+record_len_min = record_front_len + entry_len_min
 
 abbrev pub record_len_max : ℕ
-record_len_max = 2146315
+record_len_max = record_front_len + commit_entries_max * entry_len_max
 
 -- whether a record may have this length
 abbrev pub is_record_len : ℕ → Bool

@@ -5,11 +5,15 @@ ghost use Rattle.rows.specs.Shape.{shape_of};
 ghost use Rattle.journal.specs.Text.{header, table_header, kind_code};
 
 use arrayvec::ArrayVec;
+use rows::limits::{COLUMNS_MAX, TABLES_MAX};
 use rows::{Kind, Schema};
 use std::alloc::{AllocError, Global};
 
-/// Bytes of a header, at most: 6, and 17 for each of 16 tables.
-pub const HEADER_LEN_MAX: usize = 278;
+/// Bytes of a table's part in a header, at most.
+const TABLE_LEN_MAX: usize = 1 + COLUMNS_MAX;
+
+/// Bytes of a header, at most.
+pub const HEADER_LEN_MAX: usize = 6 + TABLES_MAX * TABLE_LEN_MAX;
 
 /// The header of a journal of this schema and this number of workers. Fails only where it is out of
 /// memory.
@@ -37,7 +41,7 @@ pub fn header_of(workers: u8, schema: &Schema) -> ArrayVec<u8, HEADER_LEN_MAX>
 /// How many tables a schema has; there are at most 16.
 fn table_count(schema: &Schema) -> u8
     ensures count { result ≡ length (shape_of schema.now) }
-    ensures few { result ≤ 16 }
+    ensures few { result ≤ TABLES_MAX }
 {
     schema.keeps_limits();
     schema.len() as u8
@@ -59,10 +63,10 @@ fn front(workers: u8, tables: u8) -> ArrayVec<u8, HEADER_LEN_MAX>
 
 /// Adds a table's part: how many columns, and a byte for each.
 fn push_table(bytes: &mut ArrayVec<u8, HEADER_LEN_MAX>, kinds: &[Kind])
-    requires few { length kinds.now ≤ 16 }
-    requires room { length bytes.old.items + 17 ≤ HEADER_LEN_MAX }
+    requires few { length kinds.now ≤ COLUMNS_MAX }
+    requires room { length bytes.old.items + TABLE_LEN_MAX ≤ HEADER_LEN_MAX }
     ensures items { bytes.new.items ≡ bytes.old.items ++ table_header kinds.now }
-    ensures len { length bytes.new.items ≤ length bytes.old.items + 17 }
+    ensures len { length bytes.new.items ≤ length bytes.old.items + TABLE_LEN_MAX }
 {
     bytes.push(kinds.len() as u8);
     for kind in kinds {

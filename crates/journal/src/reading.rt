@@ -7,16 +7,17 @@ ghost use Rattle.journal.specs.Recovery.{is_record_len, is_torn};
 ghost use Rattle.journal.specs.Inner.Reading.{entries_filling, commit_in, record_at};
 
 use crate::numbered_commit::NumberedCommit;
+use crate::text::{ENTRY_LEN_MAX, ENTRY_LEN_MIN, RECORD_FRONT_LEN};
 use byteorder::{BigEndian, ByteOrder};
 use rows::limits::COMMIT_ENTRIES_MAX;
 use rows::{ByteList, Commit, Entry, EntryList, EntryRef, read_entry};
 use std::alloc::{AllocError, Global};
 
 /// Bytes that a record takes behind its length, at least: those of one delete.
-const RECORD_LEN_MIN: usize = 21;
+const RECORD_LEN_MIN: usize = RECORD_FRONT_LEN + ENTRY_LEN_MIN;
 
 /// And at most: those of 4096 inserts of the widest rows.
-const RECORD_LEN_MAX: usize = 2_146_315;
+const RECORD_LEN_MAX: usize = RECORD_FRONT_LEN + COMMIT_ENTRIES_MAX * ENTRY_LEN_MAX;
 
 /// Whether a stop may have left these bytes behind the last whole record.
 pub fn is_torn(bytes: &[u8]) -> bool
@@ -58,10 +59,10 @@ pub fn read_record(alloc: Global, bytes: &[u8]) -> Result<Option<NumberedCommit>
 
 /// The commit that a record holds behind its length, and its number; `None` where it is damaged.
 fn read_body(alloc: Global, body: &[u8]) -> Result<Option<NumberedCommit>, AllocError>
-    requires { 11 ≤ length body.now }
+    requires { RECORD_FRONT_LEN ≤ length body.now }
     ensures { IfOk result (λ found. found ≡ commit_in body.now) }
 {
-    let (front, rest) = body.split_at(11);
+    let (front, rest) = body.split_at(RECORD_FRONT_LEN);
     let count = BigEndian::read_u16(&front[9..]);
     if count == 0 || count as usize > COMMIT_ENTRIES_MAX {
         return Ok(None);

@@ -8,12 +8,18 @@ ghost use Rattle.journal.specs.Recovery.{HasRecord};
 ghost use Rattle.journal.specs.Text.{record_of, records_from};
 
 use byteorder::{BigEndian, ByteOrder};
-use rows::limits::COMMIT_ENTRIES_MAX;
+use rows::limits::{COMMIT_ENTRIES_MAX, ROW_WIDTH_MAX};
 use rows::{Commit, Entry, entry_len, write_entry};
 use std::alloc::{AllocError, Global};
 
-/// Bytes that an entry takes, at most.
-const ENTRY_LEN_MAX: usize = 524;
+/// Bytes of a record between its length and its entries: worker, number, how many entries.
+pub const RECORD_FRONT_LEN: usize = 1 + 8 + 2;
+
+/// Bytes that an entry takes, at least: those of a delete.
+pub const ENTRY_LEN_MIN: usize = 1 + 1 + 8;
+
+/// And at most: those of an insert of the widest row.
+pub const ENTRY_LEN_MAX: usize = 1 + 1 + 8 + 2 + ROW_WIDTH_MAX;
 
 /// The records of commits, numbered from `first`, which is at least 1. Each commit has 1 to 4096
 /// entries, each with a spelling. Fails only where it is out of memory.
@@ -55,9 +61,9 @@ fn push_record(bytes: &mut Vec<u8>, number: u64, commit: &Commit) -> Result<(), 
 fn body_len(entries: &[Entry]) -> u32
     requires few { length entries.now ≤ COMMIT_ENTRIES_MAX }
     requires spelled { AllByRecursion HasSpelling entries.now }
-    ensures { result ≡ 11 + length (flat_map entry_spelling entries.now) }
+    ensures { result ≡ RECORD_FRONT_LEN + length (flat_map entry_spelling entries.now) }
 {
-    let mut len = 11;
+    let mut len = RECORD_FRONT_LEN as u32;
     for entry in entries {
         len += entry_len(entry) as u32;
     }

@@ -4,13 +4,17 @@ ghost use Rattle.std.specs.Prelude.{◌≡◌, ◌<◌, ◌≤◌, ◌∷◌, []
 ghost use Rattle.rows.specs.Limits.{workers_max};
 
 use arrayvec::ArrayVec;
+use rows::limits::WORKERS_MAX;
 use std::marker::Model;
+
+/// How many counts there are, at most.
+const COUNTS_MAX: usize = WORKERS_MAX as usize;
 
 /// How many frames each worker has, in the order of the workers: at most 16 numbers, kept
 /// inline.
 #[derive(Debug, Drop)]
 pub struct Counts {
-    items: ArrayVec<u64, 16>,
+    items: ArrayVec<u64, COUNTS_MAX>,
 }
 
 impl Model for Counts {

@@ -18,6 +18,9 @@ use rows::limits::DATAGRAM_MAX;
 use rows::{Entry, entry_len, write_entry};
 use update_log::Frame;
 
+/// Bytes of a frame before its entries.
+const FRAME_FRONT_LEN: usize = 26;
+
 /// Writes the spelling of a datagram to the front of the buffer, and answers its length; the
 /// bytes behind it stay. `TooSmall` exactly where the buffer is shorter than the spelling, and
 /// then the buffer is unchanged. Takes no memory.
@@ -36,7 +39,7 @@ pub fn write(datagram: &Datagram<'_>, buffer: &mut [u8]) -> Result<usize, TooSma
             entries,
         } => {
             let bytes = entries.as_bytes();
-            let total = 26 + bytes.len();
+            let total = FRAME_FRONT_LEN + bytes.len();
             let front = frame_front(
                 *worker,
                 *seq,
@@ -109,7 +112,7 @@ fn write_frame_of(
     ensures small { IsErr result ↔ (length buffer.old < length (spelling (Datagram.Frame worker seq commit last entries.now))) }
     ensures err { OnErr result (buffer.new ≡ buffer.old) }
 {
-    let total = 26 + entries_len(entries);
+    let total = FRAME_FRONT_LEN + entries_len(entries);
     if buffer.len() < total {
         return Err(TooSmall);
     }
@@ -121,7 +124,7 @@ fn write_frame_of(
         entries.len() as u16,
         total as u16,
     );
-    let (head, rest) = buffer.split_at_mut(26);
+    let (head, rest) = buffer.split_at_mut(FRAME_FRONT_LEN);
     head.copy_from_slice(&front);
     write_entries(entries, rest);
     Ok(total)
@@ -172,10 +175,17 @@ fn put_two(front: &[u8], back: &[u8], buffer: &mut [u8]) -> Result<usize, TooSma
 }
 
 /// The bytes of a frame before its entries.
-fn frame_front(worker: u8, seq: u64, commit: u64, last: bool, count: u16, total: u16) -> [u8; 26]
+fn frame_front(
+    worker: u8,
+    seq: u64,
+    commit: u64,
+    last: bool,
+    count: u16,
+    total: u16,
+) -> [u8; FRAME_FRONT_LEN]
     ensures { result ≡ datagram_front frame_kind total ++ frame_head worker seq commit last count }
 {
-    let mut bytes = [0u8; 26];
+    let mut bytes = [0u8; FRAME_FRONT_LEN];
     start(FRAME_KIND, total, &mut bytes);
     bytes[6] = worker;
     BigEndian::write_u64(&mut bytes[7..], seq);

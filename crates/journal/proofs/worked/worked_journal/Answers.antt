@@ -16,3 +16,9 @@ returns-clause-delete_and_patch c = refl
 
 pub returns-clause-journal : goal.returns-clause-journal
 returns-clause-journal c = refl
+
+pub returns-clause-shortest : goal.returns-clause-shortest
+returns-clause-shortest c = refl
+
+pub returns-clause-longest : goal.returns-clause-longest
+returns-clause-longest c = refl
