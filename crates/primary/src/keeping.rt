@@ -12,7 +12,7 @@ ghost use Rattle.journal.specs.Recovery.{IsJournaled};
 ghost use Rattle.primary.specs.Journaling.{AreNumbered};
 
 use mvcc::Versions;
-use rows::{Commit, Entry, EntryList, Schema};
+use rows::{Commit, Entry, Schema};
 use std::alloc::{AllocError, Global};
 use update_log::Streams;
 
@@ -50,7 +50,6 @@ pub fn rebuild(
 /// is taken before anything changes: fails only where it is out of memory, and then no commit has
 /// been added.
 pub fn keep(
-    alloc: Global,
     versions: &mut Versions,
     streams: &mut Streams,
     worker: u8,
@@ -68,30 +67,8 @@ pub fn keep(
     ensures err { OnErr result (versions.new ≡ versions.old) }
 {
     let number = versions.len() + 1;
-    let commit = Commit {
-        worker,
-        entries: copied(alloc, entries)?,
-    };
-    let next = streams.reserve(&commit, number)?;
+    let next = streams.reserve(worker, entries, number)?;
     versions.absorb(worker, entries)?;
     streams.add(next);
     Ok(())
-}
-
-/// The same entries once more. Fails only where it is out of memory.
-fn copied(alloc: Global, entries: &[Entry]) -> Result<EntryList, AllocError>
-    ensures { IfOk result (λ copy. copy ≡ entries.now) }
-{
-    let mut copy = EntryList::new(alloc);
-    for entry in entries {
-        copy.push(copy_of(entry)?)?;
-    }
-    Ok(copy)
-}
-
-/// The same entry once more. Fails only where it is out of memory.
-fn copy_of(entry: &Entry) -> Result<Entry, AllocError>
-    ensures { IfOk result (λ copy. copy ≡ entry.now) }
-{
-    entry.clone()
 }

@@ -146,7 +146,6 @@ impl Lists {
             Err(fault) => return Err((transaction, fault)),
         };
         let kept = keep(
-            self.alloc,
             &mut self.versions,
             &mut self.streams,
             worker,

@@ -138,7 +138,7 @@ fn reserve_and_add(streams: &mut Streams, commit: &Commit, number: u64) -> Resul
     if u64::MAX - before < commit.entries.len() as u64 {
         return Err("too many frames".into());
     }
-    let next = streams.reserve(commit, number)?;
+    let next = streams.reserve(commit.worker, commit.entries.as_slice(), number)?;
     if streams.next_seq(commit.worker) != before {
         return Err("a stream has changed".into());
     }

@@ -1,8 +1,8 @@
 -- The frames of parts: one more part, which parts they hold, and that a datagram spells each.
-use Rattle.std.proofs.Common.{◌≡◌, ℕ, ◌+◌, ◌^◌, ◌<◌, ◌≤◌, ◌==◌, Bool, List, [], ◌∷◌, ◌++◌, length, map, take, drop}
-use Rattle.std.proofs.Common.{refl, sym, ap, subst, ◌∙◌, append_assoc, arith}
+use Rattle.std.proofs.Common.{◌≡◌, ℕ, ◌+◌, ◌^◌, ◌<◌, ◌≤◌, ◌==◌, Bool, true, List, [], ◌∷◌, ◌++◌, length, map, take, drop}
+use Rattle.std.proofs.Common.{refl, sym, ap, subst, ◌∙◌, append_assoc, append-nil, arith}
 use Rattle.std.specs.List.{AllByRecursion}
-use Rattle.std.proofs.lemmas.Bool.{ne_eqb}
+use Rattle.std.proofs.lemmas.Bool.{eqb-true, ne_eqb}
 use Rattle.rows.specs.declared.commit.Commit.{Commit}
 use Rattle.rows.specs.declared.entry.Entry.{Entry}
 use Rattle.rows.specs.Limits.{datagram_max, workers_max}
@@ -48,6 +48,12 @@ frames-more frames all worker number seq n rest part behind last part_is behind_
     ∙ sym (ap (frames_from worker number seq) cut) in
     append_assoc frames (frame ∷ []) (frames_from worker number (seq + 1) (parts_of behind))
     ∙ ap (λ (more : List Frame). frames ++ more) these ∙ so_far
+
+-- where no entry is left, those so far are all
+pub frames-end : (frames all : List Frame) (worker number seq : ℕ) (rest : List Entry) → (length rest == 0) ≡ true
+    → frames ++ frames_from worker number seq (parts_of rest) ≡ all → frames ≡ all
+frames-end frames all worker number seq [] none so_far = sym (append-nil frames) ∙ so_far
+frames-end frames all worker number seq (entry ∷ rest) none so_far = absurd (omega (arith, eqb-true (length (entry ∷ rest)) 0 none))
 
 -- as many seqs are left as parts
 pub seqs-more : (seq n : ℕ) (rest behind : List Entry) → behind ≡ drop n rest

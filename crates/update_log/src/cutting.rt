@@ -4,7 +4,7 @@ ghost use Rattle.std.specs.Prelude.{◌≡◌, ◌+◌, ◌^◌, ◌<◌, ◌≤
 ghost use Rattle.std.specs.List.{AllByRecursion};
 ghost use Rattle.rows.specs.Spelling.{HasSpelling};
 ghost use Rattle.update_log.specs.Parts.{AreParts, frame_len, parts_of};
-ghost use Rattle.update_log.specs.Frames.{IsCuttable, IsSendable, frames_from, frames_of};
+ghost use Rattle.update_log.specs.Frames.{IsCuttable, IsSendable, frames_of};
 
 use crate::frame::Frame;
 use rows::limits::DATAGRAM_MAX;
@@ -31,13 +31,8 @@ pub fn cut(
     ensures parts { IfOk result (λ frames. AreParts commit.now.entries (map (λ frame. frame.entries) frames.items)) }
     ensures sendable { IfOk result (λ frames. AllByRecursion IsSendable frames.items) }
 {
-    cut_entries(
-        alloc,
-        commit.worker,
-        number,
-        first_seq,
-        commit.entries.as_slice(),
-    )
+    let entries = commit.entries.as_slice();
+    cut_entries(alloc, commit.worker, entries, number, first_seq)
 }
 
 /// How many frames a commit of these entries is cut into, so that a caller can tell whether all have
@@ -57,17 +52,18 @@ pub fn part_count(entries: &[Entry]) -> usize
     entries.len()
 }
 
-/// The frames of the entries of a worker's commit.
-fn cut_entries(
+/// The frames of a worker's commit of these entries, as `cut` says.
+pub fn cut_entries(
     alloc: Global,
     worker: u8,
+    entries: &[Entry],
     number: u64,
     first_seq: u64,
-    entries: &[Entry],
 ) -> Result<Vec<Frame>, AllocError>
-    requires spelled { AllByRecursion HasSpelling entries.now }
-    requires seqs { first_seq + length (parts_of entries.now) < 2 ^ 64 }
-    ensures { IfOk result (λ frames. frames.items ≡ frames_from worker number first_seq (parts_of entries.now)) }
+    requires { IsCuttable (record { worker = worker; entries = entries.now }) number first_seq }
+    ensures frames { IfOk result
+        (λ frames. frames.items ≡ frames_of (record { worker = worker; entries = entries.now }) number first_seq) }
+    ensures sendable { IfOk result (λ frames. AllByRecursion IsSendable frames.items) }
 {
     let mut frames = Vec::new(alloc);
     let mut seq = first_seq;

@@ -7,9 +7,9 @@ ghost use Rattle.update_log.specs.declared.frame.Frame.{Frame as FrameOf};
 ghost use Rattle.update_log.specs.Frames.{IsCuttable, IsSendable, frames_of};
 ghost use Rattle.update_log.specs.Inner.Splitting.{IsSplitAt};
 
-use crate::cutting::cut;
+use crate::cutting::cut_entries;
 use crate::frame::Frame;
-use rows::Commit;
+use rows::Entry;
 use std::alloc::{AllocError, Global};
 use std::marker::Model;
 
@@ -67,21 +67,23 @@ impl Stream {
         count_upto(self.frames.as_slice(), version) as u64
     }
 
-    /// The frames of a commit of this number, which the stream then has room for. Fails only where
-    /// it is out of memory. No frame is added.
+    /// The frames of a worker's commit of these entries, of this number, which the stream then has
+    /// room for. Fails only where it is out of memory. No frame is added.
     pub fn reserve(
         &mut self,
         alloc: Global,
-        commit: &Commit,
+        worker: u8,
+        entries: &[Entry],
         number: u64,
     ) -> Result<Vec<Frame>, AllocError>
-        requires { IsCuttable commit.now number (length self.old.frames) }
-        ensures frames { IfOk result (λ frames. frames.items ≡ frames_of commit.now number (length self.old.frames)) }
+        requires { IsCuttable (record { worker = worker; entries = entries.now }) number (length self.old.frames) }
+        ensures frames { IfOk result (λ frames. frames.items
+            ≡ frames_of (record { worker = worker; entries = entries.now }) number (length self.old.frames)) }
         ensures sendable { IfOk result (λ frames. AllByRecursion IsSendable frames.items) }
         ensures room { IfOk result (λ frames. length frames.items ≤ self.new.room) }
         ensures same { self.new.frames ≡ self.old.frames }
     {
-        let frames = cut(alloc, commit, number, self.len())?;
+        let frames = cut_entries(alloc, worker, entries, number, self.len())?;
         self.frames.reserve(frames.len())?;
         Ok(frames)
     }

@@ -9,8 +9,8 @@ ghost use Rattle.update_log.specs.Streams.{AreStreamsOf, HasRoom, stream_at, str
 use crate::frame::Frame;
 use crate::next_frames::NextFrames;
 use crate::stream::Stream;
-use rows::Commit;
 use rows::limits::WORKERS_MAX;
+use rows::{Commit, Entry};
 use std::alloc::{AllocError, Global};
 use std::marker::Model;
 
@@ -63,25 +63,31 @@ impl Streams {
             → AreStreamsOf self.new.streams (commits ++ commit.now ∷ [])) }
         ensures err { OnErr result (self.new.streams ≡ self.old.streams) }
     {
-        let next = self.reserve(commit, number)?;
+        let next = self.reserve(commit.worker, commit.entries.as_slice(), number)?;
         self.add(next);
         Ok(())
     }
 
-    /// Takes all the memory that adding the next commit needs: its frames are made, and room for
-    /// them in its worker's stream. `add` then puts them there, so that a caller can take other
-    /// memory in between and needs to take nothing back where there is none. It costs the commit's
-    /// own entries, which are copied. Fails only where it is out of memory. No stream changes.
-    pub fn reserve(&mut self, commit: &Commit, number: u64) -> Result<NextFrames, AllocError>
-        requires { IsCuttable commit.now number (length (stream_at self.old.streams commit.now.worker)) }
-        ensures frames { IfOk result (λ next. next ≡ next_frames self.new.streams commit.now number) }
+    /// Takes all the memory that adding the next commit needs, the worker's commit of these entries,
+    /// by its number: its frames are made, and room for them in its worker's stream. `add` then puts
+    /// them there, so that a caller can take other memory in between and needs to take nothing back
+    /// where there is none. It costs the entries, which are copied once. Fails only where it is out of
+    /// memory. No stream changes.
+    pub fn reserve(
+        &mut self,
+        worker: u8,
+        entries: &[Entry],
+        number: u64,
+    ) -> Result<NextFrames, AllocError>
+        requires { IsCuttable (record { worker = worker; entries = entries.now }) number (length (stream_at self.old.streams worker)) }
+        ensures frames { IfOk result
+            (λ next. next ≡ next_frames self.new.streams (record { worker = worker; entries = entries.now }) number) }
         ensures room { IfOk result (λ next. HasRoom self.new next) }
         ensures same { self.new.streams ≡ self.old.streams }
     {
         let alloc = self.alloc;
-        let worker = commit.worker;
         let stream = &mut self.workers[worker as usize];
-        let frames = stream.reserve(alloc, commit, number)?;
+        let frames = stream.reserve(alloc, worker, entries, number)?;
         Ok(NextFrames { worker, frames })
     }
 

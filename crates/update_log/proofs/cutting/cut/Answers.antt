@@ -1,11 +1,10 @@
--- What the frames are says which parts they hold, and that a datagram spells each.
+-- What the frames are says which parts they hold.
 use Rattle.std.proofs.Common.{◌≡◌, map, ap, ◌∙◌, Vec, Global}
-use Rattle.std.specs.List.{AllByRecursion}
 use Rattle.update_log.specs.declared.frame.Frame.{Frame}
 use Rattle.update_log.specs.Parts.{AreParts, parts_of}
-use Rattle.update_log.specs.Frames.{IsSendable, frames_from}
+use Rattle.update_log.specs.Frames.{frames_from}
 use Rattle.update_log.proofs.Elements.{ok-then}
-use Rattle.update_log.proofs.Framing.{frames-sendable, held-are_parts}
+use Rattle.update_log.proofs.Framing.{held-are_parts}
 use Rattle.update_log.proofs.cutting.cut.Goals as goal
 
 pub returns-clause-parts : goal.returns-clause-parts
@@ -14,20 +13,9 @@ returns-clause-parts c =
     let number = c.args.number in
     let first = c.args.first_seq in
     ok-then
-    (λ (frames : Vec Frame Global). frames.items ≡ frames_from commit.worker number first (parts_of c.as_slice.result.now))
+    (λ (frames : Vec Frame Global). frames.items ≡ frames_from commit.worker number first (parts_of c.as_slice-entries.result.now))
     (λ (frames : Vec Frame Global). AreParts commit.entries (map (λ frame. frame.entries) frames.items)) c.cut_entries.result
     (λ (frames : Vec Frame Global) is.
     held-are_parts commit number first frames.items c.requires.spelled
-    (is ∙ ap (λ entries. frames_from commit.worker number first (parts_of entries)) c.as_slice.ensures)) c.cut_entries.ensures
-
-pub returns-clause-sendable : goal.returns-clause-sendable
-returns-clause-sendable c =
-    let commit = c.args.commit.now in
-    let number = c.args.number in
-    let first = c.args.first_seq in
-    ok-then
-    (λ (frames : Vec Frame Global). frames.items ≡ frames_from commit.worker number first (parts_of c.as_slice.result.now))
-    (λ (frames : Vec Frame Global). AllByRecursion IsSendable frames.items) c.cut_entries.result
-    (λ (frames : Vec Frame Global) is.
-    frames-sendable commit number first frames.items c.requires c.ranges.number.fits
-    (is ∙ ap (λ entries. frames_from commit.worker number first (parts_of entries)) c.as_slice.ensures)) c.cut_entries.ensures
+    (is ∙ ap (λ entries. frames_from commit.worker number first (parts_of entries)) c.as_slice-entries.ensures))
+    c.cut_entries.ensures.frames

@@ -1,5 +1,6 @@
 -- The streams stay, and the worker's has room for the frames.
 use Rattle.std.proofs.Common.{◌<◌, ◌≤◌, ℕ, List, length, sym, ap, subst, ◌∙◌, arith}
+use Rattle.rows.specs.declared.commit.Commit.{Commit}
 use Rattle.update_log.specs.declared.frame.Frame.{Frame}
 use Rattle.update_log.specs.State.{State, Next}
 use Rattle.update_log.specs.Frames.{frames_of}
@@ -9,22 +10,22 @@ use Rattle.update_log.proofs.streams.Streams.reserve.Goals as goal
 
 pub returns-in_err-frames-clause-same : goal.returns-in_err-frames-clause-same
 returns-in_err-frames-clause-same c =
-    frames-stay c.self.inside.workers.items c.args.commit.now.worker c.index_mut-stream.result.now c.reserve.new.self
+    frames-stay c.self.inside.workers.items c.args.worker c.index_mut-stream.result.now c.reserve.new.self
     c.index_mut-stream.ensures.value c.reserve.ensures.same
     ∙ ap (λ (state : State). state.streams) c.self.view_is
 
 pub returns-clause-same : goal.returns-clause-same
 returns-clause-same c =
-    frames-stay c.self.inside.workers.items c.args.commit.now.worker c.index_mut-stream.result.now c.reserve.new.self
+    frames-stay c.self.inside.workers.items c.args.worker c.index_mut-stream.result.now c.reserve.new.self
     c.index_mut-stream.ensures.value c.reserve.ensures.same
     ∙ ap (λ (state : State). state.streams) c.self.view_is
 
 pub returns-clause-frames : goal.returns-clause-frames
 returns-clause-frames c =
     let all = c.self.inside.workers.items in
-    let commit = c.args.commit.now in
+    let worker = c.args.worker in
+    let commit : Commit = record { worker = worker; entries = c.args.entries.now } in
     let number = c.args.number in
-    let worker = commit.worker in
     let was = c.index_mut-stream.result.now in
     let there : worker < length all = omega (arith, c.self.invariant, c.requires.worker_below) in
     let next : List Frame → Next = λ frames. record { worker = worker; frames = frames } in
@@ -38,7 +39,7 @@ returns-clause-frames c =
 pub returns-clause-room : goal.returns-clause-room
 returns-clause-room c =
     let all = c.self.inside.workers.items in
-    let worker = c.args.commit.now.worker in
+    let worker = c.args.worker in
     let there : worker < length all = omega (arith, c.self.invariant, c.requires.worker_below) in
     subst (λ (room : ℕ). length c.in_ok-frames.frames.items ≤ room) (sym (room-set all worker c.reserve.new.self there))
     c.in_ok-frames.ensures.room
