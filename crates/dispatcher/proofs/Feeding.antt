@@ -13,6 +13,7 @@ use Rattle.rows.specs.declared.limits.TheConstants.{WAITING_QUERIES_MAX}
 use Rattle.rows.specs.Shape.{Shape}
 use Rattle.rows.specs.Entries.{fitting}
 use Rattle.rows.specs.Commits.{tables_after}
+use Rattle.rows.specs.Tables.{shape_in}
 use Rattle.update_log.specs.declared.frame.Frame.{Frame}
 use Rattle.update_log.specs.Streams.{stream_of}
 use Rattle.intake.specs.Known.{is_known}
@@ -65,7 +66,6 @@ pub record Arriving : Type 0 where
 pub fresh-fed : Arriving → FreshIsFed
 fresh-fed laws schema commits workers number boot legal = record {
   legal = legal;
-  shape_is = refl;
   workers_are = length-replicate workers nothing;
   frames_are = laws.nothing_from commits workers;
   counted = length-replicate workers 0;
@@ -99,7 +99,6 @@ commits-feed laws shape commits more r legal fed =
     let below = fed.below in
     record {
       legal = legal;
-      shape_is = fed.shape_is;
       workers_are = fed.workers_are;
       frames_are = laws.commits_from commits more r.arrivals fed.frames_are;
       counted = fed.counted;
@@ -129,7 +128,6 @@ taken-fed : (laws : Arriving) (shape : Shape) (commits : List Commit) (r : Repli
     → IsFedFrom shape commits (record r { arrivals = (taken r.arrivals frame).1 })
 taken-fed laws shape commits r frame fed is = record {
   legal = fed.legal;
-  shape_is = fed.shape_is;
   workers_are = laws.frames_leave r.arrivals frame ∙ fed.workers_are;
   frames_are = laws.frames_from commits r.arrivals frame is fed.frames_are;
   counted = fed.counted;
@@ -147,7 +145,7 @@ frame-feeds : (laws : Arriving) (shape : Shape) (commits : List Commit) (r : Rep
     → slice_get (stream_of commits frame.worker) frame.seq ≡ Some frame
     → IsFedFrom shape commits (frame_comes r frame).1
 frame-feeds laws shape commits r frame fed is =
-    cond_both (not (nat_lt frame.worker r.workers) || not (list_all (λ entry. is_ok (fitting r.shape entry)) frame.entries))
+    cond_both (not (nat_lt frame.worker r.workers) || not (list_all (λ entry. is_ok (fitting (shape_in r.tables) entry)) frame.entries))
     (got.Ignored, r) (got_of (taken r.arrivals frame).0, record r { arrivals = (taken r.arrivals frame).1 })
     (λ (answer : Got × Replica). IsFedFrom shape commits answer.1)
     (λ not_taken. fed) (λ takes. taken-fed laws shape commits r frame fed is)
@@ -168,7 +166,6 @@ queries-fed : (shape : Shape) (commits : List Commit) (r : Replica) (request : �
     → IsFedFrom shape commits (record r { request = request; waiting = waiting; batch = batch })
 queries-fed shape commits r request waiting batch fed is = record {
   legal = fed.legal;
-  shape_is = fed.shape_is;
   workers_are = fed.workers_are;
   frames_are = fed.frames_are;
   counted = fed.counted;
@@ -255,7 +252,8 @@ left {A = A} a b r new h =
     ap (λ (x : A × Replica). x.1) same
 
 pub open-feeds : OpenKeepsFed
-open-feeds shape commits r plan count new fed h = by r.broken (nat_le WAITING_QUERIES_MAX (length r.waiting)) (checked r.shape plan) h
+open-feeds shape commits r plan count new fed h =
+    by r.broken (nat_le WAITING_QUERIES_MAX (length r.waiting)) (checked (shape_in r.tables) plan) h
   where
     with : Replica
     with = record r { waiting = r.waiting ++ plan ∷ [] }
@@ -311,7 +309,6 @@ ask-feeds shape commits r out new fed h = by r.broken r.batch h
 pub broken-fed : (shape : Shape) (commits : List Commit) (r : Replica) → IsFedFrom shape commits r → IsFedFrom shape commits (broken_of r)
 broken-fed shape commits r fed = record {
   legal = fed.legal;
-  shape_is = fed.shape_is;
   workers_are = fed.workers_are;
   frames_are = fed.frames_are;
   counted = fed.counted;
@@ -337,7 +334,6 @@ module _ (laws : Arriving) (merges : Merges) (shape : Shape) (commits : List Com
   pub caught-fed : IsFedFrom shape commits caught
   caught-fed = record {
     legal = fed.legal;
-    shape_is = fed.shape_is;
     workers_are = laws.drops_leave r.arrivals fetched.counts ∙ fed.workers_are;
     frames_are = laws.drops_from commits r.arrivals fetched.counts fed.frames_are;
     counted = fetched_for.counted;

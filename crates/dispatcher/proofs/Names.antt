@@ -7,7 +7,7 @@ use Rattle.std.proofs.lemmas.Bool.{cond_both}
 use Rattle.rows.specs.declared.limits.TheConstants.{WAITING_QUERIES_MAX}
 use Rattle.rows.specs.Entries.{fitting}
 use Rattle.rows.specs.Commits.{commits_of}
-use Rattle.rows.specs.Tables.{Tables, Refusal}
+use Rattle.rows.specs.Tables.{Tables, Refusal, shape_in}
 use Rattle.update_log.specs.declared.frame.Frame.{Frame}
 use Rattle.intake.specs.Steps.{taken, lacking}
 use Rattle.wire.specs.declared.datagram.Datagram.{Datagram}
@@ -39,7 +39,7 @@ same-names new r same = ap (λ (r : Replica). r.names) same
 
 frame-names : (r : Replica) (frame : Frame) → (frame_comes r frame).1.names ≡ r.names
 frame-names r frame =
-    cond_both (not (nat_lt frame.worker r.workers) || not (list_all (λ entry. is_ok (fitting r.shape entry)) frame.entries))
+    cond_both (not (nat_lt frame.worker r.workers) || not (list_all (λ entry. is_ok (fitting (shape_in r.tables) entry)) frame.entries))
     (got.Ignored, r) (got_of (taken r.arrivals frame).0, record r { arrivals = (taken r.arrivals frame).1 })
     (λ (answer : Got × Replica). answer.1.names ≡ r.names) (λ not_taken. refl) (λ takes. refl)
 
@@ -74,7 +74,7 @@ bytes-names r bytes =
 -- ---- queries
 
 pub open-names : (r : Replica) (plan : Plan) (count : ℕ) (new : Replica) → opened r plan ≡ Ok (count, new) → new.names ≡ r.names
-open-names r plan count new h = by r.broken (nat_le WAITING_QUERIES_MAX (length r.waiting)) (checked r.shape plan) h
+open-names r plan count new h = by r.broken (nat_le WAITING_QUERIES_MAX (length r.waiting)) (checked (shape_in r.tables) plan) h
   where
     with : Replica
     with = record r { waiting = r.waiting ++ plan ∷ [] }

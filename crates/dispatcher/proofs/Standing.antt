@@ -1,5 +1,6 @@
--- What the fields of a replica's core say of its batch, and of the frames that it keeps.
-use Rattle.std.proofs.Common.{◌≡◌, ℕ, ◌<◌, ◌≤◌, true, List, length, Option, Some, None, slice_index, nat_le, sym, ap, subst}
+-- What the fields of a replica's core say of its tables, of its batch, and of the frames that it keeps.
+use Rattle.std.proofs.Common.{◌≡◌, ℕ, ◌<◌, ◌≤◌, Bool, true, false, cond, List, [], length, Option, Some, None, slice_index, nat_le}
+use Rattle.std.proofs.Common.{sym, ap, subst}
 use Rattle.std.proofs.Common.{◌∙◌, inl, inr, arith}
 use Rattle.std.specs.Prelude.{IfSome}
 use Rattle.std.specs.Cmp.Lexicographic.{pointwise}
@@ -7,6 +8,8 @@ use Rattle.std.specs.Option.{option_map}
 use Rattle.std.proofs.lemmas.Bool.{cases_lt}
 use Rattle.std.proofs.lemmas.List.{get_or_past}
 use Rattle.std.proofs.lemmas.Option.{none-some, same_Some}
+use Rattle.rows.specs.Shape.{shape_of}
+use Rattle.rows.specs.Tables.{Tables, shape_in}
 use Rattle.intake.specs.Known.{is_known}
 use Rattle.intake.specs.Kept.{AreAllKept, AreKeptFrom}
 use Rattle.intake.specs.Laws.{NoneLackingAreKnown}
@@ -16,9 +19,17 @@ use Rattle.dispatcher.specs.declared.batch.Batch.{Batch as HeldBatch}
 use Rattle.dispatcher.specs.declared.batch.Fetched.{Fetched as HeldFetched}
 use Rattle.dispatcher.specs.State.{Replica, Batch, Fetched}
 use Rattle.dispatcher.specs.Steps.{ready_of}
-use Rattle.dispatcher.specs.Inner.Invariant.{fetched_of, batch_of, GoesOn, BatchGoesOn}
+use Rattle.dispatcher.specs.declared.replica_core.ReplicaCore.TheInside.{Inside}
+use Rattle.dispatcher.specs.Inner.Invariant.{fetched_of, batch_of, replica_of, GoesOn, BatchGoesOn, IsCore}
 use Rattle.dispatcher.proofs.Lists.{pointwise-same}
 use Rattle.dispatcher.proofs.Ready.{ready-parts}
+
+-- ---- the tables
+
+-- a replica that is whole is seen with tables of the schema's kinds
+pub seen-shape : {S Place Fault : Type 0} (is_whole : S → Bool) (tables : S → Tables) (a : Inside S Place Fault)
+    → IsCore is_whole tables a → a.broken ≡ false → shape_in (replica_of tables a).tables ≡ shape_of a.schema
+seen-shape is_whole tables a is whole = ap (λ (b : Bool). shape_in (cond b [] (tables a.store))) whole ∙ is.kinds
 
 -- ---- the frames
 

@@ -33,7 +33,6 @@ pub record IsFetchedFrom (commits : List Commit) (r : Replica) (fetched : Fetche
 
 pub record IsFedFrom (shape : Shape) (commits : List Commit) (r : Replica) : Type 0 where
   pub legal : IsLegal shape r.workers commits
-  pub shape_is : r.shape ≡ shape
   -- what has come of each worker is of its stream
   pub workers_are : length r.arrivals ≡ r.workers
   pub frames_are : AreFrom commits r.arrivals

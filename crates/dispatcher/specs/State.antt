@@ -1,6 +1,5 @@
 -- The state of a replica, as its callers see it.
 use Rattle.std.specs.Prelude.{ℕ, List, Option, Bool}
-use Rattle.rows.specs.Shape.{Shape}
 use Rattle.rows.specs.Tables.{Tables}
 use Rattle.intake.specs.State.{Arrivals}
 use Rattle.plans.specs.declared.plan.Plan.{Plan}
@@ -16,7 +15,6 @@ pub record Batch : Type 0 where
   pub fetched : Option Fetched
 
 pub record Replica : Type 0 where
-  pub shape : Shape
   -- the tables' names, in the schema's order
   pub names : List (List ℕ)
   pub workers : ℕ

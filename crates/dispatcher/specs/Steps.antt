@@ -11,7 +11,7 @@ use Rattle.rows.specs.declared.kind.Kind.{Kind}
 use Rattle.rows.specs.Shape.{shape_of}
 use Rattle.rows.specs.Commits.{commits_of}
 use Rattle.rows.specs.Entries.{fitting}
-use Rattle.rows.specs.Tables.{Tables, opening}
+use Rattle.rows.specs.Tables.{Tables, opening, shape_in}
 use Rattle.update_log.specs.declared.frame.Frame.{Frame}
 use Rattle.intake.specs.declared.taken.Taken.{Taken}
 use Rattle.intake.specs.declared.taken.Taken.TheVariants as takens
@@ -44,7 +44,6 @@ use Rattle.dispatcher.specs.TableText.{names_of, table_text}
 -- a replica fresh from its start, of the tables of this schema
 abbrev pub started : List (List ℕ × List Kind) → ℕ → ℕ → ℕ → Replica
 started schema workers number boot = record {
-  shape = shape_of schema;
   names = names_of schema;
   workers = workers;
   number = number;
@@ -64,7 +63,7 @@ abbrev pub opened : Replica → Plan → Result (ℕ × Replica) OpenFault
 opened r plan =
     if r.broken then Err opens.Broken else
     if nat_le waiting_queries_max (length r.waiting) then Err opens.BatchFull else
-    by_check (checked r.shape plan)
+    by_check (checked (shape_in r.tables) plan)
   where
     by_check : Result (Unit {0}) PlanFault → Result (ℕ × Replica) OpenFault
     by_check (Err fault) = Err (opens.BadPlan fault)
@@ -106,7 +105,7 @@ got_of takens.Stored = got.Stored
 abbrev pub frame_comes : Replica → Frame → Got × Replica
 frame_comes r frame =
     if not (nat_lt frame.worker r.workers)
-    || not (list_all (λ entry. is_ok (fitting r.shape entry)) frame.entries) then (got.Ignored, r) else
+    || not (list_all (λ entry. is_ok (fitting (shape_in r.tables) entry)) frame.entries) then (got.Ignored, r) else
     (got_of (taken r.arrivals frame).0, record r { arrivals = (taken r.arrivals frame).1 })
 
 -- whether a Head has a count for each worker, and neither its version nor a count is below what the replica's tables have

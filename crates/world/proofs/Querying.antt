@@ -8,6 +8,7 @@ use Rattle.std.proofs.lemmas.Option.{same_Some, slice_get_within}
 use Rattle.rows.specs.declared.commit.Commit.{Commit}
 use Rattle.rows.specs.declared.limits.TheConstants.{REPLICAS_MAX, WAITING_QUERIES_MAX}
 use Rattle.rows.specs.Shape.{Shape, shape_of}
+use Rattle.rows.specs.Tables.{shape_in}
 use Rattle.wire.specs.declared.datagram.Datagram.TheVariants as datagrams
 use Rattle.wire.specs.Reading.{reading}
 use Rattle.wire.specs.Spelling.{spelling}
@@ -36,7 +37,7 @@ use Rattle.world.proofs.Datagrams.{ask-read, ask-kept}
 use Rattle.world.specs.Standing.{boots_at, world_of, member_of, batch_of, members_of}
 use Rattle.world.proofs.Worlds.{member_at, members-asked}
 use Rattle.world.proofs.Moves.{Goes, Follows, Sound-replica, Sound-noted, Sound-one}
-use Rattle.world.proofs.Replicas.{Follows-goes}
+use Rattle.world.proofs.Replicas.{fed-shape, Follows-goes}
 
 -- ---- opening a query
 
@@ -52,11 +53,17 @@ by_check r plan (Ok fits) = Ok (length r.waiting + 1, with_plan r plan)
 abbrev opened_by : Bool → Bool → Replica → Plan → Result (Unit {0}) PlanFault → Result (ℕ × Replica) OpenFault
 opened_by broken full r plan check = cond broken (Err opens.Broken) (cond full (Err opens.BatchFull) (by_check r plan check))
 
-opened-is : (r : Replica) (plan : Plan) (of : Shape) → r.shape ≡ of
+opened-is : (r : Replica) (plan : Plan) (of : Shape) → (r.broken ≡ false → shape_in r.tables ≡ of)
     → opened r plan ≡ opened_by r.broken (nat_le WAITING_QUERIES_MAX (length r.waiting)) r plan (checked of plan)
-opened-is r plan of same =
-    subst (λ (it : Shape). opened r plan ≡ opened_by r.broken (nat_le WAITING_QUERIES_MAX (length r.waiting)) r plan (checked it plan))
-    same refl
+opened-is r plan of same = by r.broken same
+  where
+    full : Bool
+    full = nat_le WAITING_QUERIES_MAX (length r.waiting)
+
+    by : (broken : Bool) → (broken ≡ false → shape_in r.tables ≡ of)
+        → opened_by broken full r plan (checked (shape_in r.tables) plan) ≡ opened_by broken full r plan (checked of plan)
+    by true same = refl
+    by false same = ap (λ (it : Shape). opened_by false full r plan (checked it plan)) (same refl)
 
 plan-goes : (laws : FedLaws) (shape : Shape) (durable : List Commit) (r : Replica) (plan : Plan) → IsFedFrom shape durable r
     → opened r plan ≡ Ok (length r.waiting + 1, with_plan r plan) → Goes shape durable r (with_plan r plan)
@@ -101,7 +108,9 @@ query-opens laws shape p i plan (Some r) sound here =
 
     is : opened r plan
         ≡ opened_by r.broken (nat_le WAITING_QUERIES_MAX (length r.waiting)) r plan (checked (shape_of p.primary.schema) plan)
-    is = opened-is r plan (shape_of p.primary.schema) (fed.feeding.shape_is ∙ sym sound.primary_is.shape_is)
+    is =
+        opened-is r plan (shape_of p.primary.schema)
+        (λ whole. fed-shape shape p.primary.durable r fed.feeding whole ∙ sym sound.primary_is.shape_is)
 
     by : (a b : Bool) (check : Result (Unit {0}) PlanFault) → opened r plan ≡ opened_by a b r plan check
         → Follows shape (cond a (outputs.Broken, w) (cond b (outputs.BatchFull, w) (open_happens w m plan check)))

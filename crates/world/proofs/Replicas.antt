@@ -8,6 +8,8 @@ use Rattle.std.proofs.lemmas.Bool.{false≢true, and_parts, eqb-true}
 use Rattle.rows.specs.declared.commit.Commit.{Commit}
 use Rattle.rows.specs.Shape.{Shape, shape_of}
 use Rattle.rows.specs.Entries.{fitting}
+use Rattle.rows.specs.Tables.{Tables, shape_in}
+use Rattle.rows.proofs.TableLaws.{shape-at}
 use Rattle.wire.specs.declared.datagram.Datagram.{Datagram}
 use Rattle.wire.specs.declared.datagram.Datagram.TheVariants as datagrams
 use Rattle.wire.specs.declared.faults.WireFault.{WireFault}
@@ -47,6 +49,11 @@ Comes had at r there here = (there ≡ answered had at here) × Moves r here.1
 Comes-same : (had : List ℕ) (at : ℕ) (r : Replica) (answer : Got) → Comes had at r (of_got answer, member_of had at r) (answer, r)
 Comes-same had at r answer = (refl, Moves-same r)
 
+-- the tables of a replica that is whole and fed have the kinds that they were opened with
+pub fed-shape : (shape : Shape) (commits : List Commit) (r : Replica) → IsFedFrom shape commits r → r.broken ≡ false
+    → shape_in r.tables ≡ shape
+fed-shape shape commits r fed whole = ap (λ (tables : Tables). shape_in tables) (fed.tables_are whole) ∙ shape-at shape commits r.version
+
 -- ---- a frame
 
 -- the known seqs of a worker are those of its arrivals
@@ -71,16 +78,17 @@ known-stored arrivals frame =
     (sym (known-at arrivals frame.worker))
 
 frame-comes : (had : List ℕ) (at : ℕ) (r : Replica) (frame : Frame)
-    → Comes had at r (frame_happens r.shape r.workers (member_of had at r) frame.worker frame.seq frame.entries) (frame_comes r frame)
+    → Comes had at r (frame_happens (shape_in r.tables) r.workers (member_of had at r) frame.worker frame.seq frame.entries)
+    (frame_comes r frame)
 frame-comes had at r frame =
     subst (λ (known : List ℕ). Comes had at r
-    (cond (not (nat_lt frame.worker r.workers) || not (list_all (λ entry. is_ok (fitting r.shape entry)) frame.entries))
+    (cond (not (nat_lt frame.worker r.workers) || not (list_all (λ entry. is_ok (fitting (shape_in r.tables) entry)) frame.entries))
     (outputs.Ignored, m)
     (cond (is_known known frame.seq) (outputs.Repeat, m)
     (cond (is_ahead known frame.seq) (outputs.Ahead, m)
     (outputs.Stored, record m { known = with_known (known_in r.arrivals) frame.worker frame.seq }))))
     (frame_comes r frame)) (sym (known-at r.arrivals frame.worker))
-    (by (not (nat_lt frame.worker r.workers) || not (list_all (λ entry. is_ok (fitting r.shape entry)) frame.entries))
+    (by (not (nat_lt frame.worker r.workers) || not (list_all (λ entry. is_ok (fitting (shape_in r.tables) entry)) frame.entries))
     (is_known one.known frame.seq) (is_ahead one.known frame.seq))
   where
     one : Arrivals
@@ -159,7 +167,7 @@ head-comes had at r version counts (Some queries) passes = head-batch had at r v
 datagram-comes : (laws : FedLaws) (shape : Shape) (workers : ℕ) (durable : List Commit) (boots : List (List ℕ)) (replicas : List Replica)
     (i : ℕ) (had : List ℕ) (at : ℕ) (r : Replica) (datagram : Result Datagram WireFault)
     → IsFed shape workers durable (boots_at boots i) i r → slice_get replicas i ≡ Some r → Means workers durable boots replicas datagram
-    → Comes had at r (datagram_happens r.shape r.workers (member_of had at r) datagram) (datagram_comes r datagram)
+    → Comes had at r (datagram_happens (shape_in r.tables) r.workers (member_of had at r) datagram) (datagram_comes r datagram)
 datagram-comes laws shape workers durable boots replicas i had at r (Err fault) fed here means = Comes-same had at r got.Ignored
 datagram-comes laws shape workers durable boots replicas i had at r (Ok (datagrams.Frame worker seq commit last entries)) fed here means =
     frame-comes had at r (record { worker = worker; seq = seq; commit = commit; last = last; entries = entries })
@@ -217,15 +225,17 @@ bytes-come laws shape p i bytes (Some r) sound means here = by r.broken refl
     fed : IsFed shape p.primary.workers p.primary.durable (boots_at p.boots i) i r
     fed = sound.fed i r here
 
-    came : Comes had at r (datagram_happens r.shape r.workers (member_of had at r) (reading bytes)) (datagram_comes r (reading bytes))
+    came : Comes had at r (datagram_happens (shape_in r.tables) r.workers (member_of had at r) (reading bytes))
+        (datagram_comes r (reading bytes))
     came = datagram-comes laws shape p.primary.workers p.primary.durable p.boots p.replicas i had at r (reading bytes) fed here means
 
-    same : datagram_happens (shape_of p.primary.schema) p.primary.workers (member_of had at r) (reading bytes) ≡ answered had at
+    same : r.broken ≡ false
+        → datagram_happens (shape_of p.primary.schema) p.primary.workers (member_of had at r) (reading bytes) ≡ answered had at
         (datagram_comes r (reading bytes))
-    same =
+    same whole =
         ap (λ (shape : Shape). datagram_happens shape p.primary.workers (member_of had at r) (reading bytes))
-        (sound.primary_is.shape_is ∙ sym fed.feeding.shape_is)
-        ∙ ap (λ (workers : ℕ). datagram_happens r.shape workers (member_of had at r) (reading bytes))
+        (sound.primary_is.shape_is ∙ sym (fed-shape shape p.primary.durable r fed.feeding whole))
+        ∙ ap (λ (workers : ℕ). datagram_happens (shape_in r.tables) workers (member_of had at r) (reading bytes))
         (sym fed.workers_are)
         ∙ came.0
 
@@ -242,5 +252,5 @@ bytes-come laws shape p i bytes (Some r) sound means here = by r.broken refl
         (got_by p i (cond b (got.Broken, r) (datagram_comes r (reading bytes))))
     by true whole = Follows-same shape p i r outputs.Broken sound here
     by false whole =
-        Follows-goes shape p i r _ (of_got (datagram_comes r (reading bytes)).0) (datagram_comes r (reading bytes)).1 sound here same
-        (record { feeding = feeds whole; moves = came.1 })
+        Follows-goes shape p i r _ (of_got (datagram_comes r (reading bytes)).0) (datagram_comes r (reading bytes)).1 sound here
+        (same whole) (record { feeding = feeds whole; moves = came.1 })

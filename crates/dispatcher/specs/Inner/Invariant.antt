@@ -24,7 +24,6 @@ batch_of held = record { plans = held.plans.items; fetched = option_map fetched_
 -- a replica on a store of these tables
 abbrev pub replica_of : {S Place Fault : Type 0} → (S → Tables) → Inside S Place Fault → Replica
 replica_of tables a = record {
-  shape = shape_of a.schema;
   names = names_of a.schema;
   workers = a.workers;
   number = a.number;

@@ -1,34 +1,48 @@
 -- Each test of the code is that of `frame_comes`, in the same order.
 use Rattle.std.proofs.Common.{List, inl, inr, refl, sym, subst, ◌∙◌, lt-ltb}
 use Rattle.rows.specs.declared.entry.Entry.{Entry}
+use Rattle.rows.specs.Shape.{shape_of}
 use Rattle.update_log.specs.declared.frame.Frame.{Frame}
 use Rattle.dispatcher.specs.Inner.Invariant.{replica_of}
 use Rattle.dispatcher.proofs.Coming.{comes-unfit, comes-apart, comes-stored, comes-taken, Takes, the_frame, takes-workers, takes-kept}
+use Rattle.dispatcher.proofs.Standing.{seen-shape}
 use Rattle.dispatcher.proofs.replica_core.ReplicaCore.take_frame.Goals as goal
 
 pub returns-then-not-fit : goal.returns-then-not-fit
 returns-then-not-fit g c =
+    let replica = replica_of g.S.Store.tables c.self.inside in
+    let shape = shape_of c.self.inside.schema in
     let frame : Frame =
     record { worker = c.args.worker; seq = c.args.seq; commit = c.args.commit; last = c.args.last; entries = c.args.entries.now } in
-    rw (← c.self.view_is) (inr (comes-unfit (replica_of g.S.Store.tables c.self.inside) frame (lt-ltb _ _ c.if-worker-self.false)
+    let seen =
+    seen-shape g.S.Store.is_whole g.S.Store.tables c.self.inside c.self.invariant (rw (← c.self.view_is) at c.requires) in
+    rw (← c.self.view_is) (inr (comes-unfit replica frame shape seen (lt-ltb _ _ c.if-worker-self.false)
     (sym c.fit.ensures ∙ c.if-not-fit.true)))
 
 pub returns-in_default : goal.returns-in_default
 returns-in_default g c =
+    let replica = replica_of g.S.Store.tables c.self.inside in
+    let shape = shape_of c.self.inside.schema in
     let frame : Frame =
     record { worker = c.args.worker; seq = c.args.seq; commit = c.args.commit; last = c.args.last; entries = c.args.entries.now } in
-    rw (← c.self.view_is) (inr (comes-apart (replica_of g.S.Store.tables c.self.inside) frame (lt-ltb _ _ c.if-worker-self.false)
+    let seen =
+    seen-shape g.S.Store.is_whole g.S.Store.tables c.self.inside c.self.invariant (rw (← c.self.view_is) at c.requires) in
+    rw (← c.self.view_is) (inr (comes-apart replica frame shape seen (lt-ltb _ _ c.if-worker-self.false)
     (sym c.fit.ensures ∙ c.if-not-fit.false) c.would_take.result c.got_of.result (c.would_take.ensures frame refl refl)
     c.in_default.not-Stored c.got_of.ensures))
 
 pub returns-in_default-to_list : goal.returns-in_default-to_list
 returns-in_default-to_list g c =
+    let replica = replica_of g.S.Store.tables c.self.inside in
+    let shape = shape_of c.self.inside.schema in
     let frame : Frame =
     record { worker = c.args.worker; seq = c.args.seq; commit = c.args.commit; last = c.args.last; entries = c.args.entries.now } in
+    let seen =
+    seen-shape g.S.Store.is_whole g.S.Store.tables c.self.inside c.self.invariant (rw (← c.self.view_is) at c.requires) in
     rw (← c.self.view_is) (inl (
       refl,
       refl,
-      comes-stored (replica_of g.S.Store.tables c.self.inside) frame (lt-ltb _ _ c.if-worker-self.false)
+      comes-stored replica frame shape seen (lt-ltb _ _ c.if-worker-self.false)
           (sym c.fit.ensures ∙ c.if-not-fit.false) (c.in-Stored.ensures frame refl refl),
     ))
 
@@ -58,6 +72,7 @@ invariant_of-self g c =
 pub returns : goal.returns
 returns g c =
     let replica = replica_of g.S.Store.tables c.self.inside in
+    let shape = shape_of c.self.inside.schema in
     let frame =
     λ (entries : List Entry). the_frame c.args.worker c.args.seq c.args.commit c.args.last entries in
     let there = lt-ltb c.args.worker c.self.inside.workers c.if-worker-self.false in
@@ -65,6 +80,8 @@ returns g c =
     let took =
     subst (λ (entries : List Entry). Takes c.self.inside.intake (frame entries) c.take_owned.result c.take_owned.new.self) c.in-Ok.ensures
     c.take_owned.ensures in
+    let seen =
+    seen-shape g.S.Store.is_whole g.S.Store.tables c.self.inside c.self.invariant (rw (← c.self.view_is) at c.requires) in
     rw (← c.self.view_is) (comes-taken replica
-    (frame c.args.entries.now) there fits c.take_owned.result c.take_owned.new.self c.got_of-2.result
+    (frame c.args.entries.now) shape seen there fits c.take_owned.result c.take_owned.new.self c.got_of-2.result
     took c.got_of-2.ensures)
