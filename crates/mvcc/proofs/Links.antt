@@ -9,7 +9,7 @@ use Rattle.std.proofs.lemmas.Bool.{and_parts, eqb-true}
 use Rattle.rows.specs.declared.entry.Entry.{Entry}
 use Rattle.rows.specs.Entries.{table_of, row_of}
 use Rattle.rows.specs.Commits.{is_of}
-use Rattle.rows.specs.Keys.{is_key_of}
+use Rattle.rows.specs.Inner.Keys.{is_key_of}
 use Rattle.rows.proofs.Keys.{key_cmp, lookup-key, lookup-set, lookup-put}
 use Rattle.mvcc.specs.declared.link.Link.{Link}
 use Rattle.mvcc.specs.Inner.Chains.{Chains, newest_from, latest_from, bytes_from, cut_at, links_found, links_at, Turns}

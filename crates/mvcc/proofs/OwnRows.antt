@@ -10,7 +10,7 @@ use Rattle.rows.specs.declared.value.Value.{Value}
 use Rattle.rows.specs.Shape.{Shape}
 use Rattle.rows.specs.Entries.{table_of, row_of}
 use Rattle.rows.specs.Commits.{is_of}
-use Rattle.rows.specs.Keys.{is_key_of}
+use Rattle.rows.specs.Inner.Keys.{is_key_of}
 use Rattle.rows.specs.Inner.RowAfter.{row_after_fit}
 use Rattle.rows.proofs.RowLaws.{row_after_fit-push}
 use Rattle.mvcc.specs.Inner.OwnRows.{RowIndices, indices_at, picked, supersedes, is_superseded, kept_indices, IsIndexOf}

@@ -5,7 +5,7 @@ use Rattle.std.specs.BTreeMap.{is_at}
 use Rattle.std.specs.Ordering.{nat_cmp, ordering_then}
 use Rattle.std.specs.declared.cmp.Ordering.{Ordering}
 use Rattle.std.proofs.lemmas.Bool.Decides.{nat_tests}
-use Rattle.rows.specs.Keys.{is_key_of}
+use Rattle.rows.specs.Inner.Keys.{is_key_of}
 
 -- how a map compares its keys
 abbrev pub key_cmp : ℕ × ℕ → ℕ × ℕ → Ordering

@@ -15,7 +15,8 @@ use Rattle.rows.specs.Values.{values_of}
 use Rattle.rows.specs.Tables.{Rows, Table, Tables, Refusal, Exists, Missing, opening, shape_in, rows_of, kinds_of, is_present, is_row_at}
 use Rattle.rows.specs.Tables.{with_rows, inserted, patched, deleted, is_fit, change_where, change_of, changes_of, applied, and_then}
 use Rattle.rows.specs.Commits.{commits_of, is_of}
-use Rattle.rows.specs.Presence.{stands_for, left_by, is_there_after_one, is_there_after, is_there_after_commits, is_there_after_fit}
+use Rattle.rows.specs.Presence.{stands_for, left_by, is_there_after_one, is_there_after}
+use Rattle.rows.specs.Inner.Presence.{is_there_after_commits, is_there_after_fit}
 use Rattle.rows.proofs.Rows.{is_present-with_row, is_present-with_patch, is_present-without_row}
 
 -- the rows of a table that was replaced, and of any other

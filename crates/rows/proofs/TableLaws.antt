@@ -15,7 +15,8 @@ use Rattle.rows.specs.Entries.{table_of, row_of, fitting}
 use Rattle.rows.specs.Tables.{Tables, Refusal, opening, shape_in, is_row_at, is_fit, change_where, change_of, changes_of, applied, and_then}
 use Rattle.rows.specs.Commits.{commits_of, tables_after, touches, last_where, last_touching}
 use Rattle.rows.specs.Laws.{EntryKeepsKinds, EntriesKeepKinds, AppliedKeepKinds, CommitsKeepKinds, VersionsKeepKinds, IsSymmetric}
-use Rattle.rows.specs.Presence.{stands_for, is_there_after_one, is_there_after, is_there_after_commits, is_there_after_fit}
+use Rattle.rows.specs.Presence.{stands_for, is_there_after_one, is_there_after}
+use Rattle.rows.specs.Inner.Presence.{is_there_after_commits, is_there_after_fit}
 use Rattle.rows.proofs.Presence.{there, shape_in-opening, opening-empty, Turns, made, refusal_of}
 use Rattle.rows.proofs.Presence.{stands, change_of-is, change_of-parts, Turns-change}
 use Rattle.rows.proofs.Presence.{Turns-changes, Turns-commits, Turns-applied, and_then-parts}

@@ -6,7 +6,6 @@ pub mod Values
 pub mod Entries
 pub mod Tables
 pub mod Commits
-pub mod Keys
 pub mod Laws
 pub mod Presence
 pub mod Spelling

@@ -1,10 +1,7 @@
 -- Whether a row is there after entries, told from the entries alone.
-use Rattle.std.specs.Prelude.{ℕ, List, [], ◌∷◌, Bool, true, false, not, if◌then◌else◌, is_ok}
-use Rattle.rows.specs.declared.commit.Commit.{Commit}
+use Rattle.std.specs.Prelude.{ℕ, List, [], ◌∷◌, Bool, true, false, not, if◌then◌else◌}
 use Rattle.rows.specs.declared.entry.Entry.{Entry}
 use Rattle.rows.specs.declared.entry.Entry.TheVariants.{Insert, Patch, Delete}
-use Rattle.rows.specs.Shape.{Shape}
-use Rattle.rows.specs.Entries.{fitting}
 use Rattle.rows.specs.Commits.{is_of}
 
 -- whether the row of an entry stands as the entry needs it, where it is there or not
@@ -27,15 +24,3 @@ is_there_after_one table row entry there = if is_of table row entry then left_by
 abbrev pub is_there_after : ℕ → ℕ → List Entry → Bool → Bool
 is_there_after table row [] there = there
 is_there_after table row (entry ∷ entries) there = is_there_after table row entries (is_there_after_one table row entry there)
-
--- whether a row is there after the commits of a list
-abbrev pub is_there_after_commits : ℕ → ℕ → List Commit → Bool → Bool
-is_there_after_commits table row [] there = there
-is_there_after_commits table row (commit ∷ commits) there =
-    is_there_after_commits table row commits (is_there_after table row commit.entries there)
-
--- whether a row is there after entries, where one that is refused changes nothing
-abbrev pub is_there_after_fit : Shape → ℕ → ℕ → List Entry → Bool → Bool
-is_there_after_fit shape table row [] there = there
-is_there_after_fit shape table row (entry ∷ entries) there =
-    is_there_after_fit shape table row entries (if is_ok (fitting shape entry) then is_there_after_one table row entry there else there)

@@ -3,7 +3,7 @@
 ghost use Rattle.std.specs.Prelude.{◌≡◌, ◌≤◌, length, None, Some, nat_lt, nat_eq, if◌then◌else◌};
 ghost use Rattle.std.specs.Cmp.{partial_equiv_from_equiv};
 ghost use Rattle.std.specs.Cmp.Lexicographic.{pointwise, nat_list_eq_equiv};
-ghost use Rattle.rows.specs.declared.limits.TheConstants.{OCTETS_MAX};
+ghost use Rattle.rows.specs.Limits.{octets_max};
 
 use crate::limits::OCTETS_MAX;
 use std::marker::Model;
@@ -39,7 +39,7 @@ impl Model for Octets {
 impl Octets {
     /// These bytes; `None` exactly where there are more than 64. Takes no memory.
     pub fn from_slice(bytes: &[u8]) -> Option<Octets>
-        ensures { result ≡ (if nat_lt OCTETS_MAX (length bytes.now) then None else Some bytes.now) }
+        ensures { result ≡ (if nat_lt octets_max (length bytes.now) then None else Some bytes.now) }
     {
         if bytes.len() > OCTETS_MAX {
             return None;
@@ -55,7 +55,7 @@ impl Octets {
     /// The bytes, lent. Takes no memory.
     pub fn as_slice(&self) -> &[u8]
         ensures bytes { result.now ≡ self.now }
-        ensures few { length result.now ≤ OCTETS_MAX }
+        ensures few { length result.now ≤ octets_max }
     {
         &self.buffer[..self.len]
     }

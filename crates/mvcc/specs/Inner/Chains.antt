@@ -8,7 +8,7 @@ use Rattle.rows.specs.declared.entry.Entry.{Entry}
 use Rattle.rows.specs.Shape.{Shape}
 use Rattle.rows.specs.Tables.{opening}
 use Rattle.rows.specs.Commits.{commits_of, is_of}
-use Rattle.rows.specs.Keys.{is_key_of}
+use Rattle.rows.specs.Inner.Keys.{is_key_of}
 use Rattle.mvcc.specs.declared.link.Link.{Link}
 use Rattle.mvcc.specs.Newest.{writes}
 use Rattle.mvcc.specs.Inner.RowBytes.{bytes_after_one, bytes_after}

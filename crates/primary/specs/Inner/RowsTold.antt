@@ -4,7 +4,7 @@ use Rattle.std.specs.Option.{unwrap_or}
 use Rattle.std.specs.Map.{lookup}
 use Rattle.rows.specs.declared.entry.Entry.{Entry}
 use Rattle.rows.specs.Tables.{is_row_at}
-use Rattle.rows.specs.Keys.{is_key_of}
+use Rattle.rows.specs.Inner.Keys.{is_key_of}
 use Rattle.rows.specs.Presence.{is_there_after}
 use Rattle.mvcc.specs.History.{History, tables_at}
 
