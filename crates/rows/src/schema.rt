@@ -1,10 +1,10 @@
 //! A schema: the tables by name, in order, each with the kinds of its columns.
 
 ghost use Rattle.std.specs.Prelude.{◌≡◌, ◌<◌, ◌≤◌, ◌++◌, ◌∷◌, [], length, map, true, MatchResult, IfOk, OnOk, IfSome, slice_get, position};
-ghost use Rattle.std.specs.Prelude.{◌⊎◌};
 ghost use Rattle.std.specs.Option.{option_map};
 ghost use Rattle.std.specs.List.{list_any, list_all};
 ghost use Rattle.std.specs.Str.{bytes_eq};
+ghost use Rattle.rows.specs.Faults.{IsFirstFault};
 ghost use Rattle.rows.specs.SchemaFaults.{schema_fault, table_fault, tables_fault};
 ghost use Rattle.rows.specs.Inner.Shown.{shown};
 ghost use Rattle.rows.specs.Shape.{given, shape_of, row_width, is_good, column_at, AreColumns, AreTables};
@@ -49,8 +49,7 @@ impl Schema {
     /// (`RowTooWide`); and `Memory` last.
     pub fn new(alloc: Global, tables: &[(&str, &[Kind])]) -> Result<Schema, SchemaFault>
         ensures exact { MatchResult result (λ schema. (schema ≡ map given tables.now) × (schema_fault (map given tables.now) ≡ None))
-            (λ fault. ((fault ≡ SchemaFault.Memory) × (schema_fault (map given tables.now) ≡ None))
-            ⊎ (schema_fault (map given tables.now) ≡ Some fault)) }
+            (IsFirstFault (schema_fault (map given tables.now)) SchemaFault.Memory) }
     {
         if let Some(fault) = first_fault(tables) {
             return Err(fault);
