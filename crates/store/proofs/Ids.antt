@@ -1,6 +1,6 @@
 -- The identifiers of a table's rows, rising: where one stands among them, and one more or one fewer.
-use Rattle.std.proofs.Common.{◌≡◌, ℕ, zero, suc, ◌+◌, ◌<◌, ◌≤◌, List, [], ◌∷◌, length, get_or, slice_get, Bool, true, false, cond}
-use Rattle.std.proofs.Common.{None, Some, Less, Equal, Greater, refl, sym, ap, ◌∙◌, nat_lt, arith}
+use Rattle.std.proofs.Common.{◌≡◌, ℕ, zero, suc, ◌+◌, ◌<◌, ◌≤◌, List, [], ◌∷◌, length, get_or, true, false}
+use Rattle.std.proofs.Common.{None, Some, refl, sym, ap, ◌∙◌, nat_lt, arith}
 use Rattle.std.specs.List.{insert, remove, prefix_len}
 use Rattle.std.specs.List.Sorted.{IsStrictlySortedBy, IsPartitionPoint}
 use Rattle.std.specs.Map.{keys_of, remove_entry}

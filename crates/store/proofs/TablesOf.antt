@@ -18,7 +18,7 @@ use Rattle.rows.specs.Tables.{Rows, Tables, Refusal, Unfit, Exists, Missing, sha
 use Rattle.rows.specs.Tables.{is_present, with_row, with_patch, without_row}
 use Rattle.rows.specs.Tables.{with_rows, change_where, change_of}
 use Rattle.store.specs.declared.faults.StoreFault.{StoreFault}
-use Rattle.store.specs.declared.faults.StoreFault.TheVariants.{Missing as Absent}
+use Rattle.store.specs.declared.faults.StoreFault.TheVariants.{Exists as Present, Missing as Absent, Memory}
 use Rattle.store.specs.Changes.{fault_kind}
 use Rattle.store.specs.Faults.{number_of}
 use Rattle.store.specs.State.{tables_of}
@@ -151,12 +151,12 @@ module _ (change : Result Tables Refusal) (present : Bool) (place : Rows → Tab
   insert-ok (Err fault) is made = tt
 
   pub insert-refused : (result : Result (Unit {0}) StoreFault) → change ≡ change_where true (not present) Exists (place rows)
-      → IfErr result (λ fault. number_of fault ≡ cond present 1 4)
+      → IfErr result (λ fault. number_of fault ≡ cond present (number_of Present) (number_of Memory))
       → IfErr result (λ fault. number_of fault ≡ fault_kind true change)
   insert-refused (Ok x) is refused = tt
   insert-refused (Err fault) is refused = refused ∙ by present ∙ sym (ap (fault_kind true) is)
     where
-      by : (b : Bool) → cond b 1 4 ≡ fault_kind true (change_where true (not b) Exists (place rows))
+      by : (b : Bool) → cond b (number_of Present) (number_of Memory) ≡ fault_kind true (change_where true (not b) Exists (place rows))
       by true = refl
       by false = refl
 

@@ -5,6 +5,8 @@ use Rattle.std.specs.Option.{option_map}
 use Rattle.rows.specs.declared.entry.Entry.{Entry}
 use Rattle.rows.specs.declared.value.Value.{Value}
 use Rattle.rows.specs.Tables.{Rows, Tables, Refusal, Unfit, Exists, Missing, change_of, changes_of}
+use Rattle.store.specs.declared.faults.StoreFault.TheVariants as faults
+use Rattle.store.specs.Faults.{number_of}
 
 -- a column of a row, where the row is there and has that column
 abbrev pub column_of : Option (List Value) → ℕ → Option Value
@@ -19,18 +21,14 @@ id_in rows i = option_map (λ row. row.0) (slice_get rows i)
 abbrev pub IsAboveAllBefore : Rows → ℕ → ℕ → Type 0
 IsAboveAllBefore rows i id = (j : ℕ) → j < i → IfSome (id_in rows j) (λ before. before < id)
 
--- the number of each refusal
-abbrev pub code_of : Refusal → ℕ
-code_of Exists = 1
-code_of Missing = 2
-code_of Unfit = 3
-
--- the kind of the fault with which a change is refused: 5, broken, at a store that is not whole; else the number of
--- the change's own refusal; else 4, out of memory
+-- the number of the fault with which a change is refused: broken, at a store that is not whole; else the change's own
+-- refusal; else out of memory
 abbrev pub fault_kind : Bool → Result Tables Refusal → ℕ
-fault_kind false change = 5
-fault_kind true (Err refusal) = code_of refusal
-fault_kind true (Ok tables) = 4
+fault_kind false change = number_of faults.Broken
+fault_kind true (Err Exists) = number_of faults.Exists
+fault_kind true (Err Missing) = number_of faults.Missing
+fault_kind true (Err Unfit) = number_of faults.Unfit
+fault_kind true (Ok tables) = number_of faults.Memory
 
 -- a run of entries that stopped at one of them: those before it made these tables of the old ones, and on these it is
 -- refused; a store that is not whole refuses the first

@@ -12,6 +12,7 @@ use Rattle.store.specs.declared.faults.StoreFault.TheVariants.{Exists, Missing, 
 abbrev pub have_entries : List Commit → Bool
 have_entries commits = list_any (λ commit. nat_lt 0 (length commit.entries)) commits
 
+-- the number of each fault of a plain store
 abbrev pub number_of : StoreFault → ℕ
 number_of Exists = 1
 number_of Missing = 2

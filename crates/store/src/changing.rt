@@ -82,7 +82,8 @@ fn insert_row(
     requires wide { row_width kinds.now ≤ length bytes.now }
     ensures ok { OnOk result ((is_present rows.old row ≡ false) × (rows.new ≡ with_row rows.old row (values_of kinds.now bytes.now))) }
     ensures err { OnErr result (rows.new ≡ rows.old) }
-    ensures refused { IfErr result (λ fault. number_of fault ≡ (if is_present rows.old row then 1 else 4)) }
+    ensures refused { IfErr result (λ fault. number_of fault ≡ (if is_present rows.old row
+        then number_of StoreFault.Exists else number_of StoreFault.Memory)) }
 {
     if rows.contains(row) {
         return Err(StoreFault::Exists);

@@ -1,5 +1,5 @@
 -- What the halving finds.
-use Rattle.std.proofs.Common.{◌≤◌, length, ltb, arith, rules}
+use Rattle.std.proofs.Common.{◌≤◌, length, ltb, rules}
 use Rattle.std.proofs.lemmas.List.Sorted.{IsPartitionPoint-from_clause, IsPartitionedBy-ltb}
 use Rattle.std.proofs.lemmas.Map.Keys.{non_decreasing_from_sorted}
 use Rattle.store.proofs.Ids.{below-partition}
