@@ -16,8 +16,7 @@ use Rattle.intake.specs.Steps.{with_frame, taken}
 use Rattle.dispatcher.specs.declared.outcome.Got.{Got}
 use Rattle.dispatcher.specs.declared.outcome.Got.TheVariants as got
 use Rattle.dispatcher.specs.State.{Replica}
-use Rattle.dispatcher.specs.Steps.{got_of, frame_comes}
-use Rattle.dispatcher.specs.Inner.Parts.{TakesFrame}
+use Rattle.dispatcher.specs.Steps.{got_of, frame_comes, MayTake}
 
 -- a frame with these entries
 abbrev pub the_frame : ℕ → ℕ → ℕ → Bool → List Entry → Frame
@@ -67,7 +66,7 @@ module _ (r : Replica) (frame : Frame) (shape : Shape) (seen : shape_in r.tables
 
     -- one that it took, or had no memory for
     pub comes-taken : (answer : Taken) (all : List Arrivals) (result : Got) → Takes r.arrivals frame answer all → result ≡ got_of answer
-        → TakesFrame r frame result (record r { arrivals = all })
+        → MayTake r (frame_comes r frame) result (record r { arrivals = all })
     comes-taken answer all result (inl memory) same =
         inl (
           same ∙ ap got_of memory.0,

@@ -28,7 +28,7 @@ use Rattle.dispatcher.specs.declared.outcome.Run.{Run}
 use Rattle.dispatcher.specs.State.{Replica, Batch, Fetched}
 use Rattle.dispatcher.specs.Steps.{received, opened, asked, asked_by, ask_for, with_batch, got_of, frame_comes, goes_on, head_for}
 use Rattle.dispatcher.specs.Steps.{head_by_batch, own_head_comes, datagram_comes, at_fetched, CaughtUp, Ends, RunsFetched, RunsBatch}
-use Rattle.dispatcher.specs.Steps.{RunsWhole, RunsAs, WantsMemory, MayRun}
+use Rattle.dispatcher.specs.Steps.{RunsWhole, RunsAs, RunsOutOfMemory, MayRun}
 use Rattle.dispatcher.proofs.Feeding.{left}
 
 -- a replica like another has its names
@@ -141,7 +141,7 @@ module _ (r : Replica) (answer : Run) (new : Replica) where
   as-names true ran = same-names new r ran.1
   as-names false ran = batch-names r.batch ran
 
-  cut-names : WantsMemory r answer new → new.names ≡ r.names
+  cut-names : RunsOutOfMemory r answer new → new.names ≡ r.names
   cut-names wants = elim wants.2 [
     | inl memory ↦ elim memory.1 [
       | inl same ↦ same-names new r same

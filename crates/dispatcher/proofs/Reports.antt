@@ -11,7 +11,7 @@ use Rattle.plans.specs.declared.plan.Plan.{Plan}
 use Rattle.dispatcher.specs.Feeding.{IsFedFrom, RunKeepsFed, RunIsConsistent, AnswerIsReport, ReadyIsAnswered}
 use Rattle.dispatcher.specs.State.{Replica, Batch, Fetched}
 use Rattle.dispatcher.specs.Report.{report_of}
-use Rattle.dispatcher.specs.Steps.{at_fetched, Ends, Runs, RunsAs, RunsWhole, RunsBatch, RunsFetched, WantsMemory}
+use Rattle.dispatcher.specs.Steps.{at_fetched, Ends, Runs, RunsAs, RunsWhole, RunsBatch, RunsFetched, RunsOutOfMemory}
 use Rattle.dispatcher.proofs.CatchingUp.{Merges, can-catch-up, caught-is}
 use Rattle.dispatcher.proofs.Feeding.{Arriving, broken-fed, caught-fed, finished-fed}
 use Rattle.dispatcher.proofs.Ready.{CanAnswer, ready-parts}
@@ -97,7 +97,7 @@ ran-fed laws merges shape commits r answer new fed (inr report) =
     (finished-fed laws merges shape commits r report.batch report.fetched fed report.can)
 
 cut-fed : (laws : Arriving) (merges : Merges) (shape : Shape) (commits : List Commit) (r : Replica) (answer : Run) (new : Replica)
-    → IsFedFrom shape commits r → WantsMemory r answer new → IsFedFrom shape commits new
+    → IsFedFrom shape commits r → RunsOutOfMemory r answer new → IsFedFrom shape commits new
 cut-fed laws merges shape commits r answer new fed wants =
     let fetched = wants.0 in
     let parts = ready-parts r fetched wants.1 in
@@ -122,7 +122,7 @@ ran-consistent : (shape : Shape) (commits : List Commit) (r : Replica) (answer :
 ran-consistent shape commits r answer new (inl idle) e = idle.consistent e
 ran-consistent shape commits r answer new (inr report) e = (let is = sym report.answers ∙ e in cc)
 
-cut-consistent : (r : Replica) (answer : Run) (new : Replica) → WantsMemory r answer new → answer ≡ runs.Inconsistent → ⊥
+cut-consistent : (r : Replica) (answer : Run) (new : Replica) → RunsOutOfMemory r answer new → answer ≡ runs.Inconsistent → ⊥
 cut-consistent r answer new wants e = elim wants.2 [
   | inl memory ↦ (let is = memory.0 in cc)
   | inr broken ↦ (let is = broken.0 in cc)

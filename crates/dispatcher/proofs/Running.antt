@@ -10,7 +10,7 @@ use Rattle.dispatcher.specs.State.{Replica, Batch, Fetched}
 use Rattle.dispatcher.specs.Steps.{want_for, broken_of, at_fetched, CaughtUp, CannotCatchUp, Ends, RunsFetched, RunsBatch}
 use Rattle.dispatcher.specs.Steps.{RunsWhole, RunsAs}
 use Rattle.dispatcher.specs.Steps.{Runs, MayRun}
-use Rattle.dispatcher.specs.Inner.Parts.{answered_by}
+use Rattle.dispatcher.specs.Inner.Parts.{answered_by, MayAnswer}
 use Rattle.dispatcher.proofs.Ready.{CanAnswer, ready-can}
 
 -- catching up leaves all but the tables, the version and the frames
@@ -45,9 +45,8 @@ module _ (r : Replica) (batch : Batch) (fetched : Fetched) (can : CanAnswer r ba
   run-ends : (answer : Run) (new : Replica) → Ends r batch.plans fetched answer new → MayRun r answer new
   run-ends answer new ends = inl (run-lacking r batch fetched None answer new can.whole can.there can.has can.complete ends)
 
-  -- the batch is answered on the tables that have caught up, or stays where memory is wanted
-  pub run-answers : (after new : Replica) (answer : Run) → CaughtUp r fetched after
-      → ((answer ≡ runs.Memory) × (new ≡ after)) ⊎ (answered_by after after.batch ≡ (answer, new)) → MayRun r answer new
+  -- the batch is answered on the tables that have caught up, or stays where it is out of memory
+  pub run-answers : (after new : Replica) (answer : Run) → CaughtUp r fetched after → MayAnswer after answer new → MayRun r answer new
   run-answers after new answer caught (inl memory) =
       inr (fetched, ready-can r batch fetched can, inl (memory.0, inr (subst (CaughtUp r fetched) (sym memory.1) caught)))
   run-answers after new answer caught (inr answered) =
@@ -58,7 +57,7 @@ module _ (r : Replica) (batch : Batch) (fetched : Fetched) (can : CanAnswer r ba
   pub run-cannot : (new : Replica) → CannotCatchUp r fetched × (new ≡ broken_of r) → MayRun r runs.Inconsistent new
   run-cannot new cannot = run-ends runs.Inconsistent new (inr (cannot.0, refl, cannot.1))
 
-  -- memory is wanted before the first change
+  -- it is out of memory before the first change
   pub run-memory : (new : Replica) → new ≡ r → MayRun r runs.Memory new
   run-memory new same = inr (fetched, ready-can r batch fetched can, inl (refl, inl same))
 

@@ -103,7 +103,7 @@ AskKeepsFed =
     (shape : Shape) (commits : List Commit) (r : Replica) (out : Out) (new : Replica) → IsFedFrom shape commits r
     → asked r ≡ Ok (out, new) → IsFedFrom shape commits new
 
--- it stays fed by a run, also where memory is wanted
+-- it stays fed by a run, also out of memory
 abbrev pub RunKeepsFed : Type 0
 RunKeepsFed =
     (shape : Shape) (commits : List Commit) (r : Replica) (answer : Run) (new : Replica) → IsFedFrom shape commits r

@@ -142,6 +142,11 @@ datagram_comes r (Ok (datagrams.Want replica worker from)) = (got.Ignored, r)
 abbrev pub received : Replica → List ℕ → Got × Replica
 received r bytes = if r.broken then (got.Broken, r) else datagram_comes r (reading bytes)
 
+-- what taking bytes or a frame answers and leaves, by what they come to: that; or it is out of memory, only where a frame
+-- would be stored, and nothing has changed
+abbrev pub MayTake : Replica → Got × Replica → Got → Replica → Type 0
+MayTake old comes answer new = ((answer ≡ got.Memory) × (new ≡ old) × (comes.0 ≡ got.Stored)) ⊎ (comes ≡ (answer, new))
+
 -- the replica once it is broken
 abbrev pub broken_of : Replica → Replica
 broken_of r = record r { tables = []; broken = true }
@@ -217,15 +222,15 @@ ready_of r = ready r.broken (lacking r.arrivals) (option_and_then (λ batch. bat
 
 -- what a run may answer and leave when out of memory, where a version was fetched and no frame is missing: `Memory`,
 -- the tables at the old version or at the one that was fetched; or `Broken`, only where there was a commit to apply
-abbrev pub WantsMemory : Replica → Run → Replica → Type 0
-WantsMemory old answer new =
+abbrev pub RunsOutOfMemory : Replica → Run → Replica → Type 0
+RunsOutOfMemory old answer new =
     (fetched : Fetched) × (ready_of old ≡ Some fetched)
     × (((answer ≡ runs.Memory) × ((new ≡ old) ⊎ CaughtUp old fetched new)) ⊎
     ((answer ≡ runs.Broken) × (new ≡ broken_of old) × (old.version < fetched.version)))
 
 -- what a run may answer and leave
 abbrev pub MayRun : Replica → Run → Replica → Type 0
-MayRun old answer new = Runs old answer new ⊎ WantsMemory old answer new
+MayRun old answer new = Runs old answer new ⊎ RunsOutOfMemory old answer new
 
 -- the text of its tables at its version, or why there is none. Being out of memory aside.
 abbrev pub dumped : Replica → Result (List ℕ) DumpFault

@@ -47,7 +47,7 @@ pub enum DumpFault {
 pub enum CatchUpFault {
     /// The frames are not those of one list of commits; the replica is broken.
     Inconsistent,
-    /// Memory was wanted before the first change; nothing has changed.
+    /// Out of memory before the first change; nothing has changed.
     Memory,
     /// The store did not make all changes; the replica is broken.
     Broken,

@@ -1,13 +1,15 @@
 //! The replica's core: bytes and values in, bytes and values out.
 
-ghost use Rattle.std.specs.Prelude.{◌≡◌, ℕ, ◌<◌, ◌≤◌, ◌^◌, ◌+◌, ◌-◌, [], Some, None, true, false, Ok, Err, IfOk, IfErr, IsOk, ◌⊎◌, nat_le};
+ghost use Rattle.std.specs.Prelude.{◌≡◌, ℕ, ◌<◌, ◌≤◌, ◌^◌, ◌+◌, ◌-◌, [], Some, None, true, false, Ok, Err, IfOk, IfErr, nat_le};
 ghost use Rattle.std.specs.Cmp.Lexicographic.{pointwise};
+ghost use Rattle.rows.specs.Faults.{IsFaultOf};
 ghost use Rattle.rows.specs.Limits.{workers_max, replicas_max};
 ghost use Rattle.rows.specs.Shape.{shape_of};
 ghost use Rattle.rows.specs.Tables.{opening};
 ghost use Rattle.dispatcher.specs.State.{Replica};
-ghost use Rattle.dispatcher.specs.Steps.{started, opened, asked, received, own_head_comes, ready_of, HoldNext, MayRun, dumped};
-ghost use Rattle.dispatcher.specs.Inner.Parts.{TakesFrame, CatchesUp, Applies, answered_by};
+ghost use Rattle.dispatcher.specs.Steps.{started, opened, asked, received, frame_comes, own_head_comes, MayTake, ready_of};
+ghost use Rattle.dispatcher.specs.Steps.{HoldNext, MayRun, dumped};
+ghost use Rattle.dispatcher.specs.Inner.Parts.{CatchesUp, Applies, MayAnswer};
 
 use crate::batch::{Batch, Fetched};
 use crate::counting::{are_at_least, copy_of, missing_below, no_counts};
@@ -121,8 +123,7 @@ impl<S: ApplyStore + Sync> ReplicaCore<S> {
     /// `BadPlan`, the plan does not fit the schema, with its first fault; `Memory`.
     pub fn open(&mut self, plan: Plan) -> Result<usize, OpenFault>
         ensures ok { IfOk result (λ count. opened self.old plan ≡ Ok (count, self.new)) }
-        ensures refused { IfErr result (λ fault. (self.new ≡ self.old)
-            × (((fault ≡ OpenFault.Memory) × IsOk (opened self.old plan)) ⊎ (opened self.old plan ≡ Err fault))) }
+        ensures refused { IfErr result (λ fault. (self.new ≡ self.old) × IsFaultOf (opened self.old plan) OpenFault.Memory fault) }
     {
         if self.broken {
             return Err(OpenFault::Broken);
@@ -180,8 +181,7 @@ impl<S: ApplyStore + Sync> ReplicaCore<S> {
     /// and the number of workers are its own, and neither its version nor a count goes back. All
     /// else is ignored. `Memory` is answered only where a frame would be kept.
     pub fn on_bytes(&mut self, bytes: &[u8]) -> Got
-        ensures { ((result ≡ Got.Memory) × (self.new ≡ self.old) × ((received self.old bytes.now).0 ≡ Got.Stored))
-            ⊎ (received self.old bytes.now ≡ (result, self.new)) }
+        ensures { MayTake self.old (received self.old bytes.now) result self.new }
     {
         if self.broken {
             return Got::Broken;
@@ -217,9 +217,9 @@ impl<S: ApplyStore + Sync> ReplicaCore<S> {
     /// Runs the batch: applies every commit up to the version that was fetched for it, and
     /// answers all its queries on those rows. Frames that were applied are kept no longer.
     ///
-    /// Where memory is wanted, the answer is `Memory`, and the batch and the known frames stand,
-    /// the tables at the old version or at the fetched one; or `Broken`, where changes were being
-    /// applied. After `Inconsistent` or `Broken` the replica is broken for good.
+    /// Out of memory the answer is `Memory`, and the batch and the known frames stand, the tables
+    /// at the old version or at the fetched one; or `Broken`, where changes were being applied.
+    /// After `Inconsistent` or `Broken` the replica is broken for good.
     pub fn run(&mut self) -> Run
         ensures { MayRun self.old result self.new }
     {
@@ -258,8 +258,7 @@ impl<S: ApplyStore + Sync> ReplicaCore<S> {
     /// Fails with the first of these: `Broken`; `Memory`.
     pub fn dump(&self) -> Result<Vec<u8>, DumpFault>
         ensures ok { IfOk result (λ text. dumped self.now ≡ Ok text.items) }
-        ensures refused { IfErr result
-            (λ fault. ((fault ≡ DumpFault.Memory) × IsOk (dumped self.now)) ⊎ (dumped self.now ≡ Err fault)) }
+        ensures refused { IfErr result (λ fault. IsFaultOf (dumped self.now) DumpFault.Memory fault) }
     {
         if self.broken {
             return Err(DumpFault::Broken);
@@ -280,8 +279,8 @@ impl<S: ApplyStore + Sync> ReplicaCore<S> {
         entries: &LentEntries<'_>,
     ) -> Got
         requires { self.old.broken ≡ false }
-        ensures { TakesFrame self.old (record { worker = worker; seq = seq; commit = commit; last = last; entries = entries.now })
-            result self.new }
+        ensures { let frame : Frame = record { worker = worker; seq = seq; commit = commit; last = last; entries = entries.now } in
+            MayTake self.old (frame_comes self.old frame) result self.new }
     {
         known_frames_stay_kept();
         if worker >= self.workers {
@@ -331,7 +330,7 @@ impl<S: ApplyStore + Sync> ReplicaCore<S> {
     }
 
     /// Applies the commits above its version, of whose frames none below the counts is missing, and
-    /// is at `version` then. They are merged before the first change: where memory is wanted for
+    /// is at `version` then. They are merged before the first change: where it is out of memory for
     /// that nothing has changed.
     fn catch_up(&mut self, version: u64, counts: Counts) -> Result<(), CatchUpFault>
         requires { ready_of self.old ≡ Some (record { version = version; counts = counts }) }
@@ -386,7 +385,7 @@ impl<S: ApplyStore + Sync> ReplicaCore<S> {
     /// Answers the batch on the tables as they are, and ends it.
     fn answer(&mut self) -> Run
         requires { self.old.broken ≡ false }
-        ensures { ((result ≡ Run.Memory) × (self.new ≡ self.old)) ⊎ (answered_by self.old self.old.batch ≡ (result, self.new)) }
+        ensures { MayAnswer self.old result self.new }
     {
         let Some(batch) = &self.batch else {
             return Run::NoBatch;

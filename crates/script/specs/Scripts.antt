@@ -85,7 +85,7 @@ pub record IsFaultAt (IsNextFault : Settings → List Event → Option (List ℕ
   pub before : IsBeginning (take (line - 1) (lines_of text)) settings events
   pub here : IsNextFault settings events (slice_get (lines_of text) (line - 1)) reason
 
--- why a text is no script; want of memory says nothing of it
+-- why a text is no script; being out of memory says nothing of it
 abbrev pub IsScriptFault : List ℕ → ScriptFault → Type 0
 IsScriptFault text (At line reason) = IsFaultAt IsFaultNext text line reason
 IsScriptFault text Memory = Unit {0}

@@ -70,7 +70,7 @@ pub fn write_echoed_text_of<W: Write>(
 }
 
 /// An empty text with room for a piece and, behind it, the lines of any of these outputs: each is
-/// put there once. So no memory is wanted once something is written.
+/// put there once. So it is not out of memory once something is written.
 fn room_for(alloc: Global, outputs: &[Output]) -> Result<Vec<u8>, AllocError>
     ensures { IfOk result (λ text. text.items ≡ []) }
 {

@@ -21,7 +21,7 @@ use Rattle.plans.specs.declared.plan.Plan.{Plan}
 use Rattle.dispatcher.specs.Feeding.{IsFedFrom}
 use Rattle.dispatcher.specs.State.{Replica, Batch as ReplicaBatch, Fetched}
 use Rattle.dispatcher.specs.Report.{report_of}
-use Rattle.dispatcher.specs.Steps.{at_fetched, broken_of, want_for, ready, ready_of, unless_lacking, CaughtUp, WantsMemory}
+use Rattle.dispatcher.specs.Steps.{at_fetched, broken_of, want_for, ready, ready_of, unless_lacking, CaughtUp, RunsOutOfMemory}
 use Rattle.dispatcher.specs.Steps.{Runs as ReplicaRuns, RunsAs, RunsWhole, RunsBatch, RunsFetched}
 use Rattle.script.specs.declared.output.Output.{Output}
 use Rattle.script.specs.declared.output.Output.TheVariants as outputs
@@ -302,7 +302,7 @@ module _ (laws : FedLaws) (shape : Shape) (p : Parts) (i : ℕ) (r : Replica) (s
               (record { feeding = feeding; moves = broken-moves r (ready-waits r fetched is_ready) }),
         )
 
-    pub cut-ends : (answer : Run) (after : Replica) → WantsMemory r answer after
+    pub cut-ends : (answer : Run) (after : Replica) → RunsOutOfMemory r answer after
         → Ends shape p (member_at p i r) (run_output p i (answer, after))
     cut-ends answer after wants =
         let m = member_at p i r in

@@ -3,31 +3,23 @@ use Rattle.std.specs.Prelude.{◌≡◌, ◌<◌, List, true, Option, None, Some
 use Rattle.rows.specs.declared.commit.Commit.{Commit}
 use Rattle.rows.specs.Commits.{commits_of}
 use Rattle.store.specs.Faults.{have_entries}
-use Rattle.update_log.specs.declared.frame.Frame.{Frame}
 use Rattle.dispatcher.specs.declared.faults.CatchUpFault.{CatchUpFault}
 use Rattle.dispatcher.specs.declared.faults.CatchUpFault.TheVariants.{Inconsistent, Memory, Broken}
-use Rattle.dispatcher.specs.declared.outcome.Got.{Got}
-use Rattle.dispatcher.specs.declared.outcome.Got.TheVariants as got
 use Rattle.dispatcher.specs.declared.outcome.Run.{Run}
 use Rattle.dispatcher.specs.declared.outcome.Run.TheVariants as runs
 use Rattle.dispatcher.specs.State.{Replica, Batch, Fetched}
 use Rattle.dispatcher.specs.Report.{report_of}
-use Rattle.dispatcher.specs.Steps.{frame_comes, broken_of, at_fetched, CaughtUp, CannotCatchUp}
+use Rattle.dispatcher.specs.Steps.{broken_of, at_fetched, CaughtUp, CannotCatchUp}
 
--- what taking a frame answers and leaves: out of memory is answered only where it would be stored, and nothing has changed
-abbrev pub TakesFrame : Replica → Frame → Got → Replica → Type 0
-TakesFrame old frame answer new =
-    ((answer ≡ got.Memory) × (new ≡ old) × ((frame_comes old frame).0 ≡ got.Stored)) ⊎ (frame_comes old frame ≡ (answer, new))
-
--- what catching up answers and leaves: where memory is wanted before the first change, nothing has changed; where it is
--- wanted later, the replica is broken
+-- what catching up answers and leaves: where it is out of memory before the first change, nothing has changed; where it is
+-- so later, the replica is broken
 abbrev pub CatchesUp : Replica → Fetched → Result (Unit {0}) CatchUpFault → Replica → Type 0
 CatchesUp old fetched (Ok done) new = CaughtUp old fetched new
 CatchesUp old fetched (Err Inconsistent) new = CannotCatchUp old fetched × (new ≡ broken_of old)
 CatchesUp old fetched (Err Memory) new = new ≡ old
 CatchesUp old fetched (Err Broken) new = (new ≡ broken_of old) × (old.version < fetched.version)
 
--- what applying commits answers and leaves; it merges none, so that no memory is wanted before the first change
+-- what applying commits answers and leaves; it merges none, so that it is not out of memory before the first change
 abbrev pub Applies : Replica → Fetched → List Commit → Result (Unit {0}) CatchUpFault → Replica → Type 0
 Applies old fetched commits (Ok done) new = IsOkAnd (commits_of old.tables commits) (λ tables. new ≡ at_fetched old fetched tables)
 Applies old fetched commits (Err Inconsistent) new = IsErr (commits_of old.tables commits) × (new ≡ broken_of old)
@@ -38,3 +30,7 @@ Applies old fetched commits (Err Broken) new = (new ≡ broken_of old) × (have_
 abbrev pub answered_by : Replica → Option Batch → Run × Replica
 answered_by r None = (runs.NoBatch, r)
 answered_by r (Some batch) = (runs.Answered (report_of r.tables r.version batch.plans), record r { batch = None })
+
+-- what answering the batch answers and leaves: out of memory nothing has changed
+abbrev pub MayAnswer : Replica → Run → Replica → Type 0
+MayAnswer old answer new = ((answer ≡ runs.Memory) × (new ≡ old)) ⊎ (answered_by old old.batch ≡ (answer, new))

@@ -1,4 +1,4 @@
--- Where memory is wanted before the first change, nothing has changed; where it is wanted later, the replica is broken.
+-- Where it is out of memory before the first change, nothing has changed; where it is so later, the replica is broken.
 use Rattle.std.proofs.Common.{sym, ap}
 use Rattle.std.specs.Option.{option_map}
 use Rattle.dispatcher.specs.Inner.Invariant.{replica_of, batch_of, fetched_of}
