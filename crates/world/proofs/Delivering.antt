@@ -15,7 +15,8 @@ use Rattle.script.specs.declared.event.Node.TheVariants as nodes
 use Rattle.script.specs.declared.output.Output.{Output}
 use Rattle.script.specs.declared.output.Output.TheVariants as outputs
 use Rattle.script.specs.declared.sent.Sent.{Sent}
-use Rattle.world.specs.Outputs.{of_got, of_answers, packets_of, sent_from}
+use Rattle.world.specs.Outputs.{of_answers, packets_of, sent_from}
+use Rattle.world.specs.Inner.Naming.{of_got}
 use Rattle.world.specs.Parts.{Parts}
 use Rattle.world.specs.Standing.{world_of}
 use Rattle.world.specs.Steps.{World, happens, delivered, deliver_happens, raw_happens, is_forged}

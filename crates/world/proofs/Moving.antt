@@ -20,7 +20,8 @@ use Rattle.script.specs.declared.event.Event.{Event}
 use Rattle.script.specs.declared.event.Event.TheVariants as events
 use Rattle.script.specs.declared.output.Output.{Output}
 use Rattle.script.specs.declared.output.Output.TheVariants as outputs
-use Rattle.world.specs.Outputs.{of_change, of_changed, of_commit, of_look, of_open, of_ask}
+use Rattle.world.specs.Outputs.{of_change, of_commit, of_look}
+use Rattle.world.specs.Inner.Naming.{of_changed, of_open, of_ask}
 use Rattle.world.specs.Parts.{Parts}
 use Rattle.world.specs.Standing.{world_of}
 use Rattle.world.specs.Steps.{World, unless_stopped, open_draft, happens, on_draft, change_happens, commit_happens, abort_happens}

@@ -28,7 +28,7 @@ use Rattle.dispatcher.specs.State.{Replica, Batch as ReplicaBatch, Fetched}
 use Rattle.dispatcher.specs.Steps.{frame_comes, own_head_comes, goes_on, got_of, datagram_comes}
 use Rattle.script.specs.declared.output.Output.{Output}
 use Rattle.script.specs.declared.output.Output.TheVariants as outputs
-use Rattle.world.specs.Outputs.{of_got}
+use Rattle.world.specs.Inner.Naming.{of_got}
 use Rattle.world.specs.Parts.{Parts}
 use Rattle.world.specs.Inner.CoreSteps.{with_replica, got_by, to_replica}
 use Rattle.world.specs.Steps.{World, Member, frame_happens, head_happens, datagram_happens, member_output, on_member, known_of, with_known}

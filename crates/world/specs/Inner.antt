@@ -1,4 +1,5 @@
 -- Only for proofs: what the calls of the parts are, and what every world keeps. No public clause rests on these.
+pub mod Naming
 pub mod Nodes
 pub mod CoreSteps
 pub mod Boots

@@ -1,18 +1,10 @@
--- What an event answers, from what the primary and the replicas answer.
+-- What an event answers, from what transactions and the primary answer.
 use Rattle.std.specs.Prelude.{ℕ, ◌+◌, List, [], ◌∷◌, length, Result, Ok, Err}
 use Rattle.rows.specs.declared.value.Value.{Value}
 use Rattle.mvcc.specs.declared.faults.TxFault.{TxFault}
 use Rattle.mvcc.specs.declared.faults.TxFault.TheVariants as changes
 use Rattle.primary.specs.declared.faults.CommitFault.{CommitFault}
 use Rattle.primary.specs.declared.faults.CommitFault.TheVariants as commits
-use Rattle.dispatcher.specs.declared.faults.OpenFault.{OpenFault}
-use Rattle.dispatcher.specs.declared.faults.OpenFault.TheVariants as opens
-use Rattle.dispatcher.specs.declared.faults.AskFault.{AskFault}
-use Rattle.dispatcher.specs.declared.faults.AskFault.TheVariants as asks
-use Rattle.dispatcher.specs.declared.faults.DumpFault.{DumpFault}
-use Rattle.dispatcher.specs.declared.faults.DumpFault.TheVariants as dumps
-use Rattle.dispatcher.specs.declared.outcome.Got.{Got}
-use Rattle.dispatcher.specs.declared.outcome.Got.TheVariants as got
 use Rattle.wire.specs.declared.out.Out.{Out}
 use Rattle.script.specs.declared.sent.Sent.{Sent}
 use Rattle.script.specs.declared.output.Output.{Output}
@@ -25,11 +17,6 @@ of_change changes.Missing = outputs.Missing
 of_change changes.Unfit = outputs.Unfit
 of_change changes.TooManyEntries = outputs.TooManyEntries
 of_change changes.Memory = outputs.Memory
-
--- a call that changes a transaction
-abbrev pub of_changed : Result (Unit {0}) TxFault → Output
-of_changed (Ok done) = outputs.Accepted
-of_changed (Err fault) = of_change fault
 
 -- a look at a column
 abbrev pub of_look : Result Value TxFault → Output
@@ -44,34 +31,6 @@ of_commit commits.Failed = outputs.Failed
 of_commit commits.NumbersUsedUp = outputs.NumbersUsedUp
 of_commit commits.Memory = outputs.Memory
 of_commit commits.Foreign = outputs.Foreign
-
--- a refused query
-abbrev pub of_open : OpenFault → Output
-of_open opens.BatchFull = outputs.BatchFull
-of_open (opens.BadPlan fault) = outputs.BadPlan fault
-of_open opens.Broken = outputs.Broken
-of_open opens.Memory = outputs.Memory
-
--- a refused ask
-abbrev pub of_ask : AskFault → Output
-of_ask asks.Busy = outputs.Busy
-of_ask asks.Empty = outputs.Empty
-of_ask asks.Broken = outputs.Broken
-
--- a refused dump
-abbrev pub of_dump : DumpFault → Output
-of_dump dumps.Broken = outputs.Broken
-of_dump dumps.Memory = outputs.Memory
-
--- what a replica made of bytes
-abbrev pub of_got : Got → Output
-of_got got.Stored = outputs.Stored
-of_got got.Repeat = outputs.Repeat
-of_got got.Ahead = outputs.Ahead
-of_got (got.Head version) = outputs.Head version
-of_got got.Ignored = outputs.Ignored
-of_got got.Memory = outputs.Memory
-of_got got.Broken = outputs.Broken
 
 -- the indices and lengths of datagrams that are sent one after the other, from this index on
 abbrev pub sent_from : ℕ → List Out → List Sent

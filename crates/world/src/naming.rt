@@ -1,7 +1,8 @@
 //! What the refusals of the cores are called among the outputs.
 
 ghost use Rattle.std.specs.Prelude.{◌≡◌};
-ghost use Rattle.world.specs.Outputs.{of_change, of_changed, of_look, of_commit, of_open, of_ask, of_dump, of_got};
+ghost use Rattle.world.specs.Outputs.{of_change, of_look, of_commit};
+ghost use Rattle.world.specs.Inner.Naming.{of_changed, of_open, of_ask, of_dump, of_got};
 
 use dispatcher::{AskFault, DumpFault, Got, OpenFault};
 use mvcc::TxFault;
