@@ -28,6 +28,7 @@ use Rattle.mvcc.specs.Transactions.{insert_answer, set_answer, delete_answer, ge
 use Rattle.primary.specs.Steps.{commit_answer, committed, flushed, is_foreign, next_number, has_numbers}
 use Rattle.primary.specs.Sending.{pushed, answers}
 use Rattle.primary.specs.State.{Primary}
+use Rattle.journal.specs.Recovery.{IsBeginning}
 use Rattle.plans.specs.declared.plan.Plan.{Plan}
 use Rattle.plans.specs.declared.faults.PlanFault.{PlanFault}
 use Rattle.plans.specs.Checking.{checked}
@@ -41,7 +42,7 @@ use Rattle.script.specs.declared.output.Output.{Output}
 use Rattle.script.specs.declared.output.Output.TheVariants as outputs
 use Rattle.script.specs.declared.setup.Setup.{Setup}
 use Rattle.world.specs.Outputs.{of_change, of_look, of_commit, of_answers}
-use Rattle.world.specs.Theorem.{IsBeginning, IsFaultless}
+use Rattle.world.specs.Theorem.{IsFaultless}
 use Rattle.world.specs.Steps.{World, Member, Batch, open_draft, happens, opening_world, with_member, send, on_draft, change_happens}
 use Rattle.world.specs.Steps.{commit_happens, abort_happens, push_happens, head_happens, datagram_happens, on_member, member_output}
 use Rattle.world.specs.Steps.{deliver_happens, shown, open_happens, ask_happens, new_batch, ask_bytes, run_happens}

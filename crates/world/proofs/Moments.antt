@@ -6,6 +6,7 @@ use Rattle.rows.specs.declared.commit.Commit.{Commit}
 use Rattle.rows.specs.declared.kind.Kind.{Kind}
 use Rattle.rows.specs.Shape.{Shape, shape_of}
 use Rattle.rows.specs.Commits.{tables_after}
+use Rattle.journal.specs.Recovery.{IsBeginning}
 use Rattle.dispatcher.specs.Feeding.{IsFedFrom}
 use Rattle.dispatcher.specs.State.{Replica}
 use Rattle.script.specs.declared.event.Event.{Event}
@@ -48,7 +49,7 @@ abbrev Told : List (List ℕ × List Kind) → List Commit → Parts → Type 0
 Told schema commits p = (p.primary.schema ≡ schema) × AllHold (shape_of schema) commits p
 
 ends-grown : (old end : Parts) (todo : List Event) (done : List Output) → RunsBy StandsStep old todo done end
-    → (more : List Commit) × (end.primary.durable ≡ old.primary.durable ++ more)
+    → IsBeginning old.primary.durable end.primary.durable
 ends-grown old end todo done run =
     run-grows (λ (p : Parts). p.primary.durable) StandsStep
     (λ first event output second step. (step-fine (world_of first) event output (world_of second) step.0).grows) old end todo done run

@@ -5,6 +5,7 @@ use Rattle.std.proofs.lemmas.List.{append-nil, append_assoc}
 use Rattle.rows.specs.declared.commit.Commit.{Commit}
 use Rattle.rows.specs.Shape.{shape_of}
 use Rattle.rows.specs.Tables.{Tables}
+use Rattle.journal.specs.Recovery.{IsBeginning}
 use Rattle.dispatcher.specs.Report.{report_of}
 use Rattle.dispatcher.specs.TableText.{names_of, table_text}
 use Rattle.world.proofs.Durable.{tables-stay}
@@ -16,7 +17,7 @@ use Rattle.world.specs.Parts.{Parts, parts_started}
 use Rattle.world.specs.Steps.{World, opening_world}
 use Rattle.world.specs.Allowed.{MayHappen, RunsBy, Runs, Allowed}
 use Rattle.world.specs.Standing.{world_of}
-use Rattle.world.specs.Theorem.{SaysRows, IsBeginning, IsFaultless, IsStep, IsCoreStep, OfEachRun, HasExactReports}
+use Rattle.world.specs.Theorem.{SaysRows, IsFaultless, IsStep, IsCoreStep, OfEachRun, HasExactReports}
 use Rattle.world.specs.Theorem.{HasGrowingList, HasLegalList, HasNoFault, AllowedRunsAreExact}
 use Rattle.world.specs.Inner.Fresh.{Fresh, HasBoot}
 use Rattle.world.specs.Inner.Honest.{IsHonest}

@@ -1,10 +1,11 @@
 -- The whole promise on one page: a list of commits that only grows, and for each replica a version and at most one batch.
 -- Reports and dumps are told by the list alone. Nothing is said here of datagrams, of journals or of memory.
-use Rattle.std.specs.Prelude.{◌≡◌, ℕ, ◌≤◌, List, [], ◌++◌, length, replicate, Option, None, Some, slice_get, slice_set, ◌⊎◌}
+use Rattle.std.specs.Prelude.{◌≡◌, ℕ, ◌≤◌, List, [], length, replicate, Option, None, Some, slice_get, slice_set, ◌⊎◌}
 use Rattle.rows.specs.declared.commit.Commit.{Commit}
 use Rattle.rows.specs.declared.kind.Kind.{Kind}
 use Rattle.rows.specs.Shape.{shape_of}
 use Rattle.rows.specs.Commits.{tables_after}
+use Rattle.journal.specs.Recovery.{IsBeginning}
 use Rattle.plans.specs.declared.plan.Plan.{Plan}
 use Rattle.dispatcher.specs.Report.{report_of}
 use Rattle.dispatcher.specs.TableText.{names_of, table_text}
@@ -63,6 +64,6 @@ Says schema old (outputs.Dump text) new =
     × (new ≡ old.readers)
 Says schema old other new = (new ≡ old.readers) ⊎ Becomes (MayBecome old.commits) old.readers new
 
--- one step, whatever the event
+-- one step, whatever the event: the commits that were there are a beginning of those that are
 abbrev pub Goes : List (List ℕ × List Kind) → Database → Output → Database → Type 0
-Goes schema old output new = ((more : List Commit) × (new.commits ≡ old.commits ++ more)) × Says schema old output new.readers
+Goes schema old output new = IsBeginning old.commits new.commits × Says schema old output new.readers

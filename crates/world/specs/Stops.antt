@@ -5,7 +5,7 @@ use Rattle.std.specs.Option.{option_and_then}
 use Rattle.rows.specs.declared.commit.Commit.{Commit}
 use Rattle.rows.specs.Shape.{Shape}
 use Rattle.journal.specs.Text.{record_of, records_from, journal_text}
-use Rattle.journal.specs.Recovery.{IsJournaled, IsRecovered}
+use Rattle.journal.specs.Recovery.{IsBeginning, IsJournaled, IsRecovered}
 use Rattle.mvcc.specs.Draft.{Draft}
 use Rattle.primary.specs.State.{Primary}
 
@@ -43,7 +43,7 @@ StopIsRecovered =
 
 -- a stop keeps what was durable
 abbrev pub StopKeepsDurable : Type 0
-StopKeepsDurable = (p : Primary) (bytes : ℕ) → (more : List Commit) × ((stopped_at p bytes).durable ≡ p.durable ++ more)
+StopKeepsDurable = (p : Primary) (bytes : ℕ) → IsBeginning p.durable (stopped_at p bytes).durable
 
 -- and no transaction open
 abbrev pub StopEndsTransactions : Type 0

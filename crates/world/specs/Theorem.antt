@@ -6,6 +6,7 @@ use Rattle.rows.specs.declared.commit.Commit.{Commit}
 use Rattle.rows.specs.Limits.{replicas_max}
 use Rattle.rows.specs.Shape.{shape_of}
 use Rattle.rows.specs.Commits.{IsLegal, tables_after}
+use Rattle.journal.specs.Recovery.{IsBeginning}
 use Rattle.dispatcher.specs.State.{Fetched}
 use Rattle.dispatcher.specs.Report.{report_of}
 use Rattle.dispatcher.specs.TableText.{names_of, table_text}
@@ -50,10 +51,6 @@ SaysRows commits old event (outputs.Dump text) =
     (replica : ℕ) × (member : Member) × (event ≡ events.Dump replica) × (slice_get old.members replica ≡ Some member)
     × IsDumpOf commits old member.version text
 SaysRows commits old event other = Unit {0}
-
--- a list of commits is the beginning of another
-abbrev pub IsBeginning : List Commit → List Commit → Type 0
-IsBeginning commits later = (more : List Commit) × (later ≡ commits ++ more)
 
 -- an output that does not speak of damage: of frames that are not those of one list, of a transaction that the primary
 -- did not begin, or of a journal that failed

@@ -3,11 +3,12 @@
 ghost use Rattle.std.specs.Prelude.{◌≡◌, ◌<◌, ◌≤◌, length, IfOk};
 ghost use Rattle.rows.specs.Shape.{shape_of};
 ghost use Rattle.rows.specs.Commits.{IsLegal};
+ghost use Rattle.journal.specs.Recovery.{IsBeginning};
 ghost use Rattle.script.specs.Events.{IsPossible};
 ghost use Rattle.world.specs.Parts.{parts_started};
 ghost use Rattle.world.specs.Allowed.{MayHappen};
 ghost use Rattle.world.specs.Standing.{world_of, AreFed, JournalStands};
-ghost use Rattle.world.specs.Theorem.{SaysRows, IsBeginning, IsFaultless};
+ghost use Rattle.world.specs.Theorem.{SaysRows, IsFaultless};
 ghost use Rattle.rows.specs.Limits.{workers_max, replicas_max};
 
 use crate::cores::Cores;
