@@ -44,8 +44,8 @@ Exit status:
 ";
 
 /// Runs the program with these words, the first of which is its own name, and answers its exit
-/// status: 0, all was done; 1, a read or a write failed or memory was wanted; 2, the words or the
-/// script do not read, and nothing was written. But for 0 one line on `errors` says why.
+/// status: 0, all was done; 1, a read or a write failed, or it is out of memory; 2, the words or
+/// the script do not read, and nothing was written. But for 0 one line on `errors` says why.
 pub fn run_words<R: Read, W: Write, E: Write>(
     alloc: Global,
     words: &[&str],

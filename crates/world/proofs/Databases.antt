@@ -219,7 +219,7 @@ module _ (w : World) (h : Fresh w) (i : ℕ) (m : Member) (here : slice_get w.me
       by true = stays w outputs.BootUsed tt
       by false = becomes (restarted w.primary.workers m boot) (outputs.Boot boot) w.sent refl (inr (inr refl)) tt
 
-  -- a run that lacks memory
+  -- a run that is out of memory
   cut-tells : (output : Output) (new : World) → RunIsCut w (Some m) output new → Tells w (output, new)
   cut-tells output new cut = let at = ready-batch w i m cut.0 h here cut.1 in elim cut.2 [
     | inl memory ↦ is outputs.Memory (record m { version = cut.0.version }) memory.0 memory.1

@@ -56,7 +56,7 @@ told_at p outs = (of_answers (length p.sent) outs, record p { sent = p.sent ++ p
 abbrev told_in : Parts → List Out → Output × World
 told_in p outs = (of_answers (length p.sent) outs, world_of (record p { sent = p.sent ++ packets_of outs }))
 
--- answers that are sent, or not for want of memory, are what an event gives by which bytes come to the primary
+-- answers that are sent, or not where it is out of memory, are what an event gives by which bytes come to the primary
 pub answers_told : (p old : Parts) (seen : p ≡ old) (event : Event) (bytes : List ℕ) → p.stopped ≡ false
     → happens (world_of p) event ≡ delivered (world_of p) bytes nodes.Primary → (outs : List Out) (output : Output) (new : Parts)
     → outs ≡ answers p.primary bytes → MaySendAnswers old outs output new → HappensBeside old event output new

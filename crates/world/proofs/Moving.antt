@@ -52,7 +52,7 @@ beside_same p old event output seen is =
     subst (λ x. HappensBeside x event output x) seen
     (record { happens = inl is; setup = refl; replicas = refl; boots = refl; asked_at = refl; kept = λ keeps. keeps })
 
--- memory is wanted, and nothing has changed
+-- it is out of memory, and nothing has changed
 pub beside_memory : (old new : Parts) (event : Event) (output : Output) → output ≡ outputs.Memory → new ≡ old
     → HappensBeside old event output new
 beside_memory old new event output memory same =

@@ -200,7 +200,7 @@ module _ (setup : Setup) (p : Primary) (journal : List ℕ) (transactions : List
         kept = λ keeps is. absurd (false≢true is);
       })
 
-  -- it lacks memory, and stays stopped
+  -- it is out of memory, and stays stopped
   pub start_lacks : (old : Parts) (kept : List Commit) (bytes back : List ℕ) (count : ℕ) → stopped kept bytes transactions ≡ old
       → IsRecovered setup.workers (shape_of setup.schema) back kept count
       → HappensBeside old Start outputs.Memory (stopped kept back transactions)

@@ -14,7 +14,7 @@ use Rattle.world.specs.Steps.{World, Member, Batch, opening_world, happens, with
 abbrev pub ready_member : Member → Option Fetched
 ready_member m = ready m.broken (lacking m.known) (option_and_then (λ (batch : Batch). batch.fetched) m.batch)
 
--- a run that lacks memory at a replica that has fetched a version and lacks no frame: it stands at the old version or
+-- a run that is out of memory at a replica that has fetched a version and lacks no frame: it stands at the old version or
 -- at the fetched one and may run again; or it is broken, where there was a commit to apply
 abbrev pub RunIsCut : World → Option Member → Output → World → Type 0
 RunIsCut old None output new = ⊥

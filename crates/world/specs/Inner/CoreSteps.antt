@@ -120,8 +120,8 @@ run_output p number (runs.Inconsistent, replica) = (outputs.Inconsistent, with_r
 run_output p number (runs.Broken, replica) = (outputs.Broken, with_replica p number replica)
 run_output p number (runs.Memory, replica) = (outputs.Memory, with_replica p number replica)
 
--- what running the batch of a replica answers and leaves; one that lacks memory may have applied what it fetched, or may be
--- broken
+-- what running the batch of a replica answers and leaves; one that is out of memory may have applied what it fetched, or may
+-- be broken
 abbrev pub RunsBy : Parts → ℕ → Option Replica → Output → Parts → Type 0
 RunsBy old number None output new = ⊥
 RunsBy old number (Some replica) output new =
