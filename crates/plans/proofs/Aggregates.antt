@@ -19,7 +19,7 @@ use Rattle.plans.specs.declared.aggregate.Aggregate.TheVariants.{Count, Sum, Min
 use Rattle.plans.specs.declared.field.Field.{Field}
 use Rattle.plans.specs.declared.field.Field.TheVariants.{Stored, Number, Absent}
 use Rattle.plans.specs.declared.column.Column.{Column}
-use Rattle.plans.specs.Answers.{JoinedRow, value_in, values_in, number_of, total, lesser, greater, beside, best, field_of, aggregate_of}
+use Rattle.plans.specs.Answers.{JoinedRow, joined_value, values_in, integer_of, total, lesser, greater, beside, best, field_of, aggregate_of}
 use Rattle.plans.specs.Inner.Kept.{grown, grown_all, extreme, input_of, HasInput, IsWithin}
 use Rattle.plans.specs.Inner.TotalOrder.{value_cmp_total}
 
@@ -84,22 +84,22 @@ greater-assoc : (x y z : Value) → greater x (greater y z) ≡ greater (greater
 greater-assoc = pick-assoc (back_total value_cmp_total)
 
 values_in-push : (column : Column) (rows : List JoinedRow) (row : JoinedRow)
-    → values_in column (rows ++ row ∷ []) ≡ values_in column rows ++ value_in row column ∷ []
-values_in-push column rows row = map_push (λ row. value_in row column) rows row
+    → values_in column (rows ++ row ∷ []) ≡ values_in column rows ++ joined_value row column ∷ []
+values_in-push column rows row = map_push (λ row. joined_value row column) rows row
 
 pub aggregate_of-push : (rows : List JoinedRow) (row : JoinedRow) (aggregate : Aggregate)
     → aggregate_of (rows ++ row ∷ []) aggregate ≡ grown aggregate (aggregate_of rows aggregate) (input_of row aggregate)
 aggregate_of-push rows row Count = ap (λ n. Number (pos n)) (length_push rows row)
 aggregate_of-push rows row (Sum column) =
-    ap (λ values. Number (total (map number_of values))) (values_in-push column rows row)
-    ∙ ap (λ numbers. Number (total numbers)) (map_push number_of (values_in column rows) (value_in row column))
-    ∙ ap Number (total-push (map number_of (values_in column rows)) (number_of (value_in row column)))
+    ap (λ values. Number (total (map integer_of values))) (values_in-push column rows row)
+    ∙ ap (λ numbers. Number (total numbers)) (map_push integer_of (values_in column rows) (joined_value row column))
+    ∙ ap Number (total-push (map integer_of (values_in column rows)) (integer_of (joined_value row column)))
 aggregate_of-push rows row (Min column) =
     ap (λ values. field_of (best lesser values)) (values_in-push column rows row)
-    ∙ extreme-push lesser lesser-assoc (values_in column rows) (value_in row column)
+    ∙ extreme-push lesser lesser-assoc (values_in column rows) (joined_value row column)
 aggregate_of-push rows row (Max column) =
     ap (λ values. field_of (best greater values)) (values_in-push column rows row)
-    ∙ extreme-push greater greater-assoc (values_in column rows) (value_in row column)
+    ∙ extreme-push greater greater-assoc (values_in column rows) (joined_value row column)
 
 pub grown_all-push : (rows : List JoinedRow) (row : JoinedRow) (aggregates : List Aggregate)
     → map (aggregate_of (rows ++ row ∷ [])) aggregates ≡ grown_all row aggregates (map (aggregate_of rows) aggregates)

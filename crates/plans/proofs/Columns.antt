@@ -19,9 +19,9 @@ use Rattle.plans.specs.declared.plan.Join.{Join}
 use Rattle.plans.specs.declared.plan.Plan.{Plan}
 use Rattle.plans.specs.declared.faults.PlanFault.{PlanFault}
 use Rattle.plans.specs.declared.faults.PlanFault.TheVariants.{TooMany, NoAggregate}
-use Rattle.plans.specs.Checking.{first, column_kind, number_fault, presence_fault, join_fault, value_fault, condition_fault, group_fault}
+use Rattle.plans.specs.Checking.{first, kind_among, number_fault, presence_fault, join_fault, value_fault, condition_fault, group_fault}
 use Rattle.plans.specs.Checking.{aggregate_fault}
-use Rattle.plans.specs.Checking.{column_faults, is_too_many, joined_kinds, tables_fault, plan_fault, checked, refused_by}
+use Rattle.plans.specs.Checking.{column_faults, is_too_many, joined_kinds, fault_by_tables, plan_fault, checked, refused_by}
 use Rattle.plans.specs.Answers.{JoinedRow, column_in}
 use Rattle.plans.specs.Inner.Kept.{HasJoin, HasColumns, HasInput}
 
@@ -40,7 +40,7 @@ pub record Fits (shape : Shape) (plan : Plan) : Type 0 where
   pub columns : column_faults own joined plan ≡ None
 
 tables-fit : (shape : Shape) (plan : Plan) (own joined : Option (List Kind)) → slice_get shape plan.table ≡ own
-    → joined_kinds shape plan.join ≡ joined → tables_fault own joined plan ≡ None → Fits shape plan
+    → joined_kinds shape plan.join ≡ joined → fault_by_tables own joined plan ≡ None → Fits shape plan
 tables-fit shape plan None joined table join e = absurd (cc)
 tables-fit shape plan (Some own) None table join e = absurd (cc)
 tables-fit shape plan (Some own) (Some joined) table join e =
@@ -49,12 +49,12 @@ tables-fit shape plan (Some own) (Some joined) table join e =
 pub fits : (shape : Shape) (plan : Plan) → checked shape plan ≡ Ok tt → Fits shape plan
 fits shape plan e = by (is_too_many plan) (length plan.aggregates == 0) (refused-none (plan_fault shape plan) e)
   where
-    open_tables : tables_fault (slice_get shape plan.table) (joined_kinds shape plan.join) plan ≡ None → Fits shape plan
+    open_tables : fault_by_tables (slice_get shape plan.table) (joined_kinds shape plan.join) plan ≡ None → Fits shape plan
     open_tables h = tables-fit shape plan (slice_get shape plan.table) (joined_kinds shape plan.join) refl refl h
 
     by : (many none : Bool)
         → cond many (Some TooMany)
-        (cond none (Some NoAggregate) (tables_fault (slice_get shape plan.table) (joined_kinds shape plan.join) plan)) ≡ None
+        (cond none (Some NoAggregate) (fault_by_tables (slice_get shape plan.table) (joined_kinds shape plan.join) plan)) ≡ None
         → Fits shape plan
     by true none h = absurd (cc)
     by false true h = absurd (cc)
@@ -102,16 +102,16 @@ pub record IsOfKinds (own joined : List Kind) (row : JoinedRow) : Type 0 where
   pub joined_values : are_of_kinds row.joined joined ≡ true
 
 column-there : (own joined : List Kind) (row : JoinedRow) (column : Column) → IsOfKinds own joined row
-    → IsSome (column_kind own joined column) → IsSome (column_in row column)
+    → IsSome (kind_among own joined column) → IsSome (column_in row column)
 column-there own joined row (Own column) is there = value-there row.own own column is.own_values there
 column-there own joined row (Joined column) is there = value-there row.joined joined column is.joined_values there
 
 input-there : (own joined : List Kind) (row : JoinedRow) → IsOfKinds own joined row → (aggregate : Aggregate)
     → aggregate_fault own joined aggregate ≡ None → HasInput row aggregate
 input-there own joined row is Count e = tt
-input-there own joined row is (Sum column) e = column-there own joined row column is (number-present (column_kind own joined column) e)
-input-there own joined row is (Min column) e = column-there own joined row column is (present (column_kind own joined column) e)
-input-there own joined row is (Max column) e = column-there own joined row column is (present (column_kind own joined column) e)
+input-there own joined row is (Sum column) e = column-there own joined row column is (number-present (kind_among own joined column) e)
+input-there own joined row is (Min column) e = column-there own joined row column is (present (kind_among own joined column) e)
+input-there own joined row is (Max column) e = column-there own joined row column is (present (kind_among own joined column) e)
 
 pub join-there : (own : List Kind) (values : List Value) (join : Option Join) → are_of_kinds values own ≡ true → join_fault own join ≡ None
     → HasJoin join values
@@ -142,11 +142,11 @@ has-columns own joined plan row whole is = record {
   conditions =
       each (condition_fault own joined) (λ condition. IsSome (column_in row condition.column))
       (λ condition e.
-      column-there own joined row condition.column is (value-present condition.value (column_kind own joined condition.column) e))
+      column-there own joined row condition.column is (value-present condition.value (kind_among own joined condition.column) e))
       plan.conditions whole.conditions;
   groups =
       each (group_fault own joined) (λ column. IsSome (column_in row column))
-      (λ column e. column-there own joined row column is (present (column_kind own joined column) e)) plan.groups whole.groups;
+      (λ column e. column-there own joined row column is (present (kind_among own joined column) e)) plan.groups whole.groups;
   aggregates = each (aggregate_fault own joined) (HasInput row) (input-there own joined row is) plan.aggregates whole.aggregates;
 }
 

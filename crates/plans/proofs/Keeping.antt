@@ -23,7 +23,7 @@ use Rattle.plans.specs.declared.field.Field.{Field}
 use Rattle.plans.specs.declared.field.Field.TheVariants.{Stored}
 use Rattle.plans.specs.declared.plan.Plan.{Plan}
 use Rattle.plans.specs.Order.{group_cmp, rising}
-use Rattle.plans.specs.Answers.{JoinedRow, group_of, groups_of, rows_in, rows_among, joined_with, meets, aggregate_of, line_of, lines_of}
+use Rattle.plans.specs.Answers.{JoinedRow, group_of, groups_of, rows_in, rows_among, joined_with, meets, aggregate_of, line_of, answer_lines}
 use Rattle.plans.specs.Inner.Kept.{GroupList, IsWithin, AreWithin, grown_all, opening_of, opening_groups, with_row, kept_at, IsKept}
 use Rattle.plans.specs.Inner.Kept.{rows_before}
 use Rattle.plans.specs.Inner.TotalOrder.{group_cmp_total}
@@ -277,7 +277,7 @@ lines-paired plan rows (group ∷ groups) = ap (λ rest. line_of plan rows group
 -- the lines of what is kept of all rows are those of the answer
 pub kept-lines : (plan : Plan) (rows : List JoinedRow) (count : ℕ) (groups : GroupList) → IsKept plan rows count groups
     → IsStrictlySortedBy group_cmp (keys_of groups)
-    → map (λ entry. map Stored entry.0 ++ entry.1) groups ≡ lines_of plan rows
+    → map (λ entry. map Stored entry.0 ++ entry.1) groups ≡ answer_lines plan rows
 kept-lines plan rows count groups kept sorted =
     let of_group : List Value → List Field = λ group. map (aggregate_of (rows_in plan.groups group rows)) plan.aggregates in
     let names : List (List Value) = rising (groups_of plan.groups rows) in

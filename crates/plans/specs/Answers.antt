@@ -33,8 +33,8 @@ column_in row (Own column) = slice_get row.own column
 column_in row (Joined column) = slice_get row.joined column
 
 -- the same; 0 where it has no such column, which no plan that fits names
-abbrev pub value_in : JoinedRow → Column → Value
-value_in row column = unwrap_or (column_in row column) (Int (pos 0))
+abbrev pub joined_value : JoinedRow → Column → Value
+joined_value row column = unwrap_or (column_in row column) (Int (pos 0))
 
 -- the identifier of a row that a value names: a number that is not negative
 abbrev pub id_of : Value → Option ℕ
@@ -59,7 +59,7 @@ passes compared.Greater order = is_gt order
 passes compared.AtLeast order = is_ge order
 
 abbrev pub meets : JoinedRow → Condition → Bool
-meets row condition = passes condition.comparison (value_cmp (value_in row condition.column) condition.value)
+meets row condition = passes condition.comparison (value_cmp (joined_value row condition.column) condition.value)
 
 -- of these rows of the plan's table, those that are joined where it joins, and meet all its conditions
 abbrev pub rows_among : Tables → Plan → List (ℕ × List Value) → List JoinedRow
@@ -70,7 +70,7 @@ rows_among tables plan rows =
 
 -- the values by which a row is grouped
 abbrev pub group_of : List Column → JoinedRow → List Value
-group_of columns row = map (value_in row) columns
+group_of columns row = map (joined_value row) columns
 
 -- the groups of rows: those of each row; without columns to group by there is one, even of no rows
 abbrev pub groups_of : List Column → List JoinedRow → List (List Value)
@@ -84,9 +84,9 @@ rows_in columns group rows = filter (λ row. is_eq (group_cmp group (group_of co
 -- ---- what is asked of a group
 
 -- a number; only numbers are summed
-abbrev pub number_of : Value → ℤ
-number_of (Int number) = number
-number_of (Octets bytes) = pos 0
+abbrev pub integer_of : Value → ℤ
+integer_of (Int number) = number
+integer_of (Octets bytes) = pos 0
 
 abbrev pub total : List ℤ → ℤ
 total [] = pos 0
@@ -116,12 +116,12 @@ field_of (Some value) = Stored value
 
 -- the values of a column
 abbrev pub values_in : Column → List JoinedRow → List Value
-values_in column rows = map (λ row. value_in row column) rows
+values_in column rows = map (λ row. joined_value row column) rows
 
 -- an aggregate of rows: their number, the exact sum of a column, the least or the greatest value of one
 abbrev pub aggregate_of : List JoinedRow → Aggregate → Field
 aggregate_of rows Count = Number (pos (length rows))
-aggregate_of rows (Sum column) = Number (total (map number_of (values_in column rows)))
+aggregate_of rows (Sum column) = Number (total (map integer_of (values_in column rows)))
 aggregate_of rows (Min column) = field_of (best lesser (values_in column rows))
 aggregate_of rows (Max column) = field_of (best greater (values_in column rows))
 
@@ -132,8 +132,8 @@ line_of plan rows group = map Stored group ++ map (aggregate_of (rows_in plan.gr
 -- ---- the answer
 
 -- a line for each group, once, in rising order
-abbrev pub lines_of : Plan → List JoinedRow → List (List Field)
-lines_of plan rows = map (line_of plan rows) (rising (groups_of plan.groups rows))
+abbrev pub answer_lines : Plan → List JoinedRow → List (List Field)
+answer_lines plan rows = map (line_of plan rows) (rising (groups_of plan.groups rows))
 
 abbrev pub plain_answer : Tables → Plan → List (List Field)
-plain_answer tables plan = lines_of plan (rows_among tables plan (rows_of tables plan.table))
+plain_answer tables plan = answer_lines plan (rows_among tables plan (rows_of tables plan.table))

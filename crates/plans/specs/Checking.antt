@@ -24,9 +24,9 @@ first [] = None
 first (fault ∷ faults) = option_or fault (first faults)
 
 -- the kind of a column, among those of the plan's table and those of the table that it joins
-abbrev pub column_kind : List Kind → List Kind → Column → Option Kind
-column_kind own joined (Own column) = slice_get own column
-column_kind own joined (Joined column) = slice_get joined column
+abbrev pub kind_among : List Kind → List Kind → Column → Option Kind
+kind_among own joined (Own column) = slice_get own column
+kind_among own joined (Joined column) = slice_get joined column
 
 -- the fault of a column that is to be one of numbers
 abbrev pub number_fault : Option Kind → Option PlanFault
@@ -50,16 +50,16 @@ value_fault value (Some kind) = if is_of_kind value kind then None else Some Wro
 
 -- a condition's value is to be of its column's kind
 abbrev pub condition_fault : List Kind → List Kind → Condition → Option PlanFault
-condition_fault own joined condition = value_fault condition.value (column_kind own joined condition.column)
+condition_fault own joined condition = value_fault condition.value (kind_among own joined condition.column)
 
 abbrev pub group_fault : List Kind → List Kind → Column → Option PlanFault
-group_fault own joined column = presence_fault (column_kind own joined column)
+group_fault own joined column = presence_fault (kind_among own joined column)
 
 abbrev pub aggregate_fault : List Kind → List Kind → Aggregate → Option PlanFault
 aggregate_fault own joined Count = None
-aggregate_fault own joined (Sum column) = number_fault (column_kind own joined column)
-aggregate_fault own joined (Min column) = presence_fault (column_kind own joined column)
-aggregate_fault own joined (Max column) = presence_fault (column_kind own joined column)
+aggregate_fault own joined (Sum column) = number_fault (kind_among own joined column)
+aggregate_fault own joined (Min column) = presence_fault (kind_among own joined column)
+aggregate_fault own joined (Max column) = presence_fault (kind_among own joined column)
 
 -- the first fault of a plan's columns: of the join, the conditions, the grouping and the aggregates in turn
 abbrev pub column_faults : List Kind → List Kind → Plan → Option PlanFault
@@ -82,17 +82,17 @@ joined_kinds shape None = Some []
 joined_kinds shape (Some join) = slice_get shape join.table
 
 -- the faults of columns, where both tables are there
-abbrev pub tables_fault : Option (List Kind) → Option (List Kind) → Plan → Option PlanFault
-tables_fault None joined plan = Some NoTable
-tables_fault (Some own) None plan = Some NoTable
-tables_fault (Some own) (Some joined) plan = column_faults own joined plan
+abbrev pub fault_by_tables : Option (List Kind) → Option (List Kind) → Plan → Option PlanFault
+fault_by_tables None joined plan = Some NoTable
+fault_by_tables (Some own) None plan = Some NoTable
+fault_by_tables (Some own) (Some joined) plan = column_faults own joined plan
 
 -- the first fault of a plan for tables of these columns
 abbrev pub plan_fault : Shape → Plan → Option PlanFault
 plan_fault shape plan =
     if is_too_many plan then Some TooMany else
     if length plan.aggregates == 0 then Some NoAggregate else
-    tables_fault (slice_get shape plan.table) (joined_kinds shape plan.join) plan
+    fault_by_tables (slice_get shape plan.table) (joined_kinds shape plan.join) plan
 
 -- what a check answers, by the first fault
 abbrev pub refused_by : Option PlanFault → Result (Unit {0}) PlanFault

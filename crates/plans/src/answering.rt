@@ -14,7 +14,7 @@ use crate::comparing::{compare, passes};
 use crate::condition::Condition;
 use crate::groups::Groups;
 use crate::plan::Plan;
-use crate::row_place::{RowPlace, value_in};
+use crate::row_place::{RowPlace, joined_value};
 use rows::{RowId, Value};
 use std::alloc::{AllocError, Global};
 use std::marker::Sync;
@@ -129,7 +129,7 @@ fn meets_all<S: Store>(store: &S, row: &RowPlace<S::Place>, conditions: &[Condit
     ensures { result ≡ list_all (meets (row_at_place (S.values_at store.now) row.now)) conditions.now }
 {
     for condition in conditions {
-        let value = value_in(store, row, condition.column);
+        let value = joined_value(store, row, condition.column);
         if !passes(condition.comparison, compare(&value, &condition.value)) {
             return false;
         }

@@ -4,7 +4,7 @@ ghost use Rattle.std.specs.Prelude.{◌≡◌, map, slice_get};
 ghost use Rattle.std.specs.Option.{option_map};
 ghost use Rattle.rows.specs.Shape.{shape_of};
 ghost use Rattle.rows.specs.Values.{is_of_kind};
-ghost use Rattle.plans.specs.Checking.{first, plan_fault, is_too_many, column_kind, joined_kinds, join_fault, condition_fault};
+ghost use Rattle.plans.specs.Checking.{first, plan_fault, is_too_many, kind_among, joined_kinds, join_fault, condition_fault};
 ghost use Rattle.plans.specs.Checking.{group_fault, aggregate_fault, number_fault, column_faults};
 
 use crate::aggregate::Aggregate;
@@ -71,8 +71,8 @@ fn column_faults(own: &[Kind], joined: &[Kind], plan: &Plan) -> Option<PlanFault
 }
 
 /// The kind of a column; `None` where it is not there.
-fn column_kind(own: &[Kind], joined: &[Kind], column: Column) -> Option<Kind>
-    ensures { result ≡ column_kind own.now joined.now column }
+fn kind_among(own: &[Kind], joined: &[Kind], column: Column) -> Option<Kind>
+    ensures { result ≡ kind_among own.now joined.now column }
 {
     match column {
         Column::Own(column) => own.get(column as usize).copied(),
@@ -105,7 +105,7 @@ fn join_fault(own: &[Kind], join: Option<Join>) -> Option<PlanFault>
 fn condition_fault(own: &[Kind], joined: &[Kind], condition: &Condition) -> Option<PlanFault>
     ensures { result ≡ condition_fault own.now joined.now condition.now }
 {
-    match column_kind(own, joined, condition.column) {
+    match kind_among(own, joined, condition.column) {
         None => Some(PlanFault::NoColumn),
         Some(kind) => {
             if is_of_kind(&condition.value, kind) {
@@ -132,7 +132,7 @@ fn is_of_kind(value: &Value, kind: Kind) -> bool
 fn group_fault(own: &[Kind], joined: &[Kind], column: Column) -> Option<PlanFault>
     ensures { result ≡ group_fault own.now joined.now column }
 {
-    match column_kind(own, joined, column) {
+    match kind_among(own, joined, column) {
         None => Some(PlanFault::NoColumn),
         Some(_) => None,
     }
@@ -144,7 +144,7 @@ fn aggregate_fault(own: &[Kind], joined: &[Kind], aggregate: Aggregate) -> Optio
 {
     match aggregate {
         Aggregate::Count => None,
-        Aggregate::Sum(column) => number_fault(column_kind(own, joined, column)),
+        Aggregate::Sum(column) => number_fault(kind_among(own, joined, column)),
         Aggregate::Min(column) => group_fault(own, joined, column),
         Aggregate::Max(column) => group_fault(own, joined, column),
     }

@@ -20,7 +20,7 @@ use crate::field_list::FieldList;
 use crate::group_key::GroupKey;
 use crate::growing::grow;
 use crate::plan::Plan;
-use crate::row_place::{RowPlace, value_in};
+use crate::row_place::{RowPlace, joined_value};
 use rows::Value;
 use std::alloc::{AllocError, Global};
 use std::collections::BTreeMap;
@@ -109,7 +109,7 @@ fn key_of<S: Store>(
 {
     let mut values = Vec::with_capacity(alloc, columns.len())?;
     for column in columns {
-        values.push(value_in(store, row, *column))?;
+        values.push(joined_value(store, row, *column))?;
     }
     Ok(GroupKey::from_vec(values))
 }

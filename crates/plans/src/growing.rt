@@ -2,7 +2,7 @@
 
 ghost use Rattle.std.specs.Prelude.{◌≡◌, ◌+◌, true};
 ghost use Rattle.std.specs.List.{All, AllByRecursion};
-ghost use Rattle.plans.specs.Answers.{number_of};
+ghost use Rattle.plans.specs.Answers.{integer_of};
 ghost use Rattle.plans.specs.Inner.Kept.{grown, grown_all, summed, extreme, input_of, HasInput, IsWithin};
 ghost use Rattle.plans.specs.Inner.Places.{row_at_place};
 
@@ -10,7 +10,7 @@ use crate::aggregate::Aggregate;
 use crate::comparing::{greater, lesser};
 use crate::field::Field;
 use crate::field_list::FieldList;
-use crate::row_place::{RowPlace, value_in};
+use crate::row_place::{RowPlace, joined_value};
 use rows::Value;
 use store::Store;
 
@@ -44,9 +44,9 @@ fn input_of<S: Store>(store: &S, row: &RowPlace<S::Place>, aggregate: Aggregate)
 {
     match aggregate {
         Aggregate::Count => Value::Int(1),
-        Aggregate::Sum(column) => value_in(store, row, column),
-        Aggregate::Min(column) => value_in(store, row, column),
-        Aggregate::Max(column) => value_in(store, row, column),
+        Aggregate::Sum(column) => joined_value(store, row, column),
+        Aggregate::Min(column) => joined_value(store, row, column),
+        Aggregate::Max(column) => joined_value(store, row, column),
     }
 }
 
@@ -78,15 +78,15 @@ fn summed(field: Field, value: Value, rows: usize) -> Field
     ensures within { IsWithin (rows + 1) result }
 {
     match field {
-        Field::Number(sum) => Field::Number(sum + i128::from(number_of(value))),
+        Field::Number(sum) => Field::Number(sum + i128::from(integer_of(value))),
         Field::Stored(held) => Field::Stored(held),
         Field::Absent => Field::Absent,
     }
 }
 
 /// The number that a value is; 0 of octets.
-fn number_of(value: Value) -> i64
-    ensures { result ≡ number_of value }
+fn integer_of(value: Value) -> i64
+    ensures { result ≡ integer_of value }
 {
     match value {
         Value::Int(number) => number,

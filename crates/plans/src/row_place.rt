@@ -1,7 +1,7 @@
 //! Where the rows of a plan stand in a store, and the values of their columns.
 
 ghost use Rattle.std.specs.Prelude.{◌≡◌, true, IsSome};
-ghost use Rattle.plans.specs.Answers.{column_in, value_in};
+ghost use Rattle.plans.specs.Answers.{column_in, joined_value};
 ghost use Rattle.plans.specs.Inner.Places.{row_at_place};
 
 use crate::column::Column;
@@ -19,10 +19,10 @@ pub struct RowPlace<P: Copy> {
 }
 
 /// The value of a column of a row, read in its place.
-pub fn value_in<S: Store>(store: &S, row: &RowPlace<S::Place>, column: Column) -> Value
+pub fn joined_value<S: Store>(store: &S, row: &RowPlace<S::Place>, column: Column) -> Value
     requires whole { S.is_whole store.now ≡ true }
     requires there { IsSome (column_in (row_at_place (S.values_at store.now) row.now) column) }
-    ensures { result ≡ value_in (row_at_place (S.values_at store.now) row.now) column }
+    ensures { result ≡ joined_value (row_at_place (S.values_at store.now) row.now) column }
 {
     match column {
         Column::Own(column) => store.value(row.table, row.place, column as usize),

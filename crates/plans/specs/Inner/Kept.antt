@@ -17,7 +17,7 @@ use Rattle.plans.specs.declared.field.Field.TheVariants.{Stored, Number, Absent}
 use Rattle.plans.specs.declared.plan.Join.{Join}
 use Rattle.plans.specs.declared.plan.Plan.{Plan}
 use Rattle.plans.specs.Order.{group_cmp}
-use Rattle.plans.specs.Answers.{JoinedRow, column_in, value_in, number_of, lesser, greater, group_of, groups_of, rows_in, rows_among}
+use Rattle.plans.specs.Answers.{JoinedRow, column_in, joined_value, integer_of, lesser, greater, group_of, groups_of, rows_in, rows_among}
 use Rattle.plans.specs.Answers.{aggregate_of}
 
 -- each group's aggregates, in rising order of the groups
@@ -29,9 +29,9 @@ GroupList = List (List Value × List Field)
 -- what an aggregate takes of a row: 1 for a count, and else the value of its column
 abbrev pub input_of : JoinedRow → Aggregate → Value
 input_of row Count = Int (pos 1)
-input_of row (Sum column) = value_in row column
-input_of row (Min column) = value_in row column
-input_of row (Max column) = value_in row column
+input_of row (Sum column) = joined_value row column
+input_of row (Min column) = joined_value row column
+input_of row (Max column) = joined_value row column
 
 -- an extreme of values that there may be none of, with one value more
 abbrev pub extreme : (Value → Value → Value) → Field → Value → Field
@@ -41,7 +41,7 @@ extreme of_two Absent value = Stored value
 
 -- a sum with one value more
 abbrev pub summed : Field → Value → Field
-summed (Number number) value = Number (number +ℤ number_of value)
+summed (Number number) value = Number (number +ℤ integer_of value)
 summed (Stored held) value = Stored held
 summed Absent value = Absent
 

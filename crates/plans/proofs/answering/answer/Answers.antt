@@ -2,7 +2,7 @@
 use Rattle.std.proofs.Common.{[], sym, ap, ◌∙◌, subst, arith, length, ◌≡◌}
 use Rattle.std.proofs.lemmas.Result.{IfOk-weaker}
 use Rattle.rows.specs.Tables.{rows_of}
-use Rattle.plans.specs.Answers.{lines_of, plain_answer}
+use Rattle.plans.specs.Answers.{answer_lines, plain_answer}
 use Rattle.plans.specs.Inner.Kept.{IsKept, rows_before}
 use Rattle.plans.proofs.Keeping.{opening-kept, kept-lines, before-all}
 use Rattle.plans.proofs.answering.answer.Goals as goal
@@ -21,5 +21,5 @@ returns g c =
     let all : i ≡ length rows = omega (arith, len) in
     let lines =
     kept-lines plan (rows_before tables plan i) i c.loop-i.groups c.loop-i.invariant c.answer.ensures.ordered
-    ∙ ap (lines_of plan) (ap (rows_before tables plan) all ∙ before-all tables plan) in
+    ∙ ap (answer_lines plan) (ap (rows_before tables plan) all ∙ before-all tables plan) in
     IfOk-weaker c.answer.result _ (λ answer. answer ≡ plain_answer tables plan) (λ answer e. e ∙ lines) c.answer.ensures.lines

@@ -8,6 +8,6 @@ returns-in-Number-clause-within c =
     let small = rw c.in-Number.is at c.requires in
     let low = small.0 in
     let high = small.1 in
-    let fits : FitsSigned w64 c.number_of.result = search rules in
+    let fits : FitsSigned w64 c.integer_of.result = search rules in
     let is = c.from.ensures in
     (omega (arith, ints), omega (arith, ints))
