@@ -9,7 +9,7 @@ use std::io::{self, ErrorKind};
 /// A file in memory whose call of some number fails, counted from 0 among those that change it. It is
 /// honest in what it leaves: so many bytes of what was to be appended, or more than a cut was to
 /// keep.
-#[derive(Debug, Drop)]
+#[derive(Drop)]
 pub struct FailingDisk {
     content: Vec<u8>,
     calls_before: u64,

@@ -6,7 +6,7 @@ use journal::JournalStore;
 use std::alloc::{AllocError, Global};
 
 /// The calls that may fail.
-#[derive(Clone, Copy, Debug, PartialEq)]
+#[derive(Clone, Copy, PartialEq)]
 pub enum Failing {
     /// Each of them.
     Any,
@@ -17,7 +17,7 @@ pub enum Failing {
 
 /// Which call fails: behind so many of its kind, and what it leaves: so many bytes of what was to be
 /// appended, or more than a cut was to keep.
-#[derive(Clone, Copy, Debug)]
+#[derive(Clone, Copy)]
 pub struct Failure {
     pub call: Failing,
     pub calls_before: u64,
@@ -25,7 +25,7 @@ pub struct Failure {
 }
 
 /// A journal in memory of which one call fails, and no other. It is honest in what it leaves.
-#[derive(Debug, Drop)]
+#[derive(Drop)]
 pub struct FailingJournal {
     content: Vec<u8>,
     failure: Failure,
@@ -33,7 +33,7 @@ pub struct FailingJournal {
 }
 
 /// The call that is to fail.
-#[derive(Clone, Copy, Debug, PartialEq)]
+#[derive(Drop)]
 pub struct Refused;
 
 impl FailingJournal {

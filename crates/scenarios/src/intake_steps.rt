@@ -25,7 +25,7 @@ enum Step {
 }
 
 /// What a call answers.
-#[derive(Clone, Copy, Debug, PartialEq)]
+#[derive(Clone, Copy, PartialEq)]
 enum Answer {
     Taken(Taken),
     Seq(u64),

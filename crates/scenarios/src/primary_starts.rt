@@ -15,7 +15,7 @@ use std::alloc::Global;
 use std::test::Fail;
 
 /// What a start answers.
-#[derive(Clone, Copy, Debug, PartialEq)]
+#[derive(Clone, Copy, PartialEq)]
 enum Started {
     /// So many commits are durable.
     Durable(u64),

@@ -15,7 +15,6 @@ pub enum Value {
 }
 
 /// A table: its name, and for each column 0 where it holds numbers, n where it holds n bytes.
-#[derive(Clone, Copy)]
 pub struct Table {
     pub name: &'static str,
     pub columns: &'static [u8],
