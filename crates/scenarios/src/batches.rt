@@ -128,7 +128,8 @@ const RUN_TWICE: [Step<'static>; 5] = [
     Step::RunTwice(ONE_ROW),
 ];
 
-/// Whichever allocation is refused: a run that lacks memory can be run again, or breaks the replica.
+/// Whichever allocation is refused: a run that is out of memory can be run again, or breaks the
+/// replica.
 #[test]
 fn a_run_without_memory_stands_or_breaks(rt: HostRuntime) -> Result<(), Fail> {
     let other = other_step(rt.alloc(), 1, &NUMBERS, &RUN_TWICE)?;

@@ -82,7 +82,7 @@ const ONE_ROW: [Step<'static>; 7] = [
     Step::Run(Ran::NoBatch),
 ];
 
-/// Whichever allocation is refused: a dump that lacks memory can be asked for again.
+/// Whichever allocation is refused: a dump that is out of memory can be asked for again.
 #[test]
 fn a_dump_without_memory_changes_nothing(rt: HostRuntime) -> Result<(), Fail> {
     let other = other_step(rt.alloc(), 1, &NUMBERS, &ONE_ROW)?;

@@ -1,5 +1,5 @@
-//! What the judge says of stories that are written out: of events that want memory, and of those
-//! that no script has yet.
+//! What the judge says of stories that are written out: of events that are out of memory, and of
+//! those that no script has yet.
 
 use crate::slow_events::{Event, Node, Script, VALUES};
 use crate::slow_judge::judge;
@@ -156,10 +156,10 @@ const ENDS: [(&str, Option<usize>); 12] = [
     ),
 ];
 
-/// Want of memory changes nothing, but that a run may have brought its replica to the version that
-/// it fetched; and one that is refused it there may break the replica.
+/// An event that is out of memory changes nothing, but that a run may have brought its replica to the
+/// version that it fetched; and one that is out of memory there may break the replica.
 #[test]
-fn events_may_want_memory(rt: HostRuntime) -> Result<(), Fail> {
+fn events_may_be_out_of_memory(rt: HostRuntime) -> Result<(), Fail> {
     for (end, place) in ENDS {
         let refused = refused_at(rt.alloc(), &ROUND, &[], &[FRONT, end])?;
         assert_eq!(rt; refused, place, "{end}");
@@ -167,7 +167,7 @@ fn events_may_want_memory(rt: HostRuntime) -> Result<(), Fail> {
     Ok(())
 }
 
-/// A commit that wants memory, and can be made again.
+/// A commit that is out of memory, and can be made again.
 const COMMITS: [Event; 5] = [Event::Begin, INSERT, COMMIT, COMMIT, FLUSH];
 
 /// What they may print, and where it is refused.

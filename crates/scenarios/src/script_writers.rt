@@ -225,7 +225,7 @@ fn a_long_text_is_whole(rt: HostRuntime) -> Result<(), Fail> {
 }
 
 /// Whichever request for memory is refused: nothing is written, or the text to its end, in which
-/// one event may have lacked memory.
+/// one event may have been out of memory.
 #[test]
 fn a_long_text_without_memory_is_whole_or_not_begun(rt: HostRuntime) -> Result<(), Fail> {
     let mut text = Vec::with_capacity(rt.alloc(), 20000)?;

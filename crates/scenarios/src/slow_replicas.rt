@@ -27,7 +27,7 @@ pub struct Replica {
     /// How often it has asked.
     pub request: u64,
     pub version: u64,
-    /// The other version that it may stand at, where a run wanted memory.
+    /// The other version that it may stand at, where a run was out of memory.
     pub other: Option<u64>,
     pub batch: Batch,
     /// How many commits were durable when its batch was made.
