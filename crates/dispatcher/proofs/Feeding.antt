@@ -21,7 +21,7 @@ use Rattle.intake.specs.State.{nothing}
 use Rattle.intake.specs.Steps.{taken}
 use Rattle.intake.specs.Laws.{NothingIsFrom, CommitsKeepFrom, FramesKeepFrom, DropsKeepFrom}
 use Rattle.intake.specs.Laws.{FramesLeaveWorkers, DropsLeaveWorkers, FramesStayKnown, DropsLeaveKnown, FramesStayKept, DropsStayKept}
-use Rattle.ordering.specs.Cutting.{AreCounts}
+use Rattle.ordering.specs.Cutting.{AreFrameCounts}
 use Rattle.wire.specs.declared.datagram.Datagram.{Datagram}
 use Rattle.wire.specs.declared.datagram.Datagram.TheVariants as datagrams
 use Rattle.wire.specs.declared.faults.WireFault.{WireFault}
@@ -39,7 +39,7 @@ use Rattle.dispatcher.specs.Feeding.{IsFetchedFrom, IsFedFrom, Tells, TruthStays
 use Rattle.dispatcher.specs.Feeding.{OpenKeepsFed, AskKeepsFed, VersionTellsTables}
 use Rattle.plans.specs.Checking.{checked}
 use Rattle.dispatcher.specs.State.{Replica, Batch, Fetched}
-use Rattle.dispatcher.specs.Steps.{asked_by, ask_for, with_batch, got_of, frame_comes, goes_on, head_for, head_by_batch, own_head_comes}
+use Rattle.dispatcher.specs.Steps.{asked_by, ask_for, with_batch, got_of, frame_comes, goes_on, taken_head, head_by_batch, own_head_comes}
 use Rattle.dispatcher.specs.Steps.{datagram_comes, at_fetched, broken_of}
 use Rattle.dispatcher.proofs.Beginning.{none-known}
 use Rattle.dispatcher.proofs.CatchingUp.{Merges, is-fetched, each-known}
@@ -79,8 +79,9 @@ fresh-fed laws schema commits workers number boot legal = record {
 
 -- ---- commits
 
-counts-stay : (commits more : List Commit) (version : ℕ) (counts : List ℕ) → version ≤ length commits → AreCounts commits version counts
-    → AreCounts (commits ++ more) version counts
+counts-stay : (commits more : List Commit) (version : ℕ) (counts : List ℕ) → version ≤ length commits
+    → AreFrameCounts commits version counts
+    → AreFrameCounts (commits ++ more) version counts
 counts-stay commits more version counts below are worker = are worker ∙ sym (count-stays commits more worker version below)
 
 fetched-stays : (commits more : List Commit) (r : Replica) (fetched : Fetched) → IsFetchedFrom commits r fetched
@@ -190,7 +191,7 @@ goes-parts r version counts h =
     (parts.0, leb-true r.version version parts.1)
 
 head-feeds : (shape : Shape) (commits : List Commit) (r : Replica) (version : ℕ) (counts : List ℕ) → IsFedFrom shape commits r
-    → version ≤ length commits → length counts ≡ r.workers → AreCounts commits version counts
+    → version ≤ length commits → length counts ≡ r.workers → AreFrameCounts commits version counts
     → IsFedFrom shape commits (own_head_comes r version counts).1
 head-feeds shape commits r version counts fed below many are =
     cond_both (goes_on r version counts) (head_by_batch r version counts r.batch) (got.Ignored, r)
@@ -201,7 +202,7 @@ head-feeds shape commits r version counts fed below many are =
     found = record { version = version; counts = counts }
 
     by_fetched : r.version ≤ version → (plans : List Plan) (fetched : Option Fetched)
-        → IsFedFrom shape commits (head_for r version counts plans fetched).1
+        → IsFedFrom shape commits (taken_head r version counts plans fetched).1
     by_fetched up plans (Some fetched) = fed
     by_fetched up plans None =
         let made : Batch = record { plans = plans; fetched = Some found } in

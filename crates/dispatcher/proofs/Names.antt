@@ -26,7 +26,7 @@ use Rattle.dispatcher.specs.declared.outcome.Got.{Got}
 use Rattle.dispatcher.specs.declared.outcome.Got.TheVariants as got
 use Rattle.dispatcher.specs.declared.outcome.Run.{Run}
 use Rattle.dispatcher.specs.State.{Replica, Batch, Fetched}
-use Rattle.dispatcher.specs.Steps.{received, opened, asked, asked_by, ask_for, with_batch, got_of, frame_comes, goes_on, head_for}
+use Rattle.dispatcher.specs.Steps.{received, opened, asked, asked_by, ask_for, with_batch, got_of, frame_comes, goes_on, taken_head}
 use Rattle.dispatcher.specs.Steps.{head_by_batch, own_head_comes, datagram_comes, at_fetched, CaughtUp, Ends, RunsFetched, RunsBatch}
 use Rattle.dispatcher.specs.Steps.{RunsWhole, RunsAs, RunsOutOfMemory, MayRun}
 use Rattle.dispatcher.proofs.Feeding.{left}
@@ -48,7 +48,7 @@ head-names r version counts =
     cond_both (goes_on r version counts) (head_by_batch r version counts r.batch) (got.Ignored, r)
     (λ (answer : Got × Replica). answer.1.names ≡ r.names) (λ goes. by_batch r.batch) (λ other. refl)
   where
-    by_fetched : (plans : List Plan) (fetched : Option Fetched) → (head_for r version counts plans fetched).1.names ≡ r.names
+    by_fetched : (plans : List Plan) (fetched : Option Fetched) → (taken_head r version counts plans fetched).1.names ≡ r.names
     by_fetched plans (Some fetched) = refl
     by_fetched plans None = refl
 

@@ -10,7 +10,7 @@ use Rattle.intake.specs.Known.{is_known}
 use Rattle.intake.specs.State.{known_of}
 use Rattle.intake.specs.Kept.{AreKeptFrom}
 use Rattle.intake.specs.Streams.{AreFrom}
-use Rattle.ordering.specs.Cutting.{AreCounts}
+use Rattle.ordering.specs.Cutting.{AreFrameCounts}
 use Rattle.wire.specs.declared.datagram.Datagram.{Datagram}
 use Rattle.wire.specs.declared.datagram.Datagram.TheVariants as datagrams
 use Rattle.wire.specs.declared.faults.WireFault.{WireFault}
@@ -29,7 +29,7 @@ pub record IsFetchedFrom (commits : List Commit) (r : Replica) (fetched : Fetche
   pub above : r.version ≤ fetched.version
   pub below : fetched.version ≤ length commits
   pub counted : length fetched.counts ≡ r.workers
-  pub counts_are : AreCounts commits fetched.version fetched.counts
+  pub counts_are : AreFrameCounts commits fetched.version fetched.counts
 
 pub record IsFedFrom (shape : Shape) (commits : List Commit) (r : Replica) : Type 0 where
   pub legal : IsLegal shape r.workers commits
@@ -38,7 +38,7 @@ pub record IsFedFrom (shape : Shape) (commits : List Commit) (r : Replica) : Typ
   pub frames_are : AreFrom commits r.arrivals
   -- the frames that its tables have are those of the commits up to its version, and all are known
   pub counted : length r.applied ≡ r.workers
-  pub applied_are : AreCounts commits r.version r.applied
+  pub applied_are : AreFrameCounts commits r.version r.applied
   pub applied_known : (worker seq : ℕ) → seq < slice_index r.applied worker → is_known (known_of r.arrivals worker) seq ≡ true
   -- every other known frame is kept
   pub others_kept : AreKeptFrom r.arrivals r.applied
@@ -55,7 +55,7 @@ Tells workers commits (Ok (datagrams.Frame worker seq commit last entries)) =
     slice_get (stream_of commits worker) seq ≡ Some (record { worker = worker; seq = seq; commit = commit; last = last; entries = entries })
 Tells workers commits (Ok (datagrams.Ask replica boot request)) = Unit {0}
 Tells workers commits (Ok (datagrams.Head replica boot request version counts)) =
-    (version ≤ length commits) × (length counts ≡ workers) × AreCounts commits version counts
+    (version ≤ length commits) × (length counts ≡ workers) × AreFrameCounts commits version counts
 Tells workers commits (Ok (datagrams.Want replica worker from)) = Unit {0}
 
 -- ---- what keeps it fed
@@ -88,7 +88,7 @@ BytesKeepFed =
 abbrev pub TrueHeadGoesOn : Type 0
 TrueHeadGoesOn =
     (shape : Shape) (commits : List Commit) (r : Replica) (version : ℕ) (counts : List ℕ) → IsFedFrom shape commits r
-    → version ≤ length commits → length counts ≡ r.workers → AreCounts commits version counts → r.version ≤ version
+    → version ≤ length commits → length counts ≡ r.workers → AreFrameCounts commits version counts → r.version ≤ version
     → goes_on r version counts ≡ true
 
 -- it stays fed where a query is opened

@@ -113,16 +113,16 @@ abbrev pub goes_on : Replica → ℕ → List ℕ → Bool
 goes_on r version counts = (length counts == r.workers) && nat_le r.version version && pointwise nat_le r.applied counts
 
 -- a Head that goes on, by what was fetched for the batch: it is taken where the batch waits for one
-abbrev pub head_for : Replica → ℕ → List ℕ → List Plan → Option Fetched → Got × Replica
-head_for r version counts plans (Some fetched) = (got.Ignored, r)
-head_for r version counts plans None = (
+abbrev pub taken_head : Replica → ℕ → List ℕ → List Plan → Option Fetched → Got × Replica
+taken_head r version counts plans (Some fetched) = (got.Ignored, r)
+taken_head r version counts plans None = (
   got.Head version,
   record r { batch = Some (record { plans = plans; fetched = Some (record { version = version; counts = counts }) }) },
 )
 
 abbrev pub head_by_batch : Replica → ℕ → List ℕ → Option Batch → Got × Replica
 head_by_batch r version counts None = (got.Ignored, r)
-head_by_batch r version counts (Some batch) = head_for r version counts batch.plans batch.fetched
+head_by_batch r version counts (Some batch) = taken_head r version counts batch.plans batch.fetched
 
 -- a Head of the replica's own number, boot and request that comes
 abbrev pub own_head_comes : Replica → ℕ → List ℕ → Got × Replica

@@ -10,11 +10,11 @@ use Rattle.intake.specs.Kept.{AreAllKept}
 use Rattle.intake.specs.Streams.{AreFrom}
 use Rattle.intake.specs.Laws.{KeptAreOfStream}
 use Rattle.ordering.specs.Merging.{HoldCommits, IsMerge, frames_in}
-use Rattle.ordering.specs.Cutting.{AreCounts, commits_between, frames_cut}
+use Rattle.ordering.specs.Cutting.{AreFrameCounts, commits_between, frames_cut}
 use Rattle.ordering.proofs.Cut.{cut-merges}
 
 kept-cut : KeptAreOfStream → (all : List Arrivals) (commits : List Commit) (from to : ℕ) (lows highs : List ℕ) → AreFrom commits all
-    → AreAllKept all lows highs → AreCounts commits from lows → AreCounts commits to highs → (worker : ℕ)
+    → AreAllKept all lows highs → AreFrameCounts commits from lows → AreFrameCounts commits to highs → (worker : ℕ)
     → frames_in all lows highs worker ≡ frames_cut commits from to worker
 kept-cut of_stream all commits from to lows highs are kept low_is high_is worker =
     let low = slice_index lows worker in
@@ -26,7 +26,7 @@ kept-cut of_stream all commits from to lows highs are kept low_is high_is worker
 
 pub kept-merge : KeptAreOfStream → (workers : ℕ) (all : List Arrivals) (commits : List Commit) (from to : ℕ) (lows highs : List ℕ)
     → AllByRecursion (IsCommit workers) commits → from ≤ to → to ≤ length commits → AreFrom commits all → AreAllKept all lows highs
-    → AreCounts commits from lows → AreCounts commits to highs
+    → AreFrameCounts commits from lows → AreFrameCounts commits to highs
     → IsMerge (frames_in all lows highs) from to (commits_between commits from to)
 kept-merge of_stream workers all commits from to lows highs each upto there are kept low_is high_is =
     let cut = cut-merges workers commits from to each upto there in

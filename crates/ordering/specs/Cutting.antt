@@ -15,5 +15,5 @@ frames_cut commits from to worker =
     (drop (frame_count commits worker from) (stream_of commits worker))
 
 -- these are, by worker, how many frames belong to the first `version` commits
-abbrev pub AreCounts : List Commit → ℕ → List ℕ → Type 0
-AreCounts commits version counts = (worker : ℕ) → slice_index counts worker ≡ frame_count commits worker version
+abbrev pub AreFrameCounts : List Commit → ℕ → List ℕ → Type 0
+AreFrameCounts commits version counts = (worker : ℕ) → slice_index counts worker ≡ frame_count commits worker version

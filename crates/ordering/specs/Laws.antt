@@ -8,7 +8,7 @@ use Rattle.intake.specs.State.{Arrivals}
 use Rattle.intake.specs.Kept.{AreAllKept}
 use Rattle.intake.specs.Streams.{AreFrom}
 use Rattle.ordering.specs.Merging.{IsMerge, frames_in}
-use Rattle.ordering.specs.Cutting.{AreCounts, commits_between, frames_cut}
+use Rattle.ordering.specs.Cutting.{AreFrameCounts, commits_between, frames_cut}
 
 -- frames hold one list of commits at the most
 abbrev pub MergeIsUnique : Type 0
@@ -24,5 +24,5 @@ CutFramesMerge = (workers : ℕ) (commits : List Commit) (from to : ℕ) → All
 abbrev pub KeptFramesMerge : Type 0
 KeptFramesMerge = (workers : ℕ) (all : List Arrivals) (commits : List Commit) (from to : ℕ) (lows highs : List ℕ)
     → AllByRecursion (IsCommit workers) commits → from ≤ to → to ≤ length commits → AreFrom commits all → AreAllKept all lows highs
-    → AreCounts commits from lows → AreCounts commits to highs
+    → AreFrameCounts commits from lows → AreFrameCounts commits to highs
     → IsMerge (frames_in all lows highs) from to (commits_between commits from to)

@@ -19,7 +19,8 @@ use Rattle.plans.specs.declared.aggregate.Aggregate.TheVariants.{Count, Sum, Min
 use Rattle.plans.specs.declared.field.Field.{Field}
 use Rattle.plans.specs.declared.field.Field.TheVariants.{Stored, Number, Absent}
 use Rattle.plans.specs.declared.column.Column.{Column}
-use Rattle.plans.specs.Answers.{JoinedRow, joined_value, values_in, integer_of, total, lesser, greater, beside, best, field_of, aggregate_of}
+use Rattle.plans.specs.Answers.{JoinedRow, joined_value, values_in, integer_of, total, lesser, greater, beside, best, field_of}
+use Rattle.plans.specs.Answers.{aggregate_of}
 use Rattle.plans.specs.Inner.Kept.{grown, grown_all, extreme, input_of, HasInput, IsWithin}
 use Rattle.plans.specs.Inner.TotalOrder.{value_cmp_total}
 

@@ -23,7 +23,8 @@ use Rattle.plans.specs.declared.field.Field.{Field}
 use Rattle.plans.specs.declared.field.Field.TheVariants.{Stored}
 use Rattle.plans.specs.declared.plan.Plan.{Plan}
 use Rattle.plans.specs.Order.{group_cmp, rising}
-use Rattle.plans.specs.Answers.{JoinedRow, group_of, groups_of, rows_in, rows_among, joined_with, meets, aggregate_of, line_of, answer_lines}
+use Rattle.plans.specs.Answers.{JoinedRow, group_of, groups_of, rows_in, rows_among, joined_with, meets, aggregate_of, line_of}
+use Rattle.plans.specs.Answers.{answer_lines}
 use Rattle.plans.specs.Inner.Kept.{GroupList, IsWithin, AreWithin, grown_all, opening_of, opening_groups, with_row, kept_at, IsKept}
 use Rattle.plans.specs.Inner.Kept.{rows_before}
 use Rattle.plans.specs.Inner.TotalOrder.{group_cmp_total}

@@ -18,7 +18,7 @@ use Rattle.script.specs.EventText.{event_text}
 use Rattle.script.specs.EventLines.{IsEventLine}
 use Rattle.script.specs.Events.{IsPossible}
 use Rattle.script.specs.Settings.{IsSetup}
-use Rattle.script.specs.Scripts.{IsBeginning, IsFaultAt, IsScript, lines_of, is_kept}
+use Rattle.script.specs.Scripts.{LinesReadAs, IsFaultAt, IsScript, lines_of, is_kept}
 use Rattle.script.specs.Inner.OneLine.{IsLineRead}
 
 -- a list whose rest begins with a line has it there
@@ -55,7 +55,7 @@ all-more (first ∷ lines) line all one =
 
 -- lines that begin a script, and one more that was read behind them
 pub beginning-more : (lines : List (List ℕ)) (line : List ℕ) (settings next : Settings) (events more : List Event)
-    → IsBeginning lines settings events → IsLineRead settings events line next more → IsBeginning (lines ++ line ∷ []) next more
+    → LinesReadAs lines settings events → IsLineRead settings events line next more → LinesReadAs (lines ++ line ∷ []) next more
 beginning-more lines line settings next events more before read =
     record {
       all_text = all-more lines line before.all_text read.text;
@@ -70,7 +70,7 @@ beginning-more lines line settings next events more before read =
 -- a fault of the line behind those that were read
 pub fault-at : (IsNextFault : Settings → List Event → Option (List ℕ) → Reason → Type 0) (text : List ℕ) (count : ℕ) (line : List ℕ)
     (rest : List (List ℕ)) (settings : Settings) (events : List Event) (reason : Reason) → drop count (lines_of text) ≡ line ∷ rest
-    → IsBeginning (take count (lines_of text)) settings events → IsNextFault settings events (Some line) reason
+    → LinesReadAs (take count (lines_of text)) settings events → IsNextFault settings events (Some line) reason
     → IsFaultAt IsNextFault text (count + 1) reason
 fault-at IsNextFault text count line rest settings events reason is before fault =
     let at = is-at (lines_of text) count line rest is in
@@ -87,7 +87,7 @@ fault-at IsNextFault text count line rest settings events reason is before fault
 -- what is missing at the end
 pub fault-at-end : (IsNextFault : Settings → List Event → Option (List ℕ) → Reason → Type 0) (text : List ℕ) (count : ℕ)
     (settings : Settings) (events : List Event) → length (lines_of text) ≡ count
-    → IsBeginning (take count (lines_of text)) settings events → IsNextFault settings events None BadSetting
+    → LinesReadAs (take count (lines_of text)) settings events → IsNextFault settings events None BadSetting
     → IsFaultAt IsNextFault text (count + 1) BadSetting
 fault-at-end IsNextFault text count settings events all before fault =
     let back : count + 1 - 1 ≡ count = omega arith in
@@ -102,7 +102,7 @@ fault-at-end IsNextFault text count settings events all before fault =
 
 -- where nothing is left, all lines were read
 pub all-read : (text : List ℕ) (count : ℕ) (settings : Settings) (events : List Event) → length (lines_of text) ≡ count
-    → IsBeginning (take count (lines_of text)) settings events → IsBeginning (lines_of text) settings events
+    → LinesReadAs (take count (lines_of text)) settings events → LinesReadAs (lines_of text) settings events
 all-read text count settings events all before = rw (take_all count (lines_of text) (omega (arith, all))) at before
 
 pub length-from-drop : (lines : List (List ℕ)) (count : ℕ) → count ≤ length lines → drop count lines ≡ [] → length lines ≡ count

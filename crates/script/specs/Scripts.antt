@@ -38,8 +38,9 @@ abbrev pub events_lines : Settings → List Event → List (List ℕ)
 events_lines (Ready setup) events = map (event_text setup.schema) events
 events_lines other events = []
 
--- lines that begin a script: all of them are text, and those that are not skipped are these settings and these events
-pub record IsBeginning (lines : List (List ℕ)) (settings : Settings) (events : List Event) : Type 0 where
+-- what the first lines of a script read as: all of them are text, and those that are not skipped are these settings and these
+-- events
+pub record LinesReadAs (lines : List (List ℕ)) (settings : Settings) (events : List Event) : Type 0 where
   pub all_text : list_all is_text lines ≡ true
   pub good_settings : AreSettings settings
   pub good_events : AreEvents settings events
@@ -47,7 +48,7 @@ pub record IsBeginning (lines : List (List ℕ)) (settings : Settings) (events :
 
 -- a text is a script with this setup and these events
 abbrev pub IsScript : List ℕ → Setup → List Event → Type 0
-IsScript text setup events = IsBeginning (lines_of text) (Ready setup) events
+IsScript text setup events = LinesReadAs (lines_of text) (Ready setup) events
 
 -- why a line of text that is not skipped cannot stand behind these settings and events
 abbrev pub IsFaultBehind : Settings → List Event → List ℕ → Reason → Type 0
@@ -82,7 +83,7 @@ pub record IsFaultAt (IsNextFault : Settings → List Event → Option (List ℕ
   pub events : List Event
   pub counted : 0 < line
   pub within : line ≤ length (lines_of text) + 1
-  pub before : IsBeginning (take (line - 1) (lines_of text)) settings events
+  pub before : LinesReadAs (take (line - 1) (lines_of text)) settings events
   pub here : IsNextFault settings events (slice_get (lines_of text) (line - 1)) reason
 
 -- why a text is no script; being out of memory says nothing of it

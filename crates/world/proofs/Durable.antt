@@ -11,7 +11,7 @@ use Rattle.rows.specs.Commits.{IsCommit, IsLegal, commits_of, tables_after}
 use Rattle.update_log.specs.declared.frame.Frame.{Frame}
 use Rattle.update_log.specs.Frames.{frames_of}
 use Rattle.update_log.specs.Streams.{stream_from, stream_of}
-use Rattle.ordering.specs.Cutting.{AreCounts}
+use Rattle.ordering.specs.Cutting.{AreFrameCounts}
 use Rattle.world.proofs.Lists.{All-left, get-append_left}
 
 -- ---- streams
@@ -44,8 +44,9 @@ stream-grows commits more worker =
     omega (arith, ap length behind.1, length-append (stream_of commits worker) behind.0)
 
 -- a count at a version that is there stays
-pub counts-stay : (commits more : List Commit) (version : ℕ) (counts : List ℕ) → version ≤ length commits → AreCounts commits version counts
-    → AreCounts (commits ++ more) version counts
+pub counts-stay : (commits more : List Commit) (version : ℕ) (counts : List ℕ) → version ≤ length commits
+    → AreFrameCounts commits version counts
+    → AreFrameCounts (commits ++ more) version counts
 counts-stay commits more version counts below are worker =
     are worker ∙ ap (λ (l : List Commit). length (stream_of l worker)) (sym (take-append-le version commits more below))
 

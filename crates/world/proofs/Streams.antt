@@ -12,9 +12,9 @@ use Rattle.update_log.specs.declared.frame.Frame.{Frame}
 use Rattle.update_log.specs.Frames.{frames_from, frames_of}
 use Rattle.update_log.specs.Parts.{parts_of}
 use Rattle.update_log.specs.Streams.{stream_from, stream_of, frame_count}
-use Rattle.ordering.specs.Cutting.{AreCounts}
+use Rattle.ordering.specs.Cutting.{AreFrameCounts}
 use Rattle.primary.specs.Sending.{counts_of}
-use Rattle.wire.specs.Spelling.{AreCounts as AreSpelledCounts}
+use Rattle.wire.specs.Spelling.{AreFrameCounts as AreSpelledCounts}
 use Rattle.world.proofs.Lists.{All-append}
 
 -- ---- frames
@@ -138,7 +138,7 @@ counts-at commits version (suc workers) worker below =
 
 -- the counts of a Head are those of the list at its end
 pub counts-are : (commits : List Commit) (workers : ℕ) → AllByRecursion (IsCommit workers) commits
-    → AreCounts commits (length commits) (counts_of commits (length commits) workers)
+    → AreFrameCounts commits (length commits) (counts_of commits (length commits) workers)
 counts-are commits workers each worker = elim (cases_lt worker workers) [
   | inl below ↦ counts-at commits (length commits) workers worker below
   | inr past ↦
