@@ -7,7 +7,8 @@ use Rattle.rows.specs.Shape.{Shape}
 use Rattle.mvcc.specs.History.{History}
 use Rattle.journal.specs.Text.{header, records_from, journal_text}
 use Rattle.journal.proofs.Texts.{records_from_append}
-use Rattle.primary.specs.Steps.{primary_of, flushed}
+use Rattle.primary.specs.Steps.{flushed}
+use Rattle.primary.specs.Inner.Parts.{primary_of}
 
 -- the text with the records of the commits that are moved
 pub moved_text : (workers : ℕ) (shape : Shape) (durable moved : List Commit) (old new : List ℕ)

@@ -20,7 +20,8 @@ use Rattle.update_log.specs.Streams.{AreStreamsOf, stream_at}
 use Rattle.update_log.proofs.Elements.{all-get_or}
 use Rattle.journal.specs.Recovery.{HasRecord, IsJournaled}
 use Rattle.primary.specs.Journaling.{AreNumbered}
-use Rattle.primary.specs.Steps.{primary_of, started}
+use Rattle.primary.specs.Steps.{started}
+use Rattle.primary.specs.Inner.Parts.{primary_of}
 use Rattle.primary.proofs.Streams.{next-below}
 
 pub ok-of : (r : Result Tables Refusal) → IsOk r → (tables : Tables) × (r ≡ Ok tables)

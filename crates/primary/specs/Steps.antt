@@ -61,13 +61,3 @@ flushed p count = record p { durable = p.durable ++ take count p.pending; pendin
 -- the primary whose journal has failed
 abbrev pub broken : Primary → Primary
 broken p = record p { failed = true }
-
--- the primary of these versions, the first `durable` of them durable and the others pending
-abbrev pub primary_of : History → ℕ → ℕ → Bool → Primary
-primary_of versions durable workers failed = record {
-  schema = versions.schema;
-  workers = workers;
-  durable = take durable versions.commits;
-  pending = drop durable versions.commits;
-  failed = failed;
-}

@@ -12,7 +12,8 @@ ghost use Rattle.rows.specs.Spelling.{HasSpelling};
 ghost use Rattle.mvcc.specs.History.{defined_at, tables_at};
 ghost use Rattle.update_log.specs.Parts.{parts_of};
 ghost use Rattle.update_log.specs.Streams.{AreStreamsOf, stream_at};
-ghost use Rattle.primary.specs.Steps.{commit_answer, primary_of};
+ghost use Rattle.primary.specs.Steps.{commit_answer};
+ghost use Rattle.primary.specs.Inner.Parts.{primary_of};
 ghost use Rattle.primary.specs.Inner.RowsTold.{there_in};
 
 use crate::faults::CommitFault;

@@ -44,7 +44,7 @@ pub struct Lists {
 
 impl Model for Lists {
     ghost use Rattle.primary.specs.State.{Primary};
-    ghost use Rattle.primary.specs.Steps.{primary_of};
+    ghost use Rattle.primary.specs.Inner.Parts.{primary_of};
     ghost use Rattle.primary.specs.Inner.Invariant.{AreLists};
 
     ghost Value = { Primary };

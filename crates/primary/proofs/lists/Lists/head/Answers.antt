@@ -5,7 +5,7 @@ use Rattle.wire.specs.declared.out.Out.{Out}
 use Rattle.wire.specs.declared.out.To.TheVariants.{Replica}
 use Rattle.wire.specs.declared.datagram.Datagram.TheVariants.{Head}
 use Rattle.wire.specs.Spelling.{AreCounts, spelling}
-use Rattle.primary.specs.Steps.{primary_of}
+use Rattle.primary.specs.Inner.Parts.{primary_of}
 use Rattle.primary.specs.Sending.{head_for, counts_of}
 use Rattle.primary.proofs.Streams.{counts_for_head, counts-durable}
 use Rattle.primary.proofs.lists.Lists.head.Goals as goal

@@ -1,0 +1,14 @@
+-- What callers see of a primary, made of its parts.
+use Rattle.std.specs.Prelude.{ℕ, take, drop, Bool}
+use Rattle.mvcc.specs.History.{History}
+use Rattle.primary.specs.State.{Primary}
+
+-- the primary of these versions, the first `durable` of them durable and the others pending
+abbrev pub primary_of : History → ℕ → ℕ → Bool → Primary
+primary_of versions durable workers failed = record {
+  schema = versions.schema;
+  workers = workers;
+  durable = take durable versions.commits;
+  pending = drop durable versions.commits;
+  failed = failed;
+}
