@@ -100,7 +100,7 @@ cut-recovered workers shape old new commits bytes_kept recovered long begins eno
       )
 ]
 
--- bytes that are recovered are refused for want of memory alone, where they begin with the header
+-- bytes that are recovered are refused only out of memory, where they begin with the header
 only-memory : (workers : ℕ) (shape : Shape) (old new : List ℕ) (commits : List Commit) (bytes_kept : ℕ) → IsNotRefused
     → IsRecovered workers shape old commits bytes_kept
     → (IsBeginning (header workers shape) old → IsBeginning (header workers shape) new)

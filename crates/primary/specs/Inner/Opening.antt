@@ -4,7 +4,7 @@ use Rattle.journal.specs.Storing.{IsPartlyAppended, IsPartlyCut}
 use Rattle.primary.specs.declared.faults.StartFault.{StartFault}
 use Rattle.primary.specs.declared.faults.StartFault.TheVariants as starts
 
--- the journal could not be read, cut or written, or there was no memory: no word of its bytes
+-- the journal could not be read, cut or written, or it is out of memory: no word of its bytes
 abbrev pub IsOfStore : {F : Type 0} → StartFault F → Type 0
 IsOfStore (starts.Store fault) = Unit {0}
 IsOfStore (starts.Journal fault) = ⊥
