@@ -170,8 +170,8 @@ fn count_of(table: u8) -> Wish<'static> {
     Wish { table, ..COUNT }
 }
 
-/// Whether it answers so where a query is opened. One without memory for its plan is answered
-/// otherwise.
+/// Whether it answers so where a query is opened. Where it is out of memory for the plan, the answer
+/// is another.
 fn opens(
     alloc: Global,
     replica: &mut ReplicaCore<PlainStore>,

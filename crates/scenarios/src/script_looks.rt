@@ -3,8 +3,8 @@
 use crate::scripts::{TWO_TABLES, TWO_WORKERS, expect};
 use std::test::Fail;
 
-/// A commit that was torn by a stop is gone, and its number is another commit's. Both replicas hold
-/// the same tables at version 1.
+/// A commit that was torn by a stop is gone, and its number is a commit's of another worker. Both
+/// replicas hold the same tables at version 1.
 const SAME_TABLES: [(&str, &str); 30] = [
     ("begin", "tx 0 at 0"),
     ("insert 0 acct 7 5 -1", "ok"),

@@ -167,34 +167,6 @@ fn a_primary_stops_and_starts_again(rt: HostRuntime) -> Result<(), Fail> {
     Ok(())
 }
 
-/// A torn commit of worker 0 leaves its stream empty. A commit of worker 1 behind the start is the
-/// first, and stands in its stream; both replicas report it.
-const OTHER_WORKER: [(&str, &str); 23] = [
-    ("begin", "tx 0 at 0"),
-    ("insert 0 acct 7 5 -1", "ok"),
-    ("commit 0 0", "ticket 1"),
-    ("stop 42", "stopped"),
-    ("start", "durable 0"),
-    ("begin", "tx 1 at 0"),
-    ("insert 1 acct 9 1 2", "ok"),
-    ("commit 1 1", "ticket 1"),
-    ("flush 1", "durable 1"),
-    ("push 0 0", "no frame"),
-    ("push 1 0", "sent 0 54"),
-    ("deliver 0 r0", "stored"),
-    ("deliver 0 r1", "stored"),
-    ("open 0 query acct get count", "opened 1"),
-    ("ask 0", "sent 1 23"),
-    ("deliver 1 p", "sent 2 48"),
-    ("deliver 2 r0", "head 1"),
-    ("run 0", "version 1 queries 1\nquery 0 rows 1\n1"),
-    ("open 1 query acct get count", "opened 1"),
-    ("ask 1", "sent 3 23"),
-    ("deliver 3 p", "sent 4 48"),
-    ("deliver 4 r1", "head 1"),
-    ("run 1", "version 1 queries 1\nquery 0 rows 1\n1"),
-];
-
 /// A commit that was recovered is its worker's: its frame is the same before a stop and behind it.
 const WORKERS_KEPT: [(&str, &str); 21] = [
     ("begin", "tx 0 at 0"),
@@ -248,7 +220,7 @@ const TOLD_BEFORE: [(&str, &str); 19] = [
 ];
 
 /// Stories of two workers and two replicas.
-const STORIES_OF_TWO: [&[(&str, &str)]; 3] = [&OTHER_WORKER, &WORKERS_KEPT, &TOLD_BEFORE];
+const STORIES_OF_TWO: [&[(&str, &str)]; 2] = [&WORKERS_KEPT, &TOLD_BEFORE];
 
 #[test]
 fn each_worker_keeps_its_commits_over_a_stop(rt: HostRuntime) -> Result<(), Fail> {
