@@ -14,7 +14,7 @@ use Rattle.update_log.specs.Parts.{parts_of}
 use Rattle.update_log.specs.Streams.{stream_from, stream_of, frame_count}
 use Rattle.ordering.specs.Cutting.{AreFrameCounts}
 use Rattle.primary.specs.Sending.{counts_of}
-use Rattle.wire.specs.Spelling.{AreFrameCounts as AreSpelledCounts}
+use Rattle.wire.specs.Spelling.{AreCounts as AreSpelledCounts}
 use Rattle.world.proofs.Lists.{All-append}
 
 -- ---- frames
