@@ -1,5 +1,5 @@
 -- Each step of a fresh world is, as users see it, one of the database.
-use Rattle.std.proofs.Common.{◌≡◌, ℕ, zero, suc, ◌+◌, ◌⊎◌, inl, inr, Bool, true, false, cond, not, ◌||◌, ◌&&◌, ◌==◌, List, []}
+use Rattle.std.proofs.Common.{◌≡◌, ℕ, zero, suc, ◌+◌, inl, inr, Bool, true, false, cond, not, ◌||◌, ◌&&◌, ◌==◌, List, []}
 use Rattle.std.proofs.Common.{◌∷◌, ◌++◌}
 use Rattle.std.proofs.Common.{length, map, replicate, Option, None, Some, Result, Ok, Err, nat_le, nat_lt, refl, sym, ap, subst, ◌∙◌}
 use Rattle.std.specs.List.{slice_get, slice_set, list_all, AllByRecursion}
@@ -32,7 +32,7 @@ use Rattle.script.specs.declared.event.Node.{Node}
 use Rattle.script.specs.declared.event.Node.TheVariants as nodes
 use Rattle.script.specs.declared.output.Output.{Output}
 use Rattle.script.specs.declared.output.Output.TheVariants as outputs
-use Rattle.world.specs.Database.{Reader, Database, new_reader, MayBecome, Becomes, Says, Goes}
+use Rattle.world.specs.Database.{Reader, Database, new_reader, HasAsked, IsFetched, IsMoved, IsAnswered, Becomes, Says, Goes}
 use Rattle.world.specs.Steps.{World, Member, Batch, fresh_from, open_draft, happens, unless_stopped, on_draft, change_happens}
 use Rattle.world.specs.Steps.{commit_happens}
 use Rattle.world.specs.Steps.{push_happens, with_member, known_of, with_known, head_happens, datagram_happens, on_member, member_output}
@@ -41,34 +41,39 @@ use Rattle.world.specs.Steps.{fetched_happens}
 use Rattle.world.specs.Steps.{answer_happens, lacking, dump_at, send, ask_bytes, abort_happens, opening_world, stop_happens}
 use Rattle.world.specs.Steps.{restarted, restart_happens, had_boot}
 use Rattle.world.specs.Allowed.{RunIsCut, RunIsCutAt, MayHappen, RunsBy, Runs}
-use Rattle.world.specs.Theorem.{reader_of, database_of, RunsAreOfDatabase}
+use Rattle.world.specs.Theorem.{seen_batch, reader_of, database_of, RunsAreOfDatabase}
 use Rattle.world.specs.Outputs.{of_change, of_look}
-use Rattle.world.specs.Inner.Fresh.{Fresh, HasBoot}
+use Rattle.world.specs.Inner.Fresh.{IsFreshBatch, IsFreshReading, Fresh, HasBoot}
 use Rattle.world.proofs.Fresh.{opening-fresh}
 use Rattle.world.proofs.Freshness.{ready-batch, step-serves, possible-boots}
 use Rattle.world.proofs.Honest.{step-fine}
 use Rattle.world.proofs.Requested.{step-counts}
 use Rattle.world.proofs.Lists.{set-same}
-use Rattle.world.proofs.Serving.{IsNoReport, change-silent, look-silent, commit-silent}
-use Rattle.world.proofs.FreshDatagrams.{answers-silent}
+use Rattle.world.proofs.Serving.{IsSilent, change-silent, look-silent, commit-silent}
+use Rattle.world.proofs.FreshDatagrams.{answers-silent, datagram-takes}
+use Rattle.world.proofs.Raw.{unforged}
 
 -- what a step says and what becomes of the replicas, as users see it
 abbrev pub Tells : World → Output × World → Type 0
 Tells w answer = Says w.primary.schema (database_of w) answer.0 (database_of answer.1).readers
 
--- an output that says nothing of rows
-silent : (w : World) (output : Output) (readers : List Reader) → IsNoReport output
-    → (readers ≡ (database_of w).readers) ⊎ Becomes (MayBecome w.primary.durable) (database_of w).readers readers
+-- an output that tells nothing of a replica, and leaves all of them as they were
+silent : (w : World) (output : Output) (readers : List Reader) → IsSilent output → readers ≡ (database_of w).readers
     → Says w.primary.schema (database_of w) output readers
 silent w (outputs.Report text) readers h may = absurd h
 silent w (outputs.Dump text) readers h may = absurd h
-silent w other readers h may = may
+silent w (outputs.Version version) readers h may = absurd h
+silent w (outputs.Head version) readers h may = absurd h
+silent w (outputs.Boot boot) readers h may = absurd h
+silent w (outputs.Sent sent) readers h same = inl same
+silent w outputs.Memory readers h same = inl same
+silent w other readers h same = same
 
 -- the replicas stay as they are seen
-same-readers : (w : World) (answer : Output × World) → IsNoReport answer.0 → answer.1.members ≡ w.members → Tells w answer
-same-readers w answer h same = silent w answer.0 _ h (inl (ap (map reader_of) same))
+same-readers : (w : World) (answer : Output × World) → IsSilent answer.0 → answer.1.members ≡ w.members → Tells w answer
+same-readers w answer h same = silent w answer.0 _ h (ap (map reader_of) same)
 
-stays : (w : World) (output : Output) → IsNoReport output → Tells w (output, w)
+stays : (w : World) (output : Output) → IsSilent output → Tells w (output, w)
 stays w output h = same-readers w (output, w) h refl
 
 -- ---- one replica
@@ -94,19 +99,22 @@ module _ (w : World) (h : Fresh w) (i : ℕ) (m : Member) (here : slice_get w.me
       ∙ map-set w.members i new
 
   -- it is seen as it was
-  alike : (new : Member) (output : Output) → new.number ≡ m.number → reader_of new ≡ reader_of m → IsNoReport output
+  alike : (new : Member) (output : Output) → new.number ≡ m.number → reader_of new ≡ reader_of m → IsSilent output
       → Tells w (output, with_member w new)
   alike new output number same is =
-      silent w output _ is (inl (changed new number ∙ ap (slice_set (database_of w).readers i) same
-      ∙ set-same (database_of w).readers i (reader_of m) (map-get w.members i m here)))
+      silent w output _ is (changed new number ∙ ap (slice_set (database_of w).readers i) same
+      ∙ set-same (database_of w).readers i (reader_of m) (map-get w.members i m here))
 
-  becomes : (new : Member) (output : Output) (sent : List (List ℕ)) → new.number ≡ m.number
-      → MayBecome w.primary.durable (reader_of m) (reader_of new)
-      → IsNoReport output → Tells w (output, record (with_member w new) { sent = sent })
-  becomes new output sent number may is =
-      silent w output _ is (inr (i, reader_of m, reader_of new, map-get w.members i m here, may, changed new number))
+  -- it becomes what it may
+  becomes : (May : Reader → Reader → Type 0) (new : Member) → new.number ≡ m.number → May (reader_of m) (reader_of new)
+      → Becomes May (database_of w).readers (database_of (with_member w new)).readers
+  becomes May new number may = (i, reader_of m, reader_of new, map-get w.members i m here, may, changed new number)
 
   -- ---- datagrams
+
+  -- a batch that a replica has after a datagram is fresh
+  abbrev IsFreshAfter : Output × Member → Type 0
+  IsFreshAfter answer = (batch : Batch) → answer.1.batch ≡ Some batch → IsFreshBatch w.primary.durable answer.1.version batch
 
   frame-tells : (worker seq : ℕ) (a b c : Bool)
       → Tells w (member_output w (cond a (outputs.Ignored, m)
@@ -118,31 +126,35 @@ module _ (w : World) (h : Fresh w) (i : ℕ) (m : Member) (here : slice_get w.me
 
   fetched-tells : (version : ℕ) (counts : List ℕ) (plans : List Plan) (asked_at : ℕ) (fetched : Option Fetched)
       → m.batch ≡ Some (record { plans = plans; asked_at = asked_at; fetched = fetched })
+      → IsFreshAfter (head_happens m version counts (Some (record { plans = plans; asked_at = asked_at; fetched = fetched })))
       → Tells w (member_output w (head_happens m version counts (Some (record { plans = plans; asked_at = asked_at; fetched = fetched }))))
-  fetched-tells version counts plans asked_at (Some fetched) has = alike m outputs.Ignored refl refl tt
-  fetched-tells version counts plans asked_at None has =
-      alike _ (outputs.Head version) refl
-      (ap (λ (b : Option Batch). record { version = m.version; batch = option_map (λ (b : Batch). (b.plans, b.asked_at)) b }) (sym has)) tt
+  fetched-tells version counts plans asked_at (Some fetched) has fresh = alike m outputs.Ignored refl refl tt
+  fetched-tells version counts plans asked_at None has fresh =
+      let came : Fetched = record { version = version; counts = counts } in
+      let batch : Batch = record { plans = plans; asked_at = asked_at; fetched = Some came } in
+      becomes (IsFetched w.primary.durable version) (record m { batch = Some batch }) refl
+      (plans, asked_at, ap (option_map seen_batch) has, (fresh batch refl).fetched_is came refl, refl)
 
   head-tells : (version : ℕ) (counts : List ℕ) (found : Option Batch) → m.batch ≡ found
-      → Tells w (member_output w (head_happens m version counts found))
-  head-tells version counts None has = alike m outputs.Ignored refl refl tt
-  head-tells version counts (Some batch) has = fetched-tells version counts batch.plans batch.asked_at batch.fetched has
+      → IsFreshAfter (head_happens m version counts found) → Tells w (member_output w (head_happens m version counts found))
+  head-tells version counts None has fresh = alike m outputs.Ignored refl refl tt
+  head-tells version counts (Some batch) has fresh = fetched-tells version counts batch.plans batch.asked_at batch.fetched has fresh
 
-  datagram-tells : (shape : Shape) (workers : ℕ) (read : Result Datagram WireFault)
+  datagram-tells : (shape : Shape) (workers : ℕ) (read : Result Datagram WireFault) → IsFreshAfter (datagram_happens shape workers m read)
       → Tells w (member_output w (datagram_happens shape workers m read))
-  datagram-tells shape workers (Err fault) = alike m outputs.Ignored refl refl tt
-  datagram-tells shape workers (Ok (datagrams.Frame worker seq commit last entries)) =
+  datagram-tells shape workers (Err fault) fresh = alike m outputs.Ignored refl refl tt
+  datagram-tells shape workers (Ok (datagrams.Frame worker seq commit last entries)) fresh =
       frame-tells worker seq (not (nat_lt worker workers) || not (list_all (λ entry. is_ok (fitting shape entry)) entries))
       (is_known (known_of m.known worker) seq) (is_ahead (known_of m.known worker) seq)
-  datagram-tells shape workers (Ok (datagrams.Ask replica boot request)) = alike m outputs.Ignored refl refl tt
-  datagram-tells shape workers (Ok (datagrams.Head replica boot request version counts)) =
-      by ((replica == m.number) && (boot == m.boot) && (request == m.request))
+  datagram-tells shape workers (Ok (datagrams.Ask replica boot request)) fresh = alike m outputs.Ignored refl refl tt
+  datagram-tells shape workers (Ok (datagrams.Head replica boot request version counts)) fresh =
+      by ((replica == m.number) && (boot == m.boot) && (request == m.request)) fresh
     where
-      by : (own : Bool) → Tells w (member_output w (cond own (head_happens m version counts m.batch) (outputs.Ignored, m)))
-      by true = head-tells version counts m.batch refl
-      by false = alike m outputs.Ignored refl refl tt
-  datagram-tells shape workers (Ok (datagrams.Want replica worker from)) = alike m outputs.Ignored refl refl tt
+      by : (own : Bool) → IsFreshAfter (cond own (head_happens m version counts m.batch) (outputs.Ignored, m))
+          → Tells w (member_output w (cond own (head_happens m version counts m.batch) (outputs.Ignored, m)))
+      by true taken = head-tells version counts m.batch refl taken
+      by false taken = alike m outputs.Ignored refl refl tt
+  datagram-tells shape workers (Ok (datagrams.Want replica worker from)) fresh = alike m outputs.Ignored refl refl tt
 
   -- ---- batches
 
@@ -162,9 +174,7 @@ module _ (w : World) (h : Fresh w) (i : ℕ) (m : Member) (here : slice_get w.me
       by : (b : Bool) → Tells w (cond b (outputs.Empty, w) (send (with_member w (new_batch w m)) (ask_bytes m (m.request + 1))))
       by true = stays w outputs.Empty tt
       by false =
-          becomes (new_batch w m) (send (with_member w (new_batch w m)) (ask_bytes m (m.request + 1))).0
-          (w.sent ++ ask_bytes m (m.request + 1) ∷ []) refl
-          (inl (m.waiting, ap (option_map (λ (b : Batch). (b.plans, b.asked_at))) has, refl)) tt
+          inr (becomes (HasAsked w.primary.durable) (new_batch w m) refl (m.waiting, ap (option_map seen_batch) has, refl))
 
   -- ---- runs
 
@@ -173,14 +183,8 @@ module _ (w : World) (h : Fresh w) (i : ℕ) (m : Member) (here : slice_get w.me
       → Tells w (answer_happens w m plans fetched None)
   report-tells plans asked_at fetched has =
       let is = ((h.members_are i m here).batch_is _ has).fetched_is fetched refl in
-      let seen = ap (option_map (λ (b : Batch). (b.plans, b.asked_at))) has in (
-        i,
-        reader_of m,
-        reader_of (record m { version = fetched.version; batch = None }),
-        map-get w.members i m here,
-        (plans, asked_at, fetched.version, seen, is.0, is.1, refl, refl),
-        changed (record m { version = fetched.version; batch = None }) refl,
-      )
+      becomes (IsAnswered w.primary.schema w.primary.durable _) (record m { version = fetched.version; batch = None }) refl
+      (plans, asked_at, fetched.version, ap (option_map seen_batch) has, is, refl, refl)
 
   fetched-runs : (plans : List Plan) (asked_at : ℕ) (fetched : Option Fetched)
       → m.batch ≡ Some (record { plans = plans; asked_at = asked_at; fetched = fetched })
@@ -217,22 +221,20 @@ module _ (w : World) (h : Fresh w) (i : ℕ) (m : Member) (here : slice_get w.me
       by : (used : Bool)
           → Tells w (cond used (outputs.BootUsed, w) (outputs.Boot boot, with_member w (restarted w.primary.workers m boot)))
       by true = stays w outputs.BootUsed tt
-      by false = becomes (restarted w.primary.workers m boot) (outputs.Boot boot) w.sent refl (inr (inr refl)) tt
+      by false = becomes (λ old new. new ≡ new_reader) (restarted w.primary.workers m boot) refl refl
 
   -- a run that is out of memory
   cut-tells : (output : Output) (new : World) → RunIsCut w (Some m) output new → Tells w (output, new)
   cut-tells output new cut = let at = ready-batch w i m cut.0 h here cut.1 in elim cut.2 [
     | inl memory ↦ is outputs.Memory (record m { version = cut.0.version }) memory.0 memory.1
-        (becomes (record m { version = cut.0.version }) outputs.Memory w.sent refl
-        (inr (inl (
+        (inr (becomes (IsMoved w.primary.durable) (record m { version = cut.0.version }) refl (
           at.0.plans,
           at.0.asked_at,
           cut.0.version,
-          ap (option_map (λ (b : Batch). (b.plans, b.asked_at))) at.1,
-          at.2,
-          at.3,
+          ap (option_map seen_batch) at.1 ∙ ap (λ (f : Option Fetched). Some (seen_batch (record at.0 { fetched = f }))) at.2,
+          ((h.members_are i m here).batch_is at.0 at.1).fetched_is cut.0 at.2,
           refl,
-        ))) tt)
+        )))
     | inr broken ↦ is outputs.Broken (record m { broken = true }) broken.0 broken.1
         (alike (record m { broken = true }) outputs.Broken refl refl tt)
   ]
@@ -291,7 +293,7 @@ module _ (w : World) (h : Fresh w) where
   aborting number None = stays w outputs.NoTx tt
   aborting number (Some draft) = same-readers w (abort_happens w number) tt refl
 
-  flushing : (count : ℕ) (failed : Bool) (answered : Output) → IsNoReport answered
+  flushing : (count : ℕ) (failed : Bool) (answered : Output) → IsSilent answered
       → Tells w (cond {A = Output × World} failed (outputs.Failed, w) (answered, record w { primary = flushed w.primary count }))
   flushing count true answered is = stays w outputs.Failed tt
   flushing count false answered is = same-readers w (answered, record w { primary = flushed w.primary count }) is refl
@@ -305,21 +307,25 @@ module _ (w : World) (h : Fresh w) where
   pushing None = stays w outputs.NoFrame tt
   pushing (Some bytes) = same-readers w (send w bytes) tt refl
 
-  handing : (bytes : List ℕ) (node : Node) → Tells w (delivered w bytes node)
-  handing bytes nodes.Primary =
+  handing : (bytes : List ℕ) (node : Node) → IsFreshReading w.primary.durable w.members (reading bytes) → Tells w (delivered w bytes node)
+  handing bytes nodes.Primary told =
       same-readers w (delivered w bytes nodes.Primary) (answers-silent (length w.sent) (answers w.primary bytes)) refl
-  handing bytes (nodes.Replica number) =
+  handing bytes (nodes.Replica number) told =
       at-member number (slice_get w.members number) _ refl
       (λ m here. unless-broken w h number m here _
-      (datagram-tells w h number m here (shape_of w.primary.schema) w.primary.workers (reading bytes)))
+      (datagram-tells w h number m here (shape_of w.primary.schema) w.primary.workers (reading bytes)
+      (datagram-takes w.primary.durable (shape_of w.primary.schema) w.primary.workers w.members number m here (h.members_are number m here)
+      (reading bytes) told).follows.batch_is))
 
-  delivering : (node : Node) (found : Option (List ℕ)) → Tells w (deliver_happens w node found)
-  delivering node None = stays w outputs.NeverSent tt
-  delivering node (Some bytes) = handing bytes node
+  delivering : (index : ℕ) (node : Node) (found : Option (List ℕ)) → slice_get w.sent index ≡ found → Tells w (deliver_happens w node found)
+  delivering index node None there = stays w outputs.NeverSent tt
+  delivering index node (Some bytes) there = handing bytes node (h.sent_is index bytes there)
 
-  raw-handing : (node : Node) (bytes : List ℕ) (forged : Bool) → Tells w (cond forged (outputs.Forged, w) (delivered w bytes node))
-  raw-handing node bytes true = stays w outputs.Forged tt
-  raw-handing node bytes false = handing bytes node
+  raw-handing : (node : Node) (bytes : List ℕ) (forged : Bool) → is_forged w.sent bytes ≡ forged
+      → Tells w (cond forged (outputs.Forged, w) (delivered w bytes node))
+  raw-handing node bytes true e = stays w outputs.Forged tt
+  raw-handing node bytes false e =
+      handing bytes node (unforged (IsFreshReading w.primary.durable w.members) w.sent bytes (λ fault. tt) h.sent_is e)
 
   showing : (found : Option (List ℕ)) → Tells w (shown found, w)
   showing None = stays w outputs.NeverSent tt
@@ -345,8 +351,8 @@ module _ (w : World) (h : Fresh w) where
   happens-tells (events.Stop bytes) = served (stop_happens w bytes) (same-readers w (stop_happens w bytes) tt refl)
   happens-tells events.Start = starting w.stopped
   happens-tells (events.Push worker seq) = served _ (pushing (pushed w.primary worker seq))
-  happens-tells (events.Deliver index nodes.Primary) = served _ (delivering nodes.Primary (slice_get w.sent index))
-  happens-tells (events.Deliver index (nodes.Replica number)) = delivering (nodes.Replica number) (slice_get w.sent index)
+  happens-tells (events.Deliver index nodes.Primary) = served _ (delivering index nodes.Primary (slice_get w.sent index) refl)
+  happens-tells (events.Deliver index (nodes.Replica number)) = delivering index (nodes.Replica number) (slice_get w.sent index) refl
   happens-tells (events.Show index) = showing (slice_get w.sent index)
   happens-tells (events.Open replica plan) =
       at-member replica (slice_get w.members replica) _ refl
@@ -359,13 +365,14 @@ module _ (w : World) (h : Fresh w) where
       at-member replica (slice_get w.members replica) _ refl
       (λ m here. unless-broken w h replica m here _ (run-tells w h replica m here m.batch refl))
   happens-tells (events.Version replica) =
-      at-member replica (slice_get w.members replica) _ refl (λ m here. stays w (outputs.Version m.version) tt)
+      at-member replica (slice_get w.members replica) _ refl
+      (λ m here. (replica, reader_of m, map-get w.members replica m here, refl, refl))
   happens-tells (events.Dump replica) =
       at-member replica (slice_get w.members replica) _ refl (λ m here. unless-broken w h replica m here _ (dump-tells w h replica m here))
   happens-tells (events.Restart replica boot) =
       at-member replica (slice_get w.members replica) _ refl (λ m here. restart-tells w h replica m here boot)
-  happens-tells (events.Raw nodes.Primary bytes) = served _ (raw-handing nodes.Primary bytes (is_forged w.sent bytes))
-  happens-tells (events.Raw (nodes.Replica number) bytes) = raw-handing (nodes.Replica number) bytes (is_forged w.sent bytes)
+  happens-tells (events.Raw nodes.Primary bytes) = served _ (raw-handing nodes.Primary bytes (is_forged w.sent bytes) refl)
+  happens-tells (events.Raw (nodes.Replica number) bytes) = raw-handing (nodes.Replica number) bytes (is_forged w.sent bytes) refl
 
   cut-found : (i : ℕ) (found : Option Member) (output : Output) (new : World) → slice_get w.members i ≡ found → RunIsCut w found output new
       → Tells w (output, new)

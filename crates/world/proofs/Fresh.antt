@@ -13,6 +13,7 @@ use Rattle.wire.specs.declared.datagram.Datagram.TheVariants as datagrams
 use Rattle.wire.specs.declared.faults.WireFault.{WireFault}
 use Rattle.wire.specs.Reading.{reading}
 use Rattle.mvcc.specs.Draft.{Draft}
+use Rattle.dispatcher.specs.State.{Fetched}
 use Rattle.primary.specs.Steps.{committed, flushed}
 use Rattle.script.specs.declared.setup.Setup.{Setup}
 use Rattle.world.specs.Steps.{World, Member, Batch, fresh, fresh_from, opening_world, with_member, stop_happens}
@@ -49,8 +50,9 @@ member-grows durable more number m h = record {
       let asked = (h.batch_is batch has).asked in
       record {
         asked = omega (arith, length-append durable more);
+        waits = (h.batch_is batch has).waits;
         fetched_is = λ fetched is. let found =
-            (h.batch_is batch has).fetched_is fetched is in (found.0, omega (arith, length-append durable more));
+            (h.batch_is batch has).fetched_is fetched is in (found.0, found.1, omega (arith, length-append durable more));
       };
 }
 
@@ -120,20 +122,21 @@ pub record Follows (durable : List Commit) (old new : Member) : Type 0 where
   pub below : new.version ≤ length durable
   pub boots_are : new.boots ≡ old.boots
   pub boot_is : new.boot ≡ old.boot
-  pub batch_is : (batch : Batch) → new.batch ≡ Some batch → IsFreshBatch durable batch
+  pub batch_is : (batch : Batch) → new.batch ≡ Some batch → IsFreshBatch durable new.version batch
   pub asked : old.request ≤ new.request
   pub heads : (request version : ℕ) → IsFreshHead old request version → IsFreshHead new request version
 
--- a replica of the same request and batch
+-- a replica of the same version, request and batch
 pub alike : (durable : List Commit) (number : ℕ) (old new : Member) → IsFreshMember durable number old → new.number ≡ old.number
-    → new.boots ≡ old.boots → new.boot ≡ old.boot → new.request ≡ old.request → new.batch ≡ old.batch → new.version ≤ length durable
+    → new.boots ≡ old.boots → new.boot ≡ old.boot → new.request ≡ old.request → new.batch ≡ old.batch → new.version ≡ old.version
     → Follows durable old new
-alike durable number old new h number_is boots_are boot_is request_is batch_is below = record {
+alike durable number old new h number_is boots_are boot_is request_is batch_is version_is = record {
   number_is = number_is;
-  below = below;
+  below = subst (λ (version : ℕ). version ≤ length durable) (sym version_is) h.below;
   boots_are = boots_are;
   boot_is = boot_is;
-  batch_is = λ batch has. h.batch_is batch (sym batch_is ∙ has);
+  batch_is = λ batch has.
+      subst (λ (version : ℕ). IsFreshBatch durable version batch) (sym version_is) (h.batch_is batch (sym batch_is ∙ has));
   asked = omega arith;
   heads =
       λ request version head. record {
@@ -141,6 +144,29 @@ alike durable number old new h number_is boots_are boot_is request_is batch_is b
         above = λ batch has same. head.above batch (sym batch_is ∙ has) (same ∙ request_is);
       };
 }
+
+-- a replica that goes to the version that was fetched for its batch
+pub moved : (durable : List Commit) (number : ℕ) (m : Member) (batch : Batch) (fetched : Fetched) → IsFreshMember durable number m
+    → m.batch ≡ Some batch → batch.fetched ≡ Some fetched → Follows durable m (record m { version = fetched.version })
+moved durable number m batch fetched h has is =
+    let fresh = h.batch_is batch has in
+    let found = fresh.fetched_is fetched is in
+    record {
+      number_is = refl;
+      below = found.2;
+      boots_are = refl;
+      boot_is = refl;
+      batch_is = λ other now. subst (IsFreshBatch durable fetched.version) (same_Some batch other (sym has ∙ now)) (record {
+        asked = fresh.asked;
+        waits = λ none. absurd (none-some fetched (sym none ∙ is));
+        fetched_is =
+            λ new this.
+            subst (λ (f : Fetched). (fetched.version ≤ f.version) × (batch.asked_at ≤ f.version) × (f.version ≤ length durable))
+            (same_Some fetched new (sym is ∙ this)) (omega arith, found.1, found.2);
+      });
+      asked = omega arith;
+      heads = λ request version head. record { asked = head.asked; above = head.above };
+    }
 
 reading-follows : (durable : List Commit) (members : List Member) (i : ℕ) (old new : Member) → slice_get members i ≡ Some old
     → Follows durable old new

@@ -1,12 +1,12 @@
 -- What is sent and what a replica takes keep a world fresh.
 use Rattle.std.proofs.Common.{◌≡◌, ℕ, ◌≤◌, Bool, true, false, cond, not, ◌||◌, ◌&&◌, ◌==◌, List, [], ◌∷◌, length, map, Option, Some, None}
-use Rattle.std.proofs.Common.{Result, Ok, Err, nat_lt, refl, ap, subst, ◌∙◌, arith}
+use Rattle.std.proofs.Common.{Result, Ok, Err, nat_lt, refl, sym, ap, subst, ◌∙◌, arith}
 use Rattle.std.specs.List.{slice_get, AllByRecursion, list_all}
 use Rattle.std.specs.Option.{option_map}
 use Rattle.std.specs.Result.{is_ok}
 use Rattle.intake.specs.Known.{is_known, is_ahead}
 use Rattle.std.proofs.lemmas.Bool.{and_parts, eqb-true}
-use Rattle.std.proofs.lemmas.Option.{same_Some}
+use Rattle.std.proofs.lemmas.Option.{none-some, same_Some}
 use Rattle.rows.specs.declared.commit.Commit.{Commit}
 use Rattle.rows.specs.Shape.{Shape, shape_of}
 use Rattle.rows.specs.Entries.{fitting}
@@ -26,6 +26,7 @@ use Rattle.script.specs.declared.event.Node.TheVariants as nodes
 use Rattle.script.specs.declared.output.Output.{Output}
 use Rattle.script.specs.declared.output.Output.TheVariants as outputs
 use Rattle.world.specs.Outputs.{of_answers, packets_of}
+use Rattle.world.specs.Theorem.{SaysRows}
 use Rattle.world.specs.Steps.{World, Member, Batch, send, push_happens, head_happens, datagram_happens, on_member, member_output}
 use Rattle.world.specs.Steps.{deliver_happens, shown, known_of, with_known, delivered, raw_happens, is_forged}
 use Rattle.world.proofs.Datagrams.{frame-reads, head-reads}
@@ -34,7 +35,7 @@ use Rattle.world.specs.Inner.Fresh.{IsFreshBatch, IsFreshMember, IsFreshHead, Is
 use Rattle.world.proofs.Boots.{of-boot}
 use Rattle.world.proofs.Fresh.{Fresh-sent, Follows, alike, Fresh-member}
 use Rattle.world.proofs.Raw.{unforged}
-use Rattle.world.proofs.Serving.{IsNoReport, Serves, quiet}
+use Rattle.world.proofs.Serving.{IsSilent, Serves, no-rows, quiet}
 
 -- one more datagram is sent
 pub send-serves : (w old : World) (event : Event) (bytes : List ℕ) → Fresh w → IsFreshReading w.primary.durable w.members (reading bytes)
@@ -48,7 +49,7 @@ push-serves w event (Some frame) h =
     send-serves w w event (frame_spelling frame) h
     (frame-reads (IsFreshReading w.primary.durable w.members) (λ fault. tt) (λ worker seq commit last entries. tt) frame)
 
-pub answers-silent : (index : ℕ) (outs : List Out) → IsNoReport (of_answers index outs)
+pub answers-silent : (index : ℕ) (outs : List Out) → IsSilent (of_answers index outs)
 answers-silent index [] = tt
 answers-silent index (out ∷ outs) = tt
 
@@ -85,14 +86,17 @@ answers-fresh w (Ok (datagrams.Head replica boot request version counts)) h told
 answers-fresh w (Ok (datagrams.Want replica worker from)) h told = frames-fresh w replica (wanted w.primary worker from)
 
 -- what a replica makes of a datagram
-record Takes (durable : List Commit) (m : Member) (answer : Output × Member) : Type 0 where
-  follows : Follows durable m answer.1
-  silent : IsNoReport answer.0
+pub record Takes (durable : List Commit) (m : Member) (answer : Output × Member) : Type 0 where
+  pub follows : Follows durable m answer.1
+  pub rows : (commits : List Commit) (old : World) (event : Event) → SaysRows commits old event answer.0
 
 -- a replica that keeps its request and its batch
-keeps : (durable : List Commit) (i : ℕ) (m : Member) (output : Output) → IsFreshMember durable i m → IsNoReport output
+keeps : (durable : List Commit) (i : ℕ) (m : Member) (output : Output) → IsFreshMember durable i m → IsSilent output
     → Takes durable m (output, m)
-keeps durable i m output is silent = record { follows = alike durable i m m is refl refl refl refl refl is.below; silent = silent }
+keeps durable i m output is silent = record {
+  follows = alike durable i m m is refl refl refl refl refl refl;
+  rows = λ commits old event. no-rows commits old event output silent;
+}
 
 frame-takes : (durable : List Commit) (i : ℕ) (m : Member) (worker seq : ℕ) (a b c : Bool) → IsFreshMember durable i m
     → Takes durable m (cond a (outputs.Ignored, m)
@@ -102,8 +106,8 @@ frame-takes durable i m worker seq false true c is = keeps durable i m outputs.R
 frame-takes durable i m worker seq false false true is = keeps durable i m outputs.Ahead is tt
 frame-takes durable i m worker seq false false false is =
     record {
-      follows = alike durable i m (record m { known = with_known m.known worker seq }) is refl refl refl refl refl is.below;
-      silent = tt;
+      follows = alike durable i m (record m { known = with_known m.known worker seq }) is refl refl refl refl refl refl;
+      rows = λ commits old event. tt;
     }
 
 -- a Head of the batch's own request
@@ -118,11 +122,13 @@ fetched-takes durable i m version counts plans asked_at None is has above below 
     below = is.below;
     boots_are = refl;
     boot_is = refl;
-    batch_is = λ batch now. subst (IsFreshBatch durable) (same_Some new batch now) (record {
+    batch_is = λ batch now. subst (IsFreshBatch durable m.version) (same_Some new batch now) (record {
       asked = (is.batch_is old has).asked;
+      waits = λ none. absurd (none-some came (sym none));
       fetched_is =
-          λ fetched this. subst (λ (f : Fetched). (asked_at ≤ f.version) × (f.version ≤ length durable)) (same_Some came fetched this)
-          (above, below);
+          let waits = (is.batch_is old has).waits refl in
+          λ fetched this. subst (λ (f : Fetched). (m.version ≤ f.version) × (asked_at ≤ f.version) × (f.version ≤ length durable))
+          (same_Some came fetched this) (omega arith, above, below);
     });
     asked = omega arith;
     heads = λ request other head. record {
@@ -130,7 +136,7 @@ fetched-takes durable i m version counts plans asked_at None is has above below 
       above = λ batch now same. subst (λ (b : Batch). b.asked_at ≤ other) (same_Some new batch now) (head.above old has same);
     };
   };
-  silent = tt;
+  rows = λ commits old event. tt;
 }
   where
     came : Fetched
@@ -164,7 +170,7 @@ own-takes durable members i m replica boot request version counts here is below 
     let head = (told m (ap (slice_get members) index ∙ here)).holds (eqb-true boot m.boot front.1) in
     head-takes durable i m version counts m.batch is refl (λ batch has. head.above batch has (eqb-true request m.request parts.1)) below
 
-datagram-takes : (durable : List Commit) (shape : Shape) (workers : ℕ) (members : List Member) (i : ℕ) (m : Member)
+pub datagram-takes : (durable : List Commit) (shape : Shape) (workers : ℕ) (members : List Member) (i : ℕ) (m : Member)
     → slice_get members i ≡ Some m → IsFreshMember durable i m → (read : Result Datagram WireFault)
     → IsFreshReading durable members read → Takes durable m (datagram_happens shape workers m read)
 datagram-takes durable shape workers members i m here is (Err fault) told = keeps durable i m outputs.Ignored is tt
@@ -196,7 +202,7 @@ bytes-serve w event bytes i (Some m) h here told = by m.broken
         let takes =
         datagram-takes w.primary.durable (shape_of w.primary.schema) w.primary.workers w.members i m here (h.members_are i m here)
         (reading bytes) told in
-        quiet w event (member_output w answer) (Fresh-member w i m answer.1 h here takes.follows) takes.silent
+        record { fresh = Fresh-member w i m answer.1 h here takes.follows; rows = takes.rows w.primary.durable w event }
 
 -- bytes that are handed to a node
 hand-serves : (w : World) (event : Event) (bytes : List ℕ) (node : Node) → Fresh w

@@ -28,8 +28,8 @@ use Rattle.world.proofs.Lists.{get-set_same}
 use Rattle.world.proofs.Datagrams.{ask-read, ask-kept, want-reads}
 use Rattle.world.specs.Inner.Fresh.{IsFreshBatch, IsFreshReading, Fresh, HasBoot}
 use Rattle.world.proofs.Restarts.{never-had, Fresh-restarted}
-use Rattle.world.proofs.Fresh.{Fresh-drafts, Fresh-sent, Follows, alike, Fresh-member}
-use Rattle.world.proofs.Serving.{IsNoReport, Serves, quiet, change-serves, look-serves, commit-serves, abort-serves, flush-serves}
+use Rattle.world.proofs.Fresh.{Fresh-drafts, Fresh-sent, Follows, alike, moved, Fresh-member}
+use Rattle.world.proofs.Serving.{IsSilent, Serves, quiet, change-serves, look-serves, commit-serves, abort-serves, flush-serves}
 use Rattle.world.proofs.Serving.{stop-serves, start-serves, unless-serves}
 use Rattle.world.proofs.FreshDatagrams.{send-serves, push-serves, deliver-serves, raw-serves, show-serves}
 
@@ -51,7 +51,7 @@ open-serves w event plan i (Some m) h here = by m.broken (nat_le WAITING_QUERIES
     by false false (Err fault) = quiet w event (outputs.BadPlan fault, w) h tt
     by false false (Ok fits) =
         quiet w event _ (Fresh-member w i m _ h here (alike w.primary.durable i m _ (h.members_are i m here) refl refl refl refl refl
-        (h.members_are i m here).below)) tt
+        refl)) tt
 
 -- an Ask of a request that its replica has made
 ask-fresh : (w : World) (members : List Member) (i : ℕ) (m : Member) (request : ℕ) → Fresh w → slice_get w.members i ≡ Some m
@@ -82,8 +82,8 @@ new-follows w m below = record {
   boots_are = refl;
   boot_is = refl;
   batch_is =
-      λ batch has. subst (IsFreshBatch w.primary.durable) (same_Some new batch has)
-      (record { asked = omega arith; fetched_is = λ fetched this. absurd (none-some fetched this) });
+      λ batch has. subst (IsFreshBatch w.primary.durable m.version) (same_Some new batch has)
+      (record { asked = omega arith; waits = λ none. below; fetched_is = λ fetched this. absurd (none-some fetched this) });
   asked = omega arith;
   heads = λ request version head. let asked = head.asked in record { asked = omega arith; above = λ batch has same. absurd (omega arith) };
 }
@@ -153,8 +153,8 @@ lacking-serves w i m plans asked_at fetched None h here has =
     let batch : Batch = record { plans = plans; asked_at = asked_at; fetched = Some fetched } in
     let is = ((h.members_are i m here).batch_is batch has).fetched_is fetched refl in
     record {
-      fresh = Fresh-member w i m _ h here (done-follows w i m fetched.version is.1);
-      rows = (i, m, batch, refl, here, has, (fetched, refl, is.0, is.1, refl));
+      fresh = Fresh-member w i m _ h here (done-follows w i m fetched.version is.2);
+      rows = (i, m, batch, refl, here, has, (fetched, refl, is.1, is.2, refl));
     }
 
 fetched-serves : (w : World) (i : ℕ) (m : Member) (plans : List Plan) (asked_at : ℕ) (fetched : Option Fetched) → Fresh w
@@ -192,15 +192,13 @@ ready-fetched false lacks (Some other) fetched h = by (is_none (lacks other.coun
 
 fetched-batch : (w : World) (i : ℕ) (m : Member) (fetched : Fetched) (batch : Option Batch) → Fresh w → slice_get w.members i ≡ Some m
     → m.batch ≡ batch → option_and_then (λ (b : Batch). b.fetched) batch ≡ Some fetched
-    → (b : Batch) × (m.batch ≡ Some b) × (b.asked_at ≤ fetched.version) × (fetched.version ≤ length w.primary.durable)
+    → (b : Batch) × (m.batch ≡ Some b) × (b.fetched ≡ Some fetched)
 fetched-batch w i m fetched None h here has is = absurd (none-some fetched is)
-fetched-batch w i m fetched (Some batch) h here has is =
-    let fresh = ((h.members_are i m here).batch_is batch has).fetched_is fetched is in (batch, has, fresh.0, fresh.1)
+fetched-batch w i m fetched (Some batch) h here has is = (batch, has, is)
 
--- for its batch, which asked when no more was durable; and it is durable
+-- for its batch
 pub ready-batch : (w : World) (i : ℕ) (m : Member) (fetched : Fetched) → Fresh w → slice_get w.members i ≡ Some m
-    → ready_member m ≡ Some fetched
-    → (b : Batch) × (m.batch ≡ Some b) × (b.asked_at ≤ fetched.version) × (fetched.version ≤ length w.primary.durable)
+    → ready_member m ≡ Some fetched → (b : Batch) × (m.batch ≡ Some b) × (b.fetched ≡ Some fetched)
 ready-batch w i m fetched h here is =
     fetched-batch w i m fetched m.batch h here refl
     (ready-fetched m.broken (lacking m.known) (option_and_then (λ (b : Batch). b.fetched) m.batch) fetched is)
@@ -210,22 +208,22 @@ cut-serves : (w : World) (event : Event) (i : ℕ) (found : Option Member) (outp
 cut-serves w event i None output new h here cut = absurd cut
 cut-serves w event i (Some m) output new h here cut = elim cut.2 [
   | inl memory ↦ is outputs.Memory (record m { version = cut.0.version }) memory.0 memory.1 tt
-      (alike w.primary.durable i m _ (h.members_are i m here) refl refl refl refl refl (ready-batch w i m cut.0 h here cut.1).3)
+      (let at = ready-batch w i m cut.0 h here cut.1 in moved w.primary.durable i m at.0 cut.0 (h.members_are i m here) at.1 at.2)
   | inr broken ↦ is outputs.Broken (record m { broken = true }) broken.0 broken.1 tt
-      (alike w.primary.durable i m _ (h.members_are i m here) refl refl refl refl refl (h.members_are i m here).below)
+      (alike w.primary.durable i m _ (h.members_are i m here) refl refl refl refl refl refl)
 ]
   where
-    is : (answer : Output) (changed : Member) → output ≡ answer → new ≡ with_member w changed → IsNoReport answer
+    is : (answer : Output) (changed : Member) → output ≡ answer → new ≡ with_member w changed → IsSilent answer
         → Follows w.primary.durable m changed → Serves w event (output, new)
     is answer changed e f silent follows =
-        quiet w event (output, new) (subst Fresh (sym f) (Fresh-member w i m changed h here follows)) (subst IsNoReport (sym e) silent)
+        quiet w event (output, new) (subst Fresh (sym f) (Fresh-member w i m changed h here follows)) (subst IsSilent (sym e) silent)
 
 -- ---- looks at a replica
 
 version-serves : (w : World) (event : Event) (found : Option Member) → Fresh w
     → Serves w event (on_member w found (λ m. (outputs.Version m.version, w)))
 version-serves w event None h = quiet w event (outputs.Ignored, w) h tt
-version-serves w event (Some m) h = quiet w event (outputs.Version m.version, w) h tt
+version-serves w event (Some m) h = record { fresh = h; rows = tt }
 
 dump-serves : (w : World) (i : ℕ) (found : Option Member) → Fresh w → slice_get w.members i ≡ found
     → Serves w (events.Dump i) (on_member w found (λ m. cond m.broken (outputs.Broken, w) (outputs.Dump (dump_at w m.version), w)))
@@ -250,8 +248,7 @@ restart-serves w event i boot (Some m) h here below = by (had_boot m.boots boot)
         → Serves w event (cond used (outputs.BootUsed, w) (outputs.Boot boot, with_member w (restarted w.primary.workers m boot)))
     by true e = quiet w event (outputs.BootUsed, w) h tt
     by false e =
-        quiet w event (outputs.Boot boot, with_member w (restarted w.primary.workers m boot))
-        (Fresh-restarted w i boot m h here (never-had m.boots boot e) below) tt
+        record { fresh = Fresh-restarted w i boot m h here (never-had m.boots boot e) below; rows = tt }
 
 -- ---- any step
 
@@ -303,7 +300,7 @@ pub step-serves : (old : World) (event : Event) (output : Output) (new : World) 
 step-serves old event output new is h may = elim may [
   | inl made ↦ subst (Serves old event) made (happens-serves old event is h)
   | inr other ↦ elim other [
-    | inl memory ↦ quiet old event (output, new) (subst Fresh (sym memory.1) h) (subst IsNoReport (sym memory.0) tt)
+    | inl memory ↦ quiet old event (output, new) (subst Fresh (sym memory.1) h) (subst IsSilent (sym memory.0) tt)
     | inr cut ↦ cut-event old event output new h cut
   ]
 ]

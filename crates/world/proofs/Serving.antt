@@ -24,24 +24,27 @@ pub record Serves (old : World) (event : Event) (answer : Output × World) : Typ
   pub fresh : Fresh answer.1
   pub rows : SaysRows old.primary.durable old event answer.0
 
--- an output that says nothing of rows
-abbrev pub IsNoReport : Output → Type 0
-IsNoReport (outputs.Report text) = ⊥
-IsNoReport (outputs.Dump text) = ⊥
-IsNoReport other = Unit {0}
+-- an output that tells nothing of a replica's rows, version or start
+abbrev pub IsSilent : Output → Type 0
+IsSilent (outputs.Report text) = ⊥
+IsSilent (outputs.Dump text) = ⊥
+IsSilent (outputs.Version version) = ⊥
+IsSilent (outputs.Head version) = ⊥
+IsSilent (outputs.Boot boot) = ⊥
+IsSilent other = Unit {0}
 
-no-report : (commits : List Commit) (old : World) (event : Event) (output : Output) → IsNoReport output
+pub no-rows : (commits : List Commit) (old : World) (event : Event) (output : Output) → IsSilent output
     → SaysRows commits old event output
-no-report commits old event (outputs.Report text) h = absurd h
-no-report commits old event (outputs.Dump text) h = absurd h
-no-report commits old event other h = tt
+no-rows commits old event (outputs.Report text) h = absurd h
+no-rows commits old event (outputs.Dump text) h = absurd h
+no-rows commits old event other h = tt
 
-pub quiet : (old : World) (event : Event) (answer : Output × World) → Fresh answer.1 → IsNoReport answer.0 → Serves old event answer
-quiet old event answer fresh silent = record { fresh = fresh; rows = no-report old.primary.durable old event answer.0 silent }
+pub quiet : (old : World) (event : Event) (answer : Output × World) → Fresh answer.1 → IsSilent answer.0 → Serves old event answer
+quiet old event answer fresh silent = record { fresh = fresh; rows = no-rows old.primary.durable old event answer.0 silent }
 
 -- ---- transactions and commits
 
-pub change-silent : (fault : TxFault) → IsNoReport (of_change fault)
+pub change-silent : (fault : TxFault) → IsSilent (of_change fault)
 change-silent changes.Exists = tt
 change-silent changes.Missing = tt
 change-silent changes.Unfit = tt
@@ -57,7 +60,7 @@ change-serves w event number (Some draft) answer h = by (answer draft)
     by (Ok new) = quiet w event (outputs.Accepted, _) (Fresh-drafts w (slice_set w.transactions number (Some new)) h) tt
     by (Err fault) = quiet w event (of_change fault, w) h (change-silent fault)
 
-pub look-silent : (answer : Result Value TxFault) → IsNoReport (of_look answer)
+pub look-silent : (answer : Result Value TxFault) → IsSilent (of_look answer)
 look-silent (Ok value) = tt
 look-silent (Err fault) = change-silent fault
 
@@ -72,7 +75,7 @@ abort-serves w event number None h = quiet w event (outputs.NoTx, w) h tt
 abort-serves w event number (Some draft) h =
     quiet w event (outputs.Accepted, _) (Fresh-drafts w (slice_set w.transactions number None) h) tt
 
-pub commit-silent : (fault : CommitFault) → IsNoReport (of_commit fault)
+pub commit-silent : (fault : CommitFault) → IsSilent (of_commit fault)
 commit-silent (faults.Conflict number) = tt
 commit-silent faults.ReadOnly = tt
 commit-silent faults.Failed = tt

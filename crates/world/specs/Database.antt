@@ -1,5 +1,5 @@
 -- The whole promise on one page: a list of commits that only grows, and for each replica a version and at most one batch.
--- Reports and dumps are told by the list alone. Nothing is said here of datagrams, of journals or of memory.
+-- Reports and dumps are told by the list alone. How datagrams, journals and memory bring that about is not said here.
 use Rattle.std.specs.Prelude.{◌≡◌, ℕ, ◌≤◌, List, [], length, replicate, Option, None, Some, slice_get, slice_set, ◌⊎◌}
 use Rattle.rows.specs.declared.commit.Commit.{Commit}
 use Rattle.rows.specs.declared.kind.Kind.{Kind}
@@ -13,9 +13,10 @@ use Rattle.script.specs.declared.output.Output.{Output}
 use Rattle.script.specs.declared.output.Output.TheVariants as outputs
 
 -- a replica: its version; and the queries of its batch, where it has one, with how many commits were durable when they asked
+-- and the version that was fetched for them
 pub record Reader : Type 0 where
   pub version : ℕ
-  pub batch : Option (List Plan × ℕ)
+  pub batch : Option (List Plan × ℕ × Option ℕ)
 
 pub record Database : Type 0 where
   pub commits : List Commit
@@ -28,14 +29,27 @@ new_reader = record { version = 0; batch = None }
 abbrev pub new_database : ℕ → Database
 new_database replicas = record { commits = []; readers = replicate replicas new_reader }
 
--- what may become of a replica that answers nothing: its queries ask; it goes to the version at which its batch will be
--- answered, where that has to wait; or it starts anew
-abbrev pub MayBecome : List Commit → Reader → Reader → Type 0
-MayBecome commits old new =
-    ((plans : List Plan) × (old.batch ≡ None) × (new ≡ record old { batch = Some (plans, length commits) }))
-    ⊎ ((plans : List Plan) × (asked_at version : ℕ) × (old.batch ≡ Some (plans, asked_at)) × (asked_at ≤ version)
-    × (version ≤ length commits) × (new ≡ record old { version = version }))
-    ⊎ (new ≡ new_reader)
+-- a version at which a batch may be answered: no older than the replica's, at least as new as the list was when the batch asked,
+-- and one of the list
+abbrev pub MayServe : List Commit → Reader → ℕ → ℕ → Type 0
+MayServe commits reader asked_at version = (reader.version ≤ version) × (asked_at ≤ version) × (version ≤ length commits)
+
+-- the queries of a replica ask
+abbrev pub HasAsked : List Commit → Reader → Reader → Type 0
+HasAsked commits old new =
+    (plans : List Plan) × (old.batch ≡ None) × (new ≡ record old { batch = Some (plans, length commits, None) })
+
+-- a version is fetched for a batch
+abbrev pub IsFetched : List Commit → ℕ → Reader → Reader → Type 0
+IsFetched commits version old new =
+    (plans : List Plan) × (asked_at : ℕ) × (old.batch ≡ Some (plans, asked_at, None))
+    × MayServe commits old asked_at version × (new ≡ record old { batch = Some (plans, asked_at, Some version) })
+
+-- a replica goes to the version that was fetched for its batch, but the answer has to wait
+abbrev pub IsMoved : List Commit → Reader → Reader → Type 0
+IsMoved commits old new =
+    (plans : List Plan) × (asked_at version : ℕ) × (old.batch ≡ Some (plans, asked_at, Some version))
+    × MayServe commits old asked_at version × (new ≡ record old { version = version })
 
 -- one replica becomes another
 abbrev pub Becomes : (Reader → Reader → Type 0) → List Reader → List Reader → Type 0
@@ -43,10 +57,11 @@ Becomes May old new =
     (number : ℕ) × (reader changed : Reader) × (slice_get old number ≡ Some reader) × May reader changed
     × (new ≡ slice_set old number changed)
 
--- a batch is answered: at one version, at least as new as the list was when it asked, by the tables after that many commits
+-- a batch is answered: at the version that was fetched for it, by the tables after that many commits
 abbrev pub IsAnswered : List (List ℕ × List Kind) → List Commit → List ℕ → Reader → Reader → Type 0
 IsAnswered schema commits text old new =
-    (plans : List Plan) × (asked_at version : ℕ) × (old.batch ≡ Some (plans, asked_at)) × (asked_at ≤ version) × (version ≤ length commits)
+    (plans : List Plan) × (asked_at version : ℕ) × (old.batch ≡ Some (plans, asked_at, Some version))
+    × MayServe commits old asked_at version
     × (text ≡ report_of (tables_after (shape_of schema) commits version) version plans)
     × (new ≡ record { version = version; batch = None })
 
@@ -56,13 +71,19 @@ IsDumped schema commits text reader =
     (reader.version ≤ length commits)
     × (text ≡ table_text (names_of schema) reader.version (tables_after (shape_of schema) commits reader.version))
 
--- what an output says, and what becomes of the replicas
+-- what an output says, and what becomes of the replicas: but where one starts anew, as `boot` tells, none goes back
 abbrev pub Says : List (List ℕ × List Kind) → Database → Output → List Reader → Type 0
 Says schema old (outputs.Report text) new = Becomes (IsAnswered schema old.commits text) old.readers new
 Says schema old (outputs.Dump text) new =
     (number : ℕ) × (reader : Reader) × (slice_get old.readers number ≡ Some reader) × IsDumped schema old.commits text reader
     × (new ≡ old.readers)
-Says schema old other new = (new ≡ old.readers) ⊎ Becomes (MayBecome old.commits) old.readers new
+Says schema old (outputs.Version version) new =
+    (number : ℕ) × (reader : Reader) × (slice_get old.readers number ≡ Some reader) × (version ≡ reader.version) × (new ≡ old.readers)
+Says schema old (outputs.Sent sent) new = (new ≡ old.readers) ⊎ Becomes (HasAsked old.commits) old.readers new
+Says schema old (outputs.Head version) new = Becomes (IsFetched old.commits version) old.readers new
+Says schema old outputs.Memory new = (new ≡ old.readers) ⊎ Becomes (IsMoved old.commits) old.readers new
+Says schema old (outputs.Boot boot) new = Becomes (λ old new. new ≡ new_reader) old.readers new
+Says schema old other new = new ≡ old.readers
 
 -- one step, whatever the event: the commits that were there are a beginning of those that are
 abbrev pub Goes : List (List ℕ × List Kind) → Database → Output → Database → Type 0

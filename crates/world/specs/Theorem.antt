@@ -1,5 +1,5 @@
 -- The theorem: what one step of the world keeps, and what a run of it is. And the promises that follow of each run.
-use Rattle.std.specs.Prelude.{◌≡◌, ℕ, ◌^◌, ◌<◌, ◌≤◌, List, ◌∷◌, ◌++◌, length, map, Some, slice_get, codes, decimal}
+use Rattle.std.specs.Prelude.{◌≡◌, ℕ, ◌^◌, ◌<◌, ◌≤◌, List, ◌∷◌, ◌++◌, length, map, Option, Some, slice_get, codes, decimal}
 use Rattle.std.specs.Option.{option_map}
 use Rattle.std.specs.List.{AllByRecursion}
 use Rattle.rows.specs.declared.commit.Commit.{Commit}
@@ -7,6 +7,7 @@ use Rattle.rows.specs.Limits.{replicas_max}
 use Rattle.rows.specs.Shape.{shape_of}
 use Rattle.rows.specs.Commits.{IsLegal, tables_after}
 use Rattle.journal.specs.Recovery.{IsBeginning}
+use Rattle.plans.specs.declared.plan.Plan.{Plan}
 use Rattle.dispatcher.specs.State.{Fetched}
 use Rattle.dispatcher.specs.Report.{report_of}
 use Rattle.dispatcher.specs.TableText.{names_of, table_text}
@@ -147,8 +148,12 @@ AllowedRunsAreExact =
 
 -- ---- the database that users see
 
+-- a batch: its queries, how many commits were durable when they asked, and the version that was fetched for them
+abbrev pub seen_batch : Batch → List Plan × ℕ × Option ℕ
+seen_batch batch = (batch.plans, batch.asked_at, option_map (λ (fetched : Fetched). fetched.version) batch.fetched)
+
 abbrev pub reader_of : Member → Reader
-reader_of m = record { version = m.version; batch = option_map (λ (batch : Batch). (batch.plans, batch.asked_at)) m.batch }
+reader_of m = record { version = m.version; batch = option_map seen_batch m.batch }
 
 abbrev pub database_of : World → Database
 database_of w = record { commits = w.primary.durable; readers = map reader_of w.members }

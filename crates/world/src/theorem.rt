@@ -42,9 +42,9 @@ pub fn allowed_runs_are_exact()
 {}
 
 /// Whatever is allowed in the world by events that are possible is, as users see it, a run of a
-/// list of commits that only grows, of replicas that each stand at a version of it, and of batches
-/// that are each answered at one version, at least as new as the list was when they asked. No code
-/// takes part.
+/// list of commits that only grows, of replicas that each stand at a version of it and go back to
+/// an older one only where they are restarted, and of batches that are each answered at the version
+/// fetched for them, at least as new as the list was when they asked. No code takes part.
 pub fn runs_are_of_database()
     ensures { RunsAreOfDatabase }
 {}

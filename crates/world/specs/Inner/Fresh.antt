@@ -1,6 +1,6 @@
 -- Only for proofs: what keeps reports fresh. No version that was fetched, and none of a Head that was ever sent, is older
--- than the batch that it may serve.
-use Rattle.std.specs.Prelude.{◌≡◌, ℕ, ◌+◌, ◌^◌, ◌<◌, ◌≤◌, List, length, Some, Result, Ok, Err, slice_get}
+-- than the batch that it may serve, or than its replica.
+use Rattle.std.specs.Prelude.{◌≡◌, ℕ, ◌+◌, ◌^◌, ◌<◌, ◌≤◌, List, length, None, Some, Result, Ok, Err, slice_get}
 use Rattle.rows.specs.declared.commit.Commit.{Commit}
 use Rattle.rows.specs.declared.limits.TheConstants.{REPLICAS_MAX}
 use Rattle.wire.specs.declared.datagram.Datagram.{Datagram}
@@ -14,18 +14,20 @@ use Rattle.script.specs.declared.event.Event.TheVariants as events
 use Rattle.world.specs.Steps.{World, Member, Batch}
 use Rattle.world.specs.Inner.Boots.{IsInBoot, IsOfBoot}
 
--- a batch asked at a version that is durable, and what was fetched for it is at least as new
-pub record IsFreshBatch (durable : List Commit) (batch : Batch) : Type 0 where
+-- a batch, against the version that its replica stands at: it asked at a version that is durable, and the replica is no newer
+-- than that until another is fetched; what was fetched for it is no older than either, and durable
+pub record IsFreshBatch (durable : List Commit) (version : ℕ) (batch : Batch) : Type 0 where
   pub asked : batch.asked_at ≤ length durable
-  pub fetched_is : (fetched : Fetched) → batch.fetched ≡ Some fetched → (batch.asked_at ≤ fetched.version)
-      × (fetched.version ≤ length durable)
+  pub waits : batch.fetched ≡ None → version ≤ batch.asked_at
+  pub fetched_is : (fetched : Fetched) → batch.fetched ≡ Some fetched
+      → (version ≤ fetched.version) × (batch.asked_at ≤ fetched.version) × (fetched.version ≤ length durable)
 
 -- a replica of its number, in a boot that it had, at a version that is durable, with a fresh batch
 pub record IsFreshMember (durable : List Commit) (number : ℕ) (m : Member) : Type 0 where
   pub number_is : m.number ≡ number
   pub below : m.version ≤ length durable
   pub boot_is : IsInBoot m.boots m.boot
-  pub batch_is : (batch : Batch) → m.batch ≡ Some batch → IsFreshBatch durable batch
+  pub batch_is : (batch : Batch) → m.batch ≡ Some batch → IsFreshBatch durable m.version batch
 
 -- a Head of this request and version, against the replica that it goes to in its own boot: the request was made, and where it
 -- is the newest one the version is at least what was durable when the batch asked
