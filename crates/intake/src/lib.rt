@@ -7,10 +7,11 @@
 //! behind the other (`Kept.antt`), and when all that has come is of the streams of one list of
 //! commits (`Streams.antt`), and what keeps it so (`Laws.antt`). `Inner` only helps proofs.
 //!
-//! Promised: each call is exact, out of memory aside, and only `take` and `take_owned` need memory.
-//! What they cost is a look-up, and a step for each known seq that the first missing one passes, each
-//! of which it passes once; what is held of a worker is the first seq that is missing, the known ones
-//! above it, and the frames that were not dropped.
+//! What a taken frame costs is a look-up, and a step for each known seq that the first missing one
+//! passes, each of which it passes once; what is held of a worker is the first seq that is missing,
+//! the known ones above it, and the frames that were not dropped.
+//!
+//! Promised: each call is exact, out of memory aside; `new`, `take` and `take_owned` alone need memory.
 //! `arrivals_stay_of_streams` says that an intake to which only frames of a list of commits come
 //! holds frames of its streams, and `known_frames_stay_kept` which stay known and kept. It stands on
 //! `update_log` for frames.

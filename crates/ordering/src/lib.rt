@@ -5,11 +5,13 @@
 //! which frames were cut from the commits between two versions (`Cutting.antt`), and the laws of
 //! both (`Laws.antt`). `Inner` only helps proofs.
 //!
+//! For each commit the next frame of each worker is looked at, no frame is gone back to, and each
+//! entry is copied once.
+//!
 //! Promised: `ordered` answers the one list of commits that the frames hold, and `Inconsistent`
 //! exactly where they hold none, out of memory aside. `one_merge` says that there is no second, and
-//! that the merge of frames that were cut from commits is these commits. For each commit the next
-//! frame of each worker is looked at, no frame is gone back to, and each entry is copied once. It
-//! stands on `intake` for frames that are kept.
+//! that the merge of frames that were cut from commits is these commits. It stands on `intake` for
+//! frames that are kept.
 #![tactic(auto)]
 
 mod faults;

@@ -1,4 +1,4 @@
--- The whole promise on one page: a list of commits that only grows, and for each replica a version and at most one batch.
+-- What reports promise, on one page: a list of commits that only grows, and for each replica a version and at most one batch.
 -- Reports and dumps are told by the list alone. How datagrams, journals and memory bring that about is not said here.
 use Rattle.std.specs.Prelude.{◌≡◌, ℕ, ◌≤◌, List, [], length, replicate, Option, None, Some, slice_get, slice_set, ◌⊎◌}
 use Rattle.rows.specs.declared.commit.Commit.{Commit}

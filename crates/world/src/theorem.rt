@@ -13,7 +13,7 @@ use journal::laws::stops_are_recovered;
 /// batch asked; two dumps that tell one version are equal; what is durable stays; the one list is
 /// legal; no output speaks of damage; and the cores stand where the world does at every step, every
 /// replica fed from what is durable, that on the primary's journal, and replicas at one version
-/// hold the same tables, at whatever two moments. No code takes part.
+/// that are not broken hold the same tables, at whatever two moments. No code takes part.
 pub fn runs_keep_promises()
     ensures allowed { OfEachRun Allowed }
     ensures reports { OfEachRun HasExactReports }
@@ -43,7 +43,7 @@ pub fn allowed_runs_are_exact()
 
 /// Whatever is allowed in the world by events that are possible is, as users see it, a run of a
 /// list of commits that only grows, of replicas that each stand at a version of it and go back to
-/// an older one only where they are restarted, and of batches that are each answered at the version
+/// an older one only where they start anew, and of batches that are each answered at the version
 /// fetched for them, at least as new as the list was when they asked. No code takes part.
 pub fn runs_are_of_database()
     ensures { RunsAreOfDatabase }
