@@ -46,8 +46,8 @@ pub fn draw_any_value(state: &mut u64, column: u8) -> Value {
 }
 
 /// The column of that number; one of numbers where there is none.
-pub fn column_or_number(columns: &[u8], place: usize) -> u8 {
-    columns.get(place).copied().unwrap_or(0)
+pub fn column_or_number(columns: &[u8], index: usize) -> u8 {
+    columns.get(index).copied().unwrap_or(0)
 }
 
 /// A column of a table, seldom one that is not there.
@@ -91,8 +91,8 @@ pub fn draw_transaction(state: &mut u64, world: &World) -> u64 {
 pub fn draw_insert(state: &mut u64, world: &World, transaction: u64, table: u8, row: u64) -> Event {
     let columns = columns_of(world.settings.tables, table);
     let mut values = [Value::Number(0); VALUES];
-    for (place, value) in values.iter_mut().enumerate() {
-        *value = draw_any_value(state, column_or_number(columns, place));
+    for (index, value) in values.iter_mut().enumerate() {
+        *value = draw_any_value(state, column_or_number(columns, index));
     }
     let count = if is_drawn(state, 30) {
         draw(state, VALUES).saturating_add(1)

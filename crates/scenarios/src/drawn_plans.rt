@@ -86,10 +86,10 @@ fn draw_aggregate(
         (Column::Joined(_), Some(join)) => columns_of(tables, join.table),
         _ => columns_of(tables, table),
     };
-    let place = match column {
-        Column::Own(place) | Column::Joined(place) => place as usize,
+    let index = match column {
+        Column::Own(index) | Column::Joined(index) => index as usize,
     };
-    let is_number = column_or_number(columns, place) == 0;
+    let is_number = column_or_number(columns, index) == 0;
     match draw(state, 4) {
         0 => Aggregate::Count,
         1 => Aggregate::Min(column),
@@ -123,9 +123,9 @@ fn draw_join(state: &mut u64, tables: &'static [Table], table: u8) -> Option<Joi
 
 /// The first column of numbers.
 fn number_column(columns: &[u8]) -> Option<u8> {
-    for (place, column) in (0..=255).zip(columns.iter()) {
+    for (index, column) in (0..=255).zip(columns.iter()) {
         if *column == 0 {
-            return Some(place);
+            return Some(index);
         }
     }
     None
@@ -154,8 +154,8 @@ fn draw_groups(
     let mut count: usize = 0;
     for _ in 0..draw(state, 3) {
         if let Some(column) = draw_query_column(state, tables, table, join) {
-            if let Some(place) = groups.get_mut(count) {
-                *place = column;
+            if let Some(group) = groups.get_mut(count) {
+                *group = column;
             }
             count = count.saturating_add(1);
         }
@@ -172,8 +172,8 @@ pub fn draw_query(state: &mut u64, tables: &'static [Table]) -> Query {
     conditions[1] = draw_condition(state, tables, table, join);
     let (groups, group_count) = draw_groups(state, tables, table, join);
     let mut aggregates = [Aggregate::Count; PARTS];
-    for place in aggregates.iter_mut().take(3) {
-        *place = draw_aggregate(state, tables, table, join);
+    for aggregate in aggregates.iter_mut().take(3) {
+        *aggregate = draw_aggregate(state, tables, table, join);
     }
     Query {
         table,

@@ -10,9 +10,9 @@ use crate::slow_replicas::{Batch, first_missing, replica_of};
 use crate::slow_world::World;
 use std::alloc::{AllocError, Global};
 
-/// The place of the datagram that is this frame; none where it was not sent.
+/// The index of the datagram that is this frame; none where it was not sent.
 fn sent_frame(world: &World, worker: u8, seq: u64) -> Option<u64> {
-    for (place, bytes) in world.sent.iter().enumerate() {
+    for (index, bytes) in world.sent.iter().enumerate() {
         if let Some(
             Datagram::Frame {
                 worker: other,
@@ -21,14 +21,14 @@ fn sent_frame(world: &World, worker: u8, seq: u64) -> Option<u64> {
         ) = read(bytes.as_slice())
         {
             if other == worker && number == seq {
-                return Some(place as u64);
+                return Some(index as u64);
             }
         }
     }
     None
 }
 
-/// The datagram that was sent last, with its place.
+/// The datagram that was sent last, with its index.
 fn last_sent(world: &World) -> Option<(u64, Datagram)> {
     let bytes = world.sent.last()?;
     let datagram = read(bytes.as_slice())?;

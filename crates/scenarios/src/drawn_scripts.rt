@@ -141,14 +141,14 @@ fn draw_raw(
         Some(sent) => Vec::from_slice(alloc, sent.as_slice())?,
     };
     turn_bytes(state, &mut bytes)?;
-    let place = raws.len();
+    let raw = raws.len();
     raws.push(bytes)?;
     let node = if is_drawn(state, 3) {
         Node::Primary
     } else {
         Node::Replica(number)
     };
-    Ok(Event::Raw { bytes: place, node })
+    Ok(Event::Raw { bytes: raw, node })
 }
 
 /// Leaves bytes, or turns one of them, cuts the last or adds one.
@@ -159,9 +159,9 @@ fn turn_bytes(state: &mut u64, bytes: &mut Vec<u8>) -> Result<(), AllocError> {
         }
         1 => bytes.push(draw(state, 256) as u8)?,
         2 | 3 => {
-            let place = draw(state, bytes.len().max(1));
+            let index = draw(state, bytes.len().max(1));
             let byte = pick(state, &[0, 1, 2, 4, 16, 255]);
-            if let Some(turned) = bytes.get_mut(place) {
+            if let Some(turned) = bytes.get_mut(index) {
                 *turned = byte;
             }
         }

@@ -79,7 +79,7 @@ const MUST: [(&str, &[&str]); 22] = [
     ),
 ];
 
-/// Judges what the script of a seed prints: the place of the first event whose lines are not
+/// Judges what the script of a seed prints: the index of the first event whose lines are not
 /// allowed.
 fn judged(alloc: Global, seed: u64, tally: &mut Tally) -> Result<Option<usize>, Fail> {
     let script = drawn_script(alloc, seed)?;
@@ -104,8 +104,8 @@ fn expect_all(rt: &impl Abort, tally: &Tally) {
 fn drawn_scripts_print_what_is_allowed(rt: HostRuntime) -> Result<(), Fail> {
     let mut tally = Tally::new(rt.alloc())?;
     for seed in 0..SCRIPTS {
-        let place = judged(rt.alloc(), seed, &mut tally)?;
-        assert_eq!(rt; place, None, "at seed {seed}");
+        let index = judged(rt.alloc(), seed, &mut tally)?;
+        assert_eq!(rt; index, None, "at seed {seed}");
     }
     expect_all(&rt, &tally);
     assert!(rt; tally.long_commits() != 0, "each commit is one frame");

@@ -112,7 +112,7 @@ fn script_of(alloc: Global, events: &[Event], raws: &[&[u8]]) -> Result<Script, 
     })
 }
 
-/// The place of the first of these events that may not answer what is printed here.
+/// The index of the first of these events that may not answer what is printed here.
 fn refused_at(
     alloc: Global,
     events: &[Event],
@@ -160,9 +160,9 @@ const ENDS: [(&str, Option<usize>); 12] = [
 /// version that it fetched; and one that is out of memory there may break the replica.
 #[test]
 fn events_may_be_out_of_memory(rt: HostRuntime) -> Result<(), Fail> {
-    for (end, place) in ENDS {
+    for (end, index) in ENDS {
         let refused = refused_at(rt.alloc(), &ROUND, &[], &[FRONT, end])?;
-        assert_eq!(rt; refused, place, "{end}");
+        assert_eq!(rt; refused, index, "{end}");
     }
     Ok(())
 }
@@ -181,9 +181,9 @@ const TICKETS: [(&str, Option<usize>); 5] = [
 
 #[test]
 fn refused_events_can_be_tried_again(rt: HostRuntime) -> Result<(), Fail> {
-    for (printed, place) in TICKETS {
+    for (printed, index) in TICKETS {
         let refused = refused_at(rt.alloc(), &COMMITS, &[], &[printed])?;
-        assert_eq!(rt; refused, place, "{printed}");
+        assert_eq!(rt; refused, index, "{printed}");
     }
     Ok(())
 }

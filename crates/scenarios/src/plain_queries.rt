@@ -221,18 +221,18 @@ fn write_lines(text: &mut String, pairs: &[Pair], wish: &Wish<'_>) -> Result<usi
     Ok(pairs.len())
 }
 
-/// Adds the answer of the plan that is wished for, the one at this place of its batch.
+/// Adds the answer of the plan that is wished for, the one at this index of its batch.
 pub fn write_answer(
     text: &mut String,
     alloc: Global,
-    place: usize,
+    index: usize,
     lines: &[Line],
     wish: &Wish<'_>,
 ) -> Result<(), AllocError> {
     let pairs = pairs_of(alloc, lines, wish)?;
     let mut groups = String::new(alloc);
     let count = write_lines(&mut groups, pairs.as_slice(), wish)?;
-    write!(text, "query {place} rows {count}\n{groups}")
+    write!(text, "query {index} rows {count}\n{groups}")
 }
 
 /// The report of the answer of the plan that is wished for, at version 7.

@@ -247,16 +247,16 @@ const FAULTS: [(&str, &str); 5] = [
 ];
 
 /// What stands before a faulty line and behind it, and the number of the line.
-const PLACES: [(&str, &str, u64); 4] = [
+const SURROUNDINGS: [(&str, &str, u64); 4] = [
     ("", "", 4),
     ("", "\nbegin\nflush 1 1\n", 4),
     ("begin\n\n# a comment\nflush 1\n", "\n\n\nbegin \n", 8),
     ("begin\nflush 1\n\n\n#\n", "", 9),
 ];
 
-/// The index of the first place at which something else is said of a line.
-fn other_place(alloc: Global, line: &str, reason: &str) -> Result<Option<usize>, Fail> {
-    for (index, (before, behind, number)) in PLACES.iter().enumerate() {
+/// The index of the first surroundings in which something else is said of a line.
+fn other_surroundings(alloc: Global, line: &str, reason: &str) -> Result<Option<usize>, Fail> {
+    for (index, (before, behind, number)) in SURROUNDINGS.iter().enumerate() {
         let script = format!(in alloc; "{SETTINGS}{before}{line}{behind}")?;
         let said = format!(in alloc; "line {number}: {reason}")?;
         if refusal(alloc, script.as_bytes())?.as_str() != said.as_str() {
@@ -312,7 +312,7 @@ fn other_script(alloc: Global, scripts: &[(&str, &str)]) -> Result<Option<usize>
 #[test]
 fn a_fault_is_named_at_the_top_in_the_middle_and_at_the_end(rt: HostRuntime) -> Result<(), Fail> {
     for (line, reason) in &FAULTS {
-        assert_eq!(rt; other_place(rt.alloc(), line, reason)?, None);
+        assert_eq!(rt; other_surroundings(rt.alloc(), line, reason)?, None);
     }
     assert_eq!(rt; other_script(rt.alloc(), &BAD_SETTINGS)?, None);
     Ok(())

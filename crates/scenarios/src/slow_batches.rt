@@ -27,11 +27,11 @@ pub fn waiting_count(world: &World, number: u8) -> u64 {
     count_of(world.waiting.as_slice(), number)
 }
 
-/// A query is opened, the one at that place of the script's.
+/// A query is opened, the one at that index of the script's.
 pub fn open(
     world: &mut World,
     number: u8,
-    place: usize,
+    index: usize,
     query: &Query,
     text: &mut String,
 ) -> Result<(), AllocError> {
@@ -45,7 +45,7 @@ pub fn open(
     if let Some(fault) = fault_of(query, world.settings.tables) {
         return write!(text, "bad plan {fault}\n");
     }
-    world.waiting.push((number, place))?;
+    world.waiting.push((number, index))?;
     let count = count.saturating_add(1);
     write!(text, "opened {count}\n")
 }
@@ -56,9 +56,9 @@ fn gather(
     waiting: &[(u8, usize)],
     number: u8,
 ) -> Result<(), AllocError> {
-    for (owner, place) in waiting {
+    for (owner, index) in waiting {
         if *owner == number {
-            asked.push((*owner, *place))?;
+            asked.push((*owner, *index))?;
         }
     }
     Ok(())
@@ -156,13 +156,13 @@ fn report(
     write!(text, "version {version} queries {count}\n")?;
     let rows = rows_after(alloc, world.written.as_slice(), version)?;
     let lines = lines_of(alloc, rows.as_slice())?;
-    let mut place: usize = 0;
+    let mut index: usize = 0;
     for (owner, query) in &world.asked {
         if *owner == number {
             if let Some(query) = queries.get(*query) {
-                push_answer(text, alloc, place, lines.as_slice(), query)?;
+                push_answer(text, alloc, index, lines.as_slice(), query)?;
             }
-            place = place.saturating_add(1);
+            index = index.saturating_add(1);
         }
     }
     Ok(())

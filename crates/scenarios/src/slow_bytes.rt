@@ -98,7 +98,7 @@ pub fn push_change(
     }
 }
 
-/// The number that stands at a place, in so many bytes; none where fewer are there.
+/// The number that stands at an offset, in so many bytes; none where fewer are there.
 pub fn number_at(bytes: &[u8], from: usize, width: usize) -> Option<u64> {
     if bytes.len() < from.saturating_add(width) {
         return None;
@@ -110,7 +110,7 @@ pub fn number_at(bytes: &[u8], from: usize, width: usize) -> Option<u64> {
     Some(number)
 }
 
-/// What stands behind a place; nothing where it is not there.
+/// What stands behind an offset; nothing where it is past the end.
 pub fn behind(bytes: &[u8], from: usize) -> &[u8] {
     if from <= bytes.len() {
         bytes.split_at(from).1

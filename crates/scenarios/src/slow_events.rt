@@ -13,7 +13,7 @@ pub enum Node {
 /// How many values an insert has here at the most: one too many for any table.
 pub const VALUES: usize = COLUMNS + 1;
 
-/// An event. Queries, and the bytes that are delivered as they stand, are named by their place in
+/// An event. Queries, and the bytes that are delivered as they stand, are named by their index in
 /// the script's lists.
 #[derive(Clone, Copy)]
 pub enum Event {
@@ -94,7 +94,7 @@ pub enum Event {
     },
 }
 
-/// A script: its settings, its events, and what these name by place.
+/// A script: its settings, its events, and what these name by index.
 #[derive(Drop)]
 pub struct Script {
     pub settings: Settings,

@@ -13,7 +13,7 @@ const FRAME_FRONT: u64 = 26;
 
 /// A committed change, and the number of the frame in which it goes.
 #[derive(Clone, Copy)]
-pub struct Placed {
+pub struct Framed {
     pub seq: u64,
     pub written: Written,
 }
@@ -25,8 +25,8 @@ pub fn stream(
     written: &[Written],
     worker: u8,
     version: u64,
-) -> Result<Vec<Placed>, AllocError> {
-    let mut placed = Vec::new(alloc);
+) -> Result<Vec<Framed>, AllocError> {
+    let mut framed = Vec::new(alloc);
     let mut seq: u64 = 0;
     let mut commit: u64 = 0;
     let mut size: u64 = 0;
@@ -42,25 +42,25 @@ pub fn stream(
         size = if goes_on { size } else { FRAME_FRONT };
         size = size.saturating_add(len);
         commit = entry.commit;
-        placed.push(Placed {
+        framed.push(Framed {
             seq,
             written: *entry,
         })?;
     }
-    Ok(placed)
+    Ok(framed)
 }
 
 /// How many frames these are.
-pub fn frame_count(placed: &[Placed]) -> u64 {
-    match placed.last() {
+pub fn frame_count(framed: &[Framed]) -> u64 {
+    match framed.last() {
         None => 0,
         Some(last) => last.seq.saturating_add(1),
     }
 }
 
 /// Which commit a frame is of; 0 where there is no such frame.
-fn commit_at(placed: &[Placed], seq: u64) -> u64 {
-    for entry in placed {
+fn commit_at(framed: &[Framed], seq: u64) -> u64 {
+    for entry in framed {
         if entry.seq == seq {
             return entry.written.commit;
         }
@@ -72,17 +72,17 @@ fn commit_at(placed: &[Placed], seq: u64) -> u64 {
 pub fn frame(
     alloc: Global,
     tables: &'static [Table],
-    placed: &[Placed],
+    framed: &[Framed],
     worker: u8,
     seq: u64,
 ) -> Result<Option<Vec<u8>>, AllocError> {
-    let commit = commit_at(placed, seq);
+    let commit = commit_at(framed, seq);
     if commit == 0 {
         return Ok(None);
     }
     let mut count: u64 = 0;
     let mut last: u64 = 1;
-    for entry in placed {
+    for entry in framed {
         if entry.seq == seq {
             count = count.saturating_add(1);
         }
@@ -96,7 +96,7 @@ pub fn frame(
     push_number(&mut body, commit, 8)?;
     push_number(&mut body, last, 1)?;
     push_number(&mut body, count, 2)?;
-    push_changes(&mut body, tables, placed, seq)?;
+    push_changes(&mut body, tables, framed, seq)?;
     Ok(Some(spelled(alloc, 1, body.as_slice())?))
 }
 
@@ -104,10 +104,10 @@ pub fn frame(
 fn push_changes(
     body: &mut Vec<u8>,
     tables: &'static [Table],
-    placed: &[Placed],
+    framed: &[Framed],
     seq: u64,
 ) -> Result<(), AllocError> {
-    for entry in placed {
+    for entry in framed {
         if entry.seq == seq {
             push_change(body, tables, &entry.written.change)?;
         }
@@ -142,6 +142,6 @@ pub fn count_of(
     worker: u8,
     version: u64,
 ) -> Result<u64, AllocError> {
-    let placed = stream(alloc, settings.tables, written, worker, version)?;
-    Ok(frame_count(placed.as_slice()))
+    let framed = stream(alloc, settings.tables, written, worker, version)?;
+    Ok(frame_count(framed.as_slice()))
 }

@@ -8,7 +8,7 @@ use crate::slow_tally::Tally;
 use crate::slow_world::{World, step};
 use std::alloc::{AllocError, Global};
 
-/// The first event of a script whose lines are not allowed, by its place; that behind the last
+/// The first event of a script whose lines are not allowed, by its index; that behind the last
 /// where more is printed than the events answer. None where all that is printed is allowed.
 pub fn judge(
     alloc: Global,
@@ -18,9 +18,9 @@ pub fn judge(
 ) -> Result<Option<usize>, AllocError> {
     let mut world = World::new(alloc, script.settings)?;
     let mut rest = printed;
-    for (place, event) in script.events.iter().enumerate() {
+    for (index, event) in script.events.iter().enumerate() {
         match judge_event(&mut world, alloc, script, event, rest)? {
-            None => return Ok(Some(place)),
+            None => return Ok(Some(index)),
             Some(len) => {
                 tally.add(event, rest);
                 rest = behind(rest, len);

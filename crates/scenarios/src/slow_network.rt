@@ -28,14 +28,14 @@ fn send_frame(
     text: &mut String,
 ) -> Result<bool, AllocError> {
     let tables = world.settings.tables;
-    let placed = stream(
+    let framed = stream(
         alloc,
         tables,
         world.written.as_slice(),
         worker,
         world.durable,
     )?;
-    match frame(alloc, tables, placed.as_slice(), worker, seq)? {
+    match frame(alloc, tables, framed.as_slice(), worker, seq)? {
         None => Ok(false),
         Some(bytes) => {
             send(&mut world.sent, bytes, text)?;

@@ -142,11 +142,11 @@ fn first<T>(items: &[T], count: usize) -> &[T] {
     }
 }
 
-/// Adds the answer of a query, the one at this place of its batch.
+/// Adds the answer of a query, the one at this index of its batch.
 pub fn push_answer(
     text: &mut String,
     alloc: Global,
-    place: usize,
+    index: usize,
     lines: &[Line],
     query: &Query,
 ) -> Result<(), AllocError> {
@@ -161,5 +161,5 @@ pub fn push_answer(
         groups: first(&query.groups, query.group_count),
         aggregates: first(&query.aggregates, query.aggregate_count),
     };
-    write_answer(text, alloc, place, lines, &wish)
+    write_answer(text, alloc, index, lines, &wish)
 }

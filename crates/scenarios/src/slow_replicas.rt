@@ -58,10 +58,10 @@ pub fn replica_of(world: &World, number: u8) -> Replica {
     }
 }
 
-/// Puts a replica in the place of that number.
+/// Puts a replica where the one of that number was.
 pub fn put_replica(world: &mut World, number: u8, replica: Replica) {
-    if let Some(place) = world.replicas.get_mut(number as usize) {
-        *place = replica;
+    if let Some(old) = world.replicas.get_mut(number as usize) {
+        *old = replica;
     }
 }
 

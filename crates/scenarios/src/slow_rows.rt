@@ -105,8 +105,8 @@ pub fn row_of(rows: &[Row], table: u8, id: u64) -> Option<Row> {
 fn set(rows: &mut Vec<Row>, change: &Change, column: u8, value: Value) {
     for row in rows.iter_mut() {
         if row.table == change.table && row.id == change.row {
-            if let Some(place) = row.values.get_mut(column as usize) {
-                *place = value;
+            if let Some(old) = row.values.get_mut(column as usize) {
+                *old = value;
             }
         }
     }

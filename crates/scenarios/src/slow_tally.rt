@@ -75,7 +75,7 @@ pub const ANSWERS: [&str; 41] = [
     "broken\n",
 ];
 
-/// The place of an event's kind.
+/// The number of an event's kind.
 fn kind_of(event: &Event) -> usize {
     match event {
         Event::Begin => 0,
@@ -130,8 +130,8 @@ impl Tally {
     pub fn add(&mut self, event: &Event, lines: &[u8]) {
         for (answer, words) in ANSWERS.iter().enumerate() {
             if lines.starts_with(words.as_bytes()) {
-                let place = place_of(kind_of(event), answer);
-                if let Some(count) = self.counts.get_mut(place) {
+                let index = index_of(kind_of(event), answer);
+                if let Some(count) = self.counts.get_mut(index) {
                     *count = count.saturating_add(1);
                 }
                 return;
@@ -157,10 +157,10 @@ impl Tally {
 
     /// How often events of that kind gave answers of that kind, which is one of the lists above.
     pub fn count(&self, kind: &str, answer: &str) -> u64 {
-        let kind = place_in(&KINDS, kind);
-        let answer = place_in(&ANSWERS, answer);
+        let kind = index_in(&KINDS, kind);
+        let answer = index_in(&ANSWERS, answer);
         self.counts
-            .get(place_of(kind, answer))
+            .get(index_of(kind, answer))
             .copied()
             .unwrap_or(0)
     }
@@ -175,15 +175,15 @@ impl Tally {
     }
 }
 
-fn place_of(kind: usize, answer: usize) -> usize {
+fn index_of(kind: usize, answer: usize) -> usize {
     kind.saturating_mul(ANSWERS.len()).saturating_add(answer)
 }
 
-/// The place of these words; the length of the list where they are not in it.
-fn place_in(list: &[&str], words: &str) -> usize {
-    for (place, other) in list.iter().enumerate() {
+/// The index of these words; the length of the list where they are not in it.
+fn index_in(list: &[&str], words: &str) -> usize {
+    for (index, other) in list.iter().enumerate() {
         if other.as_bytes() == words.as_bytes() {
-            return place;
+            return index;
         }
     }
     list.len()

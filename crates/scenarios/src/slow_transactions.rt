@@ -128,12 +128,12 @@ pub fn get(
     let Some(snapshot) = snapshot_of(world.transactions.as_slice(), number) else {
         return text.push_str("no tx\n");
     };
-    let place = column as usize;
-    if columns_of(world.settings.tables, row.0).len() <= place {
+    let index = column as usize;
+    if columns_of(world.settings.tables, row.0).len() <= index {
         return text.push_str("unfit\n");
     }
     let seen = seen_row(world, alloc, number, snapshot, row)?;
-    match seen_value(seen, place) {
+    match seen_value(seen, index) {
         None => text.push_str("missing\n"),
         Some(value) => {
             text.push_str("value ")?;

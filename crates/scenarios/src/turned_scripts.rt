@@ -1,5 +1,5 @@
 //! What a judge is good for is what it refuses: each text here is that of a drawn script, turned
-//! in one place.
+//! at one offset.
 
 use crate::drawn_numbers::{draw, pick};
 use crate::drawn_scripts::{drawn_script, text_of};
@@ -10,7 +10,7 @@ use crate::slow_tally::Tally;
 use std::alloc::{AllocError, Global};
 use std::test::Fail;
 
-/// What may stand in a line's place.
+/// What a line may be exchanged for.
 const LINES: [&str; 22] = [
     "ok\n",
     "exists\n",
@@ -36,17 +36,17 @@ const LINES: [&str; 22] = [
     "broken\n",
 ];
 
-/// Where the line begins that stands behind this place.
-fn line_behind(text: &[u8], place: usize) -> usize {
+/// Where the line begins that stands behind this offset.
+fn line_behind(text: &[u8], offset: usize) -> usize {
     for (index, byte) in text.iter().enumerate() {
-        if index >= place && *byte == b'\n' {
+        if index >= offset && *byte == b'\n' {
             return index.saturating_add(1);
         }
     }
     text.len()
 }
 
-/// Adds the text from the first place up to the second.
+/// Adds the text from the first offset up to the second.
 fn push_part(turned: &mut Vec<u8>, text: &[u8], from: usize, to: usize) -> Result<(), AllocError> {
     for (index, byte) in text.iter().enumerate() {
         if index >= from && index < to {
@@ -56,7 +56,7 @@ fn push_part(turned: &mut Vec<u8>, text: &[u8], from: usize, to: usize) -> Resul
     Ok(())
 }
 
-/// The text with these bytes in place of those from the first place up to the second.
+/// The text with these bytes for those from the first offset up to the second.
 fn replaced(
     alloc: Global,
     text: &[u8],
@@ -71,36 +71,36 @@ fn replaced(
     Ok(turned)
 }
 
-/// The place of the first digit from a place on; the text's length where there is none.
-fn digit_behind(text: &[u8], place: usize) -> usize {
+/// The offset of the first digit from an offset on; the text's length where there is none.
+fn digit_behind(text: &[u8], offset: usize) -> usize {
     for (index, byte) in text.iter().enumerate() {
-        if index >= place && byte.is_ascii_digit() {
+        if index >= offset && byte.is_ascii_digit() {
             return index;
         }
     }
     text.len()
 }
 
-/// The text with one digit higher by one; 0 in place of 9.
-fn with_other_digit(alloc: Global, text: &[u8], place: usize) -> Result<Vec<u8>, AllocError> {
-    let place = digit_behind(text, place);
-    let other = match text.get(place) {
+/// The text with one digit higher by one; 0 for 9.
+fn with_other_digit(alloc: Global, text: &[u8], offset: usize) -> Result<Vec<u8>, AllocError> {
+    let offset = digit_behind(text, offset);
+    let other = match text.get(offset) {
         Some(b'9') => b'0',
         Some(digit) => digit.saturating_add(1),
         None => b'0',
     };
-    replaced(alloc, text, place, place.saturating_add(1), &[other])
+    replaced(alloc, text, offset, offset.saturating_add(1), &[other])
 }
 
-/// The text turned in one place.
+/// The text turned at one offset.
 fn turned(state: &mut u64, alloc: Global, text: &[u8]) -> Result<Vec<u8>, AllocError> {
-    let place = draw(state, text.len().max(1));
-    let begin = line_behind(text, place);
+    let offset = draw(state, text.len().max(1));
+    let begin = line_behind(text, offset);
     let end = line_behind(text, begin);
     match draw(state, 6) {
-        0 => with_other_digit(alloc, text, place),
+        0 => with_other_digit(alloc, text, offset),
         1 => replaced(alloc, text, begin, end, &[]),
-        2 => replaced(alloc, text, place, text.len(), &[]),
+        2 => replaced(alloc, text, offset, text.len(), &[]),
         3 => replaced(alloc, text, begin, begin, pick(state, &LINES).as_bytes()),
         4 => replaced(
             alloc,
