@@ -95,7 +95,7 @@ pub run-stands : OfEachRun CoresStand
 run-stands setup todo done run =
     let seen =
     run-seen (λ (p : Parts). p) (IsCoreStep run.end.primary.durable) StandsStep
-    (λ old event output new step. (step.0.happens, step.1, step.2)) (parts_started setup) run.end todo done run.steps in
+    (λ old event output new step. (step.0.happens, step.1, step.2, step.3)) (parts_started setup) run.end todo done run.steps in
     let told = passes-told setup.schema (parts_started setup) run.end todo done seen in
     let start : Told setup.schema [] (parts_started setup) = (refl, started-hold setup.schema setup.workers 0 setup.replicas) in (
       world-started setup,

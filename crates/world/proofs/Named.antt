@@ -143,7 +143,7 @@ module _ (laws : StepsKeepNames) (names : List (List ℕ)) where
   step_named p (events.Commit transaction worker) output new is all may = beside_named p _ output new all may
   step_named p (events.Abort transaction) output new is all may = beside_named p _ output new all may
   step_named p (events.Flush count) output new is all may = beside_named p _ output new all may
-  step_named p (events.Stop bytes) output new is all may = beside_named p _ output new all may
+  step_named p (events.Stop bytes) output new is all may = beside_named p _ output new all may.0
   step_named p events.Start output new is all may = beside_named p _ output new all may
   step_named p (events.Push worker seq) output new is all may = beside_named p _ output new all may
   step_named p (events.Deliver index nodes.Primary) output new is all may = beside_named p _ output new all may

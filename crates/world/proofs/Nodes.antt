@@ -16,7 +16,7 @@ use Rattle.dispatcher.specs.State.{Replica}
 use Rattle.script.specs.declared.event.Event.TheVariants.{Stop, Start}
 use Rattle.script.specs.declared.output.Output.TheVariants as outputs
 use Rattle.script.specs.declared.setup.Setup.{Setup}
-use Rattle.world.specs.Inner.CoreSteps.{HappensBeside}
+use Rattle.world.specs.Inner.CoreSteps.{HappensBeside, MayStep}
 use Rattle.world.specs.declared.primary_node.PrimaryNode.{PrimaryNode}
 use Rattle.world.specs.Inner.Nodes.{primary_kept, primary_in, is_stopped, bytes_in}
 use Rattle.world.specs.declared.primary_node.PrimaryNode.TheVariants.{Running}
@@ -161,30 +161,34 @@ module _ (setup : Setup) (p : Primary) (journal : List ℕ) (transactions : List
     asked_at = asked_at;
   }
 
-  -- the primary stops
+  -- the primary stops, and leaves the bytes that the stop names
   pub stop_done : (old : Parts) (bytes count : ℕ) (content : List ℕ) (kept : List Commit) (left : List ℕ) (slots : List (Option Draft))
       → running ≡ old → (setup.schema ≡ p.schema) × (setup.workers ≡ p.workers) → kept ≡ (stopped_at p bytes).durable
-      → IsRecovered setup.workers (shape_of setup.schema) content kept count → left ≡ content → slots ≡ closed transactions
-      → HappensBeside old (Stop bytes) outputs.Stopped (stopped kept left slots)
-  stop_done old bytes count content kept left slots seen set same found stands over =
+      → IsRecovered setup.workers (shape_of setup.schema) content kept count → left ≡ content
+      → content ≡ journal ++ take bytes (records_from (length p.durable) p.pending) → slots ≡ closed transactions
+      → MayStep old (Stop bytes) outputs.Stopped (stopped kept left slots)
+  stop_done old bytes count content kept left slots seen set same found stands is over =
       let w = world_of running in
       let all : (p.schema, p.workers, (stopped_at p bytes).durable) ≡ (setup.schema, setup.workers, kept) = cc (set.0, set.1, same) in
       let made : stopped_at p bytes ≡ primary_kept setup kept =
       ap (λ (x : List (List ℕ × List Kind) × ℕ × List Commit). record
       (primary_kept setup kept) { schema = x.0; workers = x.1; durable = x.2 }) all in
       let happened : (stopped_at p bytes, closed transactions) ≡ (primary_kept setup kept, slots) = cc (made, over) in
-      subst (λ (x : Parts). HappensBeside x (Stop bytes) outputs.Stopped (stopped kept left slots)) seen (record {
-        happens = inl (ap (λ (x : Primary × List (Option Draft)).
-            (outputs.Stopped, record w { primary = x.0; stopped = true; transactions = x.1 })) happened);
-        setup = refl;
-        replicas = refl;
-        boots = refl;
-        asked_at = refl;
-        kept = λ keeps is. (
-          count,
-          subst (λ (b : List ℕ). IsRecovered setup.workers (shape_of setup.schema) b kept count) (sym stands) found,
-        );
-      })
+      subst (λ (x : Parts). MayStep x (Stop bytes) outputs.Stopped (stopped kept left slots)) seen (
+        record {
+          happens = inl (ap (λ (x : Primary × List (Option Draft)).
+              (outputs.Stopped, record w { primary = x.0; stopped = true; transactions = x.1 })) happened);
+          setup = refl;
+          replicas = refl;
+          boots = refl;
+          asked_at = refl;
+          kept = λ keeps is. (
+            count,
+            subst (λ (b : List ℕ). IsRecovered setup.workers (shape_of setup.schema) b kept count) (sym stands) found,
+          );
+        },
+        λ was now. stands ∙ is,
+      )
 
   -- it starts on what is kept
   pub start_done : (old : Parts) (kept : List Commit) (bytes : List ℕ) → stopped kept bytes transactions ≡ old → p ≡ primary_kept setup kept

@@ -45,7 +45,7 @@ use Rattle.world.specs.Steps.{World, Member, open_draft, happens, unless_stopped
 use Rattle.world.specs.Steps.{raw_happens, is_forged, delivered, dump_at, restart_happens, had_boot}
 use Rattle.world.specs.Allowed.{MayHappen, RunIsCutAt}
 use Rattle.world.specs.Inner.Sound.{Sound, AreLists, IsFed}
-use Rattle.world.specs.Standing.{boots_at, world_of, members_of, AreFed, JournalStands, JournalStandsAs}
+use Rattle.world.specs.Standing.{boots_at, world_of, members_of, AreFed, JournalStands, JournalStandsAs, StopLeaves}
 use Rattle.world.specs.Inner.Honest.{IsHonest}
 use Rattle.world.specs.Inner.Fresh.{Fresh, HasBoot}
 use Rattle.world.proofs.Restarts.{restart-follows}
@@ -257,7 +257,7 @@ module _ (laws : FedLaws) (shape : Shape) (p : Parts) (sound : Sound shape p) (n
       happens-served shape p _ _ output new sound (λ cut. cut) lists may refl
       (λ lists. flush-sound laws shape p count p.primary.failed _ _ lists sound)
   may-follow (events.Stop bytes) output new may =
-      happens-served shape p _ _ output new sound (λ cut. cut) lists may refl (λ lists. stop-sound laws shape p bytes lists sound)
+      happens-served shape p _ _ output new sound (λ cut. cut) lists may.0 refl (λ lists. stop-sound laws shape p bytes lists sound)
   may-follow events.Start output new may =
       happens-beside shape p _ output new sound (λ cut. cut) may (start-sound shape p p.stopped sound)
   may-follow (events.Push worker seq) output new may =
@@ -401,7 +401,7 @@ stays-kept p (events.Get transaction table row column) output new keeps may = ma
 stays-kept p (events.Commit transaction worker) output new keeps may = may.kept keeps
 stays-kept p (events.Abort transaction) output new keeps may = may.kept keeps
 stays-kept p (events.Flush count) output new keeps may = may.kept keeps
-stays-kept p (events.Stop bytes) output new keeps may = may.kept keeps
+stays-kept p (events.Stop bytes) output new keeps may = may.0.kept keeps
 stays-kept p events.Start output new keeps may = may.kept keeps
 stays-kept p (events.Push worker seq) output new keeps may = may.kept keeps
 stays-kept p (events.Deliver index nodes.Primary) output new keeps may = may.kept keeps
@@ -421,6 +421,11 @@ abbrev pub HasText : Parts → Type 0
 HasText p =
     p.stopped ≡ false → p.primary.failed ≡ false
     → p.journal ≡ journal_text p.primary.workers (shape_of p.primary.schema) p.primary.durable
+
+-- what a stop leaves on the journal
+leaves-bytes : (p : Parts) (event : Event) (output : Output) (new : Parts) → MayStep p event output new → StopLeaves p event new
+leaves-bytes p (events.Stop bytes) output new may = may.1
+leaves-bytes p other output new may = tt
 
 -- where the journal stands
 journal-stands : (p : Parts) → KeepsStopped p → HasText p → p.primary.failed ≡ false → JournalStands p
@@ -517,6 +522,7 @@ pub record IsKeptStep (old : Parts) (event : Event) (output : Output) (new : Par
   pub step : IsStep old.primary.durable (world_of old) event output (world_of new)
   pub fed : AreFed new
   pub journal : HasText new → JournalStands new
+  pub leaves : StopLeaves old event new
   pub schema : new.primary.schema ≡ old.primary.schema
   pub workers : new.primary.workers ≡ old.primary.workers
   pub replicas : length new.replicas ≡ length old.replicas
@@ -538,6 +544,7 @@ step-keeps laws old event output new kept lists may =
       step = record { happens = first.0; rows = serves.rows; durable = fine.grows; faultless = fine.output kept.honest };
       fed = fed-sound new sound;
       journal = λ text. journal-stands new journal text honest.whole;
+      leaves = leaves-bytes old event output new may;
       schema = stays.schema;
       workers = stays.workers;
       replicas = sym (as-many new) ∙ stays.members ∙ as-many old;

@@ -1,14 +1,17 @@
 -- Where the cores stand: the world that the parts make, and that each replica there is fed from the one list of durable
 -- commits.
-use Rattle.std.specs.Prelude.{◌≡◌, ℕ, List, [], ◌∷◌, drop, map, Bool, true, false, Some, slice_get, slice_index, slice_index_or}
+use Rattle.std.specs.Prelude.{◌≡◌, ℕ, List, [], ◌∷◌, ◌++◌, length, take, drop, map, Bool, true, false, Some, slice_get}
+use Rattle.std.specs.Prelude.{slice_index, slice_index_or}
 use Rattle.std.specs.List.{AllByRecursion}
 use Rattle.std.specs.Option.{option_map}
 use Rattle.rows.specs.Shape.{shape_of}
 use Rattle.intake.specs.State.{Arrivals}
-use Rattle.journal.specs.Text.{journal_text}
+use Rattle.journal.specs.Text.{journal_text, records_from}
 use Rattle.journal.specs.Recovery.{IsRecovered}
 use Rattle.dispatcher.specs.State.{Replica, Batch as ReplicaBatch}
 use Rattle.dispatcher.specs.Feeding.{IsFedFrom}
+use Rattle.script.specs.declared.event.Event.{Event}
+use Rattle.script.specs.declared.event.Event.TheVariants as events
 use Rattle.world.specs.Parts.{Parts}
 use Rattle.world.specs.Steps.{World, Member, Batch}
 
@@ -78,3 +81,10 @@ JournalStandsAs p false = p.journal ≡ journal_text p.primary.workers (shape_of
 
 abbrev pub JournalStands : Parts → Type 0
 JournalStands p = JournalStandsAs p p.stopped
+
+-- what a stop leaves on the journal: the bytes that it acknowledged, and so many of the pending commits' records behind them
+abbrev pub StopLeaves : Parts → Event → Parts → Type 0
+StopLeaves old (events.Stop bytes) new =
+    old.stopped ≡ false → new.stopped ≡ true
+    → new.journal ≡ old.journal ++ take bytes (records_from (length old.primary.durable) old.primary.pending)
+StopLeaves old other new = Unit {0}

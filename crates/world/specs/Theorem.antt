@@ -22,7 +22,7 @@ use Rattle.world.specs.Parts.{Parts, parts_started}
 use Rattle.world.specs.Steps.{World, Member, Batch, opening_world}
 use Rattle.world.specs.Allowed.{MayHappen, RunsBy, Passes, Runs}
 use Rattle.world.specs.Database.{Reader, Database, new_database, Goes}
-use Rattle.world.specs.Standing.{world_of, AreFed, TablesAgree, JournalStands}
+use Rattle.world.specs.Standing.{world_of, AreFed, TablesAgree, JournalStands, StopLeaves}
 
 -- ---- what a step keeps
 
@@ -71,10 +71,11 @@ pub record IsStep (commits : List Commit) (old : World) (event : Event) (output 
   pub durable : IsBeginning old.primary.durable new.primary.durable
   pub faultless : IsFaultless output
 
--- one step of the cores: it is one of the world that they make, and leaves every replica fed from what is durable, and that on
--- the journal
+-- one step of the cores: it is one of the world that they make, and leaves every replica fed from what is durable, that on the
+-- journal, and behind a stop the very bytes that the stop names
 abbrev pub IsCoreStep : List Commit → Parts → Event → Output → Parts → Type 0
-IsCoreStep commits old event output new = IsStep commits (world_of old) event output (world_of new) × AreFed new × JournalStands new
+IsCoreStep commits old event output new =
+    IsStep commits (world_of old) event output (world_of new) × AreFed new × JournalStands new × StopLeaves old event new
 
 -- a run of the cores from their start on: all its steps are by the one list that is durable at its end, and that is legal
 pub record IsRun (setup : Setup) (events : List Event) (outputs : List Output) : Type 0 where
@@ -126,9 +127,11 @@ HasLegalList setup events outputs =
 abbrev pub HasNoFault : Setup → List Event → List Output → Type 0
 HasNoFault setup events outputs = AllByRecursion IsFaultless outputs
 
--- one step of the cores that leaves every replica fed from what is durable, and that on the journal
+-- one step of the cores that leaves every replica fed from what is durable, that on the journal, and behind a stop the very bytes
+-- that the stop names
 abbrev pub StandsStep : Parts → Event → Output → Parts → Type 0
-StandsStep old event output new = MayHappen (world_of old) event output (world_of new) × AreFed new × JournalStands new
+StandsStep old event output new =
+    MayHappen (world_of old) event output (world_of new) × AreFed new × JournalStands new × StopLeaves old event new
 
 -- the cores stand where the world does from the beginning on, every replica is fed from what is durable there, the journal
 -- stands for that, and replicas at one version hold the same tables, at whatever two moments of the run

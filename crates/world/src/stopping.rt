@@ -6,7 +6,7 @@ ghost use Rattle.rows.specs.Limits.{workers_max};
 ghost use Rattle.rows.specs.Shape.{shape_of};
 ghost use Rattle.journal.specs.Recovery.{IsRecovered};
 ghost use Rattle.journal.specs.Text.{journal_text, records_from};
-ghost use Rattle.world.specs.Inner.CoreSteps.{HappensBeside};
+ghost use Rattle.world.specs.Inner.CoreSteps.{HappensBeside, MayStep};
 ghost use Rattle.world.specs.Inner.Invariant.{IsReady};
 ghost use Rattle.world.specs.Inner.Nodes.{primary_kept};
 ghost use Rattle.world.specs.Stops.{closed};
@@ -26,7 +26,7 @@ impl Cores {
     /// acknowledged. All memory is taken before, and where there is none nothing has changed.
     pub fn stop(&mut self, bytes: u64) -> Output
         requires { IsReady self.old }
-        ensures { HappensBeside self.old (Event.Stop bytes) result self.new }
+        ensures { MayStep self.old (Event.Stop bytes) result self.new }
     {
         let PrimaryNode::Running(primary) = &self.primary else {
             return Output::Stopped;

@@ -12,8 +12,9 @@ use journal::laws::stops_are_recovered;
 /// has the plain answers at one version of the one list, no older than what was durable when its
 /// batch asked; two dumps that tell one version are equal; what is durable stays; the one list is
 /// legal; no output speaks of damage; and the cores stand where the world does at every step, every
-/// replica fed from what is durable, that on the primary's journal, and replicas at one version
-/// that are not broken hold the same tables, at whatever two moments. No code takes part.
+/// replica fed from what is durable, that on the primary's journal, behind a stop with the very
+/// bytes that it names, and replicas at one version that are not broken hold the same tables, at
+/// whatever two moments. No code takes part.
 pub fn runs_keep_promises()
     ensures allowed { OfEachRun Allowed }
     ensures reports { OfEachRun HasExactReports }

@@ -7,7 +7,7 @@ ghost use Rattle.journal.specs.Recovery.{IsBeginning};
 ghost use Rattle.script.specs.Events.{IsPossible};
 ghost use Rattle.world.specs.Parts.{parts_started};
 ghost use Rattle.world.specs.Allowed.{MayHappen};
-ghost use Rattle.world.specs.Standing.{world_of, AreFed, JournalStands};
+ghost use Rattle.world.specs.Standing.{world_of, AreFed, JournalStands, StopLeaves};
 ghost use Rattle.world.specs.Theorem.{SaysRows, IsFaultless};
 ghost use Rattle.rows.specs.Limits.{workers_max, replicas_max};
 
@@ -54,6 +54,8 @@ impl World {
 
     /// Lets an event happen, and answers what it gave. The worker and the replica that it names
     /// are there. Where it answers `memory`, the world is as it was, but for a run that was cut short.
+    /// A stop leaves on the journal what that acknowledged, and behind it so many bytes of the
+    /// pending commits' records.
     pub fn step(&mut self, event: &Event) -> Output
         requires possible { IsPossible self.old.primary.workers (length self.old.replicas) event.now }
         ensures happens { MayHappen (world_of self.old) event.now result (world_of self.new) }
@@ -61,6 +63,7 @@ impl World {
         ensures durable { IsBeginning self.old.primary.durable self.new.primary.durable }
         ensures fed { AreFed self.new }
         ensures journal { JournalStands self.new }
+        ensures leaves { StopLeaves self.old event.now self.new }
         ensures faultless { IsFaultless result }
         ensures schema { self.new.primary.schema ≡ self.old.primary.schema }
         ensures workers { self.new.primary.workers ≡ self.old.primary.workers }

@@ -21,7 +21,7 @@ use Rattle.world.specs.Outputs.{of_answers, packets_of}
 use Rattle.world.specs.Inner.Naming.{of_open, of_ask, of_got, of_dump}
 use Rattle.world.specs.Parts.{Parts}
 use Rattle.world.specs.Allowed.{MayHappen}
-use Rattle.world.specs.Standing.{boots_at, world_of, JournalKeeps}
+use Rattle.world.specs.Standing.{boots_at, world_of, JournalKeeps, StopLeaves}
 use Rattle.world.specs.Steps.{is_forged, had_boot}
 
 -- ---- beside the replicas
@@ -170,4 +170,6 @@ MayStep old (events.Restart number boot) output new =
     (boot < 2 ^ 64) × MayAnswer old (restart_by old number boot (slice_get old.replicas number)) output new
 MayStep old (events.Raw (nodes.Replica number) bytes) output new =
     MayAnswer old (raw_by old number bytes (slice_get old.replicas number)) output new
+MayStep old (events.Stop bytes) output new =
+    HappensBeside old (events.Stop bytes) output new × StopLeaves old (events.Stop bytes) new
 MayStep old other output new = HappensBeside old other output new

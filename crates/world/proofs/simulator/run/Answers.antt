@@ -39,7 +39,7 @@ loop-event-preserved c =
           (step_first _ _ end c.args.events.now c.loop-event.event-index c.event-item.result c.step-output.result more
           c.loop-event-test.true c.event-item.is
           (record { happens = done.happens; rows = done.rows; durable = done.durable; faultless = done.faultless })
-          done.fed done.journal steps));
+          done.fed done.journal done.leaves steps));
     }
 
 pub step-output-requires : goal.step-output-requires

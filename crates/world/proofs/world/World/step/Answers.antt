@@ -52,6 +52,7 @@ returns c =
       durable = done.step.durable;
       fed = done.fed;
       journal = done.journal c.keeps_core-2.ensures.text;
+      leaves = done.leaves;
       faultless = done.step.faultless;
       schema = done.schema;
       workers = done.workers;
