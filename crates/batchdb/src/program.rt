@@ -21,8 +21,8 @@ const FAILED: u8 = 1;
 /// Words or a script that do not read.
 const NOT_READ: u8 = 2;
 
-/// What `--version` prints behind the program's name. The kit is what `rt version` prints.
-const VERSION: &str = "0.1.0, proved with rattle-kit-13b logic dac8208d650f15bf";
+/// What `--version` prints behind the program's name.
+const VERSION: &str = "0.1.0";
 
 /// What `--help` prints.
 const HELP: &str = "\
@@ -32,7 +32,7 @@ Usage:
   batchdb sim [--echo] < SCRIPT   runs a script, and prints what each of its events answers;
                                   with --echo each event stands before that, behind \"> \"
   batchdb --help, batchdb help    prints this
-  batchdb --version               prints the version, and the kit that proved it
+  batchdb --version               prints the version
 
 Example:
   batchdb sim --echo < examples/first-commit.script

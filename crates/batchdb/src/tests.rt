@@ -72,8 +72,8 @@ const TOLD: [(&[&str], &str, &str); 5] = [
     (&["batchdb", "help", "sim"], USAGE, STATUS_2),
     (
         &["batchdb", "--version"],
-        "batchdb ",
-        ", proved with rattle-kit-13b logic dac8208d650f15bf\n",
+        "batchdb 0.1.0\n",
+        "batchdb 0.1.0\n",
     ),
 ];
 

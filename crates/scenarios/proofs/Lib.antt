@@ -1,2 +1,0 @@
-mod Defined
-mod Spelled

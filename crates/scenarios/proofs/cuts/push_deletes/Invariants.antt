@@ -1,7 +1,0 @@
--- Each entry so far has a spelling.
-use Rattle.std.specs.List.{AllByRecursion}
-use Rattle.rows.specs.Spelling.{HasSpelling}
-use Rattle.scenarios.proofs.cuts.push_deletes.Given as goal
-
-abbrev pub invariant-loop-row : goal.invariant-loop-row
-invariant-loop-row l = AllByRecursion HasSpelling l.entries

@@ -1,0 +1,270 @@
+//! Commits that are cut into frames, and the streams of several workers.
+
+ghost use Rattle.std.specs.Prelude.{◌≡◌, ◌<◌, IfOk, OnOk};
+ghost use Rattle.std.specs.List.{AllByRecursion};
+ghost use Rattle.rows.specs.Limits.{workers_max};
+ghost use Rattle.rows.specs.Spelling.{HasSpelling};
+
+use rows::{Commit, Entry, EntryList, RowId, Schema, Value, fits, row_bytes};
+use scenarios_common::wanted::NUMBERS;
+use std::alloc::Global;
+use std::test::Fail;
+use update_log::{Frame, Streams, cut, one_cut, worked_cuts};
+use wire::write_frame;
+
+/// Adds an entry that fits the schema.
+#[tactic(auto, using(crate::proofs::Spelled::spelled_push))]
+fn push(entries: &mut EntryList, schema: &Schema, entry: Entry) -> Result<(), Fail>
+    requires { AllByRecursion HasSpelling entries.old }
+    ensures { OnOk result (AllByRecursion HasSpelling entries.new) }
+{
+    fits(schema, &entry)?;
+    entries.push(entry)?;
+    Ok(())
+}
+
+/// An insert of a row with the values 5 and -1.
+fn insert(alloc: Global, row: u64) -> Result<Entry, Fail> {
+    Ok(Entry::Insert {
+        table: 0,
+        row: RowId(row),
+        bytes: row_bytes(alloc, &[Value::Int(5), Value::Int(-1)])?,
+    })
+}
+
+/// Adds inserts of so many accounts, numbered from 0.
+fn push_inserts(
+    alloc: Global,
+    entries: &mut EntryList,
+    schema: &Schema,
+    count: u64,
+) -> Result<(), Fail>
+    requires { AllByRecursion HasSpelling entries.old }
+    ensures { OnOk result (AllByRecursion HasSpelling entries.new) }
+{
+    for row in 0..count {
+        push(entries, schema, insert(alloc, row)?)?;
+    }
+    Ok(())
+}
+
+/// Adds deletes of so many accounts, numbered from 0.
+fn push_deletes(entries: &mut EntryList, schema: &Schema, count: u64) -> Result<(), Fail>
+    requires { AllByRecursion HasSpelling entries.old }
+    ensures { OnOk result (AllByRecursion HasSpelling entries.new) }
+{
+    for row in 0..count {
+        let row = RowId(row);
+        push(entries, schema, Entry::Delete { table: 0, row })?;
+    }
+    Ok(())
+}
+
+/// Inserts of so many accounts, and then deletes of the first so many of them.
+fn entries_of(alloc: Global, inserts: u64, deletes: u64) -> Result<EntryList, Fail>
+    ensures { IfOk result (AllByRecursion HasSpelling) }
+{
+    let schema = Schema::new(alloc, &NUMBERS)?;
+    let mut entries = EntryList::new(alloc);
+    push_inserts(alloc, &mut entries, &schema, inserts)?;
+    push_deletes(&mut entries, &schema, deletes)?;
+    Ok(entries)
+}
+
+/// A frame as it was cut: its seq, how many entries it has, and whether it is the last.
+type Cut = (u64, usize, bool);
+
+/// The frames of a commit of so many inserts and deletes, whose first has the seq 7.
+fn cut_of(alloc: Global, inserts: u64, deletes: u64) -> Result<Vec<Cut>, Fail> {
+    let commit = Commit {
+        worker: 3,
+        entries: entries_of(alloc, inserts, deletes)?,
+    };
+    let mut cuts = Vec::new(alloc);
+    for frame in frames_of(alloc, &commit)? {
+        if frame.worker != 3 || frame.commit != 9 {
+            return Err("a frame of another commit".into());
+        }
+        cuts.push((frame.seq, frame.entries.len(), frame.last))?;
+    }
+    Ok(cuts)
+}
+
+/// The frames of the commit as commit 9, the first with the seq 7.
+fn frames_of(alloc: Global, commit: &Commit) -> Result<Vec<Frame>, Fail>
+    requires worker { commit.now.worker < workers_max }
+    requires spelled { AllByRecursion HasSpelling commit.now.entries }
+{
+    one_cut();
+    if commit.entries.len() > 4096 {
+        return Err("too many entries".into());
+    }
+    Ok(cut(alloc, commit, 9, 7)?)
+}
+
+#[test]
+fn a_commit_is_cut_into_full_frames(rt: HostRuntime) -> Result<(), Fail> {
+    worked_cuts();
+    let two = cut_of(rt.alloc(), 42, 0)?;
+    assert_eq!(rt; two.as_slice(), [(7, 41, false), (8, 1, true)].as_slice());
+    let one = cut_of(rt.alloc(), 38, 11)?;
+    assert_eq!(rt; one.as_slice(), [(7, 49, true)].as_slice());
+    let none = cut_of(rt.alloc(), 0, 0)?;
+    assert!(rt; none.is_empty());
+    Ok(())
+}
+
+/// Adds the next commit.
+fn extend(streams: &mut Streams, commit: &Commit, number: u64) -> Result<(), Fail>
+    requires worker { commit.now.worker < workers_max }
+    requires spelled { AllByRecursion HasSpelling commit.now.entries }
+    requires numbered { 0 < number }
+{
+    one_cut();
+    if u64::MAX - streams.next_seq(commit.worker) < commit.entries.len() as u64 {
+        return Err("too many frames".into());
+    }
+    Ok(streams.extend(commit, number)?)
+}
+
+/// Adds the next commit in two steps; in between no stream has changed.
+fn reserve_and_add(streams: &mut Streams, commit: &Commit, number: u64) -> Result<(), Fail>
+    requires worker { commit.now.worker < workers_max }
+    requires spelled { AllByRecursion HasSpelling commit.now.entries }
+    requires numbered { 0 < number }
+{
+    one_cut();
+    let before = streams.next_seq(commit.worker);
+    if u64::MAX - before < commit.entries.len() as u64 {
+        return Err("too many frames".into());
+    }
+    let next = streams.reserve(commit.worker, commit.entries.as_slice(), number)?;
+    if streams.next_seq(commit.worker) != before {
+        return Err("a stream has changed".into());
+    }
+    streams.add(next);
+    Ok(())
+}
+
+/// The commits of three workers: how many accounts each puts in, and how many it then takes out.
+const COMMITS: [(u8, u64, u64); 5] = [(0, 42, 0), (1, 38, 11), (0, 1, 0), (0, 4096, 0), (15, 1, 1)];
+
+/// The streams of these commits. Every other commit is added in two steps.
+fn streams_of(alloc: Global) -> Result<Streams, Fail> {
+    let mut streams = Streams::new(alloc)?;
+    for (index, (worker, inserts, deletes)) in COMMITS.iter().enumerate() {
+        let entries = entries_of(alloc, *inserts, *deletes)?;
+        let worker = (*worker).min(15);
+        let commit = Commit { worker, entries };
+        let number = index as u64 + 1;
+        if index % 2 == 0 {
+            extend(&mut streams, &commit, number)?;
+        } else {
+            reserve_and_add(&mut streams, &commit, number)?;
+        }
+    }
+    Ok(streams)
+}
+
+/// A frame as it is sent: how many bytes, how many entries, its commit, and whether it is the last.
+type Sent = (usize, usize, u64, bool);
+
+/// Which frame is asked for, by worker and seq, and what is found.
+const FRAMES: [(u8, u64, Option<Sent>); 15] = [
+    (0, 0, Some((1174, 41, 1, false))),
+    (0, 1, Some((54, 1, 1, true))),
+    (0, 2, Some((54, 1, 3, true))),
+    (0, 3, Some((1174, 41, 4, false))),
+    (0, 101, Some((1174, 41, 4, false))),
+    (0, 102, Some((1062, 37, 4, true))),
+    (0, 103, None),
+    (0, u64::MAX, None),
+    (1, 0, Some((1200, 49, 2, true))),
+    (1, 1, None),
+    (2, 0, None),
+    (15, 0, Some((64, 2, 5, true))),
+    (15, 1, None),
+    (16, 0, None),
+    (255, 0, None),
+];
+
+/// The frame of that worker and seq as it is sent.
+fn sent(streams: &Streams, worker: u8, seq: u64) -> Result<Option<Sent>, Fail> {
+    let Some(frame) = streams.frame(worker, seq) else {
+        return Ok(None);
+    };
+    if frame.worker != worker || frame.seq != seq {
+        return Err("another frame".into());
+    }
+    let mut buffer = [0; 1200];
+    let Ok(len) = write_frame(frame, &mut buffer) else {
+        return Err("a frame of more than 1200 bytes".into());
+    };
+    Ok(Some((len, frame.entries.len(), frame.commit, frame.last)))
+}
+
+/// The index of the first frame that is found otherwise.
+fn other_frame(streams: &Streams) -> Result<Option<usize>, Fail> {
+    for (index, (worker, seq, expected)) in FRAMES.iter().enumerate() {
+        if sent(streams, *worker, *seq)? != *expected {
+            return Ok(Some(index));
+        }
+    }
+    Ok(None)
+}
+
+/// A worker, and how many frames it has in all commits, and in the first 0, 1, 2, 3, 4, 5 and 6.
+const COUNTS: [(u8, u64, [u64; 7]); 5] = [
+    (0, 103, [0, 2, 2, 3, 103, 103, 103]),
+    (1, 1, [0, 0, 1, 1, 1, 1, 1]),
+    (2, 0, [0; 7]),
+    (15, 1, [0, 0, 0, 0, 0, 1, 1]),
+    (16, 0, [0; 7]),
+];
+
+/// The index of the first worker whose frames are counted otherwise.
+fn other_count(streams: &Streams) -> Option<usize> {
+    for (index, (worker, all, counts)) in COUNTS.iter().enumerate() {
+        let counted = [0, 1, 2, 3, 4, 5, 6].map(|version: u64| streams.count(*worker, version));
+        if streams.next_seq(*worker) != *all || counted != *counts {
+            return Some(index);
+        }
+    }
+    None
+}
+
+#[test]
+fn streams_have_the_frames_of_their_commits(rt: HostRuntime) -> Result<(), Fail> {
+    let streams = streams_of(rt.alloc())?;
+    assert_eq!(rt; other_frame(&streams)?, None);
+    assert_eq!(rt; other_count(&streams), None);
+    Ok(())
+}
+
+/// Whether the first commit was added; it is not where memory was refused.
+fn is_extended(streams: &mut Streams, commit: &Commit) -> Result<bool, Fail>
+    requires worker { commit.now.worker < workers_max }
+    requires spelled { AllByRecursion HasSpelling commit.now.entries }
+{
+    one_cut();
+    if u64::MAX - streams.next_seq(commit.worker) < commit.entries.len() as u64 {
+        return Err("too many frames".into());
+    }
+    Ok(streams.extend(commit, 1).is_ok())
+}
+
+/// Whichever request for memory is refused: no stream has changed, and the commit is added when it
+/// is asked for again.
+#[test]
+fn streams_without_memory_stay(rt: HostRuntime) -> Result<(), Fail> {
+    let mut streams = Streams::new(rt.alloc())?;
+    let entries = entries_of(rt.alloc(), 42, 0)?;
+    let commit = Commit { worker: 0, entries };
+    if !is_extended(&mut streams, &commit)? {
+        assert_eq!(rt; (streams.next_seq(0), streams.count(0, 1)), (0, 0));
+        assert!(rt; streams.frame(0, 0).is_none());
+        extend(&mut streams, &commit, 1)?;
+    }
+    assert_eq!(rt; (streams.next_seq(0), streams.count(0, 1)), (2, 2));
+    Ok(())
+}

@@ -1,0 +1,254 @@
+//! A journal in a file that cannot be written, in one that has no room left for a record, and in one
+//! of which one call fails.
+
+ghost use Rattle.std.specs.Prelude.{◌≡◌, true};
+
+use crate::failing_disk::FailingDisk;
+use crate::journal_files::fresh_path;
+use journal::{Disk, FileFault, FileJournal, JournalStore};
+use scenarios_journals::journal_cases::{HEADER_LEN, JOURNAL};
+use std::alloc::Global;
+use std::fs::{self, File, OpenOptions};
+use std::test::Fail;
+
+/// How a call on a journal ended.
+#[derive(Clone, Copy, PartialEq)]
+enum End {
+    Done,
+    Unsettled,
+    System,
+    Memory,
+}
+
+/// How a call ended that answered this.
+fn end_of(answer: Result<(), FileFault>) -> End {
+    match answer {
+        Ok(()) => End::Done,
+        Err(FileFault::Unsettled) => End::Unsettled,
+        Err(FileFault::System(_)) => End::System,
+    }
+}
+
+/// Appends bytes, and answers how that ended.
+fn append<D: Disk>(journal: &mut FileJournal<D>, bytes: &[u8]) -> Result<End, Fail> {
+    if journal.faults() == u64::MAX {
+        return Err("too many faults".into());
+    }
+    journal.reserve(bytes.len())?;
+    Ok(end_of(journal.append(bytes)))
+}
+
+/// Cuts the journal to so many bytes, and answers how that ended.
+fn cut_to<D: Disk>(journal: &mut FileJournal<D>, len: usize) -> Result<End, Fail>
+    requires { D.is_honest ≡ true → len ≡ 0 }
+{
+    if journal.faults() == u64::MAX {
+        return Err("too many faults".into());
+    }
+    Ok(end_of(journal.cut_to(len as u64)))
+}
+
+/// Reads the journal, and answers how that ended.
+fn read<D: Disk>(journal: &mut FileJournal<D>, list: &mut Vec<u8>) -> Result<End, Fail> {
+    if journal.faults() == u64::MAX {
+        return Err("too many faults".into());
+    }
+    Ok(match journal.read_all(list) {
+        Ok(()) => End::Done,
+        Err(Some(fault)) => end_of(Err(fault)),
+        Err(None) => End::Memory,
+    })
+}
+
+/// How these calls end on a file that cannot be written, and how many faults there were: it is read,
+/// a record is appended and another, it is cut, and read again.
+fn ends_unwritten(rt: &HostRuntime, path: &str) -> Result<([End; 5], u64), Fail> {
+    let file = OpenOptions::new().read(true).open(rt, path)?;
+    let len = file.metadata()?.len();
+    let mut journal = FileJournal::on(file, len);
+    let mut list = Vec::new(rt.alloc());
+    let before = read(&mut journal, &mut list)?;
+    if list.as_slice() != JOURNAL.as_slice() {
+        return Err("other bytes".into());
+    }
+    let first = append(&mut journal, &JOURNAL[HEADER_LEN..])?;
+    let second = append(&mut journal, &JOURNAL[HEADER_LEN..])?;
+    let cut = cut_to(&mut journal, HEADER_LEN)?;
+    let after = read(&mut journal, &mut list)?;
+    Ok(([before, first, second, cut, after], journal.faults()))
+}
+
+/// A write that fails is a fault of the system, and the next is not tried. A cut is, and fails as
+/// well; so the bytes are not read either, though they could be.
+#[test]
+fn a_file_that_cannot_be_written_has_faults(rt: HostRuntime) -> Result<(), Fail> {
+    let path = fresh_path(&rt, "unwritten")?;
+    fs::write(&rt, path.as_str(), JOURNAL)?;
+    let ended = ends_unwritten(&rt, path.as_str())?;
+    let bytes = fs::read(&rt, path.as_str())?;
+    fs::remove_file(&rt, path.as_str())?;
+    let ends = [
+        End::Done,
+        End::System,
+        End::Unsettled,
+        End::System,
+        End::System,
+    ];
+    assert!(rt; ended == (ends, 4));
+    assert_eq!(rt; bytes.as_slice(), JOURNAL.as_slice());
+    Ok(())
+}
+
+/// The length of the longest file that the system makes of this one, found by halving. What it
+/// gains are holes, which take no room.
+fn longest(file: &File) -> u64 {
+    let mut taken = 0;
+    let mut refused = 1 << 63;
+    for _ in 0..63 {
+        let middle = taken / 2 + refused / 2;
+        if file.set_len(middle).is_ok() {
+            taken = middle;
+        } else {
+            refused = middle;
+        }
+    }
+    taken
+}
+
+/// Makes the file one that begins with the journal's header, and ends so many bytes before it could
+/// be no longer. Answers its length.
+fn lengthen(rt: &HostRuntime, path: &str, room: u64) -> Result<u64, Fail> {
+    fs::write(rt, path, &JOURNAL[..HEADER_LEN])?;
+    let file = OpenOptions::new().read(true).write(true).open(rt, path)?;
+    let len = longest(&file).saturating_sub(room);
+    file.set_len(len)?;
+    Ok(len)
+}
+
+/// How these calls end on a file that has room for 20 more bytes, and how many faults there were: a
+/// record is appended and another, it is cut to its header, the record is appended, and it is read.
+/// The list is left with what was read.
+fn ends_unsettled(
+    rt: &HostRuntime,
+    path: &str,
+    list: &mut Vec<u8>,
+) -> Result<([End; 5], u64), Fail> {
+    let len = lengthen(rt, path, 20)?;
+    let mut journal = FileJournal::open(rt, path)?;
+    let first = append(&mut journal, &JOURNAL[HEADER_LEN..])?;
+    let left = fs::metadata(rt, path)?.len();
+    let second = append(&mut journal, &JOURNAL[HEADER_LEN..])?;
+    if left < len || fs::metadata(rt, path)?.len() != left {
+        return Err("another length".into());
+    }
+    let cut = cut_to(&mut journal, HEADER_LEN)?;
+    let third = append(&mut journal, &JOURNAL[HEADER_LEN..])?;
+    let after = read(&mut journal, list)?;
+    Ok(([first, second, cut, third, after], journal.faults()))
+}
+
+/// Behind what a write left that failed nothing is appended, until it was cut away.
+#[test]
+fn a_write_that_failed_is_cleared_away(rt: HostRuntime) -> Result<(), Fail> {
+    let path = fresh_path(&rt, "unsettled")?;
+    let mut list = Vec::new(rt.alloc());
+    let ended = ends_unsettled(&rt, path.as_str(), &mut list)?;
+    let bytes = fs::read(&rt, path.as_str())?;
+    fs::remove_file(&rt, path.as_str())?;
+    let ends = [End::System, End::Unsettled, End::Done, End::Done, End::Done];
+    assert!(rt; ended == (ends, 2));
+    assert_eq!(rt;
+        (list.as_slice(), bytes.as_slice()),
+        (JOURNAL.as_slice(), JOURNAL.as_slice())
+    );
+    Ok(())
+}
+
+/// What a journal does in a file of which one call fails.
+struct Story {
+    /// How many calls go well before that one.
+    calls_before: u64,
+    /// How many bytes it leaves of those to append, or besides those to keep.
+    bytes_left: usize,
+    /// How these end: the journal is appended, its record once more, all is cut away, the journal is
+    /// appended, and all is read.
+    ends: [End; 5],
+    /// Whether the journal stands then, or nothing.
+    stands: bool,
+    faults: u64,
+}
+
+/// No call fails; each append and the cut fail in turn, and leave nothing, a part, or all.
+const STORIES: [Story; 6] = [
+    Story {
+        calls_before: 9,
+        bytes_left: 0,
+        ends: [End::Done, End::Done, End::Done, End::Done, End::Done],
+        stands: true,
+        faults: 0,
+    },
+    Story {
+        calls_before: 0,
+        bytes_left: 20,
+        ends: [End::System, End::Unsettled, End::Done, End::Done, End::Done],
+        stands: true,
+        faults: 2,
+    },
+    Story {
+        calls_before: 1,
+        bytes_left: 0,
+        ends: [End::Done, End::System, End::Done, End::Done, End::Done],
+        stands: true,
+        faults: 1,
+    },
+    Story {
+        calls_before: 1,
+        bytes_left: 43,
+        ends: [End::Done, End::System, End::Done, End::Done, End::Done],
+        stands: true,
+        faults: 1,
+    },
+    Story {
+        calls_before: 2,
+        bytes_left: 5,
+        ends: [End::Done, End::Done, End::System, End::Unsettled, End::Done],
+        stands: false,
+        faults: 2,
+    },
+    Story {
+        calls_before: 3,
+        bytes_left: 52,
+        ends: [End::Done, End::Done, End::Done, End::System, End::Done],
+        stands: false,
+        faults: 1,
+    },
+];
+
+/// How the story's calls end, and how many faults there were. The list is left with what was read.
+fn ends_of(alloc: Global, story: &Story, list: &mut Vec<u8>) -> Result<([End; 5], u64), Fail> {
+    let disk = FailingDisk::new(alloc, story.calls_before, story.bytes_left);
+    let mut journal = FileJournal::on(disk, 0);
+    let first = append(&mut journal, &JOURNAL)?;
+    let second = append(&mut journal, &JOURNAL[HEADER_LEN..])?;
+    let cut = cut_to(&mut journal, 0)?;
+    let third = append(&mut journal, &JOURNAL)?;
+    let after = read(&mut journal, list)?;
+    Ok(([first, second, cut, third, after], journal.faults()))
+}
+
+/// In an honest file too, what a call that failed left is never read as what was acknowledged.
+#[test]
+fn what_a_failed_call_left_is_not_read(rt: HostRuntime) -> Result<(), Fail> {
+    let mut list = Vec::new(rt.alloc());
+    for story in &STORIES {
+        let ended = ends_of(rt.alloc(), story, &mut list)?;
+        assert!(rt; ended == (story.ends, story.faults));
+        let standing = if story.stands {
+            JOURNAL.as_slice()
+        } else {
+            &[]
+        };
+        assert_eq!(rt; list.as_slice(), standing);
+    }
+    Ok(())
+}

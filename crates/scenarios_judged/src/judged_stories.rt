@@ -1,0 +1,275 @@
+//! What the judge says of stories that are written out: of events that are out of memory, and of
+//! those that no script has yet.
+
+use plans::{Aggregate, Column, Comparison};
+use scenarios_model::slow_events::{Event, Node, Script, VALUES};
+use scenarios_model::slow_judge::judge;
+use scenarios_model::slow_queries::{PARTS, Query};
+use scenarios_model::slow_rows::{Settings, Table, Value};
+use scenarios_model::slow_tally::Tally;
+use std::alloc::{AllocError, Global};
+use std::test::Fail;
+
+const SETTINGS: Settings = Settings {
+    workers: 2,
+    replicas: 2,
+    tables: &[Table {
+        name: "acct",
+        columns: &[0, 0],
+    }],
+};
+
+/// How many accounts there are.
+const COUNT: Query = Query {
+    table: 0,
+    join: None,
+    conditions: [(Column::Own(0), Comparison::Equal, Value::Number(0)); PARTS],
+    condition_count: 0,
+    groups: [Column::Own(0); PARTS],
+    group_count: 0,
+    aggregates: [Aggregate::Count; PARTS],
+    aggregate_count: 1,
+};
+
+const R0: Node = Node::Replica(0);
+
+const FIVE: [Value; VALUES] = [
+    Value::Number(5),
+    Value::Number(-1),
+    Value::Number(0),
+    Value::Number(0),
+];
+
+/// Account 7 is put in.
+const INSERT: Event = Event::Insert {
+    transaction: 0,
+    table: 0,
+    row: 7,
+    values: FIVE,
+    count: 2,
+};
+
+const COMMIT: Event = Event::Commit {
+    transaction: 0,
+    worker: 0,
+};
+
+const FLUSH: Event = Event::Flush { count: 1 };
+
+const OPEN: Event = Event::Open {
+    replica: 0,
+    query: 0,
+};
+
+const ASK: Event = Event::Ask { replica: 0 };
+
+const RUN: Event = Event::Run { replica: 0 };
+
+const VERSION: Event = Event::Version { replica: 0 };
+
+const DUMP: Event = Event::Dump { replica: 0 };
+
+const PUSH: Event = Event::Push { worker: 0, seq: 0 };
+
+/// A commit of which a replica has all and the version, and two runs of its batch.
+const ROUND: [Event; 13] = [
+    Event::Begin,
+    INSERT,
+    COMMIT,
+    FLUSH,
+    PUSH,
+    Event::Deliver { index: 0, node: R0 },
+    OPEN,
+    ASK,
+    Event::Deliver {
+        index: 1,
+        node: Node::Primary,
+    },
+    Event::Deliver { index: 2, node: R0 },
+    RUN,
+    RUN,
+    VERSION,
+];
+
+/// What the events before the runs print.
+const FRONT: &str = "tx 0 at 0\nok\nticket 1\ndurable 1\nsent 0 54\nstored\nopened 1\nsent 1 23\n\
+    sent 2 48\nhead 1\n";
+
+/// What a report prints.
+const REPORT: &str = "version 1 queries 1\nquery 0 rows 1\n1\n";
+
+/// The script of these events, with these bytes to deliver.
+fn script_of(alloc: Global, events: &[Event], raws: &[&[u8]]) -> Result<Script, AllocError> {
+    let mut lists = Vec::new(alloc);
+    for bytes in raws {
+        lists.push(Vec::from_slice(alloc, bytes)?)?;
+    }
+    Ok(Script {
+        settings: SETTINGS,
+        queries: Vec::from_slice(alloc, &[COUNT])?,
+        raws: lists,
+        events: Vec::from_slice(alloc, events)?,
+    })
+}
+
+/// The index of the first of these events that may not answer what is printed here.
+fn refused_at(
+    alloc: Global,
+    events: &[Event],
+    raws: &[&[u8]],
+    printed: &[&str],
+) -> Result<Option<usize>, AllocError> {
+    let script = script_of(alloc, events, raws)?;
+    let mut text = String::new(alloc);
+    for part in printed {
+        text.push_str(part)?;
+    }
+    let mut tally = Tally::new(alloc)?;
+    judge(alloc, &script, text.as_bytes(), &mut tally)
+}
+
+/// What may be printed behind the front of the round, and where it is refused.
+const ENDS: [(&str, Option<usize>); 12] = [
+    (
+        "version 1 queries 1\nquery 0 rows 1\n1\nno batch\nversion 1\n",
+        None,
+    ),
+    (
+        "memory\nversion 1 queries 1\nquery 0 rows 1\n1\nversion 1\n",
+        None,
+    ),
+    ("memory\nmemory\nversion 0\n", None),
+    ("memory\nmemory\nversion 1\n", None),
+    ("memory\nmemory\nversion 2\n", Some(12)),
+    ("memory\nbroken\nversion 0\n", None),
+    ("memory\nbroken\nversion 1\n", None),
+    ("broken\nbroken\nversion 0\n", None),
+    ("broken\nbroken\nversion 1\n", Some(12)),
+    ("broken\nno batch\nversion 0\n", Some(11)),
+    (
+        "version 1 queries 1\nquery 0 rows 1\n1\nbroken\nversion 1\n",
+        Some(11),
+    ),
+    (
+        "version 1 queries 1\nquery 0 rows 1\n1\nno batch\nversion 0\n",
+        Some(12),
+    ),
+];
+
+/// An event that is out of memory changes nothing, but that a run may have brought its replica to the
+/// version that it fetched; and one that is out of memory there may break the replica.
+#[test]
+fn events_may_be_out_of_memory(rt: HostRuntime) -> Result<(), Fail> {
+    for (end, index) in ENDS {
+        let refused = refused_at(rt.alloc(), &ROUND, &[], &[FRONT, end])?;
+        assert_eq!(rt; refused, index, "{end}");
+    }
+    Ok(())
+}
+
+/// A commit that is out of memory, and can be made again.
+const COMMITS: [Event; 5] = [Event::Begin, INSERT, COMMIT, COMMIT, FLUSH];
+
+/// What they may print, and where it is refused.
+const TICKETS: [(&str, Option<usize>); 5] = [
+    ("tx 0 at 0\nok\nmemory\nticket 1\ndurable 1\n", None),
+    ("tx 0 at 0\nok\nmemory\nno tx\ndurable 0\n", Some(3)),
+    ("tx 0 at 0\nok\nmemory\nticket 2\ndurable 1\n", Some(3)),
+    ("tx 0 at 0\nmemory\nread only\nno tx\ndurable 0\n", None),
+    ("memory\nno tx\nno tx\nno tx\ndurable 0\nok\n", Some(5)),
+];
+
+#[test]
+fn refused_events_can_be_tried_again(rt: HostRuntime) -> Result<(), Fail> {
+    for (printed, index) in TICKETS {
+        let refused = refused_at(rt.alloc(), &COMMITS, &[], &[printed])?;
+        assert_eq!(rt; refused, index, "{printed}");
+    }
+    Ok(())
+}
+
+/// A replica is started anew between its Ask and the Head, and then has a boot that it had.
+const RESTARTS: [Event; 12] = [
+    OPEN,
+    ASK,
+    Event::Deliver {
+        index: 0,
+        node: Node::Primary,
+    },
+    Event::Restart {
+        replica: 0,
+        boot: 2,
+    },
+    OPEN,
+    ASK,
+    Event::Deliver { index: 1, node: R0 },
+    RUN,
+    Event::Restart {
+        replica: 0,
+        boot: 2,
+    },
+    Event::Restart {
+        replica: 0,
+        boot: 1,
+    },
+    VERSION,
+    DUMP,
+];
+
+const RESTARTED: &str = "opened 1\nsent 0 23\nsent 1 48\nboot 2\nopened 1\nsent 2 23\nignored\n\
+    waiting head\nboot used\nboot used\nversion 0\nversion 0 rows 0\n";
+
+/// The frame of the commit of the round.
+const FRAME: [u8; 54] = *b"\x42\x44\x01\x01\x00\x36\x00\0\0\0\0\0\0\0\0\0\0\0\0\0\0\0\x01\
+    \x01\x00\x01\x01\x00\0\0\0\0\0\0\0\x07\x00\x10\0\0\0\0\0\0\0\x05\
+    \xff\xff\xff\xff\xff\xff\xff\xff";
+
+/// That frame with another magic, and with another `last`.
+const OTHER_MAGIC: [u8; 54] = *b"\x42\x45\x01\x01\x00\x36\x00\0\0\0\0\0\0\0\0\0\0\0\0\0\0\0\x01\
+    \x01\x00\x01\x01\x00\0\0\0\0\0\0\0\x07\x00\x10\0\0\0\0\0\0\0\x05\
+    \xff\xff\xff\xff\xff\xff\xff\xff";
+
+const OTHER_LAST: [u8; 54] = *b"\x42\x44\x01\x01\x00\x36\x00\0\0\0\0\0\0\0\0\0\0\0\0\0\0\0\x01\
+    \x02\x00\x01\x01\x00\0\0\0\0\0\0\0\x07\x00\x10\0\0\0\0\0\0\0\x05\
+    \xff\xff\xff\xff\xff\xff\xff\xff";
+
+const RAWS: [&[u8]; 4] = [&FRAME, &OTHER_MAGIC, &OTHER_LAST, &[]];
+
+/// Bytes that are no datagram, one that was never sent, and the same once it was sent.
+const RAW_EVENTS: [Event; 12] = [
+    Event::Raw { bytes: 1, node: R0 },
+    Event::Raw { bytes: 2, node: R0 },
+    Event::Raw { bytes: 3, node: R0 },
+    Event::Raw { bytes: 0, node: R0 },
+    DUMP,
+    Event::Begin,
+    INSERT,
+    COMMIT,
+    FLUSH,
+    PUSH,
+    Event::Raw { bytes: 0, node: R0 },
+    Event::Raw {
+        bytes: 0,
+        node: Node::Primary,
+    },
+];
+
+const RAW_LINES: &str = "ignored\nignored\nignored\nforged\nversion 0 rows 0\ntx 0 at 0\nok\n\
+    ticket 1\ndurable 1\nsent 0 54\nstored\nignored\n";
+
+/// What a replica's tables print behind the round.
+const DUMPED: &str = "version 1 queries 1\nquery 0 rows 1\n1\nversion 1 rows 1\nacct 7 5 -1\n";
+
+/// Events that no script has yet are judged as well.
+#[test]
+fn events_to_come_are_judged(rt: HostRuntime) -> Result<(), Fail> {
+    let restarted = refused_at(rt.alloc(), &RESTARTS, &[], &[RESTARTED])?;
+    assert_eq!(rt; restarted, None);
+    let delivered = refused_at(rt.alloc(), &RAW_EVENTS, &RAWS, &[RAW_LINES])?;
+    assert_eq!(rt; delivered, None);
+    let mut events = ROUND;
+    events[11] = DUMP;
+    let dumped = refused_at(rt.alloc(), &events[..12], &[], &[FRONT, DUMPED])?;
+    assert_eq!(rt; dumped, None);
+    Ok(())
+}

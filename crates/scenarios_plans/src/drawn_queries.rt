@@ -1,0 +1,154 @@
+//! Queries that are drawn by numbers that look random, on tables that are drawn so: their answers
+//! are those of a plain program.
+
+ghost use Rattle.std.specs.Prelude.{◌<◌, length};
+
+use plans::{Aggregate, Column, Comparison, Join};
+use rows::Kind;
+use scenarios_common::drawn_numbers::{draw, pick};
+use scenarios_queries::plain_queries::plain_report;
+use scenarios_queries::wishes::{Cell, Line, Tables, Wish, report_of};
+use std::alloc::{AllocError, Global};
+use std::test::Fail;
+
+/// Two tables, each with two columns of numbers and one of octets.
+const TABLES: Tables<'static> = &[
+    ("first", &[Kind::Int, Kind::Int, Kind::Octets(2)]),
+    ("second", &[Kind::Int, Kind::Int, Kind::Octets(2)]),
+];
+
+/// What columns of numbers hold: identifiers that are there or not, negative numbers, and the ends.
+const NUMBERS: [i64; 10] = [-2, -1, 0, 1, 2, 3, 7, 100, i64::MIN, i64::MAX];
+
+/// What columns of octets hold, up to bytes that are negative where they are signed.
+const PAIRS: [(u8, u8); 6] = [
+    (0x00, 0x00),
+    (0x00, 0xff),
+    (0x4e, 0x45),
+    (0x7f, 0xff),
+    (0x80, 0x00),
+    (0xff, 0x00),
+];
+
+const COMPARISONS: [Comparison; 6] = [
+    Comparison::Equal,
+    Comparison::NotEqual,
+    Comparison::Less,
+    Comparison::AtMost,
+    Comparison::Greater,
+    Comparison::AtLeast,
+];
+
+/// The columns of a plan without a join, those of numbers first, and of one with a join.
+const OWN: [Column; 3] = [Column::Own(0), Column::Own(1), Column::Own(2)];
+
+const BOTH: [Column; 6] = [
+    Column::Own(0),
+    Column::Own(1),
+    Column::Joined(0),
+    Column::Joined(1),
+    Column::Joined(2),
+    Column::Own(2),
+];
+
+fn drawn_number(state: &mut u64) -> Cell {
+    Cell::Number(pick(state, &NUMBERS))
+}
+
+fn drawn_octets(state: &mut u64) -> Cell {
+    let (first, second) = pick(state, &PAIRS);
+    Cell::Pair(first, second)
+}
+
+/// About 6 rows a table, in no order.
+fn drawn_lines(alloc: Global, state: &mut u64) -> Result<Vec<Line>, AllocError> {
+    let mut lines = Vec::new(alloc);
+    for index in 0..16u64 {
+        let id = (index * 5) % 8;
+        let table = if index < 8 { 0 } else { 1 };
+        let cells = [
+            drawn_number(state),
+            drawn_number(state),
+            drawn_octets(state),
+        ];
+        if draw(state, 4) != 0 {
+            lines.push(Line(table, id, cells))?;
+        }
+    }
+    Ok(lines)
+}
+
+/// A condition on one of these columns.
+fn drawn_condition(state: &mut u64, columns: &[Column]) -> (Column, Comparison, Cell)
+    requires { 0 < length columns.now }
+{
+    let column = pick(state, columns);
+    let comparison = pick(state, &COMPARISONS);
+    let cell = match column {
+        Column::Own(2) | Column::Joined(2) => drawn_octets(state),
+        Column::Own(_) | Column::Joined(_) => drawn_number(state),
+    };
+    (column, comparison, cell)
+}
+
+/// An aggregate of one of these columns; a sum is of one of those of numbers.
+fn drawn_aggregate(state: &mut u64, columns: &[Column], numbers: &[Column]) -> Aggregate
+    requires any { 0 < length columns.now }
+    requires number { 0 < length numbers.now }
+{
+    match draw(state, 4) {
+        0 => Aggregate::Count,
+        1 => Aggregate::Sum(pick(state, numbers)),
+        2 => Aggregate::Min(pick(state, columns)),
+        _ => Aggregate::Max(pick(state, columns)),
+    }
+}
+
+/// Whether the answer of a plan that is drawn, over rows that are, is that of the plain program. It
+/// names these columns, sums those of numbers, and joins where one of them is joined.
+fn agrees(alloc: Global, seed: u64, columns: &[Column], numbers: &[Column]) -> Result<bool, Fail>
+    requires any { 0 < length columns.now }
+    requires number { 0 < length numbers.now }
+{
+    let mut state = seed;
+    let lines = drawn_lines(alloc, &mut state)?;
+    let conditions = [
+        drawn_condition(&mut state, columns),
+        drawn_condition(&mut state, columns),
+    ];
+    let groups = [pick(&mut state, columns), pick(&mut state, columns)];
+    let aggregates = [
+        drawn_aggregate(&mut state, columns, numbers),
+        drawn_aggregate(&mut state, columns, numbers),
+        drawn_aggregate(&mut state, columns, numbers),
+    ];
+    let join = Join {
+        column: draw(&mut state, 2) as u8,
+        table: draw(&mut state, 2) as u8,
+    };
+    let wish = Wish {
+        table: draw(&mut state, 2) as u8,
+        join: if columns.contains(&Column::Joined(0)) {
+            Some(join)
+        } else {
+            None
+        },
+        conditions: &conditions[..draw(&mut state, 3)],
+        groups: &groups[..draw(&mut state, 3)],
+        aggregates: &aggregates,
+    };
+    let wanted = plain_report(alloc, lines.as_slice(), &wish)?;
+    let found = report_of(alloc, TABLES, lines.as_slice(), &[wish])?;
+    Ok(found.as_slice() == wanted.as_bytes())
+}
+
+#[test]
+fn drawn_queries_have_plain_answers(rt: HostRuntime) -> Result<(), Fail> {
+    for seed in 0..150 {
+        let alone = agrees(rt.alloc(), seed, &OWN, &OWN[..2])?;
+        assert!(rt; alone, "without a join, at seed {seed}");
+        let joined = agrees(rt.alloc(), seed, &BOTH, &BOTH[..4])?;
+        assert!(rt; joined, "with a join, at seed {seed}");
+    }
+    Ok(())
+}

@@ -1,0 +1,133 @@
+//! Accounts, each a number and two bytes, and commits that change them.
+
+ghost use Rattle.std.specs.Prelude.{◌≡◌, ◌∷◌, [], ◌++◌, length, true};
+ghost use Rattle.std.specs.Bool.{OnTrue};
+ghost use Rattle.rows.specs.Entries.{table_of, row_of};
+ghost use Rattle.rows.specs.Presence.{is_there_after};
+ghost use Rattle.rows.specs.Tables.{is_row_at};
+ghost use Rattle.mvcc.specs.History.{tables_at, defined_at};
+
+use mvcc::Versions;
+use rows::{Entry, Kind, Octets, Schema, Value, fits, is_there_after};
+use scenarios_common::wanted::{SIX, Table, Wanted, all_made};
+use std::alloc::Global;
+use std::test::Fail;
+
+/// Accounts of a number and two bytes.
+pub const ACCOUNTS: [Table; 1] = [("accounts", &[Kind::Int, Kind::Octets(2)])];
+
+/// Account 7 put in with 5 and `ab`, set to 6 and taken out; then in one commit put in again with 8
+/// and `ab`, and account 8 put in with 9 and `ab` and set to 10; then account 8 set to 11.
+pub const HISTORY: [&[Wanted<'static>]; 5] = [
+    &[Wanted::Insert(0, 7, b"\0\0\0\0\0\0\0\x05ab")],
+    &[Wanted::Patch(0, 7, 0, &SIX)],
+    &[Wanted::Delete(0, 7)],
+    &[
+        Wanted::Insert(0, 7, b"\0\0\0\0\0\0\0\x08ab"),
+        Wanted::Insert(0, 8, b"\0\0\0\0\0\0\0\x09ab"),
+        Wanted::Patch(0, 8, 0, b"\0\0\0\0\0\0\0\x0a"),
+    ],
+    &[Wanted::Patch(0, 8, 0, b"\0\0\0\0\0\0\0\x0b")],
+];
+
+/// What a column holds: a number, or bytes; or that there is no value.
+pub enum Cell {
+    Number(i64),
+    Octets(&'static [u8]),
+    Nothing,
+}
+
+/// The value of a column that holds this.
+pub fn value_of(cell: &Cell) -> Result<Value, Fail> {
+    match cell {
+        Cell::Number(number) => Ok(Value::Int(*number)),
+        Cell::Octets(bytes) => octets(bytes),
+        Cell::Nothing => Err("no value".into()),
+    }
+}
+
+/// These octets.
+fn octets(bytes: &[u8]) -> Result<Value, Fail> {
+    let octets = Octets::from_slice(bytes).ok_or("no octets")?;
+    Ok(Value::Octets(octets))
+}
+
+/// Whether the value is what the column holds.
+pub fn is_held(value: &Option<Value>, cell: &Cell) -> bool {
+    match (value, cell) {
+        (Some(Value::Int(number)), Cell::Number(expected)) => number == expected,
+        (Some(Value::Octets(octets)), Cell::Octets(expected)) => octets.as_slice() == *expected,
+        (None, Cell::Nothing) => true,
+        _ => false,
+    }
+}
+
+/// The versions of tables with these commits.
+pub fn versions_of(
+    alloc: Global,
+    tables: &[Table],
+    commits: &[&[Wanted<'_>]],
+) -> Result<Versions, Fail> {
+    let schema = Schema::new(alloc, tables)?;
+    let mut versions = Versions::new(alloc, &schema)?;
+    absorb_all(alloc, &mut versions, commits)?;
+    Ok(versions)
+}
+
+/// Absorbs these commits, each of worker 0.
+fn absorb_all(
+    alloc: Global,
+    versions: &mut Versions,
+    commits: &[&[Wanted<'_>]],
+) -> Result<(), Fail> {
+    for commit in commits {
+        let entries = all_made(alloc, commit)?;
+        if !is_absorbed(versions, entries.as_slice())? {
+            return Err("out of memory".into());
+        }
+    }
+    Ok(())
+}
+
+/// Absorbs a commit of worker 0 that is defined on the newest rows, if there is memory; answers
+/// whether there was.
+pub fn is_absorbed(versions: &mut Versions, entries: &[Entry]) -> Result<bool, Fail> {
+    if !are_defined(versions, entries) {
+        return Err("not defined".into());
+    }
+    Ok(versions.absorb(0, entries).is_ok())
+}
+
+/// Whether each of the entries is defined where it stands on the newest rows.
+fn are_defined(versions: &Versions, entries: &[Entry]) -> bool
+    ensures { OnTrue result (defined_at versions.now (length versions.now.commits) entries.now ≡ true) }
+{
+    for index in 0..entries.len() {
+        let (before, _) = entries.split_at(index);
+        if !is_defined(versions, before, &entries[index]) {
+            return false;
+        }
+    }
+    true
+}
+
+/// Whether an entry is defined behind these, which are, on the newest rows.
+#[tactic(auto, using(crate::proofs::Defined::defined_at_push))]
+fn is_defined(versions: &Versions, before: &[Entry], entry: &Entry) -> bool
+    requires { defined_at versions.now (length versions.now.commits) before.now ≡ true }
+    ensures { result ≡ defined_at versions.now (length versions.now.commits) (before.now ++ entry.now ∷ []) }
+{
+    fits(versions.schema(), entry).is_ok()
+        && entry.is_possible(is_row_there_after(versions, before, entry))
+}
+
+/// Whether the row of the entry is there after these entries, on the newest rows.
+fn is_row_there_after(versions: &Versions, before: &[Entry], entry: &Entry) -> bool
+    ensures { result ≡ is_there_after (table_of entry.now) (row_of entry.now) before.now
+        (is_row_at (tables_at versions.now (length versions.now.commits)) (table_of entry.now) (row_of entry.now)) }
+{
+    let table = entry.table();
+    let row = entry.row();
+    let was = versions.is_present(versions.len(), table, row);
+    is_there_after(table, row, before, was)
+}

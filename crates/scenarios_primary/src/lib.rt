@@ -1,0 +1,18 @@
+//! Scenarios of `mvcc` and `primary`, by their public calls: versions, transactions, commits, starts,
+//! streams.
+#![tactic(auto)]
+
+#[cfg(test)]
+mod accounts;
+#[cfg(test)]
+mod commits;
+#[cfg(test)]
+mod primary_starts;
+#[cfg(test)]
+mod primary_steps;
+#[cfg(test)]
+mod streams;
+#[cfg(test)]
+mod transactions;
+#[cfg(test)]
+mod versions;

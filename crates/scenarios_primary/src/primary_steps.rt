@@ -1,0 +1,367 @@
+//! A primary of accounts, each two numbers, and steps that it takes.
+
+ghost use Rattle.std.specs.Prelude.{◌≡◌, ◌<◌, ◌≤◌, IfOk};
+ghost use Rattle.rows.specs.Limits.{workers_max};
+
+use crate::accounts::versions_of;
+use journal::{JournalStore, MemJournal};
+use mvcc::{Transaction, Versions};
+use primary::{CommitFault, FlushFault, PrimaryCore, StartFault, Ticket};
+use rows::{RowId, Schema, Value};
+use scenarios_common::wanted::{NUMBERS, Wanted};
+use scenarios_common::worker_datagrams::want_of;
+use std::alloc::{AllocError, Global};
+use std::test::Fail;
+use wire::{Datagram, Out, To, read};
+
+/// A change of the row of that identifier in table 0.
+pub enum Change {
+    /// It is put in with the values 5 and -1.
+    Insert(u64),
+    /// Its second column gets the value 0.
+    Set(u64),
+    /// It is taken out.
+    Delete(u64),
+    /// So many rows are put in with the values 5 and -1, from that of identifier 0 on.
+    InsertAll(u64),
+}
+
+/// The commits of another database.
+type Elsewhere = &'static [&'static [Wanted<'static>]];
+
+/// A step of a primary, and what it answers.
+pub enum Step {
+    /// For that worker, a transaction on that version with these changes is committed. The ticket
+    /// has that number, and the worker and the entries; or the transaction is handed back.
+    Commit(u8, u64, &'static [Change], Result<u64, CommitFault>),
+    /// For worker 0, a transaction on the newest version of another database is refused as foreign.
+    CommitOf(Elsewhere, &'static [Change]),
+    /// So many commits are made durable; so many are durable then.
+    Flush(usize, u64),
+    /// So many are to be made durable, and none is.
+    FlushRefused(usize, FlushFault),
+    /// The records of the pending commits are these.
+    PendingText(&'static [u8]),
+    /// The frame of a seq of that worker's stream is sent, where there is one.
+    Push(u8, u64, Option<&'static [u8]>),
+    /// These bytes come, and replica 0 is sent those, or nothing is sent.
+    Receive(&'static [u8], Option<&'static [u8]>),
+    /// A replica wants a worker's frames from a seq on. It is sent as many datagrams as there are
+    /// lengths, each of its length, and each with the next frame.
+    Want(u8, u8, u64, &'static [usize]),
+}
+
+/// A line of a story: a step, and how many commits are then to be durable and how many pending.
+pub type Line = (Step, u64, usize);
+
+/// The first of these stories that goes otherwise, and the index of its step; each begins at a
+/// primary with so many workers and no commits.
+pub fn other_story(
+    alloc: Global,
+    stories: &[(u8, &[Line])],
+) -> Result<Option<(usize, usize)>, Fail> {
+    for (number, (workers, story)) in stories.iter().enumerate() {
+        if let Some(index) = other_step(alloc, *workers, story)? {
+            return Ok(Some((number, index)));
+        }
+    }
+    Ok(None)
+}
+
+/// The index of the first step that a fresh primary answers otherwise.
+fn other_step(alloc: Global, workers: u8, story: &[Line]) -> Result<Option<usize>, Fail> {
+    if workers == 0 || workers > 16 {
+        return Err("no such number of workers".into());
+    }
+    let mut primary = start(alloc, workers)?;
+    other_step_of(alloc, workers, &mut primary, story)
+}
+
+/// A primary without commits, whose journal is in memory.
+fn start(alloc: Global, workers: u8) -> Result<PrimaryCore<MemJournal>, Fail>
+    requires some { 0 < workers }
+    requires few { workers ≤ workers_max }
+    ensures { IfOk result (λ primary. primary.primary.workers ≡ workers) }
+{
+    let schema = Schema::new(alloc, &NUMBERS)?;
+    match PrimaryCore::start(alloc, MemJournal::new(alloc), &schema, workers) {
+        Ok(primary) => Ok(primary),
+        Err((_, StartFault::Memory)) => Err("out of memory".into()),
+        Err(_) => Err("not started".into()),
+    }
+}
+
+/// The index of the first step that a primary answers otherwise.
+pub fn other_step_of<J: JournalStore>(
+    alloc: Global,
+    workers: u8,
+    primary: &mut PrimaryCore<J>,
+    story: &[Line],
+) -> Result<Option<usize>, Fail>
+    requires { primary.old.primary.workers ≡ workers }
+{
+    for (index, (step, durable, pending)) in story.iter().enumerate() {
+        if !is_answered(alloc, workers, primary, step)? || counts(primary) != (*durable, *pending) {
+            return Ok(Some(index));
+        }
+    }
+    Ok(None)
+}
+
+/// How many commits are durable, and how many pending. Takes no memory.
+fn counts<J: JournalStore>(primary: &PrimaryCore<J>) -> (u64, usize) {
+    (primary.durable(), primary.pending())
+}
+
+/// Whether this step answers as it should.
+fn is_answered<J: JournalStore>(
+    alloc: Global,
+    workers: u8,
+    primary: &mut PrimaryCore<J>,
+    step: &Step,
+) -> Result<bool, Fail>
+    requires { primary.old.primary.workers ≡ workers }
+    ensures { primary.new.primary.workers ≡ workers }
+{
+    match step {
+        Step::Commit(worker, version, changes, expected) => {
+            if *worker >= workers {
+                return Err("no such worker".into());
+            }
+            let transaction = transaction(alloc, primary.versions(), *version, changes)?;
+            Ok(is_committed(primary, transaction, *worker, *expected))
+        }
+        Step::CommitOf(commits, changes) => {
+            if workers == 0 {
+                return Err("no such worker".into());
+            }
+            let transaction = transaction_elsewhere(alloc, commits, changes)?;
+            Ok(is_committed(primary, transaction, 0, Err(CommitFault::Foreign)))
+        }
+        Step::Flush(count, durable) => is_flushed(primary, *count, Ok(*durable)),
+        Step::FlushRefused(count, fault) => is_flushed(primary, *count, Err(*fault)),
+        Step::PendingText(expected) => is_pending_text(primary, expected),
+        Step::Push(worker, seq, expected) => Ok(is_pushed(primary, *worker, *seq, *expected)),
+        Step::Receive(bytes, expected) => is_received(primary, bytes, *expected),
+        Step::Want(replica, worker, from, lens) => is_sent(primary, *replica, *worker, *from, lens),
+    }
+}
+
+/// A transaction on that version with these changes.
+fn transaction(
+    alloc: Global,
+    versions: &Versions,
+    version: u64,
+    changes: &[Change],
+) -> Result<Transaction, Fail> {
+    let mut transaction = Transaction::begin(alloc, version);
+    for change in changes {
+        make(versions, &mut transaction, change)?;
+    }
+    Ok(transaction)
+}
+
+/// Makes this change.
+fn make(versions: &Versions, transaction: &mut Transaction, change: &Change) -> Result<(), Fail> {
+    if transaction.snapshot() > versions.len() {
+        return Err("no such version".into());
+    }
+    match change {
+        Change::Insert(row) => {
+            let values = [Value::Int(5), Value::Int(-1)];
+            transaction.insert(versions, 0, RowId(*row), &values)?;
+        }
+        Change::Set(row) => transaction.set(versions, 0, RowId(*row), 1, Value::Int(0))?,
+        Change::Delete(row) => transaction.delete(versions, 0, RowId(*row))?,
+        Change::InsertAll(count) => insert_all(versions, transaction, *count)?,
+    }
+    Ok(())
+}
+
+/// Puts in so many rows, from that of identifier 0 on.
+fn insert_all(versions: &Versions, transaction: &mut Transaction, count: u64) -> Result<(), Fail> {
+    let values = [Value::Int(5), Value::Int(-1)];
+    for row in 0..count {
+        if transaction.snapshot() > versions.len() {
+            return Err("no such version".into());
+        }
+        transaction.insert(versions, 0, RowId(row), &values)?;
+    }
+    Ok(())
+}
+
+/// A transaction with these changes on the newest version of a database that has those commits.
+fn transaction_elsewhere(
+    alloc: Global,
+    commits: &[&[Wanted<'_>]],
+    changes: &[Change],
+) -> Result<Transaction, Fail> {
+    let versions = versions_of(alloc, &NUMBERS, commits)?;
+    transaction(alloc, &versions, versions.len(), changes)
+}
+
+/// Whether the answer to the commit of a transaction for a worker is the expected one. Where memory
+/// is refused, that has changed nothing, and it is asked for once more.
+fn is_committed<J: JournalStore>(
+    primary: &mut PrimaryCore<J>,
+    transaction: Transaction,
+    worker: u8,
+    expected: Result<u64, CommitFault>,
+) -> bool
+    requires { worker < primary.old.primary.workers }
+    ensures { primary.new.primary.workers ≡ primary.old.primary.workers }
+{
+    let given = (worker, transaction.snapshot(), transaction.entries().len());
+    let before = counts(primary);
+    match primary.commit(transaction, worker) {
+        Err((transaction, CommitFault::Memory)) => {
+            counts(primary) == before
+                && is_expected(primary.commit(transaction, worker), given, expected)
+        }
+        outcome => is_expected(outcome, given, expected),
+    }
+}
+
+/// The worker for which a transaction is committed, its snapshot, and how many entries it has.
+type Given = (u8, u64, usize);
+
+/// Whether a commit was answered so: the ticket has the number, the worker and the entries, or the
+/// transaction is handed back as it was.
+fn is_expected(
+    outcome: Result<Ticket, (Transaction, CommitFault)>,
+    given: Given,
+    expected: Result<u64, CommitFault>,
+) -> bool {
+    let (worker, snapshot, count) = given;
+    match outcome {
+        Ok(ticket) => {
+            expected == Ok(ticket.number)
+                && ticket.worker == worker
+                && ticket.entries.len() == count
+        }
+        Err((transaction, fault)) => {
+            expected == Err(fault)
+                && transaction.snapshot() == snapshot
+                && transaction.entries().len() == count
+        }
+    }
+}
+
+/// Whether a flush of so many commits is answered so. Where memory is refused, that has moved
+/// nothing, and it is asked for once more.
+fn is_flushed<J: JournalStore>(
+    primary: &mut PrimaryCore<J>,
+    count: usize,
+    expected: Result<u64, FlushFault>,
+) -> Result<bool, Fail>
+    ensures { primary.new.primary.workers ≡ primary.old.primary.workers }
+{
+    let before = counts(primary);
+    let flushed = flush(primary, count)?;
+    if flushed == Err(FlushFault::Memory) {
+        return Ok(counts(primary) == before && flush(primary, count)? == expected);
+    }
+    Ok(flushed == expected)
+}
+
+/// Flushes so many commits.
+fn flush<J: JournalStore>(
+    primary: &mut PrimaryCore<J>,
+    count: usize,
+) -> Result<Result<u64, FlushFault>, Fail>
+    ensures { primary.new.primary.workers ≡ primary.old.primary.workers }
+{
+    if primary.journal().faults() == u64::MAX {
+        return Err("too many faults".into());
+    }
+    Ok(primary.flush(count))
+}
+
+/// Whether the records of the pending commits are these, at once or where that was refused for
+/// memory and is asked for again.
+fn is_pending_text<J: JournalStore>(
+    primary: &PrimaryCore<J>,
+    expected: &[u8],
+) -> Result<bool, Fail> {
+    match primary.pending_text() {
+        Ok(text) => Ok(text.as_slice() == expected),
+        Err(_) => Ok(primary.pending_text()?.as_slice() == expected),
+    }
+}
+
+/// Whether the frame of that seq is the expected one.
+fn is_pushed<J: JournalStore>(
+    primary: &PrimaryCore<J>,
+    worker: u8,
+    seq: u64,
+    expected: Option<&[u8]>,
+) -> bool {
+    match primary.push(worker, seq) {
+        Some(packet) => expected == Some(packet.bytes()),
+        None => expected.is_none(),
+    }
+}
+
+/// What is sent for these bytes, once more where that was refused for memory.
+fn sent<J: JournalStore>(primary: &PrimaryCore<J>, bytes: &[u8]) -> Result<Vec<Out>, AllocError> {
+    match primary.on_bytes(bytes) {
+        Ok(outs) => Ok(outs),
+        Err(_) => primary.on_bytes(bytes),
+    }
+}
+
+/// Whether these bytes are answered by the expected ones, to replica 0.
+fn is_received<J: JournalStore>(
+    primary: &PrimaryCore<J>,
+    bytes: &[u8],
+    expected: Option<&[u8]>,
+) -> Result<bool, Fail> {
+    let outs = sent(primary, bytes)?;
+    match outs.as_slice() {
+        [] => Ok(expected.is_none()),
+        [out] => Ok(out.to == To::Replica(0) && expected == Some(out.packet.bytes())),
+        _ => Ok(false),
+    }
+}
+
+/// Whether a replica that wants a worker's frames from a seq on is sent datagrams of these lengths.
+fn is_sent<J: JournalStore>(
+    primary: &PrimaryCore<J>,
+    replica: u8,
+    worker: u8,
+    from: u64,
+    lens: &[usize],
+) -> Result<bool, Fail> {
+    let outs = sent(primary, &want_of(replica, worker, from))?;
+    Ok(are_frames(outs.as_slice(), replica, worker, from, lens))
+}
+
+/// Whether these are as many datagrams to a replica as there are lengths, each of its length, and
+/// with the frames of a worker from a seq on.
+fn are_frames(outs: &[Out], replica: u8, worker: u8, from: u64, lens: &[usize]) -> bool {
+    if outs.len() != lens.len() {
+        return false;
+    }
+    for (index, len) in lens.iter().enumerate() {
+        let out = &outs[index];
+        let seq = from.wrapping_add(index as u64);
+        if out.to != To::Replica(replica) || !is_frame(out.packet.bytes(), worker, seq, *len) {
+            return false;
+        }
+    }
+    true
+}
+
+/// Whether these are so many bytes, and the frame of that seq of a worker's stream.
+fn is_frame(bytes: &[u8], worker: u8, seq: u64, len: usize) -> bool {
+    match read(bytes) {
+        Ok(
+            Datagram::Frame {
+                worker: found,
+                seq: at,
+                ..
+            },
+        ) => found == worker && at == seq && bytes.len() == len,
+        _ => false,
+    }
+}

@@ -1,0 +1,15 @@
+//! Scenarios of `dispatcher`, by its public calls: frames, batches, the text of the tables.
+#![tactic(auto)]
+
+#[cfg(test)]
+mod batches;
+#[cfg(test)]
+mod dumps;
+#[cfg(test)]
+mod frames;
+#[cfg(test)]
+mod opened_plans;
+#[cfg(test)]
+mod replica;
+#[cfg(test)]
+mod two_workers;
