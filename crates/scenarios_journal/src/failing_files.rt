@@ -6,9 +6,10 @@ ghost use Rattle.std.specs.Prelude.{◌≡◌, true};
 use crate::failing_disk::FailingDisk;
 use crate::journal_files::fresh_path;
 use journal::{Disk, FileFault, FileJournal, JournalStore};
-use scenarios_journals::journal_cases::{HEADER_LEN, JOURNAL};
+use scenarios_journal_common::journal_cases::{HEADER_LEN, JOURNAL};
 use std::alloc::Global;
 use std::fs::{self, File, OpenOptions};
+use std::io::{self, ErrorKind};
 use std::test::Fail;
 
 /// How a call on a journal ended.
@@ -249,6 +250,50 @@ fn what_a_failed_call_left_is_not_read(rt: HostRuntime) -> Result<(), Fail> {
             &[]
         };
         assert_eq!(rt; list.as_slice(), standing);
+    }
+    Ok(())
+}
+
+/// A file that says that it has almost as many bytes as a length can tell, and keeps none of them. It
+/// fails where it is to have more.
+#[derive(Drop)]
+struct VastDisk;
+
+impl Disk for VastDisk {
+    ghost use Rattle.std.specs.Prelude.{[], false};
+
+    ghost content = { λ _. [] };
+
+    ghost is_honest = { false };
+
+    fn append(&mut self, len: u64, bytes: &[u8]) -> io::Result<()> {
+        match len.checked_add(bytes.len() as u64) {
+            Some(_) => Ok(()),
+            None => Err(io::Error::from(ErrorKind::Other)),
+        }
+    }
+
+    fn cut_to(&mut self, _len: u64) -> io::Result<()> {
+        Ok(())
+    }
+
+    fn read(&self, _list: &mut [u8]) -> io::Result<()> {
+        Ok(())
+    }
+}
+
+/// An append for which no length is left is refused before anything is written: the next one, which
+/// ends at the greatest length, is taken, and none behind that.
+#[test]
+fn an_append_past_the_greatest_length_changes_nothing(_rt: HostRuntime) -> Result<(), Fail> {
+    let mut journal = FileJournal::on(VastDisk, u64::MAX - 3);
+    let ends = [
+        append(&mut journal, &[0; 4])?,
+        append(&mut journal, &[0; 3])?,
+        append(&mut journal, &[0; 1])?,
+    ];
+    if ends != [End::System, End::Done, End::System] || journal.faults() != 2 {
+        return Err("an append ended otherwise".into());
     }
     Ok(())
 }

@@ -6,7 +6,9 @@ ghost use Rattle.journal.specs.Recovery.{HasRecord};
 use journal::{JournalFault, Recovered, header_bytes, laws, records, recover, worked_journal};
 use rows::{Commit, Entry, EntryList, RowId, Schema, fits};
 use scenarios_common::wanted::{FIVE, NUMBERS, Wanted, made};
-use scenarios_journals::journal_cases::{CASES, Case, HEADER_LEN, JOURNAL, Outcome, bytes_of};
+use scenarios_journal_common::journal_cases::{
+    CASES, Case, HEADER_LEN, JOURNAL, Outcome, bytes_of,
+};
 use std::alloc::Global;
 use std::slice::from_ref;
 use std::test::Fail;

@@ -2,7 +2,7 @@
 
 use crate::journal_bytes::outcome;
 use journal::{FileJournal, JournalStore, OpenFault};
-use scenarios_journals::journal_cases::{JOURNAL, Outcome};
+use scenarios_journal_common::journal_cases::{JOURNAL, Outcome};
 use std::alloc::Global;
 use std::env::temp_dir;
 use std::test::Fail;

@@ -5,8 +5,8 @@ ghost use Rattle.journal.specs.Storing.{faults_max};
 
 use crate::journal_bytes::outcome;
 use journal::{JournalStore, MemJournal};
-use scenarios_journals::failing_journal::{Failing, FailingJournal, Failure};
-use scenarios_journals::journal_cases::{JOURNAL, JOURNAL_RECORD, Outcome};
+use scenarios_journal_common::failing_journal::{Failing, FailingJournal, Failure};
+use scenarios_journal_common::journal_cases::{JOURNAL, JOURNAL_RECORD, Outcome};
 use std::alloc::Global;
 use std::test::Fail;
 

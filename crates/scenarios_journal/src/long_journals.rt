@@ -1,7 +1,7 @@
 //! Journals of many commits, which `bench/recovery` times.
 
 use crate::journal_bytes::outcome;
-use scenarios_journals::journal_cases::JOURNAL;
+use scenarios_journal_common::journal_cases::JOURNAL;
 use std::alloc::Global;
 use std::test::Fail;
 

@@ -2,8 +2,8 @@
 
 use crate::slow_rows::{COLUMNS, Row, Table, Value, columns_of, is_of};
 use plans::{Aggregate, Column, Comparison, Join};
-use scenarios_queries::plain_queries::write_answer;
-use scenarios_queries::wishes::{Cell, Line, Wish};
+use scenarios_plans_common::plain_queries::write_answer;
+use scenarios_plans_common::wishes::{Cell, Line, Wish};
 use std::alloc::{AllocError, Global};
 
 /// How many parts of a kind a query has here at the most: one too many.

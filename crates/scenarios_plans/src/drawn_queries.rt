@@ -6,8 +6,8 @@ ghost use Rattle.std.specs.Prelude.{◌<◌, length};
 use plans::{Aggregate, Column, Comparison, Join};
 use rows::Kind;
 use scenarios_common::drawn_numbers::{draw, pick};
-use scenarios_queries::plain_queries::plain_report;
-use scenarios_queries::wishes::{Cell, Line, Tables, Wish, report_of};
+use scenarios_plans_common::plain_queries::plain_report;
+use scenarios_plans_common::wishes::{Cell, Line, Tables, Wish, report_of};
 use std::alloc::{AllocError, Global};
 use std::test::Fail;
 

@@ -8,7 +8,7 @@ ghost use Rattle.plans.specs.Checking.{checked};
 
 use plans::{Aggregate, Column, Plan};
 use rows::Schema;
-use scenarios_queries::wishes::{
+use scenarios_plans_common::wishes::{
     COUNT, Cell, Line, NE, NONE, SHOP, SUM, SW, UNFIT, WISHES, Wish, filled, plan_of, plans_of,
     report_of, reported,
 };

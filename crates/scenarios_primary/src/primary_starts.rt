@@ -10,8 +10,8 @@ use scenarios_common::wanted::NUMBERS;
 use scenarios_common::worker_datagrams::{
     ASK, FRAME, FRAME_OF_WORKER_1, HEAD_OF_NOTHING, HEAD_OF_WORKER_1,
 };
-use scenarios_journals::failing_journal::{Failing, FailingJournal, Failure, Refused};
-use scenarios_journals::journal_cases::{
+use scenarios_journal_common::failing_journal::{Failing, FailingJournal, Failure, Refused};
+use scenarios_journal_common::journal_cases::{
     Bytes, CASES, Case, DELETE_7, HEADER_LEN, JOURNAL, JOURNAL_RECORD, bytes_of,
 };
 use std::alloc::Global;

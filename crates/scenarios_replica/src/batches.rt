@@ -8,7 +8,7 @@ use scenarios_common::wanted::{NUMBERS, Table, bank};
 use scenarios_common::worker_datagrams::{
     FRAME, HEAD, HEAD_AT_2, HEAD_OF_TWO, HEAD_WITHOUT_FRAMES, PATCH_AND_DELETE, TWO_ROWS,
 };
-use scenarios_queries::wishes::{COUNT, Wish, plan_of};
+use scenarios_plans_common::wishes::{COUNT, Wish, plan_of};
 use std::alloc::Global;
 use std::test::Fail;
 

@@ -6,7 +6,7 @@ use dispatcher::{AskFault, Got, OpenFault};
 use plans::{Aggregate, Column};
 use scenarios_common::wanted::NUMBERS;
 use scenarios_common::worker_datagrams::{FRAME, HEAD};
-use scenarios_queries::wishes::{COUNT, MOST, SHOP, UNFIT, WISHES, Wish};
+use scenarios_plans_common::wishes::{COUNT, MOST, SHOP, UNFIT, WISHES, Wish};
 use std::test::Fail;
 
 /// Without aggregates.

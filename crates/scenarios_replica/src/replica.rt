@@ -7,7 +7,7 @@ use scenarios_common::wanted::Table;
 use scenarios_common::worker_datagrams::{
     FRAME, HEAD, Insert, ask_of, changed, frame_at, frame_of, head_of, want_of,
 };
-use scenarios_queries::wishes::{COUNT, Wish, plan_of};
+use scenarios_plans_common::wishes::{COUNT, Wish, plan_of};
 use std::alloc::{AllocError, Global};
 use std::test::Fail;
 use store::PlainStore;

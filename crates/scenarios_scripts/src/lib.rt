@@ -8,6 +8,8 @@ mod script_faults;
 #[cfg(test)]
 mod script_frames;
 #[cfg(test)]
+mod script_long_texts;
+#[cfg(test)]
 mod script_looks;
 #[cfg(test)]
 mod script_memory;

@@ -123,6 +123,31 @@ fn an_interrupted_write_is_tried_again(rt: HostRuntime) -> Result<(), Fail> {
     Ok(())
 }
 
+/// A writer that takes nothing, and says so.
+#[derive(Drop)]
+struct Full;
+
+impl Write for Full {
+    fn write(&mut self, _buf: &[u8]) -> io::Result<usize> {
+        Ok(0)
+    }
+
+    fn flush(&mut self) -> io::Result<()> {
+        Ok(())
+    }
+}
+
+/// A write that takes no byte is a failed write, and is not tried again.
+#[test]
+fn a_write_of_no_byte_fails(rt: HostRuntime) -> Result<(), Fail> {
+    for echo in [Echo::No, Echo::Events] {
+        let mut reader = SCRIPT.as_bytes();
+        let end = run_script(rt.alloc(), echo, &mut reader, &mut Full);
+        assert_eq!(rt; end, Err(RunFault::Write), "{echo:?}");
+    }
+    Ok(())
+}
+
 /// The text is flushed once, behind its last byte; where that fails the run ends with that fault.
 #[test]
 fn a_failed_flush_is_told(rt: HostRuntime) -> Result<(), Fail> {

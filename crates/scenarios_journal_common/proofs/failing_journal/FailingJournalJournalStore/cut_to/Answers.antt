@@ -1,7 +1,7 @@
 -- A cut that fails leaves at least what it was asked for.
 use Rattle.std.proofs.Common.{◌≡◌, ◌++◌, List, ℕ, length, take, drop, refl, sym, ap, ◌∙◌, arith}
 use Rattle.std.proofs.lemmas.List.{length-take, take-append-drop}
-use Rattle.scenarios_journals.proofs.failing_journal.FailingJournalJournalStore.cut_to.Goals as goal
+use Rattle.scenarios_journal_common.proofs.failing_journal.FailingJournalJournalStore.cut_to.Goals as goal
 
 pub returns-then-is_turn-clause-err : goal.returns-then-is_turn-clause-err
 returns-then-is_turn-clause-err c = λ honest.

@@ -3,7 +3,7 @@ use Rattle.std.proofs.Common.{◌≡◌, Ok}
 use Rattle.std.specs.List.{AllByRecursion}
 use Rattle.rows.specs.Shape.{shape_of}
 use Rattle.plans.specs.Checking.{checked}
-use Rattle.scenarios_queries.proofs.wishes.plans_of.Given as goal
+use Rattle.scenarios_plans_common.proofs.wishes.plans_of.Given as goal
 
 abbrev pub invariant-loop-wish : goal.invariant-loop-wish
 invariant-loop-wish l = AllByRecursion (λ plan. checked (shape_of l.schema) plan ≡ Ok (tt {0})) l.plans.items

@@ -2,7 +2,7 @@
 use Rattle.std.proofs.Common.{ap}
 use Rattle.rows.specs.Shape.{shape_of}
 use Rattle.rows.proofs.Presence.{shape_in-opening}
-use Rattle.scenarios_queries.proofs.wishes.filled.Goals as goal
+use Rattle.scenarios_plans_common.proofs.wishes.filled.Goals as goal
 
 pub loop-line-init : goal.loop-line-init
 loop-line-init c = record {

@@ -2,7 +2,7 @@
 use Rattle.std.proofs.Common.{◌≡◌, true}
 use Rattle.rows.specs.Shape.{shape_of}
 use Rattle.rows.specs.Tables.{shape_in}
-use Rattle.scenarios_queries.proofs.wishes.filled.Given as goal
+use Rattle.scenarios_plans_common.proofs.wishes.filled.Given as goal
 
 abbrev pub invariant-loop-line : goal.invariant-loop-line
 invariant-loop-line l = record {
