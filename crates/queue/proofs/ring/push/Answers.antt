@@ -1,0 +1,5 @@
+use Rattle.queue.proofs.Keeping.{pushes, learns}
+use Rattle.queue.proofs.ring.push.Goals as goal
+
+pub push_as-requires-clause-rule : goal.push_as-requires-clause-rule
+push_as-requires-clause-rule g c = (pushes _ _ _ _, learns _ _)

@@ -1,0 +1,4 @@
+pub mod Limits
+pub mod Rule
+pub mod Passes
+pub mod Laws

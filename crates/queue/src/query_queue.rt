@@ -1,0 +1,82 @@
+//! The queue of queries.
+
+use crate::limits::BATCH_PLANS_MAX;
+use crate::pass::Pass;
+use crate::ring::{Ring, pop, push};
+use plans::Plan;
+use std::alloc::{AllocError, Global};
+use std::sync::Wait;
+
+/// A queue of plans that threads share, with room for so many and no more: first in, first out.
+/// What it holds at a moment no contract can say, since other threads use it too; what was done with
+/// each `Pass` is said exactly.
+#[derive(Drop)]
+pub struct QueryQueue {
+    ring: Ring,
+}
+
+impl QueryQueue {
+    ghost use Rattle.std.specs.Prelude.{◌≡◌, ◌+◌, ◌<◌, ◌≤◌, IfOk, IfSome, IsSome, MatchResult, OnErr, vec_capacity, vec_len};
+    ghost use Rattle.queue.specs.Limits.{batch_plans_max};
+    ghost use Rattle.queue.specs.Rule.{no_moves, AreMovesOfMoment, HeldThen, Puts, TakesBatch};
+    ghost use Rattle.queue.specs.Passes.{capacity_of, moves_of, IsPassOf};
+
+    /// An empty queue with room for so many plans. Fails only when out of memory.
+    pub fn new(alloc: Global, capacity: usize) -> Result<QueryQueue, AllocError>
+        requires { 0 < capacity }
+        ensures { IfOk result (λ queue. capacity_of queue ≡ capacity) }
+    {
+        let ring = Ring::ruled(alloc, capacity)?.0;
+        Ok(QueryQueue { ring })
+    }
+
+    /// A pass with which nothing was put or taken yet. There is always one.
+    pub fn pass(&self) -> Option<Pass>
+        ensures some { IsSome result }
+        ensures fresh { IfSome result (λ pass. IsPassOf self.now pass × (moves_of pass ≡ no_moves)) }
+    {
+        Some(Pass {
+            seat: self.ring.pass(),
+        })
+    }
+
+    /// Puts a plan at the end, in one step. It comes back if the queue was full at a moment of the
+    /// call, and then nothing has changed.
+    pub fn put<R: Wait>(&self, rt: &R, pass: &mut Pass, plan: Plan) -> Result<(), Plan>
+        requires { IsPassOf self.now pass.old }
+        ensures same { IsPassOf self.now pass.new }
+        ensures put { MatchResult result
+            (λ _. Puts (moves_of pass.old) plan (moves_of pass.new))
+            (λ back. (back ≡ plan) × (moves_of pass.new ≡ moves_of pass.old) × HeldThen (capacity_of self.now) (moves_of pass.old)) }
+    {
+        push(rt, &self.ring, &mut pass.seat, plan)
+    }
+
+    /// Takes up to 64 plans, each in one step, and appends them to the batch in the order of the
+    /// queue; answers how many. There are fewer only if the queue was empty at a moment of the call.
+    /// Takes room for all of them first: if it is out of memory for that, nothing has changed.
+    pub fn take_batch<R: Wait>(
+        &self,
+        rt: &R,
+        pass: &mut Pass,
+        batch: &mut Vec<Plan>,
+    ) -> Result<usize, AllocError>
+        requires { IsPassOf self.now pass.old }
+        ensures same { IsPassOf self.now pass.new }
+        ensures taken { IfOk result (λ count. TakesBatch (moves_of pass.old) batch.old.items count (moves_of pass.new) batch.new.items) }
+        ensures most { IfOk result (λ count. count ≤ batch_plans_max) }
+        ensures fewer { IfOk result (λ count. count < batch_plans_max → HeldThen 0 (moves_of pass.new)) }
+        ensures order { IfOk result (λ _. AreMovesOfMoment (moves_of pass.new)) }
+        ensures refused { OnErr result ((moves_of pass.new ≡ moves_of pass.old) × (batch.new.items ≡ batch.old.items)) }
+        ensures no_room { OnErr result (vec_capacity batch.old < vec_len batch.old + batch_plans_max) }
+    {
+        batch.reserve(BATCH_PLANS_MAX)?;
+        for count in 0..BATCH_PLANS_MAX {
+            let Some(plan) = pop(rt, &self.ring, &mut pass.seat) else {
+                return Ok(count);
+            };
+            batch.push_reserved(plan);
+        }
+        Ok(BATCH_PLANS_MAX)
+    }
+}
