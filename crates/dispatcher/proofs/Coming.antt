@@ -48,7 +48,7 @@ module _ (r : Replica) (frame : Frame) (shape : Shape) (seen : shape_in r.tables
   comes-unfit unfit = rw (there, seen, unfit) refl
 
   module _ (fits : list_all (λ entry. is_ok (fitting shape entry)) frame.entries ≡ true) where
-    comes : frame_comes r frame ≡ (got_of (taken r.arrivals frame).0, record r { arrivals = (taken r.arrivals frame).1 })
+    pub comes : frame_comes r frame ≡ (got_of (taken r.arrivals frame).0, record r { arrivals = (taken r.arrivals frame).1 })
     comes = rw (there, seen, fits) refl
 
     -- one that the intake does not store

@@ -9,6 +9,7 @@ pub mod Applying
 pub mod Running
 pub mod CatchingUp
 pub mod Feeding
+pub mod Taking
 pub mod Names
 pub mod Dumping
 pub mod Reports

@@ -5,9 +5,11 @@ use Rattle.rows.specs.declared.commit.Commit.{Commit}
 use Rattle.rows.specs.declared.kind.Kind.{Kind}
 use Rattle.rows.specs.Shape.{Shape, shape_of}
 use Rattle.rows.specs.Commits.{IsLegal, tables_after}
+use Rattle.update_log.specs.declared.frame.Frame.{Frame}
 use Rattle.update_log.specs.Streams.{stream_of}
 use Rattle.intake.specs.Known.{is_known}
 use Rattle.intake.specs.State.{known_of}
+use Rattle.intake.specs.Steps.{taken}
 use Rattle.intake.specs.Kept.{AreKeptFrom}
 use Rattle.intake.specs.Streams.{AreFrom}
 use Rattle.ordering.specs.Cutting.{AreFrameCounts}
@@ -16,13 +18,14 @@ use Rattle.wire.specs.declared.datagram.Datagram.TheVariants as datagrams
 use Rattle.wire.specs.declared.faults.WireFault.{WireFault}
 use Rattle.wire.specs.declared.out.Out.{Out}
 use Rattle.wire.specs.Reading.{reading}
+use Rattle.wire.specs.Spelling.{datagram_of_frame}
 use Rattle.dispatcher.specs.declared.outcome.Run.{Run}
 use Rattle.dispatcher.specs.declared.outcome.Run.TheVariants as runs
 use Rattle.plans.specs.declared.plan.Plan.{Plan}
 use Rattle.dispatcher.specs.State.{Replica, Batch, Fetched}
 use Rattle.dispatcher.specs.Report.{report_of}
 use Rattle.dispatcher.specs.TableText.{table_text}
-use Rattle.dispatcher.specs.Steps.{started, received, goes_on, opened, asked, at_fetched, ready_of, Runs, MayRun, dumped}
+use Rattle.dispatcher.specs.Steps.{started, received, got_of, goes_on, opened, asked, at_fetched, ready_of, Runs, MayRun, dumped}
 
 -- a version of the list, fetched by a replica, with each worker's frame count at it
 pub record IsFetchedFrom (commits : List Commit) (r : Replica) (fetched : Fetched) : Type 0 where
@@ -90,6 +93,14 @@ TrueHeadGoesOn =
     (shape : Shape) (commits : List Commit) (r : Replica) (version : ℕ) (counts : List ℕ) → IsFedFrom shape commits r
     → version ≤ length commits → length counts ≡ r.workers → AreFrameCounts commits version counts → r.version ≤ version
     → goes_on r version counts ≡ true
+
+-- and a frame that tells the truth of the list, and comes while it is not broken, is never ignored: what it answers, and
+-- what has come then, is what the intake makes of the frame
+abbrev pub TrueFrameIsTaken : Type 0
+TrueFrameIsTaken =
+    (shape : Shape) (commits : List Commit) (r : Replica) (bytes : List ℕ) (frame : Frame) → IsFedFrom shape commits r
+    → r.broken ≡ false → reading bytes ≡ Ok (datagram_of_frame frame) → Tells r.workers commits (reading bytes)
+    → received r bytes ≡ (got_of (taken r.arrivals frame).0, record r { arrivals = (taken r.arrivals frame).1 })
 
 -- it stays fed where a query is opened
 abbrev pub OpenKeepsFed : Type 0

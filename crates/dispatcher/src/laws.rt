@@ -2,14 +2,16 @@
 
 ghost use Rattle.dispatcher.specs.Feeding.{FreshIsFed, CommitsKeepFed, BytesKeepFed, OpenKeepsFed, AskKeepsFed, RunKeepsFed};
 ghost use Rattle.dispatcher.specs.Feeding.{RunIsConsistent, AnswerIsReport, ReadyIsAnswered, VersionTellsTables};
-ghost use Rattle.dispatcher.specs.Feeding.{TruthStays, TrueHeadGoesOn, DumpIsTables, StepsKeepNames};
+ghost use Rattle.dispatcher.specs.Feeding.{TruthStays, TrueHeadGoesOn, TrueFrameIsTaken, DumpIsTables, StepsKeepNames};
 
 use intake::{arrivals_stay_of_streams, known_frames_stay_kept};
 use ordering::one_merge;
+use rows::laws::changes_keep_kinds;
 
 /// A replica is fed from a legal list of commits where all that it knows is of that list: its
 /// frames, its tables, and the version that it fetched. A fresh one is, each step keeps it so where
-/// what comes is true of the list, and its runs report on rows of the list. Two of them at one
+/// what comes is true of the list, and its runs report on rows of the list. A frame of the list is
+/// never ignored while the replica is not broken: the intake takes it. Two of them at one
 /// version hold the same tables, and while one is not broken its dump is the text of the tables after
 /// exactly the commits up to its version. Each step leaves the names of the tables. It does nothing:
 /// its contract is the laws.
@@ -19,6 +21,7 @@ pub fn fed_replicas_stay_fed()
     ensures truth { TruthStays }
     ensures bytes { BytesKeepFed }
     ensures head { TrueHeadGoesOn }
+    ensures frame { TrueFrameIsTaken }
     ensures open { OpenKeepsFed }
     ensures ask { AskKeepsFed }
     ensures run { RunKeepsFed }
@@ -32,4 +35,5 @@ pub fn fed_replicas_stay_fed()
     arrivals_stay_of_streams();
     known_frames_stay_kept();
     one_merge();
+    changes_keep_kinds();
 }

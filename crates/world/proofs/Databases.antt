@@ -1,16 +1,14 @@
 -- Each step of a fresh world is, as users see it, one of the database.
-use Rattle.std.proofs.Common.{◌≡◌, ℕ, zero, suc, ◌+◌, inl, inr, Bool, true, false, cond, not, ◌||◌, ◌&&◌, ◌==◌, List, []}
+use Rattle.std.proofs.Common.{◌≡◌, ℕ, zero, suc, ◌+◌, inl, inr, Bool, true, false, cond, ◌&&◌, ◌==◌, List, []}
 use Rattle.std.proofs.Common.{◌∷◌, ◌++◌}
-use Rattle.std.proofs.Common.{length, map, replicate, Option, None, Some, Result, Ok, Err, nat_le, nat_lt, refl, sym, ap, subst, ◌∙◌}
-use Rattle.std.specs.List.{slice_get, slice_set, list_all, AllByRecursion}
+use Rattle.std.proofs.Common.{length, map, replicate, Option, None, Some, Result, Ok, Err, nat_le, refl, sym, ap, subst, ◌∙◌}
+use Rattle.std.specs.List.{slice_get, slice_set, AllByRecursion}
 use Rattle.std.specs.Option.{option_map}
-use Rattle.std.specs.Result.{is_ok}
 use Rattle.std.proofs.lemmas.Option.{none-some}
 use Rattle.rows.specs.declared.limits.TheConstants.{WAITING_QUERIES_MAX}
 use Rattle.rows.specs.declared.kind.Kind.{Kind}
 use Rattle.rows.specs.declared.value.Value.{Value}
-use Rattle.rows.specs.Entries.{fitting}
-use Rattle.rows.specs.Shape.{Shape, shape_of}
+use Rattle.rows.specs.Shape.{shape_of}
 use Rattle.wire.specs.declared.datagram.Datagram.{Datagram}
 use Rattle.wire.specs.declared.datagram.Datagram.TheVariants as datagrams
 use Rattle.wire.specs.declared.faults.WireFault.{WireFault}
@@ -116,13 +114,12 @@ module _ (w : World) (h : Fresh w) (i : ℕ) (m : Member) (here : slice_get w.me
   abbrev IsFreshAfter : Output × Member → Type 0
   IsFreshAfter answer = (batch : Batch) → answer.1.batch ≡ Some batch → IsFreshBatch w.primary.durable answer.1.version batch
 
-  frame-tells : (worker seq : ℕ) (a b c : Bool)
-      → Tells w (member_output w (cond a (outputs.Ignored, m)
-      (cond b (outputs.Repeat, m) (cond c (outputs.Ahead, m) (outputs.Stored, record m { known = with_known m.known worker seq })))))
-  frame-tells worker seq true b c = alike m outputs.Ignored refl refl tt
-  frame-tells worker seq false true c = alike m outputs.Repeat refl refl tt
-  frame-tells worker seq false false true = alike m outputs.Ahead refl refl tt
-  frame-tells worker seq false false false = alike (record m { known = with_known m.known worker seq }) outputs.Stored refl refl tt
+  frame-tells : (worker seq : ℕ) (b c : Bool)
+      → Tells w (member_output w (cond b (outputs.Repeat, m)
+      (cond c (outputs.Ahead, m) (outputs.Stored, record m { known = with_known m.known worker seq }))))
+  frame-tells worker seq true c = alike m outputs.Repeat refl refl tt
+  frame-tells worker seq false true = alike m outputs.Ahead refl refl tt
+  frame-tells worker seq false false = alike (record m { known = with_known m.known worker seq }) outputs.Stored refl refl tt
 
   fetched-tells : (version : ℕ) (counts : List ℕ) (plans : List Plan) (asked_at : ℕ) (fetched : Option Fetched)
       → m.batch ≡ Some (record { plans = plans; asked_at = asked_at; fetched = fetched })
@@ -140,21 +137,20 @@ module _ (w : World) (h : Fresh w) (i : ℕ) (m : Member) (here : slice_get w.me
   head-tells version counts None has fresh = alike m outputs.Ignored refl refl tt
   head-tells version counts (Some batch) has fresh = fetched-tells version counts batch.plans batch.asked_at batch.fetched has fresh
 
-  datagram-tells : (shape : Shape) (workers : ℕ) (read : Result Datagram WireFault) → IsFreshAfter (datagram_happens shape workers m read)
-      → Tells w (member_output w (datagram_happens shape workers m read))
-  datagram-tells shape workers (Err fault) fresh = alike m outputs.Ignored refl refl tt
-  datagram-tells shape workers (Ok (datagrams.Frame worker seq commit last entries)) fresh =
-      frame-tells worker seq (not (nat_lt worker workers) || not (list_all (λ entry. is_ok (fitting shape entry)) entries))
-      (is_known (known_of m.known worker) seq) (is_ahead (known_of m.known worker) seq)
-  datagram-tells shape workers (Ok (datagrams.Ask replica boot request)) fresh = alike m outputs.Ignored refl refl tt
-  datagram-tells shape workers (Ok (datagrams.Head replica boot request version counts)) fresh =
+  datagram-tells : (read : Result Datagram WireFault) → IsFreshAfter (datagram_happens m read)
+      → Tells w (member_output w (datagram_happens m read))
+  datagram-tells (Err fault) fresh = alike m outputs.Ignored refl refl tt
+  datagram-tells (Ok (datagrams.Frame worker seq commit last entries)) fresh =
+      frame-tells worker seq (is_known (known_of m.known worker) seq) (is_ahead (known_of m.known worker) seq)
+  datagram-tells (Ok (datagrams.Ask replica boot request)) fresh = alike m outputs.Ignored refl refl tt
+  datagram-tells (Ok (datagrams.Head replica boot request version counts)) fresh =
       by ((replica == m.number) && (boot == m.boot) && (request == m.request)) fresh
     where
       by : (own : Bool) → IsFreshAfter (cond own (head_happens m version counts m.batch) (outputs.Ignored, m))
           → Tells w (member_output w (cond own (head_happens m version counts m.batch) (outputs.Ignored, m)))
       by true taken = head-tells version counts m.batch refl taken
       by false taken = alike m outputs.Ignored refl refl tt
-  datagram-tells shape workers (Ok (datagrams.Want replica worker from)) fresh = alike m outputs.Ignored refl refl tt
+  datagram-tells (Ok (datagrams.Want replica worker from)) fresh = alike m outputs.Ignored refl refl tt
 
   -- ---- batches
 
@@ -313,8 +309,8 @@ module _ (w : World) (h : Fresh w) where
   handing bytes (nodes.Replica number) told =
       at-member number (slice_get w.members number) _ refl
       (λ m here. unless-broken w h number m here _
-      (datagram-tells w h number m here (shape_of w.primary.schema) w.primary.workers (reading bytes)
-      (datagram-takes w.primary.durable (shape_of w.primary.schema) w.primary.workers w.members number m here (h.members_are number m here)
+      (datagram-tells w h number m here (reading bytes)
+      (datagram-takes w.primary.durable w.members number m here (h.members_are number m here)
       (reading bytes) told).follows.batch_is))
 
   delivering : (index : ℕ) (node : Node) (found : Option (List ℕ)) → slice_get w.sent index ≡ found → Tells w (deliver_happens w node found)

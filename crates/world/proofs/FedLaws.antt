@@ -1,12 +1,13 @@
 -- What is known of replicas that are fed from a list of commits.
 use Rattle.dispatcher.specs.Feeding.{FreshIsFed, CommitsKeepFed, BytesKeepFed, TrueHeadGoesOn, OpenKeepsFed, AskKeepsFed, RunKeepsFed}
-use Rattle.dispatcher.specs.Feeding.{ReadyIsAnswered, DumpIsTables, StepsKeepNames}
+use Rattle.dispatcher.specs.Feeding.{TrueFrameIsTaken, ReadyIsAnswered, DumpIsTables, StepsKeepNames}
 
 pub record FedLaws : Type 0 where
   pub fresh : FreshIsFed
   pub commits : CommitsKeepFed
   pub bytes : BytesKeepFed
   pub head : TrueHeadGoesOn
+  pub frame : TrueFrameIsTaken
   pub opening : OpenKeepsFed
   pub asking : AskKeepsFed
   pub running : RunKeepsFed

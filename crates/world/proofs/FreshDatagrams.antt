@@ -1,15 +1,12 @@
 -- What is sent and what a replica takes keep a world fresh.
-use Rattle.std.proofs.Common.{◌≡◌, ℕ, ◌≤◌, Bool, true, false, cond, not, ◌||◌, ◌&&◌, ◌==◌, List, [], ◌∷◌, length, map, Option, Some, None}
-use Rattle.std.proofs.Common.{Result, Ok, Err, nat_lt, refl, sym, ap, subst, ◌∙◌, arith}
-use Rattle.std.specs.List.{slice_get, AllByRecursion, list_all}
+use Rattle.std.proofs.Common.{◌≡◌, ℕ, ◌≤◌, Bool, true, false, cond, ◌&&◌, ◌==◌, List, [], ◌∷◌, length, map, Option, Some, None}
+use Rattle.std.proofs.Common.{Result, Ok, Err, refl, sym, ap, subst, ◌∙◌, arith}
+use Rattle.std.specs.List.{slice_get, AllByRecursion}
 use Rattle.std.specs.Option.{option_map}
-use Rattle.std.specs.Result.{is_ok}
 use Rattle.intake.specs.Known.{is_known, is_ahead}
 use Rattle.std.proofs.lemmas.Bool.{and_parts, eqb-true}
 use Rattle.std.proofs.lemmas.Option.{none-some, same_Some}
 use Rattle.rows.specs.declared.commit.Commit.{Commit}
-use Rattle.rows.specs.Shape.{Shape, shape_of}
-use Rattle.rows.specs.Entries.{fitting}
 use Rattle.wire.specs.declared.datagram.Datagram.{Datagram}
 use Rattle.wire.specs.declared.datagram.Datagram.TheVariants as datagrams
 use Rattle.wire.specs.declared.faults.WireFault.{WireFault}
@@ -98,13 +95,12 @@ keeps durable i m output is silent = record {
   rows = λ commits old event. no-rows commits old event output silent;
 }
 
-frame-takes : (durable : List Commit) (i : ℕ) (m : Member) (worker seq : ℕ) (a b c : Bool) → IsFreshMember durable i m
-    → Takes durable m (cond a (outputs.Ignored, m)
-    (cond b (outputs.Repeat, m) (cond c (outputs.Ahead, m) (outputs.Stored, record m { known = with_known m.known worker seq }))))
-frame-takes durable i m worker seq true b c is = keeps durable i m outputs.Ignored is tt
-frame-takes durable i m worker seq false true c is = keeps durable i m outputs.Repeat is tt
-frame-takes durable i m worker seq false false true is = keeps durable i m outputs.Ahead is tt
-frame-takes durable i m worker seq false false false is =
+frame-takes : (durable : List Commit) (i : ℕ) (m : Member) (worker seq : ℕ) (b c : Bool) → IsFreshMember durable i m
+    → Takes durable m (cond b (outputs.Repeat, m)
+    (cond c (outputs.Ahead, m) (outputs.Stored, record m { known = with_known m.known worker seq })))
+frame-takes durable i m worker seq true c is = keeps durable i m outputs.Repeat is tt
+frame-takes durable i m worker seq false true is = keeps durable i m outputs.Ahead is tt
+frame-takes durable i m worker seq false false is =
     record {
       follows = alike durable i m (record m { known = with_known m.known worker seq }) is refl refl refl refl refl refl;
       rows = λ commits old event. tt;
@@ -170,38 +166,32 @@ own-takes durable members i m replica boot request version counts here is below 
     let head = (told m (ap (slice_get members) index ∙ here)).holds (eqb-true boot m.boot front.1) in
     head-takes durable i m version counts m.batch is refl (λ batch has. head.above batch has (eqb-true request m.request parts.1)) below
 
-pub datagram-takes : (durable : List Commit) (shape : Shape) (workers : ℕ) (members : List Member) (i : ℕ) (m : Member)
+pub datagram-takes : (durable : List Commit) (members : List Member) (i : ℕ) (m : Member)
     → slice_get members i ≡ Some m → IsFreshMember durable i m → (read : Result Datagram WireFault)
-    → IsFreshReading durable members read → Takes durable m (datagram_happens shape workers m read)
-datagram-takes durable shape workers members i m here is (Err fault) told = keeps durable i m outputs.Ignored is tt
-datagram-takes durable shape workers members i m here is (Ok (datagrams.Frame worker seq commit last entries)) told =
-    frame-takes durable i m worker seq (not (nat_lt worker workers) || not (list_all (λ entry. is_ok (fitting shape entry)) entries))
-    (is_known (known_of m.known worker) seq) (is_ahead (known_of m.known worker) seq) is
-datagram-takes durable shape workers members i m here is (Ok (datagrams.Ask replica boot request)) told =
-    keeps durable i m outputs.Ignored is tt
-datagram-takes durable shape workers members i m here is (Ok (datagrams.Head replica boot request version counts)) told =
+    → IsFreshReading durable members read → Takes durable m (datagram_happens m read)
+datagram-takes durable members i m here is (Err fault) told = keeps durable i m outputs.Ignored is tt
+datagram-takes durable members i m here is (Ok (datagrams.Frame worker seq commit last entries)) told =
+    frame-takes durable i m worker seq (is_known (known_of m.known worker) seq) (is_ahead (known_of m.known worker) seq) is
+datagram-takes durable members i m here is (Ok (datagrams.Ask replica boot request)) told = keeps durable i m outputs.Ignored is tt
+datagram-takes durable members i m here is (Ok (datagrams.Head replica boot request version counts)) told =
     own-takes durable members i m replica boot request version counts here is told.0 told.1
     ((replica == m.number) && (boot == m.boot) && (request == m.request)) refl
-datagram-takes durable shape workers members i m here is (Ok (datagrams.Want replica worker from)) told =
-    keeps durable i m outputs.Ignored is tt
+datagram-takes durable members i m here is (Ok (datagrams.Want replica worker from)) told = keeps durable i m outputs.Ignored is tt
 
 bytes-serve : (w : World) (event : Event) (bytes : List ℕ) (i : ℕ) (found : Option Member) → Fresh w → slice_get w.members i ≡ found
     → IsFreshReading w.primary.durable w.members (reading bytes)
     → Serves w event (on_member w found
-    (λ m. cond m.broken (outputs.Broken, w)
-    (member_output w (datagram_happens (shape_of w.primary.schema) w.primary.workers m (reading bytes)))))
+    (λ m. cond m.broken (outputs.Broken, w) (member_output w (datagram_happens m (reading bytes)))))
 bytes-serve w event bytes i None h here told = quiet w event (outputs.Ignored, w) h tt
 bytes-serve w event bytes i (Some m) h here told = by m.broken
   where
     answer : Output × Member
-    answer = datagram_happens (shape_of w.primary.schema) w.primary.workers m (reading bytes)
+    answer = datagram_happens m (reading bytes)
 
     by : (b : Bool) → Serves w event (cond b (outputs.Broken, w) (member_output w answer))
     by true = quiet w event (outputs.Broken, w) h tt
     by false =
-        let takes =
-        datagram-takes w.primary.durable (shape_of w.primary.schema) w.primary.workers w.members i m here (h.members_are i m here)
-        (reading bytes) told in
+        let takes = datagram-takes w.primary.durable w.members i m here (h.members_are i m here) (reading bytes) told in
         record { fresh = Fresh-member w i m answer.1 h here takes.follows; rows = takes.rows w.primary.durable w event }
 
 -- bytes that are handed to a node

@@ -1,7 +1,7 @@
 -- In the world what is durable stays, and nothing is damaged.
-use Rattle.std.proofs.Common.{◌≡◌, ℕ, ◌+◌, Bool, true, false, cond, not, ◌||◌, ◌&&◌, ◌==◌, List, [], ◌∷◌, length, take}
+use Rattle.std.proofs.Common.{◌≡◌, ℕ, ◌+◌, Bool, true, false, cond, not, ◌&&◌, ◌==◌, List, [], ◌∷◌, length, take}
 use Rattle.std.proofs.Common.{◌++◌, Option, Some, None, Result, Ok, Err, nat_lt, nat_le, refl, sym, ap, subst, ◌∙◌, inl, inr, arith}
-use Rattle.std.specs.List.{slice_get, slice_set, list_all}
+use Rattle.std.specs.List.{slice_get, slice_set}
 use Rattle.std.specs.Result.{is_ok}
 use Rattle.intake.specs.Known.{is_known, is_ahead}
 use Rattle.std.proofs.lemmas.Bool.{true≢false, le-ltb, or_from, not_from_true}
@@ -10,8 +10,7 @@ use Rattle.std.proofs.lemmas.Option.{none-some, same_Some}
 use Rattle.rows.specs.declared.entry.Entry.{Entry}
 use Rattle.rows.specs.declared.limits.TheConstants.{WAITING_QUERIES_MAX}
 use Rattle.rows.specs.declared.value.Value.{Value}
-use Rattle.rows.specs.Shape.{Shape, shape_of}
-use Rattle.rows.specs.Entries.{fitting}
+use Rattle.rows.specs.Shape.{shape_of}
 use Rattle.rows.specs.Tables.{changes_of}
 use Rattle.rows.specs.Commits.{tables_after, last_touching}
 use Rattle.wire.specs.declared.datagram.Datagram.{Datagram}
@@ -268,13 +267,11 @@ push-fine w (Some bytes) = plain w _ _ refl refl tt
 member-fine : (w : World) (answer : Output × Member) → IsFaultless answer.0 → IsFine w (member_output w answer)
 member-fine w answer faultless = plain w (with_member w answer.1) answer.0 refl refl faultless
 
-frame-faultless : (m m' : Member) (a b c : Bool)
-    → IsFaultless (cond {A = Output × Member} a (outputs.Ignored, m)
-    (cond b (outputs.Repeat, m) (cond c (outputs.Ahead, m) (outputs.Stored, m')))).0
-frame-faultless m m' true b c = tt
-frame-faultless m m' false true c = tt
-frame-faultless m m' false false true = tt
-frame-faultless m m' false false false = tt
+frame-faultless : (m m' : Member) (b c : Bool)
+    → IsFaultless (cond {A = Output × Member} b (outputs.Repeat, m) (cond c (outputs.Ahead, m) (outputs.Stored, m'))).0
+frame-faultless m m' true c = tt
+frame-faultless m m' false true = tt
+frame-faultless m m' false false = tt
 
 head-fetched : (m : Member) (version : ℕ) (counts : List ℕ) (plans : List Plan) (asked_at : ℕ) (fetched : Option Fetched)
     → IsFaultless (head_happens m version counts (Some (record { plans = plans; asked_at = asked_at; fetched = fetched }))).0
@@ -287,34 +284,28 @@ head-faultless m version counts batch false = tt
 head-faultless m version counts None true = tt
 head-faultless m version counts (Some batch) true = head-fetched m version counts batch.plans batch.asked_at batch.fetched
 
-datagram-faultless : (shape : Shape) (workers : ℕ) (m : Member) (datagram : Result Datagram WireFault)
-    → IsFaultless (datagram_happens shape workers m datagram).0
-datagram-faultless shape workers m (Err fault) = tt
-datagram-faultless shape workers m (Ok (datagrams.Frame worker seq commit last entries)) =
-    frame-faultless m (record m { known = with_known m.known worker seq })
-    (not (nat_lt worker workers) || not (list_all (λ entry. is_ok (fitting shape entry)) entries)) (is_known (known_of m.known worker) seq)
+datagram-faultless : (m : Member) (datagram : Result Datagram WireFault) → IsFaultless (datagram_happens m datagram).0
+datagram-faultless m (Err fault) = tt
+datagram-faultless m (Ok (datagrams.Frame worker seq commit last entries)) =
+    frame-faultless m (record m { known = with_known m.known worker seq }) (is_known (known_of m.known worker) seq)
     (is_ahead (known_of m.known worker) seq)
-datagram-faultless shape workers m (Ok (datagrams.Ask replica boot request)) = tt
-datagram-faultless shape workers m (Ok (datagrams.Head replica boot request version counts)) =
+datagram-faultless m (Ok (datagrams.Ask replica boot request)) = tt
+datagram-faultless m (Ok (datagrams.Head replica boot request version counts)) =
     head-faultless m version counts m.batch ((replica == m.number) && (boot == m.boot) && (request == m.request))
-datagram-faultless shape workers m (Ok (datagrams.Want replica worker from)) = tt
+datagram-faultless m (Ok (datagrams.Want replica worker from)) = tt
 
 answers-faultless : (index : ℕ) (outs : List Out) → IsFaultless (of_answers index outs)
 answers-faultless index [] = tt
 answers-faultless index (out ∷ outs) = tt
 
 bytes-fine : (w : World) (bytes : List ℕ) (found : Option Member)
-    → IsFine w (on_member w found (λ m. cond m.broken (outputs.Broken, w)
-    (member_output w (datagram_happens (shape_of w.primary.schema) w.primary.workers m (reading bytes)))))
+    → IsFine w (on_member w found (λ m. cond m.broken (outputs.Broken, w) (member_output w (datagram_happens m (reading bytes)))))
 bytes-fine w bytes None = plain w w outputs.Ignored refl refl tt
 bytes-fine w bytes (Some m) = by m.broken
   where
-    by : (b : Bool) → IsFine w (cond b (outputs.Broken, w)
-        (member_output w (datagram_happens (shape_of w.primary.schema) w.primary.workers m (reading bytes))))
+    by : (b : Bool) → IsFine w (cond b (outputs.Broken, w) (member_output w (datagram_happens m (reading bytes))))
     by true = plain w w outputs.Broken refl refl tt
-    by false =
-        member-fine w (datagram_happens (shape_of w.primary.schema) w.primary.workers m (reading bytes))
-        (datagram-faultless (shape_of w.primary.schema) w.primary.workers m (reading bytes))
+    by false = member-fine w (datagram_happens m (reading bytes)) (datagram-faultless m (reading bytes))
 
 deliver-fine : (w : World) (node : Node) (found : Option (List ℕ)) → IsFine w (deliver_happens w node found)
 deliver-fine w node None = plain w w outputs.NeverSent refl refl tt

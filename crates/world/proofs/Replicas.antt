@@ -1,13 +1,11 @@
 -- What comes to a replica of sound parts does to it what it does to its member.
-use Rattle.std.proofs.Common.{◌≡◌, ℕ, zero, suc, Bool, true, false, cond, not, ◌||◌, ◌&&◌, ◌==◌, List, [], ◌∷◌, Option, Some}
-use Rattle.std.proofs.Common.{None, Result, Ok, Err, nat_lt, refl, sym, ap, subst, ◌∙◌, arith}
-use Rattle.std.specs.List.{slice_get, slice_set, slice_index, list_all}
+use Rattle.std.proofs.Common.{◌≡◌, ℕ, zero, suc, Bool, true, false, cond, ◌&&◌, ◌==◌, List, [], ◌∷◌, Option, Some, None, Result, Ok, Err}
+use Rattle.std.proofs.Common.{refl, sym, ap, subst, ◌∙◌, arith}
+use Rattle.std.specs.List.{slice_get, slice_set, slice_index}
 use Rattle.std.specs.Option.{option_map, is_none}
-use Rattle.std.specs.Result.{is_ok}
-use Rattle.std.proofs.lemmas.Bool.{false≢true, and_parts, eqb-true}
+use Rattle.std.proofs.lemmas.Bool.{false≢true, cond-false, and_parts, eqb-true}
 use Rattle.rows.specs.declared.commit.Commit.{Commit}
-use Rattle.rows.specs.Shape.{Shape, shape_of}
-use Rattle.rows.specs.Entries.{fitting}
+use Rattle.rows.specs.Shape.{Shape}
 use Rattle.rows.specs.Tables.{Tables, shape_in}
 use Rattle.rows.proofs.TableLaws.{shape-at}
 use Rattle.wire.specs.declared.datagram.Datagram.{Datagram}
@@ -15,17 +13,18 @@ use Rattle.wire.specs.declared.datagram.Datagram.TheVariants as datagrams
 use Rattle.wire.specs.declared.faults.WireFault.{WireFault}
 use Rattle.update_log.specs.declared.frame.Frame.{Frame}
 use Rattle.wire.specs.Reading.{reading}
+use Rattle.wire.specs.Spelling.{datagram_of_frame}
 use Rattle.intake.specs.declared.taken.Taken.{Taken}
 use Rattle.intake.specs.declared.taken.Taken.TheVariants as takens
 use Rattle.intake.specs.Known.{is_known, is_ahead, with_seq}
 use Rattle.intake.specs.State.{Arrivals, arrivals_of}
-use Rattle.intake.specs.Steps.{with_frame}
+use Rattle.intake.specs.Steps.{with_frame, taken}
 use Rattle.dispatcher.specs.declared.outcome.Got.{Got}
 use Rattle.dispatcher.specs.declared.outcome.Got.TheVariants as got
 use Rattle.plans.specs.declared.plan.Plan.{Plan}
 use Rattle.dispatcher.specs.Feeding.{IsFedFrom, Tells}
 use Rattle.dispatcher.specs.State.{Replica, Batch as ReplicaBatch, Fetched}
-use Rattle.dispatcher.specs.Steps.{frame_comes, own_head_comes, goes_on, got_of, datagram_comes}
+use Rattle.dispatcher.specs.Steps.{received, own_head_comes, goes_on, got_of, datagram_comes}
 use Rattle.script.specs.declared.output.Output.{Output}
 use Rattle.script.specs.declared.output.Output.TheVariants as outputs
 use Rattle.world.specs.Inner.Naming.{of_got}
@@ -77,19 +76,17 @@ known-stored arrivals frame =
     ∙ ap (λ (known : List ℕ). slice_set (known_in arrivals) frame.worker (with_seq known frame.seq))
     (sym (known-at arrivals frame.worker))
 
+-- the member takes it where the replica's intake does
 frame-comes : (had : List ℕ) (at : ℕ) (r : Replica) (frame : Frame)
-    → Comes had at r (frame_happens (shape_in r.tables) r.workers (member_of had at r) frame.worker frame.seq frame.entries)
-    (frame_comes r frame)
+    → Comes had at r (frame_happens (member_of had at r) frame.worker frame.seq)
+    (got_of (taken r.arrivals frame).0, record r { arrivals = (taken r.arrivals frame).1 })
 frame-comes had at r frame =
     subst (λ (known : List ℕ). Comes had at r
-    (cond (not (nat_lt frame.worker r.workers) || not (list_all (λ entry. is_ok (fitting (shape_in r.tables) entry)) frame.entries))
-    (outputs.Ignored, m)
     (cond (is_known known frame.seq) (outputs.Repeat, m)
     (cond (is_ahead known frame.seq) (outputs.Ahead, m)
-    (outputs.Stored, record m { known = with_known (known_in r.arrivals) frame.worker frame.seq }))))
-    (frame_comes r frame)) (sym (known-at r.arrivals frame.worker))
-    (by (not (nat_lt frame.worker r.workers) || not (list_all (λ entry. is_ok (fitting (shape_in r.tables) entry)) frame.entries))
-    (is_known one.known frame.seq) (is_ahead one.known frame.seq))
+    (outputs.Stored, record m { known = with_known (known_in r.arrivals) frame.worker frame.seq })))
+    (got_of (taken r.arrivals frame).0, record r { arrivals = (taken r.arrivals frame).1 })) (sym (known-at r.arrivals frame.worker))
+    (by (is_known one.known frame.seq) (is_ahead one.known frame.seq))
   where
     one : Arrivals
     one = arrivals_of r.arrivals frame.worker
@@ -103,14 +100,13 @@ frame-comes had at r frame =
     takes : Bool → Bool → Taken × List Arrivals
     takes b c = cond b (takens.Repeat, r.arrivals) (cond c (takens.Ahead, r.arrivals) (takens.Stored, stored))
 
-    by : (a b c : Bool) → Comes had at r
-        (cond a (outputs.Ignored, m) (cond b (outputs.Repeat, m)
-        (cond c (outputs.Ahead, m) (outputs.Stored, record m { known = with_known (known_in r.arrivals) frame.worker frame.seq }))))
-        (cond a (got.Ignored, r) (got_of (takes b c).0, record r { arrivals = (takes b c).1 }))
-    by true b c = Comes-same had at r got.Ignored
-    by false true c = Comes-same had at r got.Repeat
-    by false false true = Comes-same had at r got.Ahead
-    by false false false = (
+    by : (b c : Bool) → Comes had at r
+        (cond b (outputs.Repeat, m)
+        (cond c (outputs.Ahead, m) (outputs.Stored, record m { known = with_known (known_in r.arrivals) frame.worker frame.seq })))
+        (got_of (takes b c).0, record r { arrivals = (takes b c).1 })
+    by true c = Comes-same had at r got.Repeat
+    by false true = Comes-same had at r got.Ahead
+    by false false = (
       ap (λ (known : List (List ℕ)). (outputs.Stored, record m { known = known })) (sym (known-stored r.arrivals frame)),
       record {
         workers_stay = refl;
@@ -164,17 +160,40 @@ head-comes had at r version counts (Some queries) passes = head-batch had at r v
 
 -- ---- any datagram
 
+-- bytes that read as a datagram are what that is, while the replica is whole
+received-as : (r : Replica) (bytes : List ℕ) (datagram : Result Datagram WireFault) → reading bytes ≡ datagram → r.broken ≡ false
+    → datagram_comes r datagram ≡ received r bytes
+received-as r bytes datagram reads whole =
+    ap (λ (datagram : Result Datagram WireFault). datagram_comes r datagram) (sym reads)
+    ∙ sym (cond-false {A = Got × Replica} r.broken (got.Broken, r) (datagram_comes r (reading bytes)) whole)
+
+-- a frame of the durable list
+true-frame-comes : (laws : FedLaws) (shape : Shape) (durable : List Commit) (had : List ℕ) (at : ℕ) (r : Replica) (bytes : List ℕ)
+    (frame : Frame) → IsFedFrom shape durable r → r.broken ≡ false → reading bytes ≡ Ok (datagram_of_frame frame)
+    → Tells r.workers durable (Ok (datagram_of_frame frame))
+    → Comes had at r (frame_happens (member_of had at r) frame.worker frame.seq) (datagram_comes r (Ok (datagram_of_frame frame)))
+true-frame-comes laws shape durable had at r bytes frame fed whole reads tells =
+    let told : Tells r.workers durable (reading bytes) =
+    subst (λ (datagram : Result Datagram WireFault). Tells r.workers durable datagram) (sym reads) tells in
+    subst (λ (came : Got × Replica). Comes had at r (frame_happens (member_of had at r) frame.worker frame.seq) came)
+    (sym (received-as r bytes (Ok (datagram_of_frame frame)) reads whole ∙ laws.frame shape durable r bytes frame fed whole reads told))
+    (frame-comes had at r frame)
+
 datagram-comes : (laws : FedLaws) (shape : Shape) (workers : ℕ) (durable : List Commit) (boots : List (List ℕ)) (replicas : List Replica)
-    (i : ℕ) (had : List ℕ) (at : ℕ) (r : Replica) (datagram : Result Datagram WireFault)
-    → IsFed shape workers durable (boots_at boots i) i r → slice_get replicas i ≡ Some r → Means workers durable boots replicas datagram
-    → Comes had at r (datagram_happens (shape_in r.tables) r.workers (member_of had at r) datagram) (datagram_comes r datagram)
-datagram-comes laws shape workers durable boots replicas i had at r (Err fault) fed here means = Comes-same had at r got.Ignored
-datagram-comes laws shape workers durable boots replicas i had at r (Ok (datagrams.Frame worker seq commit last entries)) fed here means =
-    frame-comes had at r (record { worker = worker; seq = seq; commit = commit; last = last; entries = entries })
-datagram-comes laws shape workers durable boots replicas i had at r (Ok
-    (datagrams.Ask replica boot request)) fed here means = Comes-same had at r got.Ignored
-datagram-comes laws shape workers durable boots replicas i had at r (Ok
-    (datagrams.Head replica boot request version counts)) fed here means =
+    (i : ℕ) (had : List ℕ) (at : ℕ) (r : Replica) (bytes : List ℕ) (datagram : Result Datagram WireFault)
+    → IsFed shape workers durable (boots_at boots i) i r → r.broken ≡ false → slice_get replicas i ≡ Some r
+    → reading bytes ≡ datagram → Means workers durable boots replicas datagram
+    → Comes had at r (datagram_happens (member_of had at r) datagram) (datagram_comes r datagram)
+datagram-comes laws shape workers durable boots replicas i had at r bytes (Err fault) fed whole here reads means =
+    Comes-same had at r got.Ignored
+datagram-comes laws shape workers durable boots replicas i had at r bytes (Ok
+    (datagrams.Frame worker seq commit last entries)) fed whole here reads means =
+    true-frame-comes laws shape durable had at r bytes
+    (record { worker = worker; seq = seq; commit = commit; last = last; entries = entries }) fed.feeding whole reads means.tells
+datagram-comes laws shape workers durable boots replicas i had at r bytes (Ok
+    (datagrams.Ask replica boot request)) fed whole here reads means = Comes-same had at r got.Ignored
+datagram-comes laws shape workers durable boots replicas i had at r bytes (Ok
+    (datagrams.Head replica boot request version counts)) fed whole here reads means =
     by ((replica == r.number) && (boot == r.boot) && (request == r.request)) refl
   where
     by : (own : Bool) → ((replica == r.number) && (boot == r.boot) && (request == r.request)) ≡ own → Comes had at r
@@ -190,8 +209,8 @@ datagram-comes laws shape workers durable boots replicas i had at r (Ok
         head-comes had at r version counts r.batch
         (λ waits. laws.head shape durable r version counts fed.feeding means.tells.0 (means.tells.1 ∙ sym fed.workers_are) means.tells.2
         (answer.fresh waits (eqb-true request r.request parts.1)))
-datagram-comes laws shape workers durable boots replicas i had at r (Ok
-    (datagrams.Want replica worker from)) fed here means = Comes-same had at r got.Ignored
+datagram-comes laws shape workers durable boots replicas i had at r bytes (Ok
+    (datagrams.Want replica worker from)) fed whole here reads means = Comes-same had at r got.Ignored
 
 -- ---- bytes
 
@@ -210,8 +229,7 @@ pub bytes-come : (laws : FedLaws) (shape : Shape) (p : Parts) (i : ℕ) (bytes :
     → Means p.primary.workers p.primary.durable p.boots p.replicas (reading bytes) → slice_get p.replicas i ≡ found
     → Follows shape
     (on_member (world_of p) (option_map (member_at p i) found)
-    (λ m. cond m.broken (outputs.Broken, world_of p)
-    (member_output (world_of p) (datagram_happens (shape_of p.primary.schema) p.primary.workers m (reading bytes)))))
+    (λ m. cond m.broken (outputs.Broken, world_of p) (member_output (world_of p) (datagram_happens m (reading bytes)))))
     (to_replica p i bytes found)
 bytes-come laws shape p i bytes None sound means here = (refl, sound)
 bytes-come laws shape p i bytes (Some r) sound means here = by r.broken refl
@@ -225,19 +243,10 @@ bytes-come laws shape p i bytes (Some r) sound means here = by r.broken refl
     fed : IsFed shape p.primary.workers p.primary.durable (boots_at p.boots i) i r
     fed = sound.fed i r here
 
-    came : Comes had at r (datagram_happens (shape_in r.tables) r.workers (member_of had at r) (reading bytes))
-        (datagram_comes r (reading bytes))
-    came = datagram-comes laws shape p.primary.workers p.primary.durable p.boots p.replicas i had at r (reading bytes) fed here means
-
-    same : r.broken ≡ false
-        → datagram_happens (shape_of p.primary.schema) p.primary.workers (member_of had at r) (reading bytes) ≡ answered had at
-        (datagram_comes r (reading bytes))
-    same whole =
-        ap (λ (shape : Shape). datagram_happens shape p.primary.workers (member_of had at r) (reading bytes))
-        (sound.primary_is.shape_is ∙ sym (fed-shape shape p.primary.durable r fed.feeding whole))
-        ∙ ap (λ (workers : ℕ). datagram_happens (shape_in r.tables) workers (member_of had at r) (reading bytes))
-        (sym fed.workers_are)
-        ∙ came.0
+    came : r.broken ≡ false → Comes had at r (datagram_happens (member_of had at r) (reading bytes)) (datagram_comes r (reading bytes))
+    came whole =
+        datagram-comes laws shape p.primary.workers p.primary.durable p.boots p.replicas i had at r bytes (reading bytes) fed whole here
+        refl means
 
     -- the replica stays fed by what it makes of the datagram
     feeds : r.broken ≡ false → IsFedFrom shape p.primary.durable (datagram_comes r (reading bytes)).1
@@ -248,9 +257,9 @@ bytes-come laws shape p i bytes (Some r) sound means here = by r.broken refl
 
     by : (b : Bool) → r.broken ≡ b → Follows shape
         (cond b (outputs.Broken, world_of p)
-        (member_output (world_of p) (datagram_happens (shape_of p.primary.schema) p.primary.workers (member_of had at r) (reading bytes))))
+        (member_output (world_of p) (datagram_happens (member_of had at r) (reading bytes))))
         (got_by p i (cond b (got.Broken, r) (datagram_comes r (reading bytes))))
     by true whole = Follows-same shape p i r outputs.Broken sound here
     by false whole =
         Follows-goes shape p i r _ (of_got (datagram_comes r (reading bytes)).0) (datagram_comes r (reading bytes)).1 sound here
-        (same whole) (record { feeding = feeds whole; moves = came.1 })
+        (came whole).0 (record { feeding = feeds whole; moves = (came whole).1 })

@@ -1,12 +1,10 @@
 -- A step of the world leaves as many workers and replicas, and no replica makes more requests than datagrams are sent.
-use Rattle.std.proofs.Common.{◌≡◌, ℕ, zero, suc, ◌+◌, ◌≤◌, Bool, true, false, cond, not, ◌||◌, ◌&&◌, ◌==◌, List, [], ◌∷◌, ◌++◌, length}
-use Rattle.std.proofs.Common.{drop, Option, None, Some, IfSome, Result, Ok, Err, nat_le, nat_lt, refl, sym, ap, subst, ◌∙◌, inl, inr, arith}
-use Rattle.std.specs.List.{slice_get, AllByRecursion, list_all}
-use Rattle.std.specs.Result.{is_ok}
+use Rattle.std.proofs.Common.{◌≡◌, ℕ, zero, suc, ◌+◌, ◌≤◌, Bool, true, false, cond, ◌&&◌, ◌==◌, List, [], ◌∷◌, ◌++◌, length}
+use Rattle.std.proofs.Common.{drop, Option, None, Some, IfSome, Result, Ok, Err, nat_le, refl, sym, ap, subst, ◌∙◌, inl, inr, arith}
+use Rattle.std.specs.List.{slice_get, AllByRecursion}
 use Rattle.std.proofs.lemmas.List.{append-nil, length-append, length-set}
 use Rattle.rows.specs.declared.limits.TheConstants.{WAITING_QUERIES_MAX}
-use Rattle.rows.specs.Entries.{fitting}
-use Rattle.rows.specs.Shape.{Shape, shape_of}
+use Rattle.rows.specs.Shape.{shape_of}
 use Rattle.wire.specs.declared.datagram.Datagram.{Datagram}
 use Rattle.wire.specs.declared.datagram.Datagram.TheVariants as datagrams
 use Rattle.wire.specs.declared.faults.WireFault.{WireFault}
@@ -141,25 +139,22 @@ module _ (w : World) where
   either_way true x y n first second = first
   either_way false x y n first second = second
 
-  datagram_stays : (shape : Shape) (workers : ℕ) (m : Member) (read : Result Datagram WireFault)
-      → (datagram_happens shape workers m read).1.request ≡ m.request
-  datagram_stays shape workers m (Err fault) = refl
-  datagram_stays shape workers m (Ok (datagrams.Frame worker seq commit last entries)) =
-      either_way
-      (not (nat_lt worker workers) || not (list_all (λ entry. is_ok (fitting shape entry)) entries)) _ _ _ refl
-      (either_way (is_known (known_of m.known worker) seq) _ _ _ refl
-      (either_way (is_ahead (known_of m.known worker) seq) _ _ _ refl refl))
-  datagram_stays shape workers m (Ok (datagrams.Head replica boot request version counts)) =
+  datagram_stays : (m : Member) (read : Result Datagram WireFault) → (datagram_happens m read).1.request ≡ m.request
+  datagram_stays m (Err fault) = refl
+  datagram_stays m (Ok (datagrams.Frame worker seq commit last entries)) =
+      either_way (is_known (known_of m.known worker) seq) _ _ _ refl
+      (either_way (is_ahead (known_of m.known worker) seq) _ _ _ refl refl)
+  datagram_stays m (Ok (datagrams.Head replica boot request version counts)) =
       either_way ((replica == m.number) && (boot == m.boot) && (request == m.request)) _ _ _ (head_stays m version counts m.batch) refl
-  datagram_stays shape workers m (Ok (datagrams.Ask replica boot request)) = refl
-  datagram_stays shape workers m (Ok (datagrams.Want replica worker from)) = refl
+  datagram_stays m (Ok (datagrams.Ask replica boot request)) = refl
+  datagram_stays m (Ok (datagrams.Want replica worker from)) = refl
 
   delivering : (node : Node) (found : Option (List ℕ)) → Counts w (deliver_happens w node found)
   delivering node None = unchanged _
   delivering nodes.Primary (Some bytes) = counts_sent _ _ (packets_of (answers w.primary bytes)) (refl, refl) refl refl
   delivering (nodes.Replica number) (Some bytes) =
       on_members number (slice_get w.members number) _ refl
-      (λ m here. counts_stays number m _ _ here (datagram_stays (shape_of w.primary.schema) w.primary.workers m (reading bytes)))
+      (λ m here. counts_stays number m _ _ here (datagram_stays m (reading bytes)))
 
   opening : (i : ℕ) (m : Member) (plan : Plan) (check : Result (Unit {0}) PlanFault) → slice_get w.members i ≡ Some m
       → Counts w (cond (nat_le WAITING_QUERIES_MAX (length m.waiting)) (outputs.BatchFull, w) (open_happens w m plan check))

@@ -1,15 +1,13 @@
 -- The world: one primary, its open transactions, every datagram that was ever sent, and of each replica what it knows.
 -- No replica's tables are held: what a batch answers is said by the one list of durable commits.
 use Rattle.std.specs.Prelude.{ℕ, zero, suc, ◌+◌, List, [], ◌∷◌, ◌++◌, length, Bool, true, false, Option, None, Some, Result, Ok, Err}
-use Rattle.std.specs.Prelude.{slice_get, slice_set, slice_index_or, replicate, ◌==◌, ◌||◌, ◌&&◌, not, nat_lt, nat_le, if◌then◌else◌}
+use Rattle.std.specs.Prelude.{slice_get, slice_set, slice_index_or, replicate, ◌==◌, ◌&&◌, not, nat_lt, nat_le, if◌then◌else◌}
 use Rattle.std.specs.Prelude.{is_ok}
-use Rattle.std.specs.List.{list_all, list_any}
+use Rattle.std.specs.List.{list_any}
 use Rattle.std.specs.Option.{option_and_then}
 use Rattle.std.specs.Str.{bytes_eq}
 use Rattle.rows.specs.Limits.{waiting_queries_max}
-use Rattle.rows.specs.declared.entry.Entry.{Entry}
-use Rattle.rows.specs.Shape.{Shape, shape_of}
-use Rattle.rows.specs.Entries.{fitting}
+use Rattle.rows.specs.Shape.{shape_of}
 use Rattle.rows.specs.Commits.{tables_after}
 use Rattle.wire.specs.declared.datagram.Datagram.{Datagram}
 use Rattle.wire.specs.declared.datagram.Datagram.TheVariants as datagrams
@@ -184,10 +182,9 @@ known_of known worker = slice_index_or known worker []
 abbrev pub with_known : List (List ℕ) → ℕ → ℕ → List (List ℕ)
 with_known known worker seq = slice_set known worker (with_seq (known_of known worker) seq)
 
--- a frame that comes to a replica
-abbrev pub frame_happens : Shape → ℕ → Member → ℕ → ℕ → List Entry → Output × Member
-frame_happens shape workers m worker seq entries =
-    if not (nat_lt worker workers) || not (list_all (λ entry. is_ok (fitting shape entry)) entries) then (outputs.Ignored, m) else
+-- a frame that comes to a replica. All that was sent is of the durable list, so its worker is there and its entries fit
+abbrev pub frame_happens : Member → ℕ → ℕ → Output × Member
+frame_happens m worker seq =
     if is_known (known_of m.known worker) seq then (outputs.Repeat, m) else
     if is_ahead (known_of m.known worker) seq then (outputs.Ahead, m) else
     (outputs.Stored, record m { known = with_known m.known worker seq })
@@ -203,14 +200,14 @@ head_happens m version counts (Some batch) = unless_fetched batch.fetched
         (outputs.Head version, record m { batch = Some (record batch { fetched = Some (record { version = version; counts = counts }) }) })
 
 -- a datagram that comes to a replica
-abbrev pub datagram_happens : Shape → ℕ → Member → Result Datagram WireFault → Output × Member
-datagram_happens shape workers m (Err fault) = (outputs.Ignored, m)
-datagram_happens shape workers m (Ok (datagrams.Frame worker seq commit last entries)) = frame_happens shape workers m worker seq entries
-datagram_happens shape workers m (Ok (datagrams.Head replica boot request version counts)) =
+abbrev pub datagram_happens : Member → Result Datagram WireFault → Output × Member
+datagram_happens m (Err fault) = (outputs.Ignored, m)
+datagram_happens m (Ok (datagrams.Frame worker seq commit last entries)) = frame_happens m worker seq
+datagram_happens m (Ok (datagrams.Head replica boot request version counts)) =
     if (replica == m.number) && (boot == m.boot)
     && (request == m.request) then head_happens m version counts m.batch else (outputs.Ignored, m)
-datagram_happens shape workers m (Ok (datagrams.Ask replica boot request)) = (outputs.Ignored, m)
-datagram_happens shape workers m (Ok (datagrams.Want replica worker from)) = (outputs.Ignored, m)
+datagram_happens m (Ok (datagrams.Ask replica boot request)) = (outputs.Ignored, m)
+datagram_happens m (Ok (datagrams.Want replica worker from)) = (outputs.Ignored, m)
 
 abbrev pub on_member : World → Option Member → (Member → Output × World) → Output × World
 on_member w None next = (outputs.Ignored, w)
@@ -224,8 +221,7 @@ delivered w bytes nodes.Primary =
     (of_answers (length w.sent) (answers w.primary bytes), record w { sent = w.sent ++ packets_of (answers w.primary bytes) })
 delivered w bytes (nodes.Replica number) =
     on_member w (slice_get w.members number)
-    (λ m. if m.broken then (outputs.Broken, w) else member_output w
-    (datagram_happens (shape_of w.primary.schema) w.primary.workers m (reading bytes)))
+    (λ m. if m.broken then (outputs.Broken, w) else member_output w (datagram_happens m (reading bytes)))
 
 abbrev pub deliver_happens : World → Node → Option (List ℕ) → Output × World
 deliver_happens w node None = (outputs.NeverSent, w)

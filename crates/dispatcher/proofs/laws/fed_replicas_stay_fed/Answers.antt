@@ -2,6 +2,7 @@
 use Rattle.dispatcher.proofs.CatchingUp.{Merges}
 use Rattle.dispatcher.proofs.Feeding.{Arriving, fresh-fed, commits-feed, truth-stays, bytes-feed, head-goes-on, open-feeds}
 use Rattle.dispatcher.proofs.Feeding.{ask-feeds, same-tables}
+use Rattle.dispatcher.proofs.Taking.{Kinds, frame-taken}
 use Rattle.dispatcher.proofs.Dumping.{dump-tables}
 use Rattle.dispatcher.proofs.Names.{bytes-names, open-names, ask-names, run-names}
 use Rattle.dispatcher.proofs.Reports.{run-feeds, run-consistent, answer-reports, ready-answers}
@@ -69,6 +70,12 @@ returns-clause-bytes c =
 
 pub returns-clause-head : goal.returns-clause-head
 returns-clause-head c = head-goes-on
+
+pub returns-clause-frame : goal.returns-clause-frame
+returns-clause-frame c =
+    let keep = c.changes_keep_kinds.ensures in
+    let kinds : Kinds = record { entry = keep.entry; entries = keep.entries; versions = keep.versions } in
+    frame-taken kinds
 
 pub returns-clause-open : goal.returns-clause-open
 returns-clause-open c = open-feeds

@@ -11,6 +11,7 @@ invariant_of-result c =
       commits = e.commits;
       bytes = e.bytes;
       head = e.head;
+      frame = e.frame;
       opening = e.«open»;
       asking = e.ask;
       running = e.run;
