@@ -39,13 +39,13 @@ pub struct PrimaryCore<J: JournalStore> {
 
 impl<J: JournalStore> Model for PrimaryCore<J> {
     ghost use Rattle.primary.specs.State.{Core};
-    ghost use Rattle.primary.specs.Journaling.{IsWritten};
+    ghost use Rattle.primary.specs.Inner.Invariant.{KeepsJournal};
 
     ghost Value = { Core J };
 
     ghost view = { λ p. record { primary = p.lists; journal = p.journal } };
 
-    ghost invariant = { λ p. IsWritten J.is_honest J.standing (record { primary = p.lists; journal = p.journal }) };
+    ghost invariant = { λ p. KeepsJournal J.is_honest J.standing J.fault_count (record { primary = p.lists; journal = p.journal }) };
 }
 
 impl<J: JournalStore> PrimaryCore<J> {
@@ -186,7 +186,6 @@ impl<J: JournalStore> PrimaryCore<J> {
     /// were; after `Journal` some beginning of the records may stand, and each commit and flush
     /// answers `Failed` until the primary is started again.
     pub fn flush(&mut self, count: usize) -> Result<u64, FlushFault>
-        requires { J.fault_count self.old.journal < faults_max }
         ensures ok { IfOk result (λ durable. (self.old.primary.failed ≡ false) × (self.new.primary ≡ flushed self.old.primary count)
             × (durable ≡ length self.new.primary.durable)) }
         ensures refused { IfErr result (λ fault. IsFlushRefusal self.old.primary count fault self.new.primary) }
