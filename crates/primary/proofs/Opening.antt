@@ -1,5 +1,5 @@
 -- What a journal keeps once it was settled, or partly.
-use Rattle.std.proofs.Common.{◌≡◌, ◌+◌, ◌^◌, ◌<◌, ◌≤◌, ℕ, true, false, List, [], ◌∷◌, ◌++◌, length, take, drop, nat_lt, cond, ◌||◌, ◌&&◌}
+use Rattle.std.proofs.Common.{◌≡◌, ◌+◌, ◌^◌, ◌<◌, ◌≤◌, ℕ, Bool, true, false, List, [], ◌∷◌, ◌++◌, length, take, drop, nat_lt, cond, ◌||◌, ◌&&◌}
 use Rattle.std.proofs.Common.{refl, sym, ap, subst, ◌∙◌, inl, inr, arith, append_assoc, append-nil, length-append}
 use Rattle.std.proofs.lemmas.Bool.{cases_lt, lt-ltb, ltb-true, le-ltb, or_left, or_right, and_from, and_parts}
 use Rattle.std.proofs.Math.Seq.{drop-append_seam, drop-length}
@@ -10,11 +10,13 @@ use Rattle.rows.specs.declared.commit.Commit.{Commit}
 use Rattle.rows.specs.Shape.{Shape}
 use Rattle.journal.specs.declared.faults.JournalFault.{JournalFault}
 use Rattle.journal.specs.declared.faults.JournalFault.TheVariants.{OtherHeader, Damaged, OutOfOrder, Illegal, Memory}
-use Rattle.journal.specs.Laws.{IsRecoveredOnce, IsNotRefused}
+use Rattle.journal.specs.Laws.{IsRecoveredOnce, IsNotRefused, IsRefusedOnce}
 use Rattle.journal.specs.Recovery.{IsBeginning, IsKept, IsRecovered, IsRefusal, is_torn, is_record_len}
 use Rattle.journal.specs.Text.{header, record_of, records_from, journal_text}
+use Rattle.primary.specs.declared.faults.StartFault.{StartFault}
+use Rattle.primary.specs.declared.faults.StartFault.TheVariants as starts
 use Rattle.primary.specs.Inner.Opening.{settled, IsPartlySettled}
-use Rattle.primary.specs.Journaling.{KeepsSame, AreNumbered}
+use Rattle.primary.specs.Journaling.{IsStartRefusal, TellsFault, KeepsSame, AreNumbered}
 use Rattle.primary.proofs.Streams.{numbered-short}
 
 -- what is recovered of bytes is numbered within 64 bits, as there are no more bytes
@@ -273,3 +275,12 @@ partly-keeps_same workers shape bytes head new commits bytes_kept once law recov
       (λ front. shorter-front (header workers shape) new bytes front cut.1.0
       (omega (arith, length-append (header workers shape) (records_from 0 commits), text.1, cut.1.1)))
 ]
+
+-- bytes that are refused with a fault are refused with no other, so a start tells it
+pub tells-fault : {F : Type 0} (workers : ℕ) (shape : Shape) (is_honest : Bool) (bytes : List ℕ) (fault : JournalFault)
+    (refusal : StartFault F) → IsRefusedOnce → is_honest ≡ true → IsStartRefusal workers shape is_honest bytes refusal
+    → IsRefusal workers shape bytes fault → ¬ (fault ≡ Memory) → TellsFault fault refusal
+tells-fault workers shape is_honest bytes fault (starts.Store failure) once honest refused is other = tt
+tells-fault workers shape is_honest bytes fault (starts.Journal told) once honest refused is other =
+    once workers shape bytes told fault (refused.1 honest) is refused.0 other
+tells-fault workers shape is_honest bytes fault starts.Memory once honest refused is other = tt

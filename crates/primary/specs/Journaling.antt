@@ -1,5 +1,5 @@
 -- What stands on the journal of a primary, and what is left where a flush or a start is refused.
-use Rattle.std.specs.Prelude.{◌≡◌, ℕ, ◌+◌, ◌<◌, ◌^◌, List, length, take, Bool, true, false, Result, Ok, Err}
+use Rattle.std.specs.Prelude.{◌≡◌, ℕ, ◌+◌, ◌<◌, ◌^◌, List, length, take, Bool, true, false, Result, Ok, Err, MatchResult}
 use Rattle.rows.specs.declared.commit.Commit.{Commit}
 use Rattle.rows.specs.Shape.{Shape, shape_of}
 use Rattle.update_log.specs.Streams.{stream_of}
@@ -60,6 +60,18 @@ IsStartRefusal workers shape is_honest bytes (starts.Store fault) = Unit {0}
 IsStartRefusal workers shape is_honest bytes (starts.Journal fault) =
     ¬ (fault ≡ journals.Memory) × (is_honest ≡ true → IsRefusal workers shape bytes fault)
 IsStartRefusal workers shape is_honest bytes starts.Memory = Unit {0}
+
+-- a start that is refused tells this fault of the bytes, unless the journal failed or it was out of memory
+abbrev pub TellsFault : {F : Type 0} → JournalFault → StartFault F → Type 0
+TellsFault fault (starts.Store failure) = Unit {0}
+TellsFault fault (starts.Journal told) = told ≡ fault
+TellsFault fault starts.Memory = Unit {0}
+
+-- where these bytes are refused, so is a start on them, and it tells their fault; being out of memory is no fault of bytes
+abbrev pub TellsRefusal : {A J F : Type 0} → ℕ → Shape → List ℕ → Result A (J × StartFault F) → Type 0
+TellsRefusal workers shape bytes result =
+    (fault : JournalFault) → IsRefusal workers shape bytes fault → ¬ (fault ≡ journals.Memory)
+    → MatchResult result (λ core. ⊥) (λ refusal. TellsFault fault refusal.1)
 
 -- a start that is refused leaves the bytes as they were, but where they could not be cut or written
 abbrev pub LeavesBytes : {F : Type 0} → StartFault F → List ℕ → List ℕ → Type 0

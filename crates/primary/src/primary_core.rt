@@ -11,7 +11,7 @@ ghost use Rattle.journal.specs.Recovery.{IsJournaled};
 ghost use Rattle.journal.specs.Storing.{faults_max};
 ghost use Rattle.journal.specs.Text.{records_from};
 ghost use Rattle.primary.specs.Journaling.{IsWritten, offered, IsFlushRefusal, StandsAfterFlush, CountsFlushFault};
-ghost use Rattle.primary.specs.Journaling.{IsKeptOf, KeepsSame, IsStartRefusal, LeavesBytes, CountsStartFault, AreNumbered};
+ghost use Rattle.primary.specs.Journaling.{IsKeptOf, KeepsSame, IsStartRefusal, TellsRefusal, LeavesBytes, CountsStartFault, AreNumbered};
 ghost use Rattle.primary.specs.Sending.{pushed, answers};
 ghost use Rattle.primary.specs.Steps.{started, commit_answer, committed, flushed};
 
@@ -54,8 +54,9 @@ impl<J: JournalStore> PrimaryCore<J> {
     /// anything else.
     ///
     /// Fails with `Store` where the journal could not be read, cut or written, which it has counted
-    /// as a fault; with `Journal` where its bytes are refused; with `Memory`. The journal is handed
-    /// back, and keeps what it kept; its bytes are changed only where `Store` is answered.
+    /// as a fault; with `Journal` where its bytes are refused, and then with the fault that they have;
+    /// with `Memory`. The journal is handed back, and keeps what it kept; its bytes are changed only
+    /// where `Store` is answered.
     pub fn start(
         alloc: Global,
         journal: J,
@@ -73,6 +74,7 @@ impl<J: JournalStore> PrimaryCore<J> {
             × (J.fault_count core.journal ≡ J.fault_count journal)) }
         ensures refused { IfErr result (λ refusal.
             IsStartRefusal workers (shape_of schema.now) (J.is_honest journal) (J.standing journal) refusal.1) }
+        ensures told { J.is_honest journal ≡ true → TellsRefusal workers (shape_of schema.now) (J.standing journal) result }
         ensures same { J.is_honest journal ≡ true
             → IfErr result (λ refusal. KeepsSame workers (shape_of schema.now) (J.standing journal) (J.standing refusal.0)) }
         ensures leaves { J.is_honest journal ≡ true
@@ -80,6 +82,7 @@ impl<J: JournalStore> PrimaryCore<J> {
         ensures faults { IfErr result (λ refusal. (J.is_honest refusal.0 ≡ J.is_honest journal)
             × CountsStartFault refusal.1 (J.fault_count journal) (J.fault_count refusal.0)) }
     {
+        journal::laws::stops_are_recovered();
         let mut journal = journal;
         match open(alloc, &mut journal, schema, workers) {
             Ok(lists) => Ok(PrimaryCore { lists, journal }),
