@@ -4,3 +4,4 @@ pub mod Keeping
 pub mod Workers
 pub mod Feeding
 pub mod Staying
+pub mod Missing

@@ -1,10 +1,11 @@
--- Laws of arrivals: what keeps them of the streams of one list of commits, and which frames are kept then; and which stay
--- known and kept as frames come and are dropped.
-use Rattle.std.specs.Prelude.{◌≡◌, ℕ, ◌-◌, ◌<◌, ◌≤◌, List, length, ◌++◌, take, drop, true, Some, None, slice_get, slice_index}
+-- Laws of arrivals: what keeps them of the streams of one list of commits, and which frames are kept then; which stay known
+-- and kept as frames come and are dropped; and which seq is the first that is missing.
+use Rattle.std.specs.Prelude.{◌≡◌, ◌↔◌, ℕ, ◌-◌, ◌<◌, ◌≤◌, List, length, ◌++◌, take, drop, true, false, Some, None, slice_get}
+use Rattle.std.specs.Prelude.{slice_index}
 use Rattle.rows.specs.declared.commit.Commit.{Commit}
 use Rattle.update_log.specs.declared.frame.Frame.{Frame}
 use Rattle.update_log.specs.Streams.{stream_of}
-use Rattle.intake.specs.Known.{is_known}
+use Rattle.intake.specs.Known.{is_known, first_missing}
 use Rattle.intake.specs.State.{Arrivals, known_of}
 use Rattle.intake.specs.Steps.{started, taken, lacking, dropped}
 use Rattle.intake.specs.Kept.{frames_between, AreKept, AreKeptFrom}
@@ -75,3 +76,34 @@ NoneLackingAreKnown =
 abbrev pub LackingIsOfWorker : Type 0
 LackingIsOfWorker =
     (all : List Arrivals) (counts : List ℕ) (missing : ℕ × ℕ) → lacking all counts ≡ Some missing → missing.0 < length all
+
+-- ---- what is missing
+
+-- the first seq that is missing is the least that is not known
+abbrev pub FirstMissingIsLeast : Type 0
+FirstMissingIsLeast =
+    (known : List ℕ) → (is_known known (first_missing known) ≡ false)
+    × ((seq : ℕ) → seq < first_missing known → is_known known seq ≡ true)
+
+-- a worker lacks no frame below its count: each is known
+abbrev pub IsComplete : List Arrivals → List ℕ → ℕ → Type 0
+IsComplete all counts worker = (seq : ℕ) → seq < slice_index counts worker → is_known (known_of all worker) seq ≡ true
+
+-- the least worker that lacks a frame below its count, with the least such seq
+pub record IsLeastLacking (all : List Arrivals) (counts : List ℕ) (missing : ℕ × ℕ) : Type 0 where
+  pub there : missing.0 < length all
+  pub below : missing.1 < slice_index counts missing.0
+  pub unknown : is_known (known_of all missing.0) missing.1 ≡ false
+  pub lower_known : (seq : ℕ) → seq < missing.1 → is_known (known_of all missing.0) seq ≡ true
+  pub lesser_complete : (worker : ℕ) → worker < missing.0 → IsComplete all counts worker
+
+-- what is named where a frame is lacking is that
+abbrev pub LackingIsLeast : Type 0
+LackingIsLeast =
+    (all : List Arrivals) (counts : List ℕ) (missing : ℕ × ℕ) → lacking all counts ≡ Some missing → IsLeastLacking all counts missing
+
+-- and none is named exactly where no worker that is there lacks one
+abbrev pub NoneLackingIsComplete : Type 0
+NoneLackingIsComplete =
+    (all : List Arrivals) (counts : List ℕ)
+    → (lacking all counts ≡ None) ↔ ((worker : ℕ) → worker < length all → IsComplete all counts worker)

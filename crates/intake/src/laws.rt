@@ -3,6 +3,7 @@
 ghost use Rattle.intake.specs.Laws.{NothingIsFrom, CommitsKeepFrom, FramesKeepFrom, DropsKeepFrom, KeptAreOfStream};
 ghost use Rattle.intake.specs.Laws.{FramesLeaveWorkers, DropsLeaveWorkers, FramesStayKnown, DropsLeaveKnown};
 ghost use Rattle.intake.specs.Laws.{FramesStayKept, DropsStayKept, NoneLackingAreKnown, LackingIsOfWorker};
+ghost use Rattle.intake.specs.Laws.{FirstMissingIsLeast, LackingIsLeast, NoneLackingIsComplete};
 
 /// An intake to which only frames of a list of commits come has frames of that list's streams, as
 /// the list goes on and as frames are dropped; and those that it keeps one behind the other are
@@ -26,4 +27,13 @@ pub fn known_frames_stay_kept()
     ensures drops_kept { DropsStayKept }
     ensures complete { NoneLackingAreKnown }
     ensures lacking { LackingIsOfWorker }
+{}
+
+/// The first seq that is missing is the least that is not known. What `Intake::first_missing` names
+/// is the least worker that lacks a frame below its count, with the least such seq; it names none
+/// exactly where no worker lacks one. It does nothing: its contract is the laws.
+pub fn first_missing_is_least()
+    ensures first { FirstMissingIsLeast }
+    ensures lacking { LackingIsLeast }
+    ensures none { NoneLackingIsComplete }
 {}

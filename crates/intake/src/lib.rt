@@ -13,8 +13,9 @@
 //!
 //! Promised: each call is exact, out of memory aside; `new`, `take` and `take_owned` alone need memory.
 //! `arrivals_stay_of_streams` says that an intake to which only frames of a list of commits come
-//! holds frames of its streams, and `known_frames_stay_kept` which stay known and kept. It stands on
-//! `update_log` for frames.
+//! holds frames of its streams, `known_frames_stay_kept` which stay known and kept, and
+//! `first_missing_is_least` which seq is the first that is missing. It stands on `update_log` for
+//! frames.
 #![tactic(auto)]
 
 mod collector;
@@ -24,5 +25,5 @@ mod laws;
 mod taken;
 
 pub use intake::Intake;
-pub use laws::{arrivals_stay_of_streams, known_frames_stay_kept};
+pub use laws::{arrivals_stay_of_streams, first_missing_is_least, known_frames_stay_kept};
 pub use taken::Taken;

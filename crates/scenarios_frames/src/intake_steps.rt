@@ -1,7 +1,9 @@
 //! An intake of two workers: what each frame is answered, what is missing, what is kept, and what
 //! refused memory leaves.
 
-use intake::{Intake, Taken, arrivals_stay_of_streams, known_frames_stay_kept};
+use intake::{
+    Intake, Taken, arrivals_stay_of_streams, first_missing_is_least, known_frames_stay_kept,
+};
 use scenarios_common::wanted::{Wanted, all_made};
 use std::alloc::{AllocError, Global};
 use std::test::Fail;
@@ -200,6 +202,7 @@ fn what_is_missing_is_named_and_what_is_dropped_stays_known(rt: HostRuntime) -> 
     assert_eq!(rt; other_answer(rt.alloc(), &OWNED)?, None);
     arrivals_stay_of_streams();
     known_frames_stay_kept();
+    first_missing_is_least();
     Ok(())
 }
 
