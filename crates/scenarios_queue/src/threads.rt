@@ -45,22 +45,19 @@ fn put_all<R: Wait>(rt: &R, alloc: Global, queue: &QueryQueue, putter: u8) -> bo
     true
 }
 
-/// Takes batches until all plans are taken, by whomever. None if it is out of memory.
-fn take_all<R: Wait>(
-    rt: &R,
-    alloc: Global,
-    queue: &QueryQueue,
-    taken: &AtomicU64,
-) -> Option<Vec<Plan>> {
-    let mut pass = queue.pass()?;
+/// Takes batches until all plans are taken, by whomever, or it is out of memory.
+fn take_all<R: Wait>(rt: &R, alloc: Global, queue: &QueryQueue, taken: &AtomicU64) -> Vec<Plan> {
     let mut plans = Vec::new(alloc);
+    let Some(mut pass) = queue.pass() else {
+        return plans;
+    };
     for _ in rt.forever() {
         let Ok(count) = queue.take_batch(rt, &mut pass, &mut plans) else {
-            return None;
+            return plans;
         };
         taken.fetch_add(count as u64, Ordering::SeqCst);
         if taken.load(Ordering::SeqCst) >= ALL {
-            return Some(plans);
+            return plans;
         }
         thread::yield_now();
     }
@@ -98,7 +95,7 @@ fn take_by_two<R: Threads + Wait + Sync>(
     rt: &R,
     alloc: Global,
     queue: &QueryQueue,
-) -> (Option<Vec<Plan>>, Option<Vec<Plan>>) {
+) -> (Vec<Plan>, Vec<Plan>) {
     let taken = AtomicU64::new(0);
     join(
         rt,
@@ -131,28 +128,20 @@ fn are_taken_in_order(first: &[Plan], second: &[Plan]) -> bool {
     true
 }
 
-/// What two takers take of what four putters put, and whether all of that was put.
-fn put_and_take<R: Threads + Wait + Sync>(
-    rt: &R,
-    alloc: Global,
-    queue: &QueryQueue,
-) -> (bool, (Option<Vec<Plan>>, Option<Vec<Plan>>)) {
-    join(
+/// Whether all plans are put and taken, in order.
+fn is_all_taken<R: Threads + Wait + Sync>(rt: &R, alloc: Global, queue: &QueryQueue) -> bool {
+    let (is_put, taken) = join(
         rt,
         || put_by_four(rt, alloc, queue),
         || take_by_two(rt, alloc, queue),
-    )
+    );
+    is_put && are_taken_in_order(taken.0.as_slice(), taken.1.as_slice())
 }
 
-/// Whether all plans are put and taken, in order, through a queue with room for 100.
+/// The same, through a queue with room for 100.
 fn are_all_taken<R: Threads + Wait + Sync>(rt: &R, alloc: Global) -> Result<bool, AllocError> {
     let queue = QueryQueue::new(alloc, 100)?;
-    match put_and_take(rt, alloc, &queue) {
-        (is_put, (Some(first), Some(second))) => {
-            Ok(is_put && are_taken_in_order(first.as_slice(), second.as_slice()))
-        }
-        _ => Ok(false),
-    }
+    Ok(is_all_taken(rt, alloc, &queue))
 }
 
 #[test]
