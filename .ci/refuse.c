@@ -2,7 +2,7 @@
  * Refuses one request for memory of a program, to show what the program makes of that.
  *
  *     LD_PRELOAD=./refuse.so REFUSED=7 PROGRAM       its seventh request is refused
- *     LD_PRELOAD=./refuse.so COUNTED=FILE PROGRAM    none is, and FILE has their number once it has ended
+ *     LD_PRELOAD=./refuse.so COUNTED=FILE PROGRAM    none is, and FILE has their number so far, at each moment
  *
  * A request is a call of malloc, calloc, realloc, aligned_alloc or posix_memalign. What is not refused goes to the
  * functions of the C library under their other names. No header is read, since the toolchain's compiler has none.
@@ -16,29 +16,43 @@ void *__libc_memalign(size alignment, size bytes);
 char *getenv(const char *name);
 unsigned long strtoul(const char *digits, char **end, int base);
 int creat(const char *path, unsigned mode);
-int dprintf(int file, const char *form, ...);
+long pwrite(int file, const void *bytes, size count, long at);
 int *__errno_location(void);
 
-enum { ENOMEM = 12 };
+enum { ENOMEM = 12, DIGITS = 20 };
 
 static unsigned long requests, refused;
+
+/* The file of the number of requests; none is open where it is negative. */
+static int counted = -1;
 
 /* Reads which request is to be refused, before the program begins; they are numbered from 1. */
 __attribute__((constructor)) static void begin(void) {
     const char *number = getenv("REFUSED");
     refused = number ? strtoul(number, 0, 10) : 0;
     requests = 0;
+    const char *file = getenv("COUNTED");
+    counted = file ? creat(file, 0600) : -1;
 }
 
-__attribute__((destructor)) static void end(void) {
-    const char *file = getenv("COUNTED");
-    if (file)
-        dprintf(creat(file, 0600), "%lu\n", requests);
+/* Writes the number of requests over the one before, which has no more digits. It is not left to the end of the program: one
+   that has threads may end without its destructors. */
+static void tell(unsigned long number) {
+    char text[DIGITS + 1];
+    int at = DIGITS;
+    text[at] = '\n';
+    for (; number; number /= 10)
+        text[--at] = (char)('0' + number % 10);
+    if (pwrite(counted, text + at, (size)(DIGITS + 1 - at), 0) < 0)
+        counted = -1;
 }
 
 /* Counts a request, and tells whether it is refused. */
 static int refuses(void) {
-    if (__atomic_add_fetch(&requests, 1, __ATOMIC_RELAXED) != refused)
+    unsigned long request = __atomic_add_fetch(&requests, 1, __ATOMIC_RELAXED);
+    if (counted >= 0)
+        tell(request);
+    if (request != refused)
         return 0;
     *__errno_location() = ENOMEM;
     return 1;
