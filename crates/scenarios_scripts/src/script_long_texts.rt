@@ -1,7 +1,7 @@
 //! Scripts with long answers: a line that comes late and is longer than what is gathered before a
 //! write, and a batch of as many queries as there may be.
 
-use crate::scripts::{SETTINGS, printed};
+use crate::scripts::{SETTINGS, printed, push_line};
 use std::alloc::{AllocError, Global};
 use std::test::Fail;
 use world::{Echo, RunFault, run_script};
@@ -26,17 +26,10 @@ impl Story {
 
     /// One event more, and the lines that it answers.
     fn add(&mut self, event: &str, answer: &str) -> Result<(), AllocError> {
-        for (text, front, line) in [
-            (&mut self.script, "", event),
-            (&mut self.plain, "", answer),
-            (&mut self.echoed, "> ", event),
-        ] {
-            text.push_str(front)?;
-            text.push_str(line)?;
-            text.push_str("\n")?;
-        }
-        self.echoed.push_str(answer)?;
-        self.echoed.push_str("\n")
+        push_line(&mut self.script, "", event)?;
+        push_line(&mut self.plain, "", answer)?;
+        push_line(&mut self.echoed, "> ", event)?;
+        push_line(&mut self.echoed, "", answer)
     }
 
     /// What it prints, with its events or without.
