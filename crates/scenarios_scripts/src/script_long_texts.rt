@@ -120,10 +120,10 @@ fn is_whole_or_not_begun(
     }
 }
 
-/// Whether a line of the text tells of being out of memory.
+/// Whether a line of the text tells of being out of memory, or of a replica that broke for it.
 fn has_memory_line(text: &[u8]) -> bool {
-    text.split(|byte| *byte == b'\n')
-        .any(|line| line == b"memory".as_slice())
+    text.split(|byte| *byte == b'\n').any(|line| line == b"memory".as_slice()
+        || line == b"broken".as_slice())
 }
 
 /// A late line that is longer than what is gathered before a write is written whole. Whichever
