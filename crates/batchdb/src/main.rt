@@ -6,6 +6,7 @@
 #![tactic(auto)]
 
 mod program;
+mod words;
 
 pub use program::{run_words, without_words};
 use std::process::ExitCode;

@@ -1,10 +1,12 @@
-//! The words that the program is called with.
+//! What the program answers.
 
-ghost use Rattle.std.specs.Prelude.{◌≡◌, ◌≤◌, ◌⊎◌, ◌++◌, ◌∷◌, ℕ, List, [], OnOk};
+ghost use Rattle.std.specs.Prelude.{◌≡◌, ◌≤◌, ◌++◌, ◌∷◌, ℕ, List, [], OnOk, map};
 ghost use Rattle.std.specs.Io.KnownBytes.{Appends, Keeps};
 ghost use Rattle.world.specs.Scripts.{fault_text};
-ghost use Rattle.batchdb.specs.Status.{fault_status, HasRun, HasTold};
+ghost use Rattle.batchdb.specs.Words.{asked_for};
+ghost use Rattle.batchdb.specs.Status.{fault_status, status_max, HasAnswered, HasRun};
 
+use crate::words::{Asked, asked_for};
 use clap::error::ErrorKind;
 use clap::{Arg, ArgAction, Command, Error};
 use std::alloc::Global;
@@ -53,16 +55,57 @@ pub fn run_words<R: Read, W: Write, E: Write>(
     writer: &mut W,
     errors: &mut E,
 ) -> u8
-    ensures status { result ≤ 2 }
-    ensures done { result ≡ 0 → HasRun (R.remaining reader.old) (R.remaining reader.new)
-        (W.contents writer.old) (W.contents writer.new)
-        ⊎ HasTold (R.remaining reader.old) (R.remaining reader.new)
-        (W.contents writer.old) (W.contents writer.new) }
+    ensures status { result ≤ status_max (asked_for (map (λ word. word.now) words.now)) }
+    ensures done { result ≡ 0 → HasAnswered (asked_for (map (λ word. word.now) words.now))
+        (R.remaining reader.old) (R.remaining reader.new) (W.contents writer.old) (W.contents writer.new) }
     ensures unwritten { result ≡ 2 → Keeps (W.contents writer.old) (W.contents writer.new) }
 {
-    match asked(alloc, words) {
-        Ok(Some(echo)) => simulate(alloc, echo, reader, writer, errors),
-        Ok(None) => {
+    match asked_for(words) {
+        Asked::Simulator(echo) => simulate(alloc, echo, reader, writer, errors),
+        Asked::Help => print(HELP, writer, errors),
+        Asked::Version => print_version(alloc, writer, errors),
+        Asked::Other => answer_other(alloc, words, writer, errors),
+    }
+}
+
+/// Prints the version.
+fn print_version<W: Write, E: Write>(alloc: Global, writer: &mut W, errors: &mut E) -> u8
+    ensures status { result ≤ 1 }
+    ensures done { result ≡ 0 → (text : List ℕ) × Appends (W.contents writer.old) (W.contents writer.new) text }
+{
+    let Ok(text) = format!(in alloc; "batchdb {VERSION}\n") else {
+        say(errors, "out of memory");
+        return FAILED;
+    };
+    print(text.as_str(), writer, errors)
+}
+
+/// Prints a text.
+fn print<W: Write, E: Write>(text: &str, writer: &mut W, errors: &mut E) -> u8
+    ensures status { result ≤ 1 }
+    ensures done { result ≡ 0 → Appends (W.contents writer.old) (W.contents writer.new) text.now }
+{
+    if writer.write_all(text.as_bytes()).is_err() || writer.flush().is_err() {
+        say(errors, "the output could not be written");
+        return FAILED;
+    }
+    DONE
+}
+
+/// Says what is wrong with words that the program does not know, or what longer forms of known ones
+/// ask for, as `sim --help --echo`.
+fn answer_other<W: Write, E: Write>(
+    alloc: Global,
+    words: &[&str],
+    writer: &mut W,
+    errors: &mut E,
+) -> u8
+    ensures status { result ≤ 2 }
+    ensures done { result ≡ 0 → (text : List ℕ) × Appends (W.contents writer.old) (W.contents writer.new) text }
+    ensures unwritten { result ≡ 2 → Keeps (W.contents writer.old) (W.contents writer.new) }
+{
+    match parse(alloc, words) {
+        Ok(()) => {
             say(
                 errors,
                 "error: a word is missing: `sim`; see `batchdb --help`",
@@ -73,9 +116,9 @@ pub fn run_words<R: Read, W: Write, E: Write>(
     }
 }
 
-/// What the simulator is asked for; `None` where there is no word at all. Fails with what is to be
-/// said of other words: help, the version, or what is wrong with them.
-fn asked(alloc: Global, words: &[&str]) -> Result<Option<Echo>, Error> {
+/// Parses the words, and fails with what is to be said of them: help, the version, or what is wrong
+/// with them.
+fn parse(alloc: Global, words: &[&str]) -> Result<(), Error> {
     let echo = Arg::new(alloc, "echo")
         .long("echo")
         .action(ArgAction::SetTrue);
@@ -84,12 +127,8 @@ fn asked(alloc: Global, words: &[&str]) -> Result<Option<Echo>, Error> {
         .version(VERSION)
         .override_help(HELP)
         .subcommand(sim)?;
-    let matches = command.try_get_matches_from(words)?;
-    match matches.subcommand_matches("sim") {
-        Some(sim) if sim.get_flag("echo") => Ok(Some(Echo::Events)),
-        Some(_) => Ok(Some(Echo::No)),
-        None => Ok(None),
-    }
+    command.try_get_matches_from(words)?;
+    Ok(())
 }
 
 /// Says what the words are answered with: help and the version on the output, what is wrong with
@@ -111,11 +150,7 @@ fn tell<W: Write, E: Write>(alloc: Global, answer: Error, writer: &mut W, errors
         let _ = writeln!(errors, "{line}; see `batchdb --help`");
         return NOT_READ;
     }
-    if writer.write_all(text.as_bytes()).is_err() || writer.flush().is_err() {
-        say(errors, "the output could not be written");
-        return FAILED;
-    }
-    DONE
+    print(text, writer, errors)
 }
 
 /// What words are answered with, as text; `None` when out of memory, then or now.
@@ -151,7 +186,7 @@ fn simulate<R: Read, W: Write, E: Write>(
     errors: &mut E,
 ) -> u8
     ensures status { result ≤ 2 }
-    ensures done { result ≡ 0 → HasRun (R.remaining reader.old) (R.remaining reader.new)
+    ensures done { result ≡ 0 → HasRun echo (R.remaining reader.old) (R.remaining reader.new)
         (W.contents writer.old) (W.contents writer.new) }
     ensures unwritten { result ≡ 2 → Keeps (W.contents writer.old) (W.contents writer.new) }
 {

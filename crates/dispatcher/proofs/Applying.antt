@@ -1,7 +1,7 @@
 -- What applying the commits of frames comes to.
 use Rattle.std.proofs.Common.{◌≡◌, ◌<◌, true, false, List, [], ◌∷◌, length, Result, Ok, Err, IsErr, subst, arith}
 use Rattle.rows.specs.declared.commit.Commit.{Commit}
-use Rattle.rows.specs.Commits.{commits_of}
+use Rattle.rows.specs.Commits.{apply_commits}
 use Rattle.store.specs.Faults.{have_entries}
 use Rattle.ordering.specs.Laws.{MergeIsUnique}
 use Rattle.ordering.specs.Merging.{frames_in}
@@ -21,7 +21,7 @@ pub catches-up : MergeIsUnique → (r : Replica) (fetched : Fetched) (commits : 
     (new : Replica) → HoldNext r fetched commits → Applies r fetched commits result new → CatchesUp r fetched result new
 catches-up only r fetched commits (Ok done) new held applies = record { commits = commits; held = held; applied = applies }
 catches-up only r fetched commits (Err Inconsistent) new held applies = (
-  λ others hold. subst (λ (commits : List Commit). IsErr (commits_of r.tables commits))
+  λ others hold. subst (λ (commits : List Commit). IsErr (apply_commits r.tables commits))
       (only (frames_in r.arrivals r.applied fetched.counts) r.version fetched.version commits others held hold) applies.0,
   applies.1,
 )

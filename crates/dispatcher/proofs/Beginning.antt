@@ -4,7 +4,7 @@ use Rattle.std.proofs.lemmas.Bool.{true≢false}
 use Rattle.intake.specs.Kept.{AreKeptFrom}
 use Rattle.intake.specs.Known.{is_known}
 use Rattle.intake.specs.State.{known_of}
-use Rattle.intake.specs.Steps.{started as none_came}
+use Rattle.intake.specs.Steps.{no_arrivals as none_came}
 
 -- no frame is known
 pub none-known : (workers worker seq : ℕ) → is_known (known_of (none_came workers) worker) seq ≡ false

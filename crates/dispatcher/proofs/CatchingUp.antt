@@ -5,11 +5,11 @@ use Rattle.std.proofs.lemmas.Bool.{false≢true}
 use Rattle.rows.specs.declared.commit.Commit.{Commit}
 use Rattle.rows.specs.Shape.{Shape}
 use Rattle.rows.specs.Tables.{Tables, Refusal}
-use Rattle.rows.specs.Commits.{commits_of, tables_after}
+use Rattle.rows.specs.Commits.{apply_commits, tables_after}
 use Rattle.intake.specs.Known.{is_known}
 use Rattle.intake.specs.State.{known_of}
 use Rattle.intake.specs.Kept.{AreAllKept}
-use Rattle.intake.specs.Laws.{NoneLackingAreKnown}
+use Rattle.intake.specs.Laws.{NoneLackingIsComplete}
 use Rattle.ordering.specs.Cutting.{commits_between}
 use Rattle.ordering.specs.Merging.{frames_in}
 use Rattle.ordering.specs.Laws.{MergeIsUnique, KeptFramesMerge}
@@ -30,7 +30,7 @@ not-refused made tables e h = false≢true (subst (λ (made : Result Tables Refu
 
 -- what the laws say of frames that came
 pub record Merges : Type 0 where
-  pub complete : NoneLackingAreKnown
+  pub complete : NoneLackingIsComplete
   pub only : MergeIsUnique
   pub kept : KeptFramesMerge
 
@@ -56,15 +56,16 @@ module _ (laws : Merges) (shape : Shape) (commits : List Commit) (r : Replica) (
       is-fetched.below fed.frames_are each-kept fed.applied_are is-fetched.counts_are
 
   -- which make the tables at the version
-  between-made : commits_of r.tables (commits_between commits r.version fetched.version) ≡ Ok (tables_after shape commits fetched.version)
+  between-made : apply_commits r.tables (commits_between commits r.version fetched.version) ≡ Ok
+      (tables_after shape commits fetched.version)
   between-made =
-      ap (λ (tables : Tables). commits_of tables (commits_between commits r.version fetched.version)) (fed.tables_are can.whole)
+      ap (λ (tables : Tables). apply_commits tables (commits_between commits r.version fetched.version)) (fed.tables_are can.whole)
       ∙ between-applied shape commits r.version fetched.version fed.legal.defined is-fetched.above
 
   -- it catches up
   pub can-catch-up : CannotCatchUp r fetched → ⊥
   can-catch-up cannot =
-      not-refused (commits_of r.tables (commits_between commits r.version fetched.version)) (tables_after shape commits fetched.version)
+      not-refused (apply_commits r.tables (commits_between commits r.version fetched.version)) (tables_after shape commits fetched.version)
       between-made (cannot (commits_between commits r.version fetched.version) hold-between)
 
   -- with the tables at the version
@@ -73,6 +74,7 @@ module _ (laws : Merges) (shape : Shape) (commits : List Commit) (r : Replica) (
       let only : caught.commits ≡ commits_between commits r.version fetched.version =
       laws.only (frames_in r.arrivals r.applied fetched.counts) r.version fetched.version caught.commits
       (commits_between commits r.version fetched.version) caught.held hold-between in
-      made-ok (commits_of r.tables (commits_between commits r.version fetched.version)) (tables_after shape commits fetched.version)
+      made-ok (apply_commits r.tables (commits_between commits r.version fetched.version)) (tables_after shape commits fetched.version)
       (λ tables. new ≡ at_fetched r fetched tables) between-made
-      (subst (λ (held : List Commit). IsOkAnd (commits_of r.tables held) (λ tables. new ≡ at_fetched r fetched tables)) only caught.applied)
+      (subst (λ (held : List Commit). IsOkAnd (apply_commits r.tables held)
+      (λ tables. new ≡ at_fetched r fetched tables)) only caught.applied)

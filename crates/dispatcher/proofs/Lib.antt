@@ -13,5 +13,4 @@ pub mod Taking
 pub mod Names
 pub mod Dumping
 pub mod Reports
-pub mod Placing
 pub mod Walk

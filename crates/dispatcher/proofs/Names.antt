@@ -6,7 +6,7 @@ use Rattle.std.specs.Result.{is_ok}
 use Rattle.std.proofs.lemmas.Bool.{cond_both}
 use Rattle.rows.specs.declared.limits.TheConstants.{WAITING_QUERIES_MAX}
 use Rattle.rows.specs.Entries.{fitting}
-use Rattle.rows.specs.Commits.{commits_of}
+use Rattle.rows.specs.Commits.{apply_commits}
 use Rattle.rows.specs.Tables.{Tables, Refusal, shape_in}
 use Rattle.update_log.specs.declared.frame.Frame.{Frame}
 use Rattle.intake.specs.Steps.{taken, lacking}
@@ -116,7 +116,7 @@ made-names r new fetched (Ok tables) h = same-names new (at_fetched r fetched ta
 made-names r new fetched (Err refusal) h = absurd h
 
 caught-names : (r new : Replica) (fetched : Fetched) → CaughtUp r fetched new → new.names ≡ r.names
-caught-names r new fetched caught = made-names r new fetched (commits_of r.tables caught.commits) caught.applied
+caught-names r new fetched caught = made-names r new fetched (apply_commits r.tables caught.commits) caught.applied
 
 module _ (r : Replica) (answer : Run) (new : Replica) where
   ends-names : (plans : List Plan) (fetched : Fetched) → Ends r plans fetched answer new → new.names ≡ r.names

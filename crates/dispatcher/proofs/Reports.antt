@@ -11,7 +11,7 @@ use Rattle.plans.specs.declared.plan.Plan.{Plan}
 use Rattle.dispatcher.specs.Feeding.{IsFedFrom, RunKeepsFed, RunIsConsistent, AnswerIsReport, ReadyIsAnswered}
 use Rattle.dispatcher.specs.State.{Replica, Batch, Fetched}
 use Rattle.dispatcher.specs.Report.{report_of}
-use Rattle.dispatcher.specs.Steps.{at_fetched, Ends, Runs, RunsAs, RunsWhole, RunsBatch, RunsFetched, RunsOutOfMemory}
+use Rattle.dispatcher.specs.Steps.{at_fetched, Ends, RunsReplica, RunsAs, RunsWhole, RunsBatch, RunsFetched, RunsOutOfMemory}
 use Rattle.dispatcher.proofs.CatchingUp.{Merges, can-catch-up, caught-is}
 use Rattle.dispatcher.proofs.Feeding.{Arriving, broken-fed, caught-fed, finished-fed}
 use Rattle.dispatcher.proofs.Ready.{CanAnswer, ready-parts}
@@ -84,7 +84,7 @@ module _ (merges : Merges) (shape : Shape) (commits : List Commit) (r : Replica)
   ran-as true is ran = idle runs.Broken (λ e. cc) (λ text e. cc) ran
   ran-as false is ran = ran-batch r.batch is refl ran
 
-  ran-parts : Runs r answer new → Ran shape commits r answer new
+  ran-parts : RunsReplica r answer new → Ran shape commits r answer new
   ran-parts ran = ran-as r.broken refl ran
 
 -- ---- it stays fed
@@ -156,7 +156,7 @@ answer-reports merges shape commits r text new fed (inr wants) = elim wants.2 [
 
 -- a run by what is known of the batch
 runs-ends : (r : Replica) (batch : Batch) (fetched : Fetched) (answer : Run) (new : Replica) → CanAnswer r batch fetched
-    → Runs r answer new → Ends r batch.plans fetched answer new
+    → RunsReplica r answer new → Ends r batch.plans fetched answer new
 runs-ends r batch fetched answer new can ran =
     let whole = subst (λ (broken : Bool). RunsAs broken r answer new) can.whole ran in
     let batched = subst (λ (found : Option Batch). RunsWhole r found answer new) can.there whole in

@@ -1,7 +1,7 @@
 -- What a run answers where a version was fetched and no frame is missing, and where one is.
 use Rattle.std.proofs.Common.{◌≡◌, ℕ, ◌<◌, ◌⊎◌, inl, inr, Bool, false, Option, Some, None, Result, Ok, Err, refl, sym, ap}
 use Rattle.std.proofs.Common.{subst, ◌∙◌, IsOkAnd}
-use Rattle.rows.specs.Commits.{commits_of}
+use Rattle.rows.specs.Commits.{apply_commits}
 use Rattle.rows.specs.Tables.{Tables, Refusal}
 use Rattle.intake.specs.Steps.{lacking}
 use Rattle.dispatcher.specs.declared.outcome.Run.{Run}
@@ -9,8 +9,8 @@ use Rattle.dispatcher.specs.declared.outcome.Run.TheVariants as runs
 use Rattle.dispatcher.specs.State.{Replica, Batch, Fetched}
 use Rattle.dispatcher.specs.Steps.{want_for, broken_of, at_fetched, CaughtUp, CannotCatchUp, Ends, RunsFetched, RunsBatch}
 use Rattle.dispatcher.specs.Steps.{RunsWhole, RunsAs}
-use Rattle.dispatcher.specs.Steps.{Runs, MayRun}
-use Rattle.dispatcher.specs.Inner.Parts.{answered_by, MayAnswer}
+use Rattle.dispatcher.specs.Steps.{RunsReplica, MayRun}
+use Rattle.dispatcher.specs.Inner.Parts.{answered_by, MayAnswerBatch}
 use Rattle.dispatcher.proofs.Ready.{CanAnswer, ready-can}
 
 -- catching up leaves all but the tables, the version and the frames
@@ -21,12 +21,12 @@ made-from r new fetched (Ok tables) h = (ap (λ (r : Replica). r.batch) h, ap (�
 made-from r new fetched (Err refusal) h = absurd h
 
 pub caught-from : (r new : Replica) (fetched : Fetched) → CaughtUp r fetched new → (new.batch ≡ r.batch) × (new.broken ≡ r.broken)
-caught-from r new fetched caught = made-from r new fetched (commits_of r.tables caught.commits) caught.applied
+caught-from r new fetched caught = made-from r new fetched (apply_commits r.tables caught.commits) caught.applied
 
 -- what is answered by the first frame that is missing
 run-lacking : (r : Replica) (batch : Batch) (fetched : Fetched) (missing : Option (ℕ × ℕ)) (answer : Run) (new : Replica)
     → r.broken ≡ false → r.batch ≡ Some batch → batch.fetched ≡ Some fetched → lacking r.arrivals fetched.counts ≡ missing
-    → RunsFetched r batch.plans fetched missing answer new → Runs r answer new
+    → RunsFetched r batch.plans fetched missing answer new → RunsReplica r answer new
 run-lacking r batch fetched missing answer new whole there has lacks ran =
     subst (λ (broken : Bool). RunsAs broken r answer new) (sym whole)
     (subst (λ (found : Option Batch). RunsWhole r found answer new) (sym there)
@@ -46,7 +46,7 @@ module _ (r : Replica) (batch : Batch) (fetched : Fetched) (can : CanAnswer r ba
   run-ends answer new ends = inl (run-lacking r batch fetched None answer new can.whole can.there can.has can.complete ends)
 
   -- the batch is answered on the tables that have caught up, or stays where it is out of memory
-  pub run-answers : (after new : Replica) (answer : Run) → CaughtUp r fetched after → MayAnswer after answer new → MayRun r answer new
+  pub run-answers : (after new : Replica) (answer : Run) → CaughtUp r fetched after → MayAnswerBatch after answer new → MayRun r answer new
   run-answers after new answer caught (inl memory) =
       inr (fetched, ready-can r batch fetched can, inl (memory.0, inr (subst (CaughtUp r fetched) (sym memory.1) caught)))
   run-answers after new answer caught (inr answered) =

@@ -12,7 +12,7 @@ use Rattle.rows.specs.Shape.{shape_of}
 use Rattle.rows.specs.Tables.{Tables, shape_in}
 use Rattle.intake.specs.Known.{is_known}
 use Rattle.intake.specs.Kept.{AreAllKept, AreKeptFrom}
-use Rattle.intake.specs.Laws.{NoneLackingAreKnown}
+use Rattle.intake.specs.Laws.{NoneLackingIsComplete}
 use Rattle.intake.specs.State.{Arrivals, known_of}
 use Rattle.intake.specs.Steps.{lacking}
 use Rattle.dispatcher.specs.declared.batch.Batch.{Batch as HeldBatch}
@@ -20,7 +20,7 @@ use Rattle.dispatcher.specs.declared.batch.Fetched.{Fetched as HeldFetched}
 use Rattle.dispatcher.specs.State.{Replica, Batch, Fetched}
 use Rattle.dispatcher.specs.Steps.{ready_of}
 use Rattle.dispatcher.specs.declared.replica_core.ReplicaCore.TheInside.{Inside}
-use Rattle.dispatcher.specs.Inner.Invariant.{fetched_of, batch_of, replica_of, GoesOn, BatchGoesOn, IsCore}
+use Rattle.dispatcher.specs.Inner.Invariant.{fetched_of, batch_held, replica_of, GoesOn, BatchGoesOn, IsCore}
 use Rattle.dispatcher.proofs.Lists.{pointwise-same}
 use Rattle.dispatcher.proofs.Ready.{ready-parts}
 
@@ -33,12 +33,12 @@ seen-shape is_whole tables a is whole = ap (λ (b : Bool). shape_in (cond b [] (
 
 -- ---- the frames
 
-module _ (law : NoneLackingAreKnown) (all : List Arrivals) (counts : List ℕ) (many : length counts ≡ length all)
+module _ (law : NoneLackingIsComplete) (all : List Arrivals) (counts : List ℕ) (many : length counts ≡ length all)
     (complete : lacking all counts ≡ None) where
   -- each frame below the counts is known
   pub all-known : (worker seq : ℕ) → seq < slice_index counts worker → is_known (known_of all worker) seq ≡ true
   all-known worker seq below = elim (cases_lt worker (length all)) [
-    | inl within ↦ law all counts worker seq complete within below
+    | inl within ↦ (law all counts).0 complete worker within seq below
     | inr past ↦
         let none : slice_index counts worker ≡ 0 = get_or_past counts worker 0 (omega (arith, past, many)) in
         absurd (omega (arith, below, none))
@@ -76,28 +76,28 @@ found-caught (Some held) fetched e =
 
 -- what was fetched for the batch that is held
 batch-goes : (version : ℕ) (applied : List ℕ) (held : Option HeldBatch) (batch : Batch) (fetched : Fetched)
-    → option_map batch_of held ≡ Some batch → batch.fetched ≡ Some fetched → BatchGoesOn version applied held
+    → option_map batch_held held ≡ Some batch → batch.fetched ≡ Some fetched → BatchGoesOn version applied held
     → FetchedGoesOn version applied fetched
 batch-goes version applied None batch fetched e f goes = absurd (none-some batch e)
 batch-goes version applied (Some held) batch fetched e f goes =
-    let same = same_Some (batch_of held) batch e in
+    let same = same_Some (batch_held held) batch e in
     found-goes version applied held.fetched fetched (ap (λ (b : Batch). b.fetched) same ∙ f) goes
 
-batch-caught : (held : Option HeldBatch) (batch : Batch) (fetched : Fetched) → option_map batch_of held ≡ Some batch
+batch-caught : (held : Option HeldBatch) (batch : Batch) (fetched : Fetched) → option_map batch_held held ≡ Some batch
     → batch.fetched ≡ Some fetched → BatchGoesOn fetched.version fetched.counts held
 batch-caught None batch fetched e f = tt
 batch-caught (Some held) batch fetched e f =
-    let same = same_Some (batch_of held) batch e in
+    let same = same_Some (batch_held held) batch e in
     found-caught held.fetched fetched (ap (λ (b : Batch). b.fetched) same ∙ f)
 
 -- where the replica is ready
-pub ready-goes : (r : Replica) (held : Option HeldBatch) (fetched : Fetched) → r.batch ≡ option_map batch_of held
+pub ready-goes : (r : Replica) (held : Option HeldBatch) (fetched : Fetched) → r.batch ≡ option_map batch_held held
     → ready_of r ≡ Some fetched → BatchGoesOn r.version r.applied held → FetchedGoesOn r.version r.applied fetched
 ready-goes r held fetched is ready goes =
     let parts = ready-parts r fetched ready in
     batch-goes r.version r.applied held parts.0 fetched (sym is ∙ parts.1.there) parts.1.has goes
 
-pub ready-caught : (r : Replica) (held : Option HeldBatch) (fetched : Fetched) → r.batch ≡ option_map batch_of held
+pub ready-caught : (r : Replica) (held : Option HeldBatch) (fetched : Fetched) → r.batch ≡ option_map batch_held held
     → ready_of r ≡ Some fetched → BatchGoesOn fetched.version fetched.counts held
 ready-caught r held fetched is ready =
     let parts = ready-parts r fetched ready in

@@ -12,8 +12,8 @@ use Rattle.rows.specs.declared.entry.Entry.TheVariants.{Insert, Patch, Delete}
 use Rattle.rows.specs.Shape.{Shape}
 use Rattle.rows.specs.Entries.{fitting}
 use Rattle.rows.specs.Tables.{Tables, Refusal, Exists, Missing, opening, shape_in, is_row_at, inserted, patched, deleted, is_fit}
-use Rattle.rows.specs.Tables.{change_where, change_of, changes_of, and_then}
-use Rattle.rows.specs.Commits.{commits_of, IsCommit}
+use Rattle.rows.specs.Tables.{change_where, apply_entry, apply_entries, and_then}
+use Rattle.rows.specs.Commits.{apply_commits, IsCommit}
 use Rattle.rows.specs.Laws.{EntryKeepsKinds, EntriesKeepKinds, VersionsKeepKinds}
 use Rattle.update_log.specs.declared.frame.Frame.{Frame}
 use Rattle.update_log.specs.Frames.{frames_from, frames_of}
@@ -54,7 +54,7 @@ fits-first true stands refusal after h = refl
 fits-first false stands refusal after h = h
 
 -- an entry that is defined fits
-entry-fits : (tables : Tables) (entry : Entry) → is_ok (change_of tables entry) ≡ true → fits (shape_in tables) entry ≡ true
+entry-fits : (tables : Tables) (entry : Entry) → is_ok (apply_entry tables entry) ≡ true → fits (shape_in tables) entry ≡ true
 entry-fits tables (Insert table row bytes) h =
     fits-first (is_fit tables (Insert table row bytes)) (not (is_row_at tables table row.0)) Exists (inserted tables table row.0 bytes) h
 entry-fits tables (Patch table row offset bytes) h =
@@ -65,15 +65,15 @@ entry-fits tables (Delete table row) h =
 
 module _ (kinds : Kinds) (shape : Shape) where
   -- and so do entries that are defined one after the other
-  entries-fit : (tables : Tables) (entries : List Entry) → shape_in tables ≡ shape → is_ok (changes_of tables entries) ≡ true
+  entries-fit : (tables : Tables) (entries : List Entry) → shape_in tables ≡ shape → is_ok (apply_entries tables entries) ≡ true
       → AllFit shape entries
   entries-fit tables [] same h = refl
   entries-fit tables (entry ∷ entries) same h =
-      by (λ after kept defined. entries-fit after entries kept defined) (change_of tables entry) refl h
+      by (λ after kept defined. entries-fit after entries kept defined) (apply_entry tables entry) refl h
     where
-      by : ((after : Tables) → shape_in after ≡ shape → is_ok (changes_of after entries) ≡ true → AllFit shape entries)
-          → (first : Result Tables Refusal) → change_of tables entry ≡ first
-          → is_ok (and_then (λ after. changes_of after entries) first) ≡ true → AllFit shape (entry ∷ entries)
+      by : ((after : Tables) → shape_in after ≡ shape → is_ok (apply_entries after entries) ≡ true → AllFit shape entries)
+          → (first : Result Tables Refusal) → apply_entry tables entry ≡ first
+          → is_ok (and_then (λ after. apply_entries after entries) first) ≡ true → AllFit shape (entry ∷ entries)
       by rest (Ok after) e h =
           and_from (fits shape entry) (list_all (fits shape) entries)
           (subst (λ (shape : Shape). fits shape entry ≡ true) same
@@ -83,16 +83,16 @@ module _ (kinds : Kinds) (shape : Shape) where
 
   -- and those of commits
   commits-fit : (workers : ℕ) (tables : Tables) (commits : List Commit) → shape_in tables ≡ shape
-      → AllByRecursion (IsCommit workers) commits → is_ok (commits_of tables commits) ≡ true
+      → AllByRecursion (IsCommit workers) commits → is_ok (apply_commits tables commits) ≡ true
       → AllByRecursion (CommitFits shape workers) commits
   commits-fit workers tables [] same each h = tt
   commits-fit workers tables (commit ∷ commits) same each h =
-      by (λ after kept defined. commits-fit workers after commits kept each.1 defined) (changes_of tables commit.entries) refl h
+      by (λ after kept defined. commits-fit workers after commits kept each.1 defined) (apply_entries tables commit.entries) refl h
     where
-      by : ((after : Tables) → shape_in after ≡ shape → is_ok (commits_of after commits) ≡ true
+      by : ((after : Tables) → shape_in after ≡ shape → is_ok (apply_commits after commits) ≡ true
           → AllByRecursion (CommitFits shape workers) commits)
-          → (first : Result Tables Refusal) → changes_of tables commit.entries ≡ first
-          → is_ok (and_then (λ after. commits_of after commits) first) ≡ true
+          → (first : Result Tables Refusal) → apply_entries tables commit.entries ≡ first
+          → is_ok (and_then (λ after. apply_commits after commits) first) ≡ true
           → AllByRecursion (CommitFits shape workers) (commit ∷ commits)
       by rest (Ok after) e h = (
         (

@@ -2,7 +2,7 @@
 use Rattle.std.proofs.Common.{◌≡◌, ℕ, zero, suc, ◌+◌, ◌<◌, ◌≤◌, true, List, [], ◌∷◌, ◌++◌, length, map, drop, Option, None, Some}
 use Rattle.std.proofs.Common.{slice_get, decimal, refl, sym, ap, ◌∙◌, arith, append_assoc}
 use Rattle.std.specs.List.{flat_map}
-use Rattle.std.specs.Option.{IsSome, is_some}
+use Rattle.std.specs.Option.{IsSome, is_some, unwrap_or}
 use Rattle.std.proofs.lemmas.Bool.{and_parts, false≢true}
 use Rattle.std.proofs.lemmas.List.{append-nil, drop_all, drop_more}
 use Rattle.std.proofs.lemmas.List.Sums.{sum_by-cons}
@@ -14,7 +14,7 @@ use Rattle.rows.specs.Text.{value_text, words_text}
 use Rattle.rows.specs.Values.{is_of_kind, are_of_kinds}
 use Rattle.store.specs.Changes.{column_of}
 use Rattle.dispatcher.specs.TableText.{row_text, rows_text, row_count}
-use Rattle.dispatcher.specs.Inner.Walk.{or_none, columns_text, row_text_at, rows_text_at}
+use Rattle.dispatcher.specs.Inner.Walk.{columns_text, row_text_at, rows_text_at}
 
 -- ---- lists by index
 
@@ -39,7 +39,7 @@ text-more text piece rest from after whole is more adds =
 
 -- ---- the values of a row
 
-pub values-there : (values : Option (List Value)) (column : ℕ) → column < length (or_none values) → IsSome (column_of values column)
+pub values-there : (values : Option (List Value)) (column : ℕ) → column < length (unwrap_or values []) → IsSome (column_of values column)
 values-there None column h = absurd (omega arith)
 values-there (Some values) column h = within-there values column h
 
@@ -47,17 +47,17 @@ columns-from : (values : List Value) (i : ℕ) (value : Value) → slice_get val
     → columns_text (drop i values) ≡ (32 ∷ value_text value) ++ columns_text (drop (i + 1) values)
 columns-from values i value e = ap columns_text (from-index values i value e)
 
-at-place : (values : Option (List Value)) (column : ℕ) → slice_get (or_none values) column ≡ column_of values column
+at-place : (values : Option (List Value)) (column : ℕ) → slice_get (unwrap_or values []) column ≡ column_of values column
 at-place None column = refl
 at-place (Some values) column = refl
 
 -- one value more, behind a space
 pub value-more : (values : Option (List Value)) (i : ℕ) (value : Value) (text spaced after whole : List ℕ)
-    → Some value ≡ column_of values i → text ++ columns_text (drop i (or_none values)) ≡ whole → spaced ≡ text ++ 32 ∷ []
-    → after ≡ spaced ++ value_text value → after ++ columns_text (drop (i + 1) (or_none values)) ≡ whole
+    → Some value ≡ column_of values i → text ++ columns_text (drop i (unwrap_or values [])) ≡ whole → spaced ≡ text ++ 32 ∷ []
+    → after ≡ spaced ++ value_text value → after ++ columns_text (drop (i + 1) (unwrap_or values [])) ≡ whole
 value-more values i value text spaced after whole e is spaces adds =
-    text-more text (32 ∷ value_text value) (columns_text (drop (i + 1) (or_none values))) (columns_text (drop i (or_none values)))
-    after whole is (columns-from (or_none values) i value (at-place values i ∙ sym e))
+    text-more text (32 ∷ value_text value) (columns_text (drop (i + 1) (unwrap_or values []))) (columns_text (drop i (unwrap_or values [])))
+    after whole is (columns-from (unwrap_or values []) i value (at-place values i ∙ sym e))
     (adds ∙ ap (λ t. t ++ value_text value) spaces ∙ append_assoc text (32 ∷ []) (value_text value))
 
 -- a row's values are as many as its table's columns

@@ -1,5 +1,5 @@
--- A replica that is fed from a list of commits: the list is one that a primary may have, and all that the replica knows is
--- of it. And the laws of what keeps it so, and of what its runs answer then.
+-- A replica that is fed from a list of commits: the list is legal, and everything that the replica received is part of it. The
+-- laws say which calls keep a replica fed, and what its runs answer.
 use Rattle.std.specs.Prelude.{◌≡◌, ℕ, ◌<◌, ◌≤◌, List, ◌++◌, length, true, false, None, Some, Result, Ok, Err, slice_get, slice_index}
 use Rattle.rows.specs.declared.commit.Commit.{Commit}
 use Rattle.rows.specs.declared.kind.Kind.{Kind}
@@ -25,9 +25,10 @@ use Rattle.plans.specs.declared.plan.Plan.{Plan}
 use Rattle.dispatcher.specs.State.{Replica, Batch, Fetched}
 use Rattle.dispatcher.specs.Report.{report_of}
 use Rattle.dispatcher.specs.TableText.{table_text}
-use Rattle.dispatcher.specs.Steps.{started, received, got_of, goes_on, opened, asked, at_fetched, ready_of, Runs, MayRun, dumped}
+use Rattle.dispatcher.specs.Steps.{started_replica, received, got_of, goes_on, opened, asked, at_fetched, ready_of, RunsReplica, MayRun}
+use Rattle.dispatcher.specs.Steps.{dumped}
 
--- a version of the list, fetched by a replica, with each worker's frame count at it
+-- the fetched version is one of the list, with each worker's frame count at that version
 pub record IsFetchedFrom (commits : List Commit) (r : Replica) (fetched : Fetched) : Type 0 where
   pub above : r.version ≤ fetched.version
   pub below : fetched.version ≤ length commits
@@ -36,30 +37,28 @@ pub record IsFetchedFrom (commits : List Commit) (r : Replica) (fetched : Fetche
 
 pub record IsFedFrom (shape : Shape) (commits : List Commit) (r : Replica) : Type 0 where
   pub legal : IsLegal shape r.workers commits
-  -- what has come of each worker is of its stream
+  -- the received frames of each worker are those of its stream
   pub workers_are : length r.arrivals ≡ r.workers
   pub frames_are : AreFrom commits r.arrivals
-  -- the frames that its tables have are those of the commits up to its version, and all are known
+  -- the applied frames are those of the commits up to its version, and each is known
   pub counted : length r.applied ≡ r.workers
   pub applied_are : AreFrameCounts commits r.version r.applied
   pub applied_known : (worker seq : ℕ) → seq < slice_index r.applied worker → is_known (known_of r.arrivals worker) seq ≡ true
-  -- every other known frame is kept
+  -- each known frame that is not applied is kept
   pub others_kept : AreKeptFrom r.arrivals r.applied
   pub below : r.version ≤ length commits
   pub tables_are : r.broken ≡ false → r.tables ≡ tables_after shape commits r.version
   pub fetched_is : (batch : Batch) (fetched : Fetched) → r.batch ≡ Some batch → batch.fetched ≡ Some fetched
       → IsFetchedFrom commits r fetched
 
--- what a datagram says is true of the list of a primary with so many workers; an Ask, a Want and bytes that are no datagram
--- say nothing of it
+-- a datagram is true of the list of a primary with so many workers: a Frame is one of the list's streams, a Head counts the
+-- frames at a version of the list. An Ask, a Want and bytes that are no datagram say nothing of the list
 abbrev pub Tells : ℕ → List Commit → Result Datagram WireFault → Type 0
-Tells workers commits (Err fault) = Unit {0}
 Tells workers commits (Ok (datagrams.Frame worker seq commit last entries)) =
     slice_get (stream_of commits worker) seq ≡ Some (record { worker = worker; seq = seq; commit = commit; last = last; entries = entries })
-Tells workers commits (Ok (datagrams.Ask replica boot request)) = Unit {0}
 Tells workers commits (Ok (datagrams.Head replica boot request version counts)) =
     (version ≤ length commits) × (length counts ≡ workers) × AreFrameCounts commits version counts
-Tells workers commits (Ok (datagrams.Want replica worker from)) = Unit {0}
+Tells workers commits other = Unit {0}
 
 -- ---- what keeps it fed
 
@@ -67,54 +66,54 @@ Tells workers commits (Ok (datagrams.Want replica worker from)) = Unit {0}
 abbrev pub FreshIsFed : Type 0
 FreshIsFed =
     (schema : List (List ℕ × List Kind)) (commits : List Commit) (workers number boot : ℕ) → IsLegal (shape_of schema) workers commits
-    → IsFedFrom (shape_of schema) commits (started schema workers number boot)
+    → IsFedFrom (shape_of schema) commits (started_replica schema workers number boot)
 
--- fed from a list, it is fed from each legal list that goes on from it
+-- a replica stays fed as the list grows, if it stays legal
 abbrev pub CommitsKeepFed : Type 0
 CommitsKeepFed =
     (shape : Shape) (commits more : List Commit) (r : Replica) → IsLegal shape r.workers (commits ++ more) → IsFedFrom shape commits r
     → IsFedFrom shape (commits ++ more) r
 
--- and what was true of it is true of each list that goes on from it
+-- a true datagram stays true as the list grows
 abbrev pub TruthStays : Type 0
 TruthStays =
     (workers : ℕ) (commits more : List Commit) (datagram : Result Datagram WireFault) → Tells workers commits datagram
     → Tells workers (commits ++ more) datagram
 
--- it stays fed by bytes that tell the truth of the list
+-- true datagrams keep a replica fed
 abbrev pub BytesKeepFed : Type 0
 BytesKeepFed =
     (shape : Shape) (commits : List Commit) (r : Replica) (bytes : List ℕ) → IsFedFrom shape commits r
     → Tells r.workers commits (reading bytes) → IsFedFrom shape commits (received r bytes).1
 
--- and a Head that tells the truth of the list, and is not older than its version, goes on
+-- a true Head at or above the replica's version is accepted
 abbrev pub TrueHeadGoesOn : Type 0
 TrueHeadGoesOn =
     (shape : Shape) (commits : List Commit) (r : Replica) (version : ℕ) (counts : List ℕ) → IsFedFrom shape commits r
     → version ≤ length commits → length counts ≡ r.workers → AreFrameCounts commits version counts → r.version ≤ version
     → goes_on r version counts ≡ true
 
--- and a frame that tells the truth of the list, and comes while it is not broken, is never ignored: what it answers, and
--- what has come then, is what the intake makes of the frame
+-- a true Frame that arrives while the replica is not broken is never ignored: the answer and the arrivals after it are the
+-- intake's
 abbrev pub TrueFrameIsTaken : Type 0
 TrueFrameIsTaken =
     (shape : Shape) (commits : List Commit) (r : Replica) (bytes : List ℕ) (frame : Frame) → IsFedFrom shape commits r
     → r.broken ≡ false → reading bytes ≡ Ok (datagram_of_frame frame) → Tells r.workers commits (reading bytes)
     → received r bytes ≡ (got_of (taken r.arrivals frame).0, record r { arrivals = (taken r.arrivals frame).1 })
 
--- it stays fed where a query is opened
+-- opening a query keeps it fed
 abbrev pub OpenKeepsFed : Type 0
 OpenKeepsFed =
     (shape : Shape) (commits : List Commit) (r : Replica) (plan : Plan) (count : ℕ) (new : Replica) → IsFedFrom shape commits r
     → opened r plan ≡ Ok (count, new) → IsFedFrom shape commits new
 
--- it stays fed where it asks for a version
+-- asking for a version keeps it fed
 abbrev pub AskKeepsFed : Type 0
 AskKeepsFed =
     (shape : Shape) (commits : List Commit) (r : Replica) (out : Out) (new : Replica) → IsFedFrom shape commits r
     → asked r ≡ Ok (out, new) → IsFedFrom shape commits new
 
--- it stays fed by a run, also out of memory
+-- a run keeps it fed, even if it is out of memory
 abbrev pub RunKeepsFed : Type 0
 RunKeepsFed =
     (shape : Shape) (commits : List Commit) (r : Replica) (answer : Run) (new : Replica) → IsFedFrom shape commits r
@@ -122,14 +121,14 @@ RunKeepsFed =
 
 -- ---- what its runs answer
 
--- a run of a replica that is fed from a list never finds that its frames are not those of one list
+-- a run of a fed replica never answers `Inconsistent`
 abbrev pub RunIsConsistent : Type 0
 RunIsConsistent =
     (shape : Shape) (commits : List Commit) (r : Replica) (answer : Run) (new : Replica) → IsFedFrom shape commits r
     → MayRun r answer new → answer ≡ runs.Inconsistent → ⊥
 
--- where it answers its batch, the answer is the report on the tables after exactly the commits up to the version that was
--- fetched for it, which is its version from then on
+-- a batch is answered by its report on the tables after exactly the commits up to the fetched version, which is the replica's
+-- version afterwards
 abbrev pub AnswerIsReport : Type 0
 AnswerIsReport =
     (shape : Shape) (commits : List Commit) (r : Replica) (text : List ℕ) (new : Replica) → IsFedFrom shape commits r
@@ -137,23 +136,23 @@ AnswerIsReport =
     → (batch : Batch) × (fetched : Fetched) × (r.batch ≡ Some batch) × (batch.fetched ≡ Some fetched)
     × (text ≡ report_of (tables_after shape commits fetched.version) fetched.version batch.plans) × (new.version ≡ fetched.version)
 
--- and where a version was fetched and no frame is missing, that is what every run comes to, being out of memory aside
+-- if a version was fetched and no frame is missing, every run answers the batch, unless it is out of memory
 abbrev pub ReadyIsAnswered : Type 0
 ReadyIsAnswered =
     (shape : Shape) (commits : List Commit) (r : Replica) (batch : Batch) (fetched : Fetched) (answer : Run) (new : Replica)
-    → IsFedFrom shape commits r → r.batch ≡ Some batch → ready_of r ≡ Some fetched → Runs r answer new
+    → IsFedFrom shape commits r → r.batch ≡ Some batch → ready_of r ≡ Some fetched → RunsReplica r answer new
     → (answer ≡ runs.Answered (report_of (tables_after shape commits fetched.version) fetched.version batch.plans))
     × (new ≡ record (at_fetched r fetched (tables_after shape commits fetched.version)) { batch = None })
 
 -- ---- what it tells of its tables
 
--- where it is whole, its dump is the text of the tables after exactly the commits up to its version
+-- the dump of a replica that is not broken is the text of the tables after exactly the commits up to its version
 abbrev pub DumpIsTables : Type 0
 DumpIsTables =
     (shape : Shape) (commits : List Commit) (r : Replica) → IsFedFrom shape commits r → r.broken ≡ false
     → dumped r ≡ Ok (table_text r.names r.version (tables_after shape commits r.version))
 
--- each step of any replica leaves the names of its tables
+-- no call changes the names of a replica's tables
 pub record StepsKeepNames : Type 0 where
   pub by_bytes : (r : Replica) (bytes : List ℕ) → (received r bytes).1.names ≡ r.names
   pub by_open : (r : Replica) (plan : Plan) (count : ℕ) (new : Replica) → opened r plan ≡ Ok (count, new) → new.names ≡ r.names
@@ -162,7 +161,7 @@ pub record StepsKeepNames : Type 0 where
 
 -- ---- what two of them hold
 
--- two replicas at one version hold the same tables, at whatever two moments of the list; a broken one stands at none
+-- two replicas at the same version hold the same tables, even if the list grew in between; a broken replica has no version
 abbrev pub VersionTellsTables : Type 0
 VersionTellsTables =
     (shape : Shape) (commits more : List Commit) (r other : Replica) → IsFedFrom shape commits r → IsFedFrom shape (commits ++ more) other

@@ -5,7 +5,6 @@ use Rattle.plans.specs.declared.plan.Plan.{Plan}
 use Rattle.plans.specs.Answers.{plain_answer}
 use Rattle.plans.specs.Report.{report_text}
 
--- the report of queries: their plain answers, in the order in which they were opened, on tables, which are those at this
--- version
+-- the report of queries on the tables at this version: their plain answers, in the order in which the queries were opened
 abbrev pub report_of : Tables → ℕ → List Plan → List ℕ
 report_of tables version plans = report_text version (map (plain_answer tables) plans)

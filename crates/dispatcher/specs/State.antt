@@ -22,11 +22,11 @@ pub record Replica : Type 0 where
   pub boot : ℕ
   -- how many requests it has made
   pub request : ℕ
-  -- what has come of each worker
+  -- the received frames of each worker
   pub arrivals : List Arrivals
-  -- how many frames of each worker its tables have
+  -- how many frames of each worker are applied
   pub applied : List ℕ
-  -- nothing is said of the tables of a broken replica: they are seen as none
+  -- the tables of a broken replica are not specified: they are seen as none
   pub tables : Tables
   pub version : ℕ
   -- the queries that wait for the next batch

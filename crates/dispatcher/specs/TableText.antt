@@ -14,17 +14,16 @@ names_of schema = map (λ table. table.0) schema
 abbrev pub row_text : List ℕ → ℕ × List Value → List ℕ
 row_text name row = line_text (name ∷ decimal row.0 ∷ map value_text row.1)
 
--- the rows of tables with these names, each table's behind those of the tables before it
+-- the rows of tables with these names, table by table
 abbrev pub rows_text : List (List ℕ) → Tables → List ℕ
-rows_text [] tables = []
-rows_text (name ∷ names) [] = []
 rows_text (name ∷ names) (table ∷ tables) = flat_map (row_text name) table.rows ++ rows_text names tables
+rows_text names tables = []
 
--- how many rows the tables have together
+-- how many rows the tables have in all
 abbrev pub row_count : Tables → ℕ
 row_count tables = sum_by (λ table. length table.rows) tables
 
--- the text of tables with these names, which are those at a version: the version and how many rows there are, and each row
+-- the text of tables with these names at a version: a line of the version and the number of rows, then a line for each row
 abbrev pub table_text : List (List ℕ) → ℕ → Tables → List ℕ
 table_text names version tables =
     line_text (codes "version" ∷ decimal version ∷ codes "rows" ∷ decimal (row_count tables) ∷ []) ++ rows_text names tables

@@ -1,15 +1,15 @@
 //! The replica's core: bytes and values in, bytes and values out.
 
-ghost use Rattle.std.specs.Prelude.{◌≡◌, ℕ, ◌<◌, ◌≤◌, ◌^◌, ◌+◌, ◌-◌, [], Some, None, true, false, Ok, Err, IfOk, IfErr, nat_le};
+ghost use Rattle.std.specs.Prelude.{◌≡◌, ℕ, ◌<◌, ◌≤◌, ◌^◌, ◌+◌, ◌-◌, [], Some, None, true, false, Ok, Err, OnOk, IfOk, IfErr, IsOk, nat_le};
 ghost use Rattle.std.specs.Cmp.Lexicographic.{pointwise};
 ghost use Rattle.rows.specs.Faults.{IsFaultOf};
 ghost use Rattle.rows.specs.Limits.{workers_max, replicas_max};
 ghost use Rattle.rows.specs.Shape.{shape_of};
 ghost use Rattle.rows.specs.Tables.{opening};
 ghost use Rattle.dispatcher.specs.State.{Replica};
-ghost use Rattle.dispatcher.specs.Steps.{started, opened, asked, received, frame_comes, own_head_comes, MayTake, ready_of};
+ghost use Rattle.dispatcher.specs.Steps.{started_replica, opened, asked, received, frame_comes, own_head_comes, MayTake, ready_of};
 ghost use Rattle.dispatcher.specs.Steps.{HoldNext, MayRun, dumped};
-ghost use Rattle.dispatcher.specs.Inner.Parts.{CatchesUp, Applies, MayAnswer};
+ghost use Rattle.dispatcher.specs.Inner.Parts.{CatchesUp, Applies, MayAnswerBatch};
 
 use crate::batch::{Batch, Fetched};
 use crate::counting::{are_at_least, copy_of, missing_below, no_counts};
@@ -83,7 +83,7 @@ impl<S: ApplyStore + Sync> ReplicaCore<S> {
         requires some_workers { 1 ≤ workers }
         requires few_workers { workers ≤ workers_max }
         requires number { number < replicas_max }
-        ensures { IfOk result (λ replica. replica ≡ started schema.now workers number boot) }
+        ensures { IfOk result (λ replica. replica ≡ started_replica schema.now workers number boot) }
     {
         changes_keep_kinds();
         Ok(ReplicaCore {
@@ -117,6 +117,25 @@ impl<S: ApplyStore + Sync> ReplicaCore<S> {
         self.version
     }
 
+    /// Whether `open` would take this query now. Takes no memory.
+    ///
+    /// Fails with the fault that `open` would fail with when there is enough memory.
+    pub fn may_open(&self, plan: &Plan) -> Result<(), OpenFault>
+        ensures ok { OnOk result (IsOk (opened self.now plan.now)) }
+        ensures refused { IfErr result (λ fault. opened self.now plan.now ≡ Err fault) }
+    {
+        if self.broken {
+            return Err(OpenFault::Broken);
+        }
+        if self.waiting.len() >= WAITING_QUERIES_MAX {
+            return Err(OpenFault::BatchFull);
+        }
+        match plan.check(&self.schema) {
+            Ok(()) => Ok(()),
+            Err(fault) => Err(OpenFault::BadPlan(fault)),
+        }
+    }
+
     /// Takes a query for the next batch, and answers how many wait now.
     ///
     /// Fails with the first of these, and changes nothing: `Broken`; `BatchFull`, 64 wait;
@@ -125,31 +144,19 @@ impl<S: ApplyStore + Sync> ReplicaCore<S> {
         ensures ok { IfOk result (λ count. opened self.old plan ≡ Ok (count, self.new)) }
         ensures refused { IfErr result (λ fault. (self.new ≡ self.old) × IsFaultOf (opened self.old plan) OpenFault.Memory fault) }
     {
-        if self.broken {
-            return Err(OpenFault::Broken);
-        }
-        if self.waiting.len() >= WAITING_QUERIES_MAX {
-            return Err(OpenFault::BatchFull);
-        }
-        if let Err(fault) = plan.check(&self.schema) {
-            return Err(OpenFault::BadPlan(fault));
-        }
+        self.may_open(&plan)?;
         match self.waiting.push(plan) {
             Ok(()) => Ok(self.waiting.len()),
             Err(_) => Err(OpenFault::Memory),
         }
     }
 
-    /// Asks for the newest durable version. With no batch it makes one of all queries that wait
-    /// and counts the request up; while nothing was fetched for the batch it asks the same again.
-    /// Takes no memory.
+    /// Whether `ask` would ask now. Takes no memory.
     ///
-    /// Fails with the first of these, and changes nothing: `Broken`; `Busy`, the batch has its
-    /// version; `Empty`, there is no batch and no query waits.
-    pub fn ask(&mut self) -> Result<Out, AskFault>
-        requires { self.old.request < 2 ^ 64 - 1 }
-        ensures ok { IfOk result (λ out. asked self.old ≡ Ok (out, self.new)) }
-        ensures refused { IfErr result (λ fault. (self.new ≡ self.old) × (asked self.old ≡ Err fault)) }
+    /// Fails with the fault that `ask` would fail with.
+    pub fn may_ask(&self) -> Result<(), AskFault>
+        ensures ok { OnOk result (IsOk (asked self.now)) }
+        ensures refused { IfErr result (λ fault. asked self.now ≡ Err fault) }
     {
         if self.broken {
             return Err(AskFault::Broken);
@@ -164,13 +171,30 @@ impl<S: ApplyStore + Sync> ReplicaCore<S> {
                 if self.waiting.is_empty() {
                     return Err(AskFault::Empty);
                 }
-                let plans = std::mem::replace(&mut self.waiting, Vec::new(self.alloc));
-                self.request += 1;
-                self.batch = Some(Batch {
-                    plans,
-                    fetched: None,
-                });
             }
+        }
+        Ok(())
+    }
+
+    /// Asks for the newest durable version. With no batch it makes one of all queries that wait
+    /// and counts the request up; while nothing was fetched for the batch it asks the same again.
+    /// Takes no memory.
+    ///
+    /// Fails with the first of these, and changes nothing: `Broken`; `Busy`, the batch has its
+    /// version; `Empty`, there is no batch and no query waits.
+    pub fn ask(&mut self) -> Result<Out, AskFault>
+        requires { self.old.request < 2 ^ 64 - 1 }
+        ensures ok { IfOk result (λ out. asked self.old ≡ Ok (out, self.new)) }
+        ensures refused { IfErr result (λ fault. (self.new ≡ self.old) × (asked self.old ≡ Err fault)) }
+    {
+        self.may_ask()?;
+        if self.batch.is_none() {
+            let plans = std::mem::replace(&mut self.waiting, Vec::new(self.alloc));
+            self.request += 1;
+            self.batch = Some(Batch {
+                plans,
+                fetched: None,
+            });
         }
         Ok(ask_out(self.number, self.boot, self.request))
     }
@@ -385,7 +409,7 @@ impl<S: ApplyStore + Sync> ReplicaCore<S> {
     /// Answers the batch on the tables as they are, and ends it.
     fn answer(&mut self) -> Run
         requires { self.old.broken ≡ false }
-        ensures { MayAnswer self.old result self.new }
+        ensures { MayAnswerBatch self.old result self.new }
     {
         let Some(batch) = &self.batch else {
             return Run::NoBatch;

@@ -1,14 +1,15 @@
 //! The text of a store's tables.
 
-ghost use Rattle.std.specs.Prelude.{◌≡◌, ◌++◌, ◌<◌, length, true, IfOk, OnOk};
+ghost use Rattle.std.specs.Prelude.{◌≡◌, [], ◌++◌, ◌<◌, length, true, IfOk, OnOk};
+ghost use Rattle.std.specs.Option.{unwrap_or};
 ghost use Rattle.rows.specs.Shape.{shape_of, kinds_in};
 ghost use Rattle.rows.specs.Tables.{shape_in, kinds_of, rows_of};
 ghost use Rattle.dispatcher.specs.TableText.{names_of, row_count, table_text};
-ghost use Rattle.dispatcher.specs.Inner.Walk.{or_none, columns_text, row_text_at, rows_text_at};
+ghost use Rattle.dispatcher.specs.Inner.Walk.{columns_text, row_text_at, rows_text_at};
 
 use rows::{Schema, append_number, append_value};
 use std::alloc::{AllocError, Global};
-use store::Store;
+use store::{Store, rows_stand_in_order};
 
 /// The text of a whole store's tables at this version: a line `version V rows N`, N being the rows
 /// of all tables; then for each table in the schema's order, and for each of its rows in rising
@@ -108,6 +109,7 @@ fn append_row<S: Store>(
     ensures { OnOk result (text.new.items ≡ text.old.items ++ row_text_at name.now (rows_of (S.tables store.now) table) i) }
 {
     store.keeps_kinds();
+    rows_stand_in_order();
     let id = store.id_at(table, i);
     let Some(place) = store.find(table, id) else {
         unreachable!();
@@ -129,8 +131,8 @@ fn append_columns<S: Store>(
     columns: usize,
 ) -> Result<(), AllocError>
     requires whole { S.is_whole store.now ≡ true }
-    requires all { columns ≡ length (or_none (S.values_at store.now table place)) }
-    ensures { OnOk result (text.new.items ≡ text.old.items ++ columns_text (or_none (S.values_at store.now table place))) }
+    requires all { columns ≡ length (unwrap_or (S.values_at store.now table place) []) }
+    ensures { OnOk result (text.new.items ≡ text.old.items ++ columns_text (unwrap_or (S.values_at store.now table place) [])) }
 {
     for column in 0..columns {
         text.push(b' ')?;

@@ -22,7 +22,7 @@ use Rattle.intake.specs.declared.taken.Taken.{Taken}
 use Rattle.intake.specs.declared.taken.Taken.TheVariants.{Repeat, Ahead, Stored}
 use Rattle.intake.specs.Known.{is_known, with_seq, is_ahead}
 use Rattle.intake.specs.State.{Arrivals, nothing, arrivals_of, frame_in}
-use Rattle.intake.specs.Steps.{started, with_frame, taken, without_below, dropped}
+use Rattle.intake.specs.Steps.{no_arrivals, with_frame, taken, without_below, dropped}
 use Rattle.intake.specs.Kept.{frames_at, frames_between, AreKept}
 use Rattle.intake.specs.Streams.{IsFrom, AreFrom}
 use Rattle.intake.proofs.Keeping.{from_on, same-key}
@@ -171,13 +171,13 @@ without-from stream arrivals count from = record {
 
 -- ---- of all workers
 
-pub nothing-from : (commits : List Commit) (workers : ℕ) → AreFrom commits (started workers)
+pub nothing-from : (commits : List Commit) (workers : ℕ) → AreFrom commits (no_arrivals workers)
 nothing-from commits workers worker = subst (IsFrom (stream_of commits worker)) (sym (none workers worker)) (record {
   known_are = λ seq h. absurd (false≢true h);
   kept_are = λ seq frame h. absurd (none-some frame h);
 })
   where
-    none : (workers worker : ℕ) → arrivals_of (started workers) worker ≡ nothing
+    none : (workers worker : ℕ) → arrivals_of (no_arrivals workers) worker ≡ nothing
     none zero worker = refl
     none (suc workers) zero = refl
     none (suc workers) (suc worker) = none workers worker

@@ -15,7 +15,7 @@ use Rattle.std.proofs.lemmas.Bool.Decides.{nat_tests}
 use Rattle.std.proofs.lemmas.List.FromFn.{length-range_with_len}
 use Rattle.std.proofs.lemmas.List.Elements.{recursion_from_All}
 use Rattle.intake.specs.Known.{is_known, with_seq, first_missing, is_ahead}
-use Rattle.intake.specs.Inner.Held.{seqs_in, begins_at, AreFrom, AreBelow}
+use Rattle.intake.specs.Inner.Held.{seqs_in, begins_at, AreAtLeast, AreBelow}
 use Rattle.intake.proofs.Seqs.{first_missing-at}
 
 -- ---- which seqs are known
@@ -61,13 +61,13 @@ is_known-found seq [] = refl
 is_known-found seq (key ∷ keys) = grind (arith, nat_tests, is_known-found seq keys)
 
 -- a seq below all is not among them
-pub is_known-from : (first seq : ℕ) (above : List ℕ) → seq < first → AreFrom first above → is_known above seq ≡ false
+pub is_known-from : (first seq : ℕ) (above : List ℕ) → seq < first → AreAtLeast first above → is_known above seq ≡ false
 is_known-from first seq [] below from = refl
 is_known-from first seq (key ∷ above) below from =
     or_from (key == seq) (is_known above seq) (ne_eqb key seq (λ same. omega (arith, from.0))) (is_known-from first seq above below from.1)
 
 -- the first that is missing
-pub first_missing-held : (missing : ℕ) (above : List ℕ) → AreFrom (missing + 1) above → first_missing (seqs_in missing above) ≡ missing
+pub first_missing-held : (missing : ℕ) (above : List ℕ) → AreAtLeast (missing + 1) above → first_missing (seqs_in missing above) ≡ missing
 first_missing-held missing above from =
     let len : length (seqs_in missing above) ≡ missing + length above =
     length-append (range_with_len 0 missing) above ∙ ap (λ n. n + length above) (length-range_with_len 0 missing) in
@@ -108,7 +108,7 @@ insert-past (key ∷ front) back seq below =
     (above-key seq key below.0)
     ∙ ap (λ keys. key ∷ keys) (insert-past front back seq below.1)
 
-insert-front : (above : List ℕ) (seq : ℕ) → AreFrom (seq + 1) above → insert_key nat_cmp above seq ≡ seq ∷ above
+insert-front : (above : List ℕ) (seq : ℕ) → AreAtLeast (seq + 1) above → insert_key nat_cmp above seq ≡ seq ∷ above
 insert-front [] seq from = refl
 insert-front (key ∷ above) seq from =
     ap (λ o. match_ordering o (seq ∷ key ∷ above) (key ∷ above) (key ∷ insert_key nat_cmp above seq))
@@ -120,7 +120,7 @@ pub held-insert : (missing : ℕ) (above : List ℕ) (seq : ℕ) → missing ≤
 held-insert missing above seq past = insert-past (range_with_len 0 missing) above seq (range-below 0 missing seq (omega arith))
 
 -- the first missing one is passed
-pub held-insert_missing : (missing : ℕ) (above : List ℕ) → AreFrom (missing + 1) above
+pub held-insert_missing : (missing : ℕ) (above : List ℕ) → AreAtLeast (missing + 1) above
     → with_seq (seqs_in missing above) missing ≡ seqs_in (missing + 1) above
 held-insert_missing missing above from =
     held-insert missing above missing (omega arith)
@@ -160,7 +160,7 @@ less-key seq key h = grind (arith, nat_tests)
 -- and the others are above it
 pub begins-rest : (keys rest : List ℕ) (seq : ℕ) (popped : Option ℕ) → begins_at keys seq ≡ true → (IsSome popped ↔ (0 < length keys))
     → IfSome popped (λ key. keys ≡ key ∷ rest) → IfSome popped (λ key. All (λ other. nat_cmp key other ≡ Less) rest)
-    → AreFrom (seq + 1) rest
+    → AreAtLeast (seq + 1) rest
 begins-rest [] rest seq popped begins some is above = absurd (false≢true begins)
 begins-rest (key ∷ keys) rest seq None begins some is above = absurd (false≢true (some.1 (omega arith)))
 begins-rest (key ∷ keys) rest seq (Some first) begins some is above =
@@ -169,7 +169,7 @@ begins-rest (key ∷ keys) rest seq (Some first) begins some is above =
     later rest (subst (λ (n : ℕ). AllByRecursion (λ other. nat_cmp n other ≡ Less) rest) first_is
     (recursion_from_All (λ other. nat_cmp first other ≡ Less) rest above))
   where
-    later : (rest : List ℕ) → AllByRecursion (λ other. nat_cmp seq other ≡ Less) rest → AreFrom (seq + 1) rest
+    later : (rest : List ℕ) → AllByRecursion (λ other. nat_cmp seq other ≡ Less) rest → AreAtLeast (seq + 1) rest
     later [] h = tt
     later (other ∷ rest) h = (less-key seq other h.0, later rest h.1)
 

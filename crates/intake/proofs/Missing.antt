@@ -8,9 +8,9 @@ use Rattle.std.proofs.lemmas.Option.{same_Some, none-some}
 use Rattle.intake.specs.Known.{is_known, missing_from, first_missing}
 use Rattle.intake.specs.State.{Arrivals}
 use Rattle.intake.specs.Steps.{lacking_from, lacking}
-use Rattle.intake.specs.Laws.{FirstMissingIsLeast, IsComplete, IsLeastLacking, LackingIsLeast, NoneLackingIsComplete}
+use Rattle.intake.specs.Laws.{FirstMissingIsLeast, IsComplete, IsLeastLacking, LackingIsLeast, LackingIsOfWorker, NoneLackingIsComplete}
 use Rattle.intake.proofs.Seqs.{missing_from-unknown, is_known-below}
-use Rattle.intake.proofs.Staying.{none-lacking}
+use Rattle.intake.proofs.Staying.{from-known}
 
 -- ---- the first seq that is missing
 
@@ -177,6 +177,9 @@ lacking-least all counts missing h =
     let same : found.index ≡ missing.0 = omega (arith, found.worker_is) in
     subst (λ (worker : ℕ). IsLeastLacking all counts (worker, missing.1)) same found.least
 
+pub lacking-worker : LackingIsOfWorker
+lacking-worker all counts missing h = (lacking-least all counts missing h).there
+
 -- none is named where each worker is complete
 complete-none : (all : List Arrivals) (counts : List ℕ) (found : Option (ℕ × ℕ)) → lacking all counts ≡ found
     → ((worker : ℕ) → worker < length all → IsComplete all counts worker) → lacking all counts ≡ None
@@ -187,6 +190,6 @@ complete-none all counts (Some missing) e complete =
 
 pub none-complete : NoneLackingIsComplete
 none-complete all counts = (
-  λ none worker within seq below. none-lacking all counts worker seq none within below,
+  λ none worker within seq below. from-known 0 all counts worker seq none within below,
   λ complete. complete-none all counts (lacking all counts) refl complete,
 )

@@ -1,6 +1,6 @@
 -- What stays known and kept as frames come and are dropped, and what is known where none is lacking.
 use Rattle.std.proofs.Common.{◌≡◌, ℕ, zero, suc, ◌+◌, ◌<◌, ◌≤◌, Bool, true, false, cond, List, [], ◌∷◌, length, set, get_or}
-use Rattle.std.proofs.Common.{Option, Some, None, refl, sym, ap, subst, ◌∙◌, inl, inr, arith}
+use Rattle.std.proofs.Common.{Option, Some, None, refl, sym, ap, subst, inl, inr, arith}
 use Rattle.std.specs.Prelude.{nat_le, nat_lt, IsSome, slice_index}
 use Rattle.std.specs.Ordering.{nat_cmp, match_ordering}
 use Rattle.std.specs.declared.cmp.Ordering.{Ordering}
@@ -9,16 +9,15 @@ use Rattle.std.specs.BTreeMap.{insert_entry, is_at}
 use Rattle.std.proofs.lemmas.Bool.{cases_eq, cases_lt, cases_Bool, false≢true, cond-false, leb-false, ltb-false}
 use Rattle.std.proofs.lemmas.Bool.Decides.{nat_tests}
 use Rattle.std.proofs.lemmas.List.{get_or-set_same, get_or-set_other, set_past, length-set}
-use Rattle.std.proofs.lemmas.Option.{same_Some, none-some}
+use Rattle.std.proofs.lemmas.Option.{none-some}
 use Rattle.update_log.specs.declared.frame.Frame.{Frame}
 use Rattle.intake.specs.declared.taken.Taken.{Taken}
 use Rattle.intake.specs.declared.taken.Taken.TheVariants.{Repeat, Ahead, Stored}
 use Rattle.intake.specs.Known.{is_known, is_ahead, first_missing}
 use Rattle.intake.specs.State.{Arrivals, nothing, arrivals_of, known_of, frame_in, frame_of}
 use Rattle.intake.specs.Steps.{with_frame, taken, lacking_from, dropped}
-use Rattle.intake.specs.Kept.{AreKeptFrom}
 use Rattle.intake.specs.Laws.{FramesLeaveWorkers, DropsLeaveWorkers, FramesStayKnown, DropsLeaveKnown}
-use Rattle.intake.specs.Laws.{FramesStayKept, DropsStayKept, NoneLackingAreKnown, LackingIsOfWorker}
+use Rattle.intake.specs.Laws.{FramesStayKept, DropsStayKept}
 use Rattle.intake.proofs.Feeding.{known-cases, from_on-first, from_on-not}
 use Rattle.intake.proofs.Keeping.{from_on, same-key, is_at-same, known-with}
 use Rattle.intake.proofs.Seqs.{is_known-below}
@@ -180,7 +179,8 @@ lacks-none : (lacks : Bool) (here : ℕ × ℕ) (rest : Option (ℕ × ℕ)) →
 lacks-none true here rest h = absurd (none-some here (sym h))
 lacks-none false here rest h = (refl, h)
 
-from-known : (from : ℕ) (all : List Arrivals) (counts : List ℕ) (worker seq : ℕ) → lacking_from from all counts ≡ None
+-- each frame below the counts is known where none is lacking
+pub from-known : (from : ℕ) (all : List Arrivals) (counts : List ℕ) (worker seq : ℕ) → lacking_from from all counts ≡ None
     → worker < length all → seq < slice_index counts worker → is_known (known_of all worker) seq ≡ true
 from-known from [] counts worker seq none within below = absurd (omega (arith, within))
 from-known from (one ∷ all) [] worker seq none within below = absurd (omega (arith, below))
@@ -193,24 +193,3 @@ from-known from (one ∷ all) (count ∷ counts) (suc worker) seq none within be
     let parts = lacks-none (nat_lt (first_missing one.known) count) (from, first_missing one.known)
     (lacking_from (from + 1) all counts) none in
     from-known (from + 1) all counts worker seq parts.1 (omega (arith, within)) below
-
-pub none-lacking : NoneLackingAreKnown
-none-lacking all counts worker seq none within below = from-known 0 all counts worker seq none within below
-
-from-worker : (from : ℕ) (all : List Arrivals) (counts : List ℕ) (missing : ℕ × ℕ) → lacking_from from all counts ≡ Some missing
-    → missing.0 < from + length all
-from-worker from [] counts missing h = absurd (none-some missing h)
-from-worker from (one ∷ all) [] missing h = absurd (none-some missing h)
-from-worker from (one ∷ all) (count ∷ counts) missing h =
-    by (from-worker (from + 1) all counts missing) (nat_lt (first_missing one.known) count) h
-  where
-    by : (lacking_from (from + 1) all counts ≡ Some missing → missing.0 < from + 1 + length all) → (lacks : Bool)
-        → cond lacks (Some (from, first_missing one.known)) (lacking_from (from + 1) all counts) ≡ Some missing
-        → missing.0 < from + suc (length all)
-    by behind true h =
-        let same : from ≡ missing.0 = ap (λ (x : ℕ × ℕ). x.0) (same_Some (from, first_missing one.known) missing h) in
-        omega (arith, same)
-    by behind false h = omega (arith, behind h)
-
-pub lacking-worker : LackingIsOfWorker
-lacking-worker all counts missing h = omega (arith, from-worker 0 all counts missing h)

@@ -7,13 +7,13 @@ use Rattle.update_log.specs.declared.frame.Frame.{Frame}
 use Rattle.update_log.specs.Streams.{stream_of}
 use Rattle.intake.specs.Known.{is_known, first_missing}
 use Rattle.intake.specs.State.{Arrivals, known_of}
-use Rattle.intake.specs.Steps.{started, taken, lacking, dropped}
+use Rattle.intake.specs.Steps.{no_arrivals, taken, lacking, dropped}
 use Rattle.intake.specs.Kept.{frames_between, AreKept, AreKeptFrom}
 use Rattle.intake.specs.Streams.{AreFrom}
 
 -- where nothing has come, all of it is of any list
 abbrev pub NothingIsFrom : Type 0
-NothingIsFrom = (commits : List Commit) (workers : ℕ) → AreFrom commits (started workers)
+NothingIsFrom = (commits : List Commit) (workers : ℕ) → AreFrom commits (no_arrivals workers)
 
 -- it stays of the list as the list goes on
 abbrev pub CommitsKeepFrom : Type 0
@@ -66,13 +66,7 @@ DropsStayKept =
     (all : List Arrivals) (lows counts : List ℕ) → ((worker : ℕ) → slice_index lows worker ≤ slice_index counts worker)
     → AreKeptFrom all lows → AreKeptFrom (dropped all counts) counts
 
--- where no frame below its count is lacking, each of a worker that is there is known
-abbrev pub NoneLackingAreKnown : Type 0
-NoneLackingAreKnown =
-    (all : List Arrivals) (counts : List ℕ) (worker seq : ℕ) → lacking all counts ≡ None → worker < length all
-    → seq < slice_index counts worker → is_known (known_of all worker) seq ≡ true
-
--- and one that is lacking is of a worker that is there
+-- one that is lacking is of a worker that is there
 abbrev pub LackingIsOfWorker : Type 0
 LackingIsOfWorker =
     (all : List Arrivals) (counts : List ℕ) (missing : ℕ × ℕ) → lacking all counts ≡ Some missing → missing.0 < length all

@@ -10,8 +10,8 @@ use Rattle.intake.specs.Known.{is_known, with_seq, first_missing, is_ahead}
 use Rattle.intake.specs.State.{Arrivals, nothing, arrivals_of}
 
 -- so many workers of whom nothing has come
-abbrev pub started : ℕ → List Arrivals
-started workers = replicate workers nothing
+abbrev pub no_arrivals : ℕ → List Arrivals
+no_arrivals workers = replicate workers nothing
 
 -- what has come of a worker, and one more frame of it
 abbrev pub with_frame : Arrivals → Frame → Arrivals
@@ -31,11 +31,10 @@ taken all frame =
 -- of the workers from this number on, the least whose first missing seq is below its count, with that seq; a worker
 -- without a count lacks none
 abbrev pub lacking_from : ℕ → List Arrivals → List ℕ → Option (ℕ × ℕ)
-lacking_from worker [] counts = None
-lacking_from worker (arrivals ∷ all) [] = None
 lacking_from worker (arrivals ∷ all) (count ∷ counts) =
     if nat_lt (first_missing arrivals.known) count then Some (worker, first_missing arrivals.known)
     else lacking_from (worker + 1) all counts
+lacking_from worker all counts = None
 
 -- the least worker whose first missing seq is below its count, with that seq
 abbrev pub lacking : List Arrivals → List ℕ → Option (ℕ × ℕ)

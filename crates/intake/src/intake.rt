@@ -5,7 +5,7 @@ ghost use Rattle.std.specs.Option.{option_map};
 ghost use Rattle.update_log.specs.declared.frame.Frame.{Frame as FrameOf};
 ghost use Rattle.intake.specs.Known.{first_missing};
 ghost use Rattle.intake.specs.State.{known_of, frame_of};
-ghost use Rattle.intake.specs.Steps.{started, taken, lacking, dropped};
+ghost use Rattle.intake.specs.Steps.{no_arrivals, taken, lacking, dropped};
 
 use crate::collector::Collector;
 use crate::taken::Taken;
@@ -35,7 +35,7 @@ impl Model for Intake {
 impl Intake {
     /// An intake of so many workers, of whom nothing has come. Fails only where it is out of memory.
     pub fn new(alloc: Global, workers: u8) -> Result<Intake, AllocError>
-        ensures { IfOk result (λ intake. intake ≡ started workers) }
+        ensures { IfOk result (λ intake. intake ≡ no_arrivals workers) }
     {
         let mut collectors = Vec::new(alloc);
         for _ in 0..workers {

@@ -2,7 +2,7 @@
 
 ghost use Rattle.std.specs.Prelude.{◌≡◌, ◌+◌, ◌-◌, ◌<◌, ◌^◌, [], false, OnOk, OnErr};
 ghost use Rattle.intake.specs.Known.{is_known, with_seq, first_missing, is_ahead};
-ghost use Rattle.intake.specs.Inner.Held.{seqs_in, begins_at, AreFrom, AreBelow, IsHeld};
+ghost use Rattle.intake.specs.Inner.Held.{seqs_in, begins_at, AreAtLeast, AreBelow, IsHeld};
 
 use rows::limits::FRAME_WINDOW;
 use std::alloc::{AllocError, Global};
@@ -83,7 +83,7 @@ impl KnownSeqs {
 /// The first seq that is missing, where all before `from` are known and these are the known ones
 /// from it on. Those that it passes are taken out; each is passed once.
 fn pass_known(from: u64, above: &mut BTreeSet<u64>) -> u64
-    requires from { AreFrom from above.old.keys }
+    requires from { AreAtLeast from above.old.keys }
     requires below { AreBelow (2 ^ 64 - 1) above.old.keys }
     ensures same { seqs_in result above.new.keys ≡ seqs_in from above.old.keys }
     ensures held { IsHeld result above.new.keys }
@@ -99,7 +99,7 @@ fn pass_known(from: u64, above: &mut BTreeSet<u64>) -> u64
 /// Whether that seq is there, where none is below it.
 fn first_is_at(above: &BTreeSet<u64>, seq: u64) -> bool
     ensures begins { result ≡ begins_at above.now.keys seq }
-    ensures none { result ≡ false → AreFrom seq above.now.keys → AreFrom (seq + 1) above.now.keys }
+    ensures none { result ≡ false → AreAtLeast seq above.now.keys → AreAtLeast (seq + 1) above.now.keys }
 {
     match above.first() {
         None => false,

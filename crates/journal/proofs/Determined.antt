@@ -3,7 +3,7 @@ use Rattle.std.proofs.Common.{◌≡◌, ℕ, ◌+◌, ◌≤◌, inl, inr, true
 use Rattle.std.proofs.Common.{length-append, arith}
 use Rattle.std.proofs.lemmas.List.{append-nil}
 use Rattle.rows.specs.declared.commit.Commit.{Commit}
-use Rattle.rows.specs.Laws.{SpelledIsFound}
+use Rattle.rows.specs.Laws.{SpelledAreFound}
 use Rattle.rows.specs.Shape.{Shape}
 use Rattle.journal.specs.declared.faults.JournalFault.TheVariants.{OtherHeader, Damaged, OutOfOrder, Illegal, Memory}
 use Rattle.journal.specs.Laws.{IsRecoveredOnce, IsNotRefused, IsRefusedOnce}
@@ -33,7 +33,7 @@ same_front {X = X} xs ys front few = by front.0 front.1
     by [] e = sym (append-nil xs) ∙ sym e
     by (y ∷ more) e = absurd (omega (arith, ap length e, length-append xs (y ∷ more)))
 
-pub one_kept : (law : SpelledIsFound) (workers : ℕ) (shape : Shape) (bytes : List ℕ) (commits others : List Commit)
+pub one_kept : (law : SpelledAreFound) (workers : ℕ) (shape : Shape) (bytes : List ℕ) (commits others : List Commit)
     → IsKept workers shape bytes commits → IsKept workers shape bytes others → commits ≡ others
 one_kept law workers shape bytes commits others one two =
     let here = one.longest others two.journaled two.text in
@@ -43,7 +43,7 @@ one_kept law workers shape bytes commits others one two =
       | inr front ↦ sym (same_front others commits front there)
     ]
 
-pub is_recovered_once : SpelledIsFound → IsRecoveredOnce
+pub is_recovered_once : SpelledAreFound → IsRecoveredOnce
 is_recovered_once law workers shape bytes commits others kept kept' (inl one) (inl two) = (one.1 ∙ sym two.1, one.2 ∙ sym two.2)
 is_recovered_once law workers shape bytes commits others kept kept' (inl one) (inr two) =
     absurd (not_within workers shape bytes others one.0 two.0.0.text)
@@ -58,7 +58,7 @@ not_torn : (bytes : List ℕ) (number : ℕ) (commit : Commit) → IsRecordAt by
 not_torn bytes number commit there = ap is_torn there.front.1 ∙ record_whole number commit there.front.0 there.held
 
 -- what stands behind the kept commits is not torn where bytes are refused
-refused_behind : (law : SpelledIsFound) (workers : ℕ) (shape : Shape) (bytes : List ℕ) (commits others : List Commit)
+refused_behind : (law : SpelledAreFound) (workers : ℕ) (shape : Shape) (bytes : List ℕ) (commits others : List Commit)
     (bytes_kept offset : ℕ) → IsRecovered workers shape bytes commits bytes_kept → IsKept workers shape bytes others
     → offset ≡ length (journal_text workers shape others) → is_torn (drop offset bytes) ≡ false → ⊥
 refused_behind law workers shape bytes commits others kept offset (inl one) two at whole =
@@ -69,7 +69,7 @@ refused_behind law workers shape bytes commits others kept offset (inr one) two 
     let wrong : true ≡ false = sym one.1 ∙ ap (λ (n : ℕ). is_torn (drop n bytes)) here ∙ whole in
     absurd cc
 
-pub is_not_refused : SpelledIsFound → IsNotRefused
+pub is_not_refused : SpelledAreFound → IsNotRefused
 is_not_refused law workers shape bytes commits kept OtherHeader (inl one) other refusal = refusal.1 one.0.0
 is_not_refused law workers shape bytes commits kept OtherHeader (inr one) other refusal =
     refusal.0 (text_header workers shape bytes commits one.0.0.text)
@@ -84,7 +84,7 @@ is_not_refused law workers shape bytes commits kept (Illegal offset) recovered o
 is_not_refused law workers shape bytes commits kept Memory recovered other refusal = other refl
 
 -- the commits and the offset that a refusal speaks of
-one_offset : (law : SpelledIsFound) (workers : ℕ) (shape : Shape) (bytes : List ℕ) (commits others : List Commit) (offset behind : ℕ)
+one_offset : (law : SpelledAreFound) (workers : ℕ) (shape : Shape) (bytes : List ℕ) (commits others : List Commit) (offset behind : ℕ)
     → IsKeptUpTo workers shape bytes commits offset → IsKeptUpTo workers shape bytes others behind
     → (commits ≡ others) × (offset ≡ behind)
 one_offset law workers shape bytes commits others offset behind one two =
@@ -92,7 +92,7 @@ one_offset law workers shape bytes commits others offset behind one two =
     (same, one.1 ∙ ap (λ (cs : List Commit). length (journal_text workers shape cs)) same ∙ sym two.1)
 
 -- the same record at the same offset
-one_record : (law : SpelledIsFound) (bytes : List ℕ) (offset behind n m : ℕ) (commit other : Commit) → offset ≡ behind
+one_record : (law : SpelledAreFound) (bytes : List ℕ) (offset behind n m : ℕ) (commit other : Commit) → offset ≡ behind
     → IsRecordAt (drop offset bytes) n commit → IsRecordAt (drop behind bytes) m other → (n ≡ m) × (commit ≡ other)
 one_record law bytes offset behind n m commit other same one two =
     same_record law (drop behind bytes) n m commit other (subst (λ (at : ℕ). IsRecordAt (drop at bytes) n commit) same one) two
@@ -102,7 +102,7 @@ no_other : (workers : ℕ) (shape : Shape) (bytes : List ℕ) (commits : List Co
     → ¬ IsBeginning (header workers shape) bytes → ⊥
 no_other workers shape bytes commits kept none = none (text_header workers shape bytes commits kept.text)
 
-pub is_refused_once : SpelledIsFound → IsRefusedOnce
+pub is_refused_once : SpelledAreFound → IsRefusedOnce
 is_refused_once law workers shape bytes OtherHeader OtherHeader one two m m' = refl
 is_refused_once law workers shape bytes OtherHeader (Damaged o) one two m m' =
     absurd (no_other workers shape bytes two.0 two.1.0 one.0)

@@ -1,8 +1,9 @@
-pub mod Filling
+pub mod Undefined
 pub mod Settling
 pub mod Texts
 pub mod RecordLaws
 pub mod Nesting
 pub mod Recovering
+pub mod Journaled
 pub mod Stops
 pub mod Determined

@@ -3,9 +3,9 @@ use Rattle.std.proofs.Common.{◌≡◌, ℕ, ◌+◌, ◌⊎◌, inl, inr, List
 use Rattle.std.specs.List.{AllByRecursion}
 use Rattle.std.proofs.lemmas.List.{append_cancel_left}
 use Rattle.rows.specs.declared.commit.Commit.{Commit}
-use Rattle.rows.specs.Laws.{SpelledIsFound}
+use Rattle.rows.specs.Laws.{SpelledAreFound}
 use Rattle.rows.specs.Shape.{Shape}
-use Rattle.journal.specs.Laws.{IsOneToOne, IsNested}
+use Rattle.journal.specs.Laws.{TextsAreOneToOne, IsNested}
 use Rattle.journal.specs.Recovery.{IsBeginning, HasRecord}
 use Rattle.journal.specs.Text.{header, record_of, records_from}
 use Rattle.journal.proofs.RecordLaws.{same_commit}
@@ -33,7 +33,7 @@ both_longer commit other commits others same (inl h) =
 both_longer commit other commits others same (inr h) =
     inr (h.0, ap (λ (c : Commit). c ∷ commits) same ∙ ap (λ (cs : List Commit). other ∷ cs) h.1)
 
-pub nested : (law : SpelledIsFound) (before : ℕ) (bytes more more' : List ℕ) (commits others : List Commit)
+pub nested : (law : SpelledAreFound) (before : ℕ) (bytes more more' : List ℕ) (commits others : List Commit)
     → AllByRecursion HasRecord commits → AllByRecursion HasRecord others → bytes ≡ records_from before commits ++ more
     → bytes ≡ records_from before others ++ more' → IsBeginning commits others ⊎ IsBeginning others commits
 nested law before bytes more more' [] others held held' e e' = inl (others, refl)
@@ -48,7 +48,7 @@ nested law before bytes more more' (commit ∷ commits) (other ∷ others) held 
     both_longer commit other commits others same.1
     (nested law (before + 1) rest more more' commits others held.1 held'.1 refl behind)
 
-one_text : (law : SpelledIsFound) (before : ℕ) (commits others : List Commit) → AllByRecursion HasRecord commits
+one_text : (law : SpelledAreFound) (before : ℕ) (commits others : List Commit) → AllByRecursion HasRecord commits
     → AllByRecursion HasRecord others → records_from before commits ≡ records_from before others → commits ≡ others
 one_text law before [] [] held held' e = refl
 one_text law before [] (other ∷ others) held held' e = absurd cc
@@ -67,11 +67,11 @@ pub behind_header : (workers : ℕ) (shape : Shape) (bytes records more : List �
     → bytes ≡ header workers shape ++ (records ++ more)
 behind_header workers shape bytes records more e = e ∙ append_assoc (header workers shape) records more
 
-pub is_one_to_one : SpelledIsFound → IsOneToOne
+pub is_one_to_one : SpelledAreFound → TextsAreOneToOne
 is_one_to_one law workers shape commits others held held' e =
     one_text law 0 commits others held held' (append_cancel_left (header workers shape) (records_from 0 commits) (records_from 0 others) e)
 
-pub is_nested : SpelledIsFound → IsNested
+pub is_nested : SpelledAreFound → IsNested
 is_nested law workers shape bytes commits others held held' one two =
     let rest = records_from 0 commits ++ one.0 in
     let rest' = records_from 0 others ++ two.0 in

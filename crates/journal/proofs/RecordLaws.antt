@@ -15,15 +15,15 @@ use Rattle.rows.specs.declared.commit.Commit.{Commit}
 use Rattle.rows.specs.declared.entry.Entry.{Entry}
 use Rattle.rows.specs.declared.entry.Entry.TheVariants.{Insert, Patch, Delete}
 use Rattle.rows.specs.Limits.{commit_entries_max}
-use Rattle.rows.specs.Laws.{FoundIsSpelled, SpelledIsFound}
+use Rattle.rows.specs.Laws.{FoundAreSpelled, SpelledAreFound}
+use Rattle.rows.specs.Reading.{entries_filling}
 use Rattle.rows.specs.Spelling.{AreBytes, HasSpelling, entry_spelling}
 use Rattle.rows.proofs.Bytes.{AreBytes-drop, AreBytes-take, cut_1, cut_2, cut_8, number_fits}
 use Rattle.journal.specs.declared.numbered_commit.NumberedCommit.{NumberedCommit}
-use Rattle.journal.specs.Inner.Reading.{entries_filling, commit_in, record_at}
+use Rattle.journal.specs.Inner.Reading.{commit_in, record_at}
 use Rattle.journal.specs.Recovery.{IsBeginning, HasRecord, entry_len_min, entry_len_max, record_front_len, record_len_min, record_len_max}
 use Rattle.journal.specs.Recovery.{is_record_len, is_torn, IsRecordAt, IsDamaged}
 use Rattle.journal.specs.Text.{record_body, record_of}
-use Rattle.journal.proofs.Filling.{filling-length, filling-spelled, filling-again}
 
 -- ---- how long records are
 
@@ -99,7 +99,7 @@ commit_in-is body entries some few filled =
     or_from _ _ (ne_eqb _ _ (λ none. absurd (omega arith))) (le-ltb _ _ few) in
     rw (counted, filled) refl
 
-commit_in-again : (law : SpelledIsFound) (number : ℕ) (commit : Commit) → HasRecord commit
+commit_in-again : (law : SpelledAreFound) (number : ℕ) (commit : Commit) → HasRecord commit
     → commit_in (record_body number commit) ≡ Some (record { number = number % 256 ^ 8; commit = commit })
 commit_in-again law number commit held =
     let joined = flat_map entry_spelling commit.entries in
@@ -108,14 +108,14 @@ commit_in-again law number commit held =
     big_number-reads_back 2 (length commit.entries) joined (omega (arith, held.few)) in
     let number_is : big_number 8 (drop 1 body) ≡ number % 256 ^ 8 = big_from-bytes 8 number (drop 9 body) in
     let filled : entries_filling (big_number 2 (drop 9 body)) joined ≡ Some commit.entries =
-    ap (λ (n : ℕ). entries_filling n joined) count_is ∙ filling-again law commit.entries held.spelled in
+    ap (λ (n : ℕ). entries_filling n joined) count_is ∙ law commit.entries held.spelled in
     commit_in-is body commit.entries (omega (arith, held.some)) (omega (arith, held.few)) filled
     ∙ ap (λ (n : ℕ). Some (record { number = n; commit = commit })) number_is
 
 record_at-is : (bytes : List ℕ) → IsLong (big_number 4 bytes) → record_at bytes ≡ commit_in (take (big_number 4 bytes) (drop 4 bytes))
 record_at-is bytes long = rw (is_record_len-long _ long) refl
 
-pub record_at-again : (law : SpelledIsFound) (number : ℕ) (commit : Commit) (more : List ℕ) → HasRecord commit
+pub record_at-again : (law : SpelledAreFound) (number : ℕ) (commit : Commit) (more : List ℕ) → HasRecord commit
     → record_at (record_of number commit ++ more) ≡ Some (record { number = number % 256 ^ 8; commit = commit })
 record_at-again law number commit more held =
     let bytes : List ℕ = record_of number commit ++ more in
@@ -160,7 +160,7 @@ same_parts n m commit other e = (ap number_in e, ap commit_of e)
     commit_of None = commit
     commit_of (Some found) = found.commit
 
-pub same_commit : (law : SpelledIsFound) (bytes : List ℕ) (n m : ℕ) (commit other : Commit) → HasRecord commit → HasRecord other
+pub same_commit : (law : SpelledAreFound) (bytes : List ℕ) (n m : ℕ) (commit other : Commit) → HasRecord commit → HasRecord other
     → IsBeginning (record_of n commit) bytes → IsBeginning (record_of m other) bytes
     → (n % 256 ^ 8 ≡ m % 256 ^ 8) × (commit ≡ other)
 same_commit law bytes n m commit other held held' front front' =
@@ -168,7 +168,7 @@ same_commit law bytes n m commit other held held' front front' =
     let two = ap record_at front'.1 ∙ record_at-again law m other front'.0 held' in
     same_parts (n % 256 ^ 8) (m % 256 ^ 8) commit other (sym one ∙ two)
 
-pub same_record : (law : SpelledIsFound) (bytes : List ℕ) (n m : ℕ) (commit other : Commit) → IsRecordAt bytes n commit
+pub same_record : (law : SpelledAreFound) (bytes : List ℕ) (n m : ℕ) (commit other : Commit) → IsRecordAt bytes n commit
     → IsRecordAt bytes m other → (n ≡ m) × (commit ≡ other)
 same_record law bytes n m commit other one two =
     let same = same_commit law bytes n m commit other one.held two.held one.front two.front in
@@ -209,7 +209,7 @@ record IsReadBody (body : List ℕ) (found : NumberedCommit) : Type 0 where
   held : HasRecord found.commit
   spelled : record_body found.number found.commit ≡ body
 
-commit_in-spelled : (law : FoundIsSpelled) (body : List ℕ) (found : NumberedCommit) → AreBytes body → 11 ≤ length body
+commit_in-spelled : (law : FoundAreSpelled) (body : List ℕ) (found : NumberedCommit) → AreBytes body → 11 ≤ length body
     → commit_in body ≡ Some found → IsReadBody body found
 commit_in-spelled law body found fits long e =
     let count = big_number 2 (drop 9 body) in
@@ -218,11 +218,11 @@ commit_in-spelled law body found fits long e =
     let tested = refused (eqb count 0 || ltb commit_entries_max count) _ found e in
     let parts = mapped (body_of body) (entries_filling count (drop 11 body)) found tested.1 in
     let entries = parts.0 in
-    let as_many = filling-length count (drop 11 body) entries parts.1 in
-    let rest = filling-spelled law count (drop 11 body) entries (AreBytes-drop 11 body fits) parts.1 in
+    let read = law count (drop 11 body) entries (AreBytes-drop 11 body fits) parts.1 in
+    let as_many = read.0 in
     let joined = flat_map entry_spelling entries in
     let at_9 : big_bytes 2 (length entries) ++ joined ≡ drop 9 body =
-    ap (λ (n : ℕ). big_bytes 2 n ++ joined) as_many ∙ ap (λ (t : List ℕ). big_bytes 2 count ++ t) (sym rest.1)
+    ap (λ (n : ℕ). big_bytes 2 n ++ joined) as_many ∙ ap (λ (t : List ℕ). big_bytes 2 count ++ t) (sym read.2)
     ∙ cut_2 9 body (omega arith) fits in
     let at_1 : big_bytes 8 number ++ drop 9 body ≡ drop 1 body = cut_8 1 body (omega arith) fits in
     let at_0 : worker ∷ drop 1 body ≡ body = cut_1 0 body (omega arith) in
@@ -231,7 +231,7 @@ commit_in-spelled law body found fits long e =
     let counted = or_parts (eqb count 0) (ltb commit_entries_max count) tested.0 in
     let made : IsReadBody body (body_of body entries) = record {
       numbered = number_fits 8 1 body fits;
-      held = record { some = grind (arith, nat_tests); few = grind (arith, nat_tests); spelled = rest.0 };
+      held = record { some = grind (arith, nat_tests); few = grind (arith, nat_tests); spelled = read.1 };
       spelled = whole;
     } in
     subst (IsReadBody body) parts.2 made
@@ -256,7 +256,7 @@ pub record IsReadAt (bytes : List ℕ) (found : NumberedCommit) : Type 0 where
   pub there : 4 + big_number 4 bytes ≤ length bytes
   pub spelled : bytes ≡ record_of found.number found.commit ++ drop (4 + big_number 4 bytes) bytes
 
-pub record_at-spelled : (law : FoundIsSpelled) (bytes : List ℕ) (found : NumberedCommit) → AreBytes bytes → is_torn bytes ≡ false
+pub record_at-spelled : (law : FoundAreSpelled) (bytes : List ℕ) (found : NumberedCommit) → AreBytes bytes → is_torn bytes ≡ false
     → record_at bytes ≡ Some found → IsReadAt bytes found
 record_at-spelled law bytes found fits whole e =
     let len = big_number 4 bytes in
@@ -283,7 +283,7 @@ record_at-spelled law bytes found fits whole e =
           ∙ ap (λ (t : List ℕ). big_bytes 4 len ++ t) rest ∙ cut_4 bytes size.long fits);
     }
 
-pub read_here : (law : FoundIsSpelled) (bytes : List ℕ) (found : NumberedCommit) (result : Option NumberedCommit) → AreBytes bytes
+pub read_here : (law : FoundAreSpelled) (bytes : List ℕ) (found : NumberedCommit) (result : Option NumberedCommit) → AreBytes bytes
     → is_torn bytes ≡ false → result ≡ record_at bytes → result ≡ Some found → IsReadAt bytes found
 read_here law bytes found result fits whole is some = record_at-spelled law bytes found fits whole (sym is ∙ some)
 
@@ -296,7 +296,7 @@ record_at-there bytes found read = record {
 }
 
 -- where nothing is read, no record stands
-pub record_at-damaged : (law : SpelledIsFound) (bytes : List ℕ) → is_torn bytes ≡ false → record_at bytes ≡ None → IsDamaged bytes
+pub record_at-damaged : (law : SpelledAreFound) (bytes : List ℕ) → is_torn bytes ≡ false → record_at bytes ≡ None → IsDamaged bytes
 record_at-damaged law bytes whole e = record {
   whole = whole;
   none = λ number commit there.

@@ -5,17 +5,17 @@ use Rattle.std.specs.Prelude.{IsOk}
 use Rattle.std.specs.List.{AllByRecursion}
 use Rattle.std.proofs.lemmas.List.{append-nil, append_cancel_left, drop_at}
 use Rattle.rows.specs.declared.commit.Commit.{Commit}
-use Rattle.rows.specs.Commits.{IsCommit, IsLegal, commits_of}
-use Rattle.rows.specs.Laws.{SpelledIsFound}
+use Rattle.rows.specs.Commits.{IsCommit, IsLegal, apply_commits}
+use Rattle.rows.specs.Laws.{SpelledAreFound}
 use Rattle.rows.specs.Shape.{Shape}
-use Rattle.rows.specs.Tables.{Tables, Refusal, opening, changes_of, and_then}
-use Rattle.store.specs.State.{State}
+use Rattle.rows.specs.Tables.{Tables, Refusal, opening, apply_entries, and_then}
+use Rattle.store.specs.State.{StoreState}
 use Rattle.journal.specs.declared.faults.JournalFault.{JournalFault}
 use Rattle.journal.specs.declared.faults.JournalFault.TheVariants.{OtherHeader, Damaged, OutOfOrder, Illegal, Memory}
 use Rattle.journal.specs.Recovery.{IsBeginning, HasRecord, IsJournaled, IsKept, is_torn, IsRecordAt}
 use Rattle.journal.specs.Recovery.{IsDamaged, IsOutOfOrder, IsIllegal}
 use Rattle.journal.specs.Recovery.{IsRecovered, IsRefusal}
-use Rattle.journal.specs.Inner.Progress.{HasCome, IsDefinedOn, IsNext, IsStop}
+use Rattle.journal.specs.Inner.Progress.{RecordsWereRead, IsDefinedOn, IsNextCommit, IsStop}
 use Rattle.journal.specs.Text.{header, record_of, records_from, journal_text}
 use Rattle.journal.proofs.Nesting.{behind_header, is_nested}
 use Rattle.journal.proofs.RecordLaws.{record_of-length, record_whole, same_record}
@@ -43,11 +43,12 @@ and_then-front : (f : Tables → Result Tables Refusal) (g : Tables → Result T
 and_then-front f g (Ok tables) h ok = h tables ok
 and_then-front f g (Err refusal) h ok = ok
 
-pub defined-front : (tables : Tables) (commits others : List Commit) → IsOk (commits_of tables (commits ++ others))
-    → IsOk (commits_of tables commits)
+pub defined-front : (tables : Tables) (commits others : List Commit) → IsOk (apply_commits tables (commits ++ others))
+    → IsOk (apply_commits tables commits)
 defined-front tables [] others ok = refl
 defined-front tables (commit ∷ commits) others ok =
-    and_then-front (λ after. commits_of after (commits ++ others)) (λ after. commits_of after commits) (changes_of tables commit.entries)
+    and_then-front (λ after. apply_commits after (commits ++ others)) (λ after. apply_commits after commits)
+    (apply_entries tables commit.entries)
     (λ after. defined-front after commits others) ok
 
 and_then-behind : (f g : Tables → Result Tables Refusal) (first : Result Tables Refusal) (between : Tables) (last : Result Tables Refusal)
@@ -56,13 +57,13 @@ and_then-behind f g (Ok tables) between last h e = h tables e
 and_then-behind f g (Err refusal) between last h e = absurd cc
 
 -- one more commit behind those that were made
-defined-push : (tables between : Tables) (commits : List Commit) (commit : Commit) → commits_of tables commits ≡ Ok between
-    → commits_of tables (commits ++ commit ∷ []) ≡ commits_of between (commit ∷ [])
+defined-push : (tables between : Tables) (commits : List Commit) (commit : Commit) → apply_commits tables commits ≡ Ok between
+    → apply_commits tables (commits ++ commit ∷ []) ≡ apply_commits between (commit ∷ [])
 defined-push tables between [] commit e =
-    let same : tables ≡ between = cc in ap (λ (t : Tables). commits_of t (commit ∷ [])) same
+    let same : tables ≡ between = cc in ap (λ (t : Tables). apply_commits t (commit ∷ [])) same
 defined-push tables between (first ∷ commits) commit e =
-    and_then-behind (λ after. commits_of after commits) (λ after. commits_of after (commits ++ commit ∷ []))
-    (changes_of tables first.entries) between (commits_of between (commit ∷ []))
+    and_then-behind (λ after. apply_commits after commits) (λ after. apply_commits after (commits ++ commit ∷ []))
+    (apply_entries tables first.entries) between (apply_commits between (commit ∷ []))
     (λ after h. defined-push after between commits commit h) e
 
 alone : (first : Result Tables Refusal) → and_then (λ after. Ok after) first ≡ first
@@ -72,7 +73,7 @@ alone (Err refusal) = refl
 -- ---- how far recovery has come
 
 pub has_come-first : (workers : ℕ) (shape : Shape) (bytes rest : List ℕ) → bytes ≡ header workers shape ++ rest
-    → HasCome workers shape bytes [] (record { tables = opening shape; whole = true }) rest
+    → RecordsWereRead workers shape bytes [] (record { tables = opening shape; whole = true }) rest
 has_come-first workers shape bytes rest e = record {
   text = e ∙ ap (λ (t : List ℕ). t ++ rest) (sym (append-nil (header workers shape)));
   each = tt;
@@ -97,9 +98,10 @@ text-push workers shape commits commit behind =
     sym (append_assoc (front ++ records) last behind)
     ∙ ap (λ (t : List ℕ). t ++ behind) (append_assoc front records last ∙ ap (λ (t : List ℕ). front ++ t) (sym more))
 
-pub has_come-more : (workers : ℕ) (shape : Shape) (bytes : List ℕ) (commits : List Commit) (old new : State) (rest : List ℕ)
-    (commit : Commit) (behind : List ℕ) → HasCome workers shape bytes commits old rest
-    → IsNext workers (length commits + 1) old new rest commit behind → HasCome workers shape bytes (commits ++ commit ∷ []) new behind
+pub has_come-more : (workers : ℕ) (shape : Shape) (bytes : List ℕ) (commits : List Commit) (old new : StoreState) (rest : List ℕ)
+    (commit : Commit) (behind : List ℕ) → RecordsWereRead workers shape bytes commits old rest
+    → IsNextCommit workers (length commits + 1) old new rest commit behind
+    → RecordsWereRead workers shape bytes (commits ++ commit ∷ []) new behind
 has_come-more workers shape bytes commits old new rest commit behind so_far next = record {
   text =
       so_far.text ∙ ap (λ (t : List ℕ). journal_text workers shape commits ++ t) next.front
@@ -109,7 +111,7 @@ has_come-more workers shape bytes commits old new rest commit behind so_far next
       (record { worker = next.accepted.0; some = next.held.some; few = next.held.few });
   records = all-push HasRecord commits commit so_far.records next.held;
   defined =
-      defined-push (opening shape) old.tables commits commit so_far.defined ∙ alone (changes_of old.tables commit.entries)
+      defined-push (opening shape) old.tables commits commit so_far.defined ∙ alone (apply_entries old.tables commit.entries)
       ∙ next.accepted.1;
   whole = next.accepted.2;
 }
@@ -125,8 +127,8 @@ records-length before (commit ∷ commits) =
       length-append (record_of (before + 1) commit) (records_from (before + 1) commits),
     )
 
-pub come-length : (workers : ℕ) (shape : Shape) (bytes : List ℕ) (commits : List Commit) (store : State) (rest : List ℕ)
-    → HasCome workers shape bytes commits store rest → 6 + 4 * length commits + length rest ≤ length bytes
+pub come-length : (workers : ℕ) (shape : Shape) (bytes : List ℕ) (commits : List Commit) (store : StoreState) (rest : List ℕ)
+    → RecordsWereRead workers shape bytes commits store rest → 6 + 4 * length commits + length rest ≤ length bytes
 come-length workers shape bytes commits store rest so_far =
     omega (
       arith,
@@ -144,8 +146,8 @@ record GoesOn (workers : ℕ) (shape : Shape) (commits : List Commit) (rest : Li
   pub legal : IsLegal shape workers (commits ++ commit ∷ [])
   pub front : IsBeginning (record_of (length commits + 1) commit) rest
 
-goes_on : (workers : ℕ) (shape : Shape) (bytes : List ℕ) (commits : List Commit) (store : State) (rest : List ℕ) (commit : Commit)
-    (others : List Commit) → HasCome workers shape bytes commits store rest → IsJournaled workers shape (commits ++ commit ∷ others)
+goes_on : (workers : ℕ) (shape : Shape) (bytes : List ℕ) (commits : List Commit) (store : StoreState) (rest : List ℕ) (commit : Commit)
+    (others : List Commit) → RecordsWereRead workers shape bytes commits store rest → IsJournaled workers shape (commits ++ commit ∷ others)
     → IsBeginning (journal_text workers shape (commits ++ commit ∷ others)) bytes → GoesOn workers shape commits rest commit
 goes_on workers shape bytes commits store rest commit others so_far journaled text =
     let front = header workers shape in
@@ -172,21 +174,22 @@ goes_on workers shape bytes commits store rest commit others so_far journaled te
                 (subst (AllByRecursion (IsCommit workers)) (sym joined) journaled.legal.each);
             defined =
                 defined-front (opening shape) (commits ++ commit ∷ []) others
-                (subst (λ (cs : List Commit). IsOk (commits_of (opening shape) cs)) (sym joined) journaled.legal.defined);
+                (subst (λ (cs : List Commit). IsOk (apply_commits (opening shape) cs)) (sym joined) journaled.legal.defined);
           };
       front = (behind, append_cancel_left (front ++ records) rest (last ++ behind) (sym so_far.text ∙ whole));
     }
 
-pub is_legal : (workers : ℕ) (shape : Shape) (bytes : List ℕ) (commits : List Commit) (store : State) (rest : List ℕ)
-    → HasCome workers shape bytes commits store rest → IsLegal shape workers commits
+pub is_legal : (workers : ℕ) (shape : Shape) (bytes : List ℕ) (commits : List Commit) (store : StoreState) (rest : List ℕ)
+    → RecordsWereRead workers shape bytes commits store rest → IsLegal shape workers commits
 is_legal workers shape bytes commits store rest so_far = record {
   each = so_far.each;
   defined = subst (λ (r : Result Tables Refusal). IsOk r) (sym so_far.defined) refl;
 }
 
 -- where no commit goes on, the commits so far are the kept ones
-kept-here : (law : SpelledIsFound) (workers : ℕ) (shape : Shape) (bytes : List ℕ) (commits : List Commit) (store : State) (rest : List ℕ)
-    → HasCome workers shape bytes commits store rest → ((commit : Commit) → ¬ GoesOn workers shape commits rest commit)
+kept-here : (law : SpelledAreFound) (workers : ℕ) (shape : Shape) (bytes : List ℕ) (commits : List Commit) (store : StoreState)
+    (rest : List ℕ)
+    → RecordsWereRead workers shape bytes commits store rest → ((commit : Commit) → ¬ GoesOn workers shape commits rest commit)
     → IsKept workers shape bytes commits
 kept-here law workers shape bytes commits store rest so_far stuck = record {
   journaled = record { legal = is_legal workers shape bytes commits store rest so_far; records = so_far.records };
@@ -207,16 +210,16 @@ kept-here law workers shape bytes commits store rest so_far stuck = record {
         (subst (λ (cs : List Commit). IsBeginning (journal_text workers shape cs) bytes) e text)))
 
 -- the offset behind the commits so far
-behind-text : (workers : ℕ) (shape : Shape) (bytes : List ℕ) (commits : List Commit) (store : State) (rest : List ℕ) (offset : ℕ)
-    → HasCome workers shape bytes commits store rest → offset ≡ length bytes - length rest
+behind-text : (workers : ℕ) (shape : Shape) (bytes : List ℕ) (commits : List Commit) (store : StoreState) (rest : List ℕ) (offset : ℕ)
+    → RecordsWereRead workers shape bytes commits store rest → offset ≡ length bytes - length rest
     → (offset ≡ length (journal_text workers shape commits)) × (drop offset bytes ≡ rest)
 behind-text workers shape bytes commits store rest offset so_far is =
     let text = journal_text workers shape commits in
     let size : offset ≡ length text = omega (arith, is, ap length so_far.text, length-append text rest) in
     (size, ap (drop offset) so_far.text ∙ drop_at text rest offset (sym size))
 
-pub recovered : (law : SpelledIsFound) (workers : ℕ) (shape : Shape) (bytes : List ℕ) (commits : List Commit) (store : State)
-    (rest : List ℕ) (offset : ℕ) → HasCome workers shape bytes commits store rest → offset ≡ length bytes - length rest
+pub recovered : (law : SpelledAreFound) (workers : ℕ) (shape : Shape) (bytes : List ℕ) (commits : List Commit) (store : StoreState)
+    (rest : List ℕ) (offset : ℕ) → RecordsWereRead workers shape bytes commits store rest → offset ≡ length bytes - length rest
     → is_torn rest ≡ true → IsRecovered workers shape bytes commits offset
 recovered law workers shape bytes commits store rest offset so_far is torn =
     let behind = behind-text workers shape bytes commits store rest offset so_far is in
@@ -232,16 +235,19 @@ goes_on-there : (workers : ℕ) (shape : Shape) (commits : List Commit) (rest : 
 goes_on-there workers shape commits rest commit few on = record { numbered = few; held = on.held; front = on.front }
 
 -- a commit that is legal behind the others is defined on the tables that they make
-legal-defined : (workers : ℕ) (shape : Shape) (bytes : List ℕ) (commits : List Commit) (store : State) (rest : List ℕ) (commit : Commit)
-    → HasCome workers shape bytes commits store rest → IsLegal shape workers (commits ++ commit ∷ [])
+legal-defined : (workers : ℕ) (shape : Shape) (bytes : List ℕ) (commits : List Commit) (store : StoreState) (rest : List ℕ)
+    (commit : Commit)
+    → RecordsWereRead workers shape bytes commits store rest → IsLegal shape workers (commits ++ commit ∷ [])
     → IsDefinedOn workers store.tables commit
 legal-defined workers shape bytes commits store rest commit so_far legal =
     let is_commit = all-next (IsCommit workers) commits commit [] legal.each in
-    let same = defined-push (opening shape) store.tables commits commit so_far.defined ∙ alone (changes_of store.tables commit.entries) in
+    let same = defined-push (opening shape) store.tables commits commit so_far.defined
+    ∙ alone (apply_entries store.tables commit.entries) in
     (is_commit.worker, subst (λ (r : Result Tables Refusal). IsOk r) same legal.defined)
 
-pub refused : (law : SpelledIsFound) (workers : ℕ) (shape : Shape) (bytes : List ℕ) (commits : List Commit) (store : State) (rest : List ℕ)
-    (offset : ℕ) (fault : JournalFault) → HasCome workers shape bytes commits store rest → offset ≡ length bytes - length rest
+pub refused : (law : SpelledAreFound) (workers : ℕ) (shape : Shape) (bytes : List ℕ) (commits : List Commit) (store : StoreState)
+    (rest : List ℕ)
+    (offset : ℕ) (fault : JournalFault) → RecordsWereRead workers shape bytes commits store rest → offset ≡ length bytes - length rest
     → length bytes < 2 ^ 64 → IsStop workers (length commits + 1) store.tables offset rest fault → IsRefusal workers shape bytes fault
 refused law workers shape bytes commits store rest offset OtherHeader so_far is few stop = absurd stop
 refused law workers shape bytes commits store rest offset (Damaged at) so_far is few stop =

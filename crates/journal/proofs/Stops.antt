@@ -8,12 +8,12 @@ use Rattle.std.proofs.lemmas.List.{append_cancel_left, take-append-drop, take-ap
 use Rattle.byteorder.specs.Endian.{big_number}
 use Rattle.byteorder.specs.Numbers.{big_from-append}
 use Rattle.rows.specs.declared.commit.Commit.{Commit}
-use Rattle.rows.specs.Commits.{IsCommit, commits_of}
-use Rattle.rows.specs.Laws.{SpelledIsFound}
+use Rattle.rows.specs.Commits.{IsCommit, apply_commits}
+use Rattle.rows.specs.Laws.{SpelledAreFound}
 use Rattle.rows.specs.Shape.{Shape}
 use Rattle.rows.specs.Tables.{Tables, Refusal, opening}
-use Rattle.store.specs.State.{State}
-use Rattle.journal.specs.Inner.Progress.{HasCome}
+use Rattle.store.specs.State.{StoreState}
+use Rattle.journal.specs.Inner.Progress.{RecordsWereRead}
 use Rattle.journal.specs.Laws.{StopsAreRecovered}
 use Rattle.journal.specs.Recovery.{HasRecord, IsJournaled, is_record_len, is_torn}
 use Rattle.journal.specs.Text.{header, record_body, record_of, records_from}
@@ -94,13 +94,13 @@ tables_of_ok (Err refusal) ok = absurd cc
 
 first_come : (workers : ℕ) (shape : Shape) (commits : List Commit) (bytes : List ℕ) (count : ℕ) (rest : List ℕ)
     → IsJournaled workers shape commits → bytes ≡ header workers shape ++ (records_from 0 (take count commits) ++ rest)
-    → (store : State) × HasCome workers shape bytes (take count commits) store rest
+    → (store : StoreState) × RecordsWereRead workers shape bytes (take count commits) store rest
 first_come workers shape commits bytes count rest journaled text =
     let joined : take count commits ++ drop count commits ≡ commits = take-append-drop count commits in
     let tables =
-    tables_of_ok (commits_of (opening shape) (take count commits))
+    tables_of_ok (apply_commits (opening shape) (take count commits))
     (defined-front (opening shape) (take count commits) (drop count commits)
-    (subst (λ (cs : List Commit). IsOk (commits_of (opening shape) cs)) (sym joined) journaled.legal.defined)) in (
+    (subst (λ (cs : List Commit). IsOk (apply_commits (opening shape) cs)) (sym joined) journaled.legal.defined)) in (
       record { tables = tables.0; whole = true },
       record {
         text = text ∙ sym (append_assoc (header workers shape) (records_from 0 (take count commits)) rest);
@@ -115,7 +115,7 @@ first_come workers shape commits bytes count rest journaled text =
       },
     )
 
-pub stops_are_recovered : SpelledIsFound → StopsAreRecovered
+pub stops_are_recovered : SpelledAreFound → StopsAreRecovered
 stops_are_recovered law workers shape commits bytes journaled front =
     let head = header workers shape in
     let records = records_from 0 commits in

@@ -10,11 +10,15 @@ use Rattle.rows.specs.declared.entry.Entry.{Entry}
 use Rattle.rows.specs.declared.kind.Kind.{Kind}
 use Rattle.rows.specs.Shape.{Shape, shape_of}
 use Rattle.rows.specs.Spelling.{entry_spelling}
-use Rattle.journal.specs.Text.{table_header, record_body, record_of, records_from}
+use Rattle.journal.specs.Text.{journal_magic, journal_version, table_header, record_body, record_of, records_from}
+
+-- what stands before the tables
+abbrev header_front : ℕ → Shape → List ℕ
+header_front workers shape = journal_magic ++ (journal_version ∷ workers ∷ length shape ∷ [])
 
 -- the header of the first tables, with the number of all
 abbrev pub header_so_far : ℕ → Shape → ℕ → List ℕ
-header_so_far workers shape n = (0x42 ∷ 0x44 ∷ 0x4a ∷ 0x31 ∷ workers ∷ length shape ∷ []) ++ flat_map table_header (take n shape)
+header_so_far workers shape n = header_front workers shape ++ flat_map table_header (take n shape)
 
 -- records behind others
 pub records_from_append : (before : ℕ) (xs ys : List Commit)
@@ -72,7 +76,7 @@ pub header_more : (workers : ℕ) (shape : Shape) (table : ℕ) (kinds : List Ki
     → header_so_far workers shape table ++ table_header kinds ≡ header_so_far workers shape (table + 1)
 header_more workers shape table kinds h =
     let within = slice_get_within shape table kinds h in
-    let front = 0x42 ∷ 0x44 ∷ 0x4a ∷ 0x31 ∷ workers ∷ length shape ∷ [] in
+    let front = header_front workers shape in
     flat_map_more table_header front (take table shape) kinds
     ∙ ap (λ tables. front ++ flat_map table_header tables)
     (ap (λ k. take table shape ++ k ∷ []) (sym (get_or_from_slice_get shape table kinds kinds h))

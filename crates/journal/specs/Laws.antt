@@ -1,5 +1,5 @@
 -- Laws of the journal's text, and of what its bytes keep.
-use Rattle.std.specs.Prelude.{◌≡◌, ◌⊎◌, ℕ, List, take}
+use Rattle.std.specs.Prelude.{◌≡◌, ◌⊎◌, ℕ, List, [], take}
 use Rattle.std.specs.List.{AllByRecursion}
 use Rattle.rows.specs.declared.commit.Commit.{Commit}
 use Rattle.rows.specs.Shape.{Shape}
@@ -9,8 +9,8 @@ use Rattle.journal.specs.Text.{journal_text}
 use Rattle.journal.specs.Recovery.{IsBeginning, HasRecord, IsJournaled, IsRecovered, IsRefusal}
 
 -- lists of commits with one text are equal
-abbrev pub IsOneToOne : Type 0
-IsOneToOne =
+abbrev pub TextsAreOneToOne : Type 0
+TextsAreOneToOne =
     (workers : ℕ) (shape : Shape) (commits others : List Commit) → AllByRecursion HasRecord commits → AllByRecursion HasRecord others
     → journal_text workers shape commits ≡ journal_text workers shape others → commits ≡ others
 
@@ -20,6 +20,16 @@ IsNested =
     (workers : ℕ) (shape : Shape) (bytes : List ℕ) (commits others : List Commit) → AllByRecursion HasRecord commits
     → AllByRecursion HasRecord others → IsBeginning (journal_text workers shape commits) bytes
     → IsBeginning (journal_text workers shape others) bytes → IsBeginning commits others ⊎ IsBeginning others commits
+
+-- a journal may be of no commits
+abbrev pub EmptyIsJournaled : Type 0
+EmptyIsJournaled = (workers : ℕ) (shape : Shape) → IsJournaled workers shape []
+
+-- and of each beginning of a list that it may be of
+abbrev pub BeginningIsJournaled : Type 0
+BeginningIsJournaled =
+    (workers : ℕ) (shape : Shape) (front commits : List Commit) → IsJournaled workers shape commits → IsBeginning front commits
+    → IsJournaled workers shape front
 
 -- whatever a stop leaves of the text of a list that a journal may be of, the first commits of the list are recovered
 abbrev pub StopsAreRecovered : Type 0

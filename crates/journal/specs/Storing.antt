@@ -14,7 +14,7 @@ room_max = 18446744073709551615
 abbrev pub IsPartlyAppended : List ℕ → List ℕ → List ℕ → Type 0
 IsPartlyAppended old bytes new = (front : List ℕ) × IsBeginning front bytes × (new ≡ old ++ front)
 
--- a cut to so many bytes that failed: some beginning stands, and it is not shorter
+-- a truncation to so many bytes that failed: some beginning stands, and it is not shorter
 abbrev pub IsPartlyCut : ℕ → List ℕ → List ℕ → Type 0
 IsPartlyCut len old new = IsBeginning new old × (len ≤ length new)
 
@@ -25,6 +25,5 @@ CountsFault (Err fault) old new = new ≡ old + 1
 
 -- the same where a call may also be out of memory, which is no fault
 abbrev pub CountsFaultOrMemory : {A F : Type 0} → Result A (Option F) → ℕ → ℕ → Type 0
-CountsFaultOrMemory (Ok done) old new = new ≡ old
-CountsFaultOrMemory (Err None) old new = new ≡ old
 CountsFaultOrMemory (Err (Some fault)) old new = new ≡ old + 1
+CountsFaultOrMemory other old new = new ≡ old

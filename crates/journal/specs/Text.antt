@@ -17,9 +17,17 @@ kind_code (Octets width) = width
 abbrev pub table_header : List Kind → List ℕ
 table_header kinds = length kinds ∷ map kind_code kinds
 
--- 42 44 4a 31, the number of workers, the number of tables, and the tables
+-- the first bytes of each journal, in ASCII BDJ
+abbrev pub journal_magic : List ℕ
+journal_magic = 0x42 ∷ 0x44 ∷ 0x4a ∷ []
+
+-- the version of this text, in ASCII 1
+abbrev pub journal_version : ℕ
+journal_version = 0x31
+
+-- the magic, the version, the number of workers, the number of tables, and the tables
 abbrev pub header : ℕ → Shape → List ℕ
-header workers shape = (0x42 ∷ 0x44 ∷ 0x4a ∷ 0x31 ∷ workers ∷ length shape ∷ []) ++ flat_map table_header shape
+header workers shape = journal_magic ++ (journal_version ∷ workers ∷ length shape ∷ []) ++ flat_map table_header shape
 
 -- a record behind its length: the worker, the commit's number, how many entries, and the entries
 abbrev pub record_body : ℕ → Commit → List ℕ

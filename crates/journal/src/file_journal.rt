@@ -1,6 +1,6 @@
 //! A journal in a file.
 
-ghost use Rattle.std.specs.Prelude.{◌≡◌, ◌+◌, ◌<◌, length, take, true, IfOk};
+ghost use Rattle.std.specs.Prelude.{◌≡◌, ◌+◌, ◌<◌, length, take, drop, true, IfOk};
 ghost use Rattle.journal.specs.Storing.{faults_max};
 
 use crate::disk::Disk;
@@ -29,13 +29,13 @@ pub struct FileJournal<D: Disk = File> {
 }
 
 impl<D: Disk> Model for FileJournal<D> {
-    ghost use Rattle.std.specs.Prelude.{◌≡◌, take, true};
+    ghost use Rattle.std.specs.Prelude.{◌≡◌, take, drop, true};
     ghost use Rattle.journal.specs.State.{FileState};
     ghost use Rattle.journal.specs.Inner.Settling.{StandsIn};
 
     ghost Value = { FileState };
 
-    ghost view = { λ j. record { bytes = take j.len (D.content j.disk); faults = j.faults } };
+    ghost view = { λ j. record { bytes = take j.len (D.content j.disk); left_behind = drop j.len (D.content j.disk); faults = j.faults } };
 
     ghost invariant = { λ j. D.is_honest ≡ true → StandsIn j.len j.unsettled (D.content j.disk) };
 }
@@ -63,7 +63,7 @@ impl<D: Disk> FileJournal<D> {
     /// The journal in a file that has `len` bytes.
     pub fn on(disk: D, len: u64) -> FileJournal<D>
         requires { D.is_honest ≡ true → len ≡ length (D.content disk) }
-        ensures { result ≡ record { bytes = take len (D.content disk); faults = 0 } }
+        ensures { result ≡ record { bytes = take len (D.content disk); left_behind = drop len (D.content disk); faults = 0 } }
     {
         FileJournal {
             disk,
@@ -123,6 +123,8 @@ impl<D: Disk> JournalStore for FileJournal<D> {
     type Fault = FileFault;
 
     ghost standing = { λ j. j.bytes };
+
+    ghost left_behind = { λ j. j.left_behind };
 
     ghost room = { λ _. room_max };
 

@@ -2,12 +2,18 @@
 
 ghost use Rattle.std.specs.Prelude.{◌≡◌, ◌+◌, ◌≤◌, ◌∷◌, [], ◌++◌, length, IfOk};
 ghost use Rattle.rows.specs.Shape.{shape_of};
-ghost use Rattle.journal.specs.Text.{header, table_header, kind_code};
+ghost use Rattle.journal.specs.Text.{journal_magic, journal_version, header, table_header, kind_code};
 
 use arrayvec::ArrayVec;
 use rows::limits::{COLUMNS_MAX, TABLES_MAX};
 use rows::{Kind, Schema};
 use std::alloc::{AllocError, Global};
+
+/// The first bytes of each journal.
+const JOURNAL_MAGIC: [u8; 3] = *b"BDJ";
+
+/// The version of the journal's text.
+const JOURNAL_VERSION: u8 = b'1';
 
 /// Bytes of a table's part in a header, at most.
 const TABLE_LEN_MAX: usize = 1 + COLUMNS_MAX;
@@ -49,13 +55,13 @@ fn table_count(schema: &Schema) -> u8
 
 /// What stands before the tables.
 fn front(workers: u8, tables: u8) -> ArrayVec<u8, HEADER_LEN_MAX>
-    ensures { result.items ≡ 0x42 ∷ 0x44 ∷ 0x4a ∷ 0x31 ∷ workers ∷ tables ∷ [] }
+    ensures { result.items ≡ journal_magic ++ (journal_version ∷ workers ∷ tables ∷ []) }
 {
     let mut bytes = ArrayVec::new();
-    bytes.push(0x42);
-    bytes.push(0x44);
-    bytes.push(0x4a);
-    bytes.push(0x31);
+    bytes.push(JOURNAL_MAGIC[0]);
+    bytes.push(JOURNAL_MAGIC[1]);
+    bytes.push(JOURNAL_MAGIC[2]);
+    bytes.push(JOURNAL_VERSION);
     bytes.push(workers);
     bytes.push(tables);
     bytes

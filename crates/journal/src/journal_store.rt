@@ -1,25 +1,29 @@
 //! The interface to what keeps a journal's bytes.
 
-ghost use Rattle.std.specs.Prelude.{◌≡◌, ℕ, ◌<◌, ◌≤◌, List, ◌++◌, length, take, Bool, true, OnOk, OnErr};
+ghost use Rattle.std.specs.Prelude.{◌≡◌, ℕ, ◌<◌, ◌≤◌, List, [], ◌++◌, length, take, Bool, true, OnOk, OnErr};
 ghost use Rattle.journal.specs.Storing.{IsPartlyAppended, IsPartlyCut, CountsFault, CountsFaultOrMemory, faults_max};
 
 use std::alloc::AllocError;
 
 /// What keeps the bytes of a journal.
 ///
-/// Contracts see the bytes that stand, how much room is reserved, how many faults there were, and
-/// whether the store is honest: whether its bytes are what its answers say. What is said of the
-/// bytes holds of honest stores, and no contract can know whether a real device is one. A fault is
-/// counted, and comes only where the count grew. All calls but `reserve` and `read_all` take no
-/// memory.
+/// Contracts see the bytes that stand, what calls that failed left behind them, how much room is
+/// reserved, how many faults there were, and whether the store is honest: whether its bytes are what
+/// its answers say. What is said of the bytes holds of honest stores, and no contract can know
+/// whether a real device is one. After an Ok of `append`, `cut_to` or `read_all` the store is settled:
+/// nothing is left behind. A fault is counted, and comes only where the count grew. All calls but
+/// `reserve` and `read_all` take no memory.
 pub trait JournalStore {
     ghost use Rattle.std.specs.Prelude.{ℕ, List, Bool};
 
     /// Why a call failed.
-    type Fault: Drop;
+    type Fault: Drop + Send;
 
     /// The bytes that stand.
     ghost standing: { Self → List ℕ };
+
+    /// What calls that failed left behind them.
+    ghost left_behind: { Self → List ℕ };
 
     /// How many bytes an append may bring.
     ghost room: { Self → ℕ };
@@ -35,6 +39,7 @@ pub trait JournalStore {
     fn reserve(&mut self, count: usize) -> Result<(), AllocError>
         ensures room { OnOk result (count ≤ room self.new) }
         ensures standing { is_honest self.old ≡ true → standing self.new ≡ standing self.old }
+        ensures left { is_honest self.old ≡ true → left_behind self.new ≡ left_behind self.old }
         ensures faults { fault_count self.new ≡ fault_count self.old }
         ensures honest { is_honest self.new ≡ is_honest self.old };
 
@@ -47,6 +52,7 @@ pub trait JournalStore {
         ensures ok { is_honest self.old ≡ true → OnOk result (standing self.new ≡ standing self.old ++ bytes.now) }
         ensures err { is_honest self.old ≡ true
             → OnErr result (IsPartlyAppended (standing self.old) bytes.now (standing self.new)) }
+        ensures settled { is_honest self.old ≡ true → OnOk result (left_behind self.new ≡ []) }
         ensures faults { CountsFault result (fault_count self.old) (fault_count self.new) }
         ensures honest { is_honest self.new ≡ is_honest self.old };
 
@@ -57,6 +63,7 @@ pub trait JournalStore {
         requires countable { fault_count self.old < faults_max }
         ensures ok { is_honest self.old ≡ true → OnOk result (standing self.new ≡ take len (standing self.old)) }
         ensures err { is_honest self.old ≡ true → OnErr result (IsPartlyCut len (standing self.old) (standing self.new)) }
+        ensures settled { is_honest self.old ≡ true → OnOk result (left_behind self.new ≡ []) }
         ensures faults { CountsFault result (fault_count self.old) (fault_count self.new) }
         ensures honest { is_honest self.new ≡ is_honest self.old };
 
@@ -66,6 +73,7 @@ pub trait JournalStore {
         requires { fault_count self.old < faults_max }
         ensures ok { is_honest self.old ≡ true → OnOk result (list.new.items ≡ standing self.old) }
         ensures standing { is_honest self.old ≡ true → standing self.new ≡ standing self.old }
+        ensures settled { is_honest self.old ≡ true → OnOk result (left_behind self.new ≡ []) }
         ensures faults { CountsFaultOrMemory result (fault_count self.old) (fault_count self.new) }
         ensures honest { is_honest self.new ≡ is_honest self.old };
 

@@ -1,15 +1,23 @@
 //! Laws of the journal's text, and of what its bytes keep.
 
-ghost use Rattle.journal.specs.Laws.{IsOneToOne, IsNested, StopsAreRecovered, IsRecoveredOnce, IsNotRefused, IsRefusedOnce};
+ghost use Rattle.journal.specs.Laws.{TextsAreOneToOne, IsNested, EmptyIsJournaled, BeginningIsJournaled};
+ghost use Rattle.journal.specs.Laws.{StopsAreRecovered, IsRecoveredOnce, IsNotRefused, IsRefusedOnce};
 
 /// The text of a list of commits determines the list, and of two lists whose texts begin the same
 /// bytes one begins the other. It does nothing: its contract is the law.
 pub fn texts_determine_commits()
-    ensures one_to_one { IsOneToOne }
+    ensures one_to_one { TextsAreOneToOne }
     ensures nested { IsNested }
 {
     rows::laws::entries_are_read_as_spelled();
 }
+
+/// A journal may be of no commits, and of each beginning of a list that it may be of. It does
+/// nothing: its contract is the law.
+pub fn beginnings_are_journaled()
+    ensures empty { EmptyIsJournaled }
+    ensures beginning { BeginningIsJournaled }
+{}
 
 /// Whatever a stop leaves of the text of a list that a journal may be of, the first commits of the
 /// list are recovered; bytes are recovered in one way, and not refused then, or are refused in one

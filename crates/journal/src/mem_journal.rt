@@ -17,9 +17,9 @@ pub struct MemJournal {
 
 impl Model for MemJournal {
     ghost use Rattle.std.specs.Prelude.{◌-◌, vec_len, vec_capacity};
-    ghost use Rattle.journal.specs.State.{State};
+    ghost use Rattle.journal.specs.State.{JournalState};
 
-    ghost Value = { State };
+    ghost Value = { JournalState };
 
     ghost view = { λ j. record { bytes = j.content.items; room = vec_capacity j.content - vec_len j.content } };
 }
@@ -50,11 +50,13 @@ impl MemJournal {
 }
 
 impl JournalStore for MemJournal {
-    ghost use Rattle.std.specs.Prelude.{true};
+    ghost use Rattle.std.specs.Prelude.{[], true};
 
     type Fault = Infallible;
 
     ghost standing = { λ j. j.bytes };
+
+    ghost left_behind = { λ _. [] };
 
     ghost room = { λ j. j.room };
 

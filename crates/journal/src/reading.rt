@@ -2,15 +2,14 @@
 
 ghost use Rattle.std.specs.Prelude.{◌≡◌, ◌+◌, ◌≤◌, false, length, IfOk};
 ghost use Rattle.byteorder.specs.Endian.{big_number};
-ghost use Rattle.rows.specs.Reading.{entry_of};
 ghost use Rattle.journal.specs.Recovery.{is_record_len, is_torn};
-ghost use Rattle.journal.specs.Inner.Reading.{entries_filling, commit_in, record_at};
+ghost use Rattle.journal.specs.Inner.Reading.{commit_in, record_at};
 
 use crate::numbered_commit::NumberedCommit;
 use crate::text::{ENTRY_LEN_MAX, ENTRY_LEN_MIN, RECORD_FRONT_LEN};
 use byteorder::{BigEndian, ByteOrder};
 use rows::limits::COMMIT_ENTRIES_MAX;
-use rows::{ByteList, Commit, Entry, EntryList, EntryRef, read_entry};
+use rows::{Commit, read_entries};
 use std::alloc::{AllocError, Global};
 
 /// Bytes that a record takes behind its length, at least: those of one delete.
@@ -75,55 +74,5 @@ fn read_body(alloc: Global, body: &[u8]) -> Result<Option<NumberedCommit>, Alloc
             number,
             commit: Commit { worker, entries },
         })),
-    }
-}
-
-/// The entries that the bytes spell, `count` of them and all of the bytes, owned; `None` where they
-/// do not.
-fn read_entries(alloc: Global, count: u16, bytes: &[u8]) -> Result<Option<EntryList>, AllocError>
-    ensures { IfOk result (λ found. found ≡ entries_filling count bytes.now) }
-{
-    let mut entries = EntryList::new(alloc);
-    let mut rest = bytes;
-    for _ in 0..count {
-        match read_entry(rest) {
-            None => return Ok(None),
-            Some((entry, len)) => {
-                entries.push(owned(alloc, entry)?)?;
-                rest = rest.split_at(len).1;
-            }
-        }
-    }
-    if rest.is_empty() {
-        Ok(Some(entries))
-    } else {
-        Ok(None)
-    }
-}
-
-/// The entry, owned.
-fn owned(alloc: Global, lent: EntryRef<'_>) -> Result<Entry, AllocError>
-    ensures { IfOk result (λ owned. owned ≡ entry_of lent.entry) }
-{
-    match lent {
-        EntryRef::Insert { table, row, bytes } => {
-            let bytes = ByteList::from_vec(Vec::from_slice(alloc, bytes)?);
-            Ok(Entry::Insert { table, row, bytes })
-        }
-        EntryRef::Patch {
-            table,
-            row,
-            offset,
-            bytes,
-        } => {
-            let bytes = ByteList::from_vec(Vec::from_slice(alloc, bytes)?);
-            Ok(Entry::Patch {
-                table,
-                row,
-                offset,
-                bytes,
-            })
-        }
-        EntryRef::Delete { table, row } => Ok(Entry::Delete { table, row }),
     }
 }

@@ -5,7 +5,7 @@ ghost use Rattle.std.specs.Bool.{MatchBool};
 ghost use Rattle.rows.specs.Shape.{shape_of};
 ghost use Rattle.journal.specs.Text.{header};
 ghost use Rattle.journal.specs.Recovery.{IsBeginning, is_torn, IsRecovered, IsRefusal};
-ghost use Rattle.journal.specs.Inner.Progress.{IsNext, IsStop, IsAccepted};
+ghost use Rattle.journal.specs.Inner.Progress.{IsNextCommit, IsStop, IsAccepted};
 
 use crate::faults::JournalFault;
 use crate::header::header_of;
@@ -13,8 +13,7 @@ use crate::reading::{body_len, is_torn, read_record};
 use crate::recovered::Recovered;
 use rows::{Commit, Schema};
 use std::alloc::{AllocError, Global};
-use std::slice::from_ref;
-use store::{ApplyFault, ApplyStore, PlainStore};
+use store::{PlainStore, StoreFault, run};
 
 /// The commits that the bytes of a journal keep, for this schema and this number of workers: the
 /// longest legal list whose text begins the bytes. A torn record behind it is not kept, and bytes
@@ -106,7 +105,7 @@ fn next_commit<'a>(
 ) -> Result<(Commit, &'a [u8]), JournalFault>
     requires whole { store.old.whole ≡ true }
     requires some { is_torn rest.now ≡ false }
-    ensures ok { IfOk result (λ next. IsNext workers number store.old store.new rest.now next.0 next.1.now) }
+    ensures ok { IfOk result (λ next. IsNextCommit workers number store.old store.new rest.now next.0 next.1.now) }
     ensures err { IfErr result (IsStop workers number store.old.tables offset rest.now) }
 {
     rows::laws::entries_are_read_as_spelled();
@@ -128,9 +127,9 @@ fn next_commit<'a>(
     }
 }
 
-/// Whether a commit is legal behind those that the store stands for: its worker is there, and each
-/// of its entries is defined where it stands. The store then makes its changes; otherwise it is not to
-/// be used again, nor where it was out of memory.
+/// Whether a commit is legal after those that the store stands for: its worker is there, and each
+/// of its entries is defined where it stands. The store then makes its changes. If the commit is not
+/// legal, or the store is out of memory, the store is not to be used again.
 fn accepts(store: &mut PlainStore, workers: u8, commit: &Commit) -> Result<bool, AllocError>
     requires { store.old.whole ≡ true }
     ensures { IfOk result (λ accepted. IsAccepted accepted workers store.old store.new commit.now) }
@@ -138,9 +137,14 @@ fn accepts(store: &mut PlainStore, workers: u8, commit: &Commit) -> Result<bool,
     if commit.worker >= workers {
         return Ok(false);
     }
-    match store.apply_all(from_ref(commit)) {
+    match run(store, commit.entries.as_slice()) {
         Ok(()) => Ok(true),
-        Err(ApplyFault::Memory) => Err(AllocError),
-        Err(ApplyFault::Inconsistent | ApplyFault::Broken) => Ok(false),
+        Err((_, fault)) => {
+            if fault == StoreFault::Memory {
+                Err(AllocError)
+            } else {
+                Ok(false)
+            }
+        }
     }
 }

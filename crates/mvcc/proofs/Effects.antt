@@ -15,12 +15,13 @@ use Rattle.rows.specs.declared.row_id.RowId.{RowId}
 use Rattle.rows.specs.declared.value.Value.{Value}
 use Rattle.rows.specs.Shape.{kinds_in, Shape, row_width, column_at}
 use Rattle.rows.specs.Values.{value_of}
-use Rattle.rows.specs.Entries.{table_of, row_of, fitting}
+use Rattle.rows.specs.Entries.{table_of, fitting}
 use Rattle.rows.specs.Tables.{patched_row}
 use Rattle.rows.specs.Commits.{is_of}
 use Rattle.rows.specs.Inner.RowAfter.{inserted_row, row_after_one, row_after_entry, row_after_fit}
 use Rattle.rows.proofs.RowLaws.{row_after_fit-push}
 use Rattle.mvcc.specs.Inner.OwnRows.{supersedes}
+use Rattle.mvcc.proofs.Keys.{of-parts}
 
 -- what an entry of a row makes of it, in a table with columns of these kinds, or in none
 abbrev pub effect : Option (List Kind) → Entry → Option (List Value) → Option (List Value)
@@ -97,7 +98,7 @@ step-is shape table row entry was = by (is_of table row entry) refl
         → step shape table row entry was ≡ cond (is_of table row entry) (effect (slice_get shape table) entry was) was
     by false e = rw e (alike (is_ok (fitting shape entry)) was)
     by true e =
-        let same : table_of entry ≡ table = eqb-true _ _ (and_parts (table_of entry == table) (row_of entry == row) e).0 in
+        let same : table_of entry ≡ table = (of-parts table row entry e).0 in
         let here =
         subst (λ table. cond (is_ok (fitting shape entry)) (row_after_one (kinds_in shape table) entry was) was ≡ effect
         (slice_get shape table) entry was) same (fits-effect shape entry was) in

@@ -17,7 +17,7 @@ use Rattle.mvcc.proofs.RowBytes.{bytes_after-push, bytes_after_commits-push, byt
 use Rattle.mvcc.specs.declared.link.Link.{Link}
 use Rattle.mvcc.specs.Newest.{writes, newest_of}
 use Rattle.mvcc.specs.Inner.Chains.{link_of, chain_behind, chain_of, newest_from, newest_in, latest_from, latest_in, bytes_from, bytes_at}
-use Rattle.mvcc.specs.Inner.Chains.{cut_at, linked, and_entries}
+use Rattle.mvcc.specs.Inner.Chains.{taken_back_at, linked, and_entries}
 use Rattle.mvcc.proofs.Links.{newest-push}
 
 -- a link, where there is one
@@ -219,18 +219,18 @@ and_entries-other t r commits entries h =
     ++ link_if b (length commits + 1) (bytes_after t r entries (bytes_after_commits t r commits None))) h
     ∙ append-nil (chain_of t r commits)
 
--- the chain of a row is as it was once the link of the next commit is cut off, where there is one
-pub cut-chain : (t r : ℕ) (commits : List Commit)
-    → cut_at (length commits + 1) (chain_of t r commits) ≡ chain_of t r commits
-cut-chain t r commits =
+-- the chain of a row is as it was once the link of the next commit is taken back, where there is one
+pub taken_back-chain : (t r : ℕ) (commits : List Commit)
+    → taken_back_at (length commits + 1) (chain_of t r commits) ≡ chain_of t r commits
+taken_back-chain t r commits =
     let newest = chain-newest_of t r commits in
     let below = newest-le t r 0 commits in
     let other : (newest_in (chain_of t r commits) == length commits + 1) ≡ false = ne_eqb _ _ (λ e. omega arith) in
     ap (λ b. cond b (take (length (chain_of t r commits) - 1) (chain_of t r commits)) (chain_of t r commits)) other
 
-cut-push : (links : List Link) (number : ℕ) (bytes : Option (List ℕ))
-    → cut_at number (links ++ record { version = number; bytes = bytes } ∷ []) ≡ links
-cut-push links number bytes =
+taken_back-push : (links : List Link) (number : ℕ) (bytes : Option (List ℕ))
+    → taken_back_at number (links ++ record { version = number; bytes = bytes } ∷ []) ≡ links
+taken_back-push links number bytes =
     let link : Link = record { version = number; bytes = bytes } in
     let same : (newest_in (links ++ link ∷ []) == number) ≡ true = eq-eqb _ _ (newest-push links link 0) in
     let count : length (links ++ link ∷ []) - 1 ≡ length links = omega (arith, length-append links (link ∷ [])) in
@@ -238,18 +238,18 @@ cut-push links number bytes =
     ∙ ap (λ n. take n (links ++ link ∷ [])) count
     ∙ take-append_seam links (link ∷ [])
 
-pub cut-and_entries : (t r : ℕ) (commits : List Commit) (entries : List Entry)
-    → cut_at (length commits + 1) (chain_of t r (and_entries commits entries)) ≡ chain_of t r commits
-cut-and_entries t r commits entries =
-    ap (cut_at (length commits + 1)) (and_entries-chain t r commits entries)
+pub taken_back-and_entries : (t r : ℕ) (commits : List Commit) (entries : List Entry)
+    → taken_back_at (length commits + 1) (chain_of t r (and_entries commits entries)) ≡ chain_of t r commits
+taken_back-and_entries t r commits entries =
+    ap (taken_back_at (length commits + 1)) (and_entries-chain t r commits entries)
     ∙ by (list_any (is_of t r) entries)
   where
-    by : (b : Bool) → cut_at (length commits + 1)
+    by : (b : Bool) → taken_back_at (length commits + 1)
         (chain_of t r commits ++ link_if b (length commits + 1)
         (bytes_after t r entries (bytes_after_commits t r commits None))) ≡ chain_of t r commits
     by true =
-        cut-push (chain_of t r commits) (length commits + 1) (bytes_after t r entries (bytes_after_commits t r commits None))
-    by false = ap (cut_at (length commits + 1)) (append-nil (chain_of t r commits)) ∙ cut-chain t r commits
+        taken_back-push (chain_of t r commits) (length commits + 1) (bytes_after t r entries (bytes_after_commits t r commits None))
+    by false = ap (taken_back_at (length commits + 1)) (append-nil (chain_of t r commits)) ∙ taken_back-chain t r commits
 
 any-push : {X : Type 0} (p : X → Bool) (xs : List X) (x : X) → list_any p (xs ++ x ∷ []) ≡ (list_any p xs || p x)
 any-push p xs x = list_any-append p xs (x ∷ []) ∙ ap (λ b. list_any p xs || b) (alone (p x))
@@ -284,7 +284,7 @@ entry-linked t r commits entries entry named true e =
       version = length commits + 1;
       bytes = bytes_after_one entry (latest_in (chain_of t r (and_entries commits entries)));
     } ∷ [])
-    (sym (cut-and_entries t r commits entries))
+    (sym (taken_back-and_entries t r commits entries))
   where
     surely : (b : Bool) → (b || true) ≡ true
     surely true = refl

@@ -12,17 +12,18 @@ use Rattle.rows.specs.declared.entry.Entry.{Entry}
 use Rattle.rows.specs.declared.kind.Kind.{Kind}
 use Rattle.rows.specs.Shape.{Shape, kinds_in, row_width}
 use Rattle.rows.specs.Values.{values_of}
-use Rattle.rows.specs.Tables.{rows_of, row_at, changes_of}
+use Rattle.rows.specs.Tables.{rows_of, row_at, apply_entries}
 use Rattle.rows.specs.Commits.{tables_after, is_of}
-use Rattle.rows.proofs.TableLaws.{commits_of-push}
+use Rattle.rows.proofs.TableLaws.{apply_commits-push}
 use Rattle.mvcc.specs.declared.link.Link.{Link}
 use Rattle.mvcc.specs.Newest.{newest_of}
 use Rattle.mvcc.specs.Values.{value_in}
 use Rattle.mvcc.specs.Inner.RowBytes.{AreWide}
-use Rattle.mvcc.specs.Inner.Chains.{Chains, chain_of, newest_in, bytes_at, cut_at, linked, links_at, cut_all, Turns}
-use Rattle.mvcc.specs.Inner.Chains.{and_entries, AreChains, AreChainsCut, AreVersions}
+use Rattle.mvcc.specs.Inner.Chains.{Chains, chain_of, newest_in, bytes_at, taken_back_at, linked, links_at, all_taken_back, Turns}
+use Rattle.mvcc.specs.Inner.Chains.{and_entries, AreChains, AreChainsTakenBack, AreVersions}
 use Rattle.mvcc.proofs.RowBytes.{IsTold, version-told}
-use Rattle.mvcc.proofs.Histories.{chain-at, chain-sorted, chain-newest_of, cut-chain, cut-and_entries, and_entries-other, and_entries-push}
+use Rattle.mvcc.proofs.Histories.{chain-at, chain-sorted, chain-newest_of, taken_back-chain, taken_back-and_entries, and_entries-other}
+use Rattle.mvcc.proofs.Histories.{and_entries-push}
 use Rattle.mvcc.proofs.Histories.{and_entries-commit}
 
 -- what holds, holds where a call fails
@@ -55,33 +56,35 @@ any-take p (suc i) (x ∷ xs) h =
     or_from (p x) (list_any p (take i xs)) parts.0 (any-take p i xs parts.1)
 
 -- what a refusal half way leaves
-pub cut-part : (commits : List Commit) (chains : Chains) (entries : List Entry) (i : ℕ)
-    → AreChains (and_entries commits (take i entries)) chains → AreChainsCut commits entries chains
-cut-part commits chains entries i kept = record {
-  cut = λ t r. ap (cut_at (length commits + 1)) (kept t r) ∙ cut-and_entries t r commits (take i entries);
+pub taken_back-part : (commits : List Commit) (chains : Chains) (entries : List Entry) (i : ℕ)
+    → AreChains (and_entries commits (take i entries)) chains → AreChainsTakenBack commits entries chains
+taken_back-part commits chains entries i kept = record {
+  back = λ t r. ap (taken_back_at (length commits + 1)) (kept t r) ∙ taken_back-and_entries t r commits (take i entries);
   whole = λ t r h. kept t r ∙ and_entries-other t r commits (take i entries) (any-take (is_of t r) i entries h);
 }
 
--- a chain is that of the commits again, once it was cut for each entry of its row
-cut-again : (commits : List Commit) (t r : ℕ) (entries : List Entry) (links : List Link)
-    → cut_at (length commits + 1) links ≡ chain_of t r commits
+-- a chain is that of the commits again, once it was taken back for each entry of its row
+taken_back-again : (commits : List Commit) (t r : ℕ) (entries : List Entry) (links : List Link)
+    → taken_back_at (length commits + 1) links ≡ chain_of t r commits
     → (list_any (is_of t r) entries ≡ false → links ≡ chain_of t r commits)
-    → cut_all (length commits + 1) t r entries links ≡ chain_of t r commits
-cut-again commits t r [] links cut whole = whole refl
-cut-again commits t r (entry ∷ entries) links cut whole = by (is_of t r entry) refl (cut-again commits t r entries)
+    → all_taken_back (length commits + 1) t r entries links ≡ chain_of t r commits
+taken_back-again commits t r [] links back whole = whole refl
+taken_back-again commits t r (entry ∷ entries) links back whole = by (is_of t r entry) refl (taken_back-again commits t r entries)
   where
     by : (here : Bool) → is_of t r entry ≡ here
-        → ((links : List Link) → cut_at (length commits + 1) links ≡ chain_of t r commits
+        → ((links : List Link) → taken_back_at (length commits + 1) links ≡ chain_of t r commits
         → (list_any (is_of t r) entries ≡ false → links ≡ chain_of t r commits)
-        → cut_all (length commits + 1) t r entries links ≡ chain_of t r commits)
-        → cut_all (length commits + 1) t r entries (cond here (cut_at (length commits + 1) links) links) ≡ chain_of t r commits
-    by true e next = next (cut_at (length commits + 1) links) (ap (cut_at (length commits + 1)) cut ∙ cut-chain t r commits) (λ none. cut)
-    by false e next = next links cut (λ none. whole (or_from (is_of t r entry) (list_any (is_of t r) entries) e none))
+        → all_taken_back (length commits + 1) t r entries links ≡ chain_of t r commits)
+        → all_taken_back (length commits + 1) t r entries
+        (cond here (taken_back_at (length commits + 1) links) links) ≡ chain_of t r commits
+    by true e next = next (taken_back_at (length commits + 1) links)
+        (ap (taken_back_at (length commits + 1)) back ∙ taken_back-chain t r commits) (λ none. back)
+    by false e next = next links back (λ none. whole (or_from (is_of t r entry) (list_any (is_of t r) entries) e none))
 
-pub kept-cut : (commits : List Commit) (before after : Chains) (entries : List Entry) → AreChainsCut commits entries before
-    → ((t r : ℕ) → links_at after t r ≡ cut_all (length commits + 1) t r entries (links_at before t r)) → AreChains commits after
-kept-cut commits before after entries left cut t r =
-    cut t r ∙ cut-again commits t r entries (links_at before t r) (left.cut t r) (left.whole t r)
+pub kept-taken_back : (commits : List Commit) (before after : Chains) (entries : List Entry) → AreChainsTakenBack commits entries before
+    → ((t r : ℕ) → links_at after t r ≡ all_taken_back (length commits + 1) t r entries (links_at before t r)) → AreChains commits after
+kept-taken_back commits before after entries left back t r =
+    back t r ∙ taken_back-again commits t r entries (links_at before t r) (left.back t r) (left.whole t r)
 
 -- what the chains tell
 pub sorted-at : (commits : List Commit) (chains : Chains) (t r : ℕ) → AreChains commits chains
@@ -148,10 +151,10 @@ module _ (shape : Shape) (commits : List Commit) (chains : Chains) (version t r 
 
 -- with one more commit
 pub versions-push : (shape : Shape) (commits : List Commit) (before after : Chains) (commit : Commit)
-    → AreVersions shape commits before → is_ok (changes_of (tables_after shape commits (length commits)) commit.entries) ≡ true
+    → AreVersions shape commits before → is_ok (apply_entries (tables_after shape commits (length commits)) commit.entries) ≡ true
     → AreChains (and_entries commits commit.entries) after → AreVersions shape (commits ++ commit ∷ []) after
 versions-push shape commits before after commit versions defined kept = record {
-  legal = commits_of-push shape commits commit versions.legal defined;
+  legal = apply_commits-push shape commits commit versions.legal defined;
   kept = λ t r. kept t r ∙ sym (and_entries-commit t r commits commit);
 }
 

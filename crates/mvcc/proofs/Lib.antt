@@ -8,3 +8,6 @@ pub mod OwnRows
 pub mod CellLaws
 pub mod Columns
 pub mod Seen
+pub mod Definedness
+pub mod Telling
+pub mod Keys

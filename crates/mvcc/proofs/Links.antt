@@ -5,14 +5,13 @@ use Rattle.std.specs.Prelude.{nat_le}
 use Rattle.std.specs.List.Sorted.{IsPartitionPoint}
 use Rattle.std.specs.Map.{lookup, set_value}
 use Rattle.std.specs.BTreeMap.{is_at}
-use Rattle.std.proofs.lemmas.Bool.{and_parts, eqb-true}
 use Rattle.rows.specs.declared.entry.Entry.{Entry}
-use Rattle.rows.specs.Entries.{table_of, row_of}
+use Rattle.rows.specs.Entries.{table_of}
 use Rattle.rows.specs.Commits.{is_of}
-use Rattle.rows.specs.Inner.Keys.{is_key_of}
-use Rattle.rows.proofs.Keys.{key_cmp, lookup-key, lookup-set, lookup-put}
+use Rattle.mvcc.specs.Inner.Keys.{is_key_of, row_of}
+use Rattle.mvcc.proofs.Keys.{is_of-is, of-parts, key_cmp, lookup-key, lookup-set, lookup-put}
 use Rattle.mvcc.specs.declared.link.Link.{Link}
-use Rattle.mvcc.specs.Inner.Chains.{Chains, newest_from, latest_from, bytes_from, cut_at, links_found, links_at, Turns}
+use Rattle.mvcc.specs.Inner.Chains.{Chains, newest_from, latest_from, bytes_from, taken_back_at, links_found, links_at, Turns}
 
 -- what is told of the last link
 pub newest-last : (links : List Link) (link : Link) (last : ℕ) → slice_get links (length links - 1) ≡ Some link
@@ -78,10 +77,8 @@ links-put before after entry change links made put t r = ap links_found (put t r
         (links_at before t r)
     by false e = refl
     by true e =
-        let parts = and_parts (table_of entry == t) (row_of entry == r) e in
-        made
-        ∙ ap (λ t. change (links_at before t (row_of entry))) (eqb-true (table_of entry) t parts.0)
-        ∙ ap (λ r. change (links_at before t r)) (eqb-true (row_of entry) r parts.1)
+        let at = of-parts t r entry e in
+        made ∙ ap (λ t. change (links_at before t (row_of entry))) at.0 ∙ ap (λ r. change (links_at before t r)) at.1
 
 -- the chain that the map found of an entry's row
 found-at : (chains : Chains) (entry : Entry) (table row : ℕ) (found : Option (List Link)) → table ≡ table_of entry → row ≡ row_of entry
@@ -99,7 +96,8 @@ links-set before entry change table row was links of_table of_row e made =
     (made ∙ ap change (found-at before entry table row (Some was) of_table of_row e))
     (λ t r. lookup-set before table row links was e t r
     ∙ ap (λ n. cond ((n == t) && (row == r)) (Some links) (lookup (is_key_of t r) before)) of_table
-    ∙ ap (λ n. cond ((table_of entry == t) && (n == r)) (Some links) (lookup (is_key_of t r) before)) of_row)
+    ∙ ap (λ n. cond ((table_of entry == t) && (n == r)) (Some links) (lookup (is_key_of t r) before)) of_row
+    ∙ ap (λ here. cond here (Some links) (lookup (is_key_of t r) before)) (sym (is_of-is t r entry)))
 
 pub links-new : (before after : Chains) (entry : Entry) (change : List Link → List Link) (table row : ℕ) (links : List Link)
     → table ≡ table_of entry → row ≡ row_of entry → lookup (is_at (key_cmp (table, row))) before ≡ None → links ≡ change []
@@ -111,7 +109,8 @@ links-new before after entry change table row links of_table of_row e made updat
     (made ∙ ap change (found-at before entry table row None of_table of_row e))
     (λ t r. lookup-put before after table row links updates t r
     ∙ ap (λ n. cond ((n == t) && (row == r)) (Some links) (lookup (is_key_of t r) before)) of_table
-    ∙ ap (λ n. cond ((table_of entry == t) && (n == r)) (Some links) (lookup (is_key_of t r) before)) of_row)
+    ∙ ap (λ n. cond ((table_of entry == t) && (n == r)) (Some links) (lookup (is_key_of t r) before)) of_row
+    ∙ ap (λ here. cond here (Some links) (lookup (is_key_of t r) before)) (sym (is_of-is t r entry)))
 
 -- where there is no chain, and a change makes nothing of none, no chain has changed
 pub links-left : (chains : Chains) (entry : Entry) (change : List Link → List Link) (table row : ℕ) → table ≡ table_of entry
@@ -121,15 +120,14 @@ links-left chains entry change table row of_table of_row e nothing t r = by (is_
     by : (here : Bool) → is_of t r entry ≡ here → links_at chains t r ≡ cond here (change (links_at chains t r)) (links_at chains t r)
     by false e = refl
     by true f =
-        let parts = and_parts (table_of entry == t) (row_of entry == r) f in
+        let at = of-parts t r entry f in
         let here : links_at chains t r ≡ [] =
-        ap (λ t. links_at chains t r) (sym (eqb-true (table_of entry) t parts.0))
-        ∙ ap (links_at chains (table_of entry)) (sym (eqb-true (row_of entry) r parts.1))
+        ap (λ t. links_at chains t r) (sym at.0) ∙ ap (links_at chains (table_of entry)) (sym at.1)
         ∙ sym (found-at chains entry table row None of_table of_row e) in
         here ∙ sym (ap change here ∙ nothing)
 
-pub cut-none : (number : ℕ) → cut_at number [] ≡ []
-cut-none number = by (0 == number)
+pub taken_back-none : (number : ℕ) → taken_back_at number [] ≡ []
+taken_back-none number = by (0 == number)
   where
     by : (b : Bool) → ◌≡◌ {A = List Link} (cond b (take (0 - 1) []) []) []
     by true = refl

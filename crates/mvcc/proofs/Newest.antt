@@ -7,10 +7,11 @@ use Rattle.std.proofs.lemmas.List.Folds.{list_any-append}
 use Rattle.std.specs.List.{list_any}
 use Rattle.rows.specs.declared.commit.Commit.{Commit}
 use Rattle.rows.specs.declared.entry.Entry.{Entry}
-use Rattle.rows.specs.Entries.{table_of, row_of}
-use Rattle.rows.specs.Commits.{overlaps, touches, last_where, last_touching}
-use Rattle.rows.proofs.TableLaws.{last_where-above}
+use Rattle.rows.specs.Entries.{table_of}
+use Rattle.rows.specs.Commits.{is_of, overlaps, touches, last_where, last_touching}
 use Rattle.mvcc.specs.Newest.{writes, newest_of}
+use Rattle.mvcc.specs.Inner.Keys.{row_of}
+use Rattle.mvcc.proofs.Keys.{overlaps-is}
 
 -- the later of two numbers of commits, each 0 where there is none
 abbrev later_of : ℕ → ℕ → ℕ
@@ -25,6 +26,19 @@ later-both false false n l m (inl a) (inl b) = grind (arith, nat_tests)
 later-both x y n l m (inl a) (inr b) = grind (arith, nat_tests)
 later-both x y n l m (inr a) (inl b) = grind (arith, nat_tests)
 later-both x y n l m (inr a) (inr b) = grind (arith, nat_tests)
+
+-- the last stands behind those before the list
+later-above : (before last : ℕ) (t : Bool) → (last ≡ 0) ⊎ (before + 1 < last) → (later_of (cond t (before + 1) 0) last ≡ 0)
+    ⊎ (before < later_of (cond t (before + 1) 0) last)
+later-above before last true (inl e) = inr (grind (arith, nat_tests))
+later-above before last false (inl e) = inl (grind (arith, nat_tests))
+later-above before last t (inr h) = inr (grind (arith, nat_tests))
+
+last_where-above : (holds : Commit → Bool) (before : ℕ) (commits : List Commit) → (last_where holds before commits ≡ 0)
+    ⊎ (before < last_where holds before commits)
+last_where-above holds before [] = inl refl
+last_where-above holds before (commit ∷ commits) =
+    later-above before (last_where holds (before + 1) commits) (holds commit) (last_where-above holds (before + 1) commits)
 
 -- the last of which one of two things holds
 last_where-or : (either one other : Commit → Bool) (before : ℕ) (commits : List Commit)
@@ -41,8 +55,12 @@ touches-push : (entries : List Entry) (entry : Entry) (commit : Commit)
     → touches (entries ++ entry ∷ []) commit ≡ (touches entries commit || writes (table_of entry) (row_of entry) commit)
 touches-push entries entry commit =
     list_any-append (λ e. list_any (overlaps e) commit.entries) entries (entry ∷ [])
-    ∙ ap (λ b. touches entries commit || b) (alone (list_any (overlaps entry) commit.entries))
+    ∙ ap (λ b. touches entries commit || b) (alone (list_any (overlaps entry) commit.entries) ∙ own commit.entries)
   where
+    own : (others : List Entry) → list_any (overlaps entry) others ≡ list_any (is_of (table_of entry) (row_of entry)) others
+    own [] = refl
+    own (other ∷ others) = rw (overlaps-is entry other, own others) refl
+
     alone : (b : Bool) → (b || false) ≡ b
     alone true = refl
     alone false = refl

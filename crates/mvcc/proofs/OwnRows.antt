@@ -3,14 +3,14 @@ use Rattle.std.proofs.Common.{◌≡◌, ℕ, zero, suc, ◌+◌, ◌<◌, Bool,
 use Rattle.std.proofs.Common.{None, Some, slice_get, refl, sym, ap, ◌∙◌, arith}
 use Rattle.std.specs.List.{filter, AllByRecursion}
 use Rattle.std.specs.Map.{lookup}
-use Rattle.std.proofs.lemmas.Bool.{and_parts, eqb-true}
 use Rattle.std.proofs.lemmas.List.{length_push}
 use Rattle.rows.specs.declared.entry.Entry.{Entry}
 use Rattle.rows.specs.declared.value.Value.{Value}
 use Rattle.rows.specs.Shape.{Shape}
-use Rattle.rows.specs.Entries.{table_of, row_of}
+use Rattle.rows.specs.Entries.{table_of}
 use Rattle.rows.specs.Commits.{is_of}
-use Rattle.rows.specs.Inner.Keys.{is_key_of}
+use Rattle.mvcc.specs.Inner.Keys.{is_key_of, row_of}
+use Rattle.mvcc.proofs.Keys.{of-parts}
 use Rattle.rows.specs.Inner.RowAfter.{row_after_fit}
 use Rattle.rows.proofs.RowLaws.{row_after_fit-push}
 use Rattle.mvcc.specs.Inner.OwnRows.{RowIndices, indices_at, picked, supersedes, is_superseded, kept_indices, IsIndexOf}
@@ -183,10 +183,8 @@ IsIndexOf-push entries rows after entry is put = record {
     told table row shape was true e =
         let old = indices_at rows (table_of entry) (row_of entry) in
         let kept = kept_indices entries entry old in
-        let at : (table ≡ table_of entry) × (row ≡ row_of entry) = (
-          sym (eqb-true _ _ (and_parts (table_of entry == table) (row_of entry == row) e).0),
-          sym (eqb-true _ _ (and_parts (table_of entry == table) (row_of entry == row) e).1),
-        ) in
+        let at : (table ≡ table_of entry) × (row ≡ row_of entry) =
+        (sym (of-parts table row entry e).0, sym (of-parts table row entry e).1) in
         let before_it : row_after_fit shape table row (picked entries old) was ≡ row_after_fit shape table row entries was =
         rw (at.0, at.1) (is.told (table_of entry) (row_of entry) shape was) in
         ap (λ entries. row_after_fit shape table row entries was)

@@ -18,11 +18,11 @@ use Rattle.rows.specs.Shape.{Shape, width_of, row_width, kinds_in, column_from, 
 use Rattle.rows.specs.Values.{value_of, values_of}
 use Rattle.rows.specs.declared.faults.EntryFault.TheVariants.{WrongSize, NotAColumn}
 use Rattle.rows.specs.Entries.{sized, placed, fitting}
-use Rattle.rows.specs.Tables.{Tables, opening, shape_in, rows_of, row_at, patched_row, change_of, changes_of}
-use Rattle.rows.specs.Commits.{commits_of, tables_after, is_of}
+use Rattle.rows.specs.Tables.{Tables, opening, shape_in, rows_of, row_at, patched_row, apply_entry, apply_entries}
+use Rattle.rows.specs.Commits.{apply_commits, tables_after, is_of}
 use Rattle.rows.specs.Inner.RowAfter.{row_after_one, row_after_entry, row_after, row_after_commits}
-use Rattle.rows.proofs.Presence.{change_of-parts, and_then-parts, shape_in-opening}
-use Rattle.rows.proofs.TableLaws.{from_is_ok, commits_of-split, entry-kinds, entries-kinds}
+use Rattle.rows.proofs.Presence.{apply_entry-parts, and_then-parts, shape_in-opening}
+use Rattle.rows.proofs.TableLaws.{from_is_ok, apply_commits-split, entry-kinds, entries-kinds}
 use Rattle.rows.proofs.RowLaws.{row-at}
 use Rattle.rows.proofs.Fronts.{value-same}
 use Rattle.mvcc.specs.Inner.RowBytes.{patched_bytes, bytes_after_one, bytes_after_entry, bytes_after, bytes_after_commits}
@@ -227,30 +227,30 @@ module _ (shape : Shape) (table row : ℕ) where
 
   -- entries that are defined, and commits
   entries-told : (tables after : Tables) (entries : List Entry) (values : Option (List Value)) (bytes : Option (List ℕ))
-      → shape_in tables ≡ shape → changes_of tables entries ≡ Ok after → IsTold values bytes
+      → shape_in tables ≡ shape → apply_entries tables entries ≡ Ok after → IsTold values bytes
       → IsTold (row_after shape table row entries values) (bytes_after table row entries bytes)
   entries-told tables after [] values bytes same h was = was
   entries-told tables after (entry ∷ entries) values bytes same h was =
-      let parts = and_then-parts _ (change_of tables entry) after h in
-      let fits = ap (λ shape. is_ok (fitting shape entry)) (sym same) ∙ (change_of-parts tables parts.0 entry parts.1).0 in
+      let parts = and_then-parts _ (apply_entry tables entry) after h in
+      let fits = ap (λ shape. is_ok (fitting shape entry)) (sym same) ∙ (apply_entry-parts tables parts.0 entry parts.1).0 in
       entries-told parts.0 after entries _ _ (entry-kinds tables parts.0 entry parts.1 ∙ same) parts.2
       (entry-told entry values bytes fits was)
 
   commits-told : (tables after : Tables) (commits : List Commit) (values : Option (List Value)) (bytes : Option (List ℕ))
-      → shape_in tables ≡ shape → commits_of tables commits ≡ Ok after → IsTold values bytes
+      → shape_in tables ≡ shape → apply_commits tables commits ≡ Ok after → IsTold values bytes
       → IsTold (row_after_commits shape table row commits values) (bytes_after_commits table row commits bytes)
   commits-told tables after [] values bytes same h was = was
   commits-told tables after (commit ∷ commits) values bytes same h was =
-      let parts = and_then-parts _ (changes_of tables commit.entries) after h in
+      let parts = and_then-parts _ (apply_entries tables commit.entries) after h in
       commits-told parts.0 after commits _ _ (entries-kinds tables parts.0 commit.entries parts.1 ∙ same) parts.2
       (entries-told tables parts.0 commit.entries values bytes same parts.1 was)
 
   -- a row at a version is that of its bytes after the commits up to it
-  pub version-told : (commits : List Commit) (version : ℕ) → is_ok (commits_of (opening shape) commits) ≡ true
+  pub version-told : (commits : List Commit) (version : ℕ) → is_ok (apply_commits (opening shape) commits) ≡ true
       → IsTold (row_at (rows_of (tables_after shape commits version) table) row) (bytes_after_commits table row (take version commits) None)
   version-told commits version h =
       let all = from_is_ok _ h in
-      let split = commits_of-split shape commits version all.0 all.1 in
+      let split = apply_commits-split shape commits version all.0 all.1 in
       subst (λ values. IsTold values (bytes_after_commits table row (take version commits) None))
       (sym (row-at shape commits version table row h))
       (commits-told (opening shape) (tables_after shape commits version) (take version commits) None None (shape_in-opening shape)

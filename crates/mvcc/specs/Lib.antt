@@ -1,6 +1,6 @@
 pub mod History
 pub mod Values
 pub mod Newest
-pub mod Draft
+pub mod Transaction
 pub mod Transactions
 pub mod Inner

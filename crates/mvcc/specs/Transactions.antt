@@ -15,7 +15,7 @@ use Rattle.rows.specs.Commits.{tables_after}
 use Rattle.mvcc.specs.declared.faults.TxFault.{TxFault}
 use Rattle.mvcc.specs.declared.faults.TxFault.TheVariants.{Exists, Missing, Unfit, TooManyEntries}
 use Rattle.mvcc.specs.Values.{value_in}
-use Rattle.mvcc.specs.Draft.{Draft}
+use Rattle.mvcc.specs.Transaction.{Transaction}
 
 -- whether the table is there, and these are values of its columns
 abbrev pub match_table : List Value → Option (List Kind) → Bool
@@ -36,47 +36,48 @@ abbrev pub column_offset : Shape → ℕ → ℕ → ℕ
 column_offset shape table column = row_width (take column (kinds_in shape table))
 
 -- the rows that a transaction sees: those at its snapshot, changed by its own entries in the order of its calls
-abbrev pub seen_by : Shape → List Commit → Draft → Tables
+abbrev pub seen_by : Shape → List Commit → Transaction → Tables
 seen_by shape commits draft = applied (tables_after shape commits draft.snapshot) draft.entries
 
 -- the kinds of the tables' columns, as a transaction sees them
-abbrev pub seen_shape : Shape → List Commit → Draft → Shape
+abbrev pub seen_shape : Shape → List Commit → Transaction → Shape
 seen_shape shape commits draft = shape_in (seen_by shape commits draft)
 
 -- whether a transaction sees that row
-abbrev pub sees : Shape → List Commit → Draft → ℕ → ℕ → Bool
+abbrev pub sees : Shape → List Commit → Transaction → ℕ → ℕ → Bool
 sees shape commits draft table row = is_row_at (seen_by shape commits draft) table row
 
 -- the transaction with one more entry, where it may have one more
-abbrev pub draft_with : Draft → Entry → Result Draft TxFault
-draft_with draft entry =
+abbrev pub transaction_with : Transaction → Entry → Result Transaction TxFault
+transaction_with draft entry =
     if nat_lt (length draft.entries) commit_entries_max
     then Ok (record draft { entries = draft.entries ++ entry ∷ [] })
     else Err TooManyEntries
 
 -- what an insert answers: the transaction with one more entry, or the first refusal
-abbrev pub insert_answer : Shape → List Commit → Draft → ℕ → ℕ → List Value → Result Draft TxFault
+abbrev pub insert_answer : Shape → List Commit → Transaction → ℕ → ℕ → List Value → Result Transaction TxFault
 insert_answer shape commits draft table row values =
     if not (match_table values (slice_get (seen_shape shape commits draft) table)) then Err Unfit else
     if sees shape commits draft table row then Err Exists else
-    draft_with draft (Insert table (record { 0 = row }) (bytes_of values))
+    transaction_with draft (Insert table (record { 0 = row }) (bytes_of values))
 
 -- what a change of one column answers
-abbrev pub set_answer : Shape → List Commit → Draft → ℕ → ℕ → ℕ → Value → Result Draft TxFault
+abbrev pub set_answer : Shape → List Commit → Transaction → ℕ → ℕ → ℕ → Value → Result Transaction TxFault
 set_answer shape commits draft table row column value =
     if not (match_column value (column_kind (seen_shape shape commits draft) table column)) then Err Unfit else
     if not (sees shape commits draft table row) then Err Missing else
-    draft_with draft (Patch table (record { 0 = row }) (column_offset (seen_shape shape commits draft) table column) (value_bytes value))
+    transaction_with draft (Patch table (record { 0 = row }) (column_offset (seen_shape shape commits draft) table column)
+    (value_bytes value))
 
 -- what a delete answers
-abbrev pub delete_answer : Shape → List Commit → Draft → ℕ → ℕ → Result Draft TxFault
+abbrev pub delete_answer : Shape → List Commit → Transaction → ℕ → ℕ → Result Transaction TxFault
 delete_answer shape commits draft table row =
     if not (is_some (slice_get (seen_shape shape commits draft) table)) then Err Unfit else
     if not (sees shape commits draft table row) then Err Missing else
-    draft_with draft (Delete table (record { 0 = row }))
+    transaction_with draft (Delete table (record { 0 = row }))
 
 -- what a look at one column answers: its value as the transaction sees it, or the first refusal
-abbrev pub get_answer : Shape → List Commit → Draft → ℕ → ℕ → ℕ → Result Value TxFault
+abbrev pub get_answer : Shape → List Commit → Transaction → ℕ → ℕ → ℕ → Result Value TxFault
 get_answer shape commits draft table row column =
     if not (is_some (column_kind (seen_shape shape commits draft) table column)) then Err Unfit else
     ok_or (value_in (seen_by shape commits draft) table row column) Missing

@@ -12,16 +12,16 @@ use std::alloc::{AllocError, Global};
 pub fn bytes_after_one(
     alloc: Global,
     entry: &Entry,
-    was: Option<&ByteList>,
+    was: Option<&[u8]>,
 ) -> Result<Option<ByteList>, AllocError>
     ensures { IfOk result (λ row. row ≡ bytes_after_one entry.now (option_map (λ b. b.now) was.entry)) }
 {
     match entry {
-        Entry::Insert { bytes, .. } => inserted_bytes(bytes, was),
+        Entry::Insert { bytes, .. } => inserted_bytes(alloc, bytes, was),
         Entry::Patch { offset, bytes, .. } => match was {
             None => Ok(None),
             Some(row) => {
-                let row = patched_bytes(alloc, *offset, bytes.as_slice(), row.as_slice())?;
+                let row = patched_bytes(alloc, *offset, bytes.as_slice(), row)?;
                 Ok(Some(row))
             }
         },
@@ -30,12 +30,16 @@ pub fn bytes_after_one(
 }
 
 /// The bytes of a row after an insert of these: they, where it was not there.
-fn inserted_bytes(bytes: &ByteList, was: Option<&ByteList>) -> Result<Option<ByteList>, AllocError>
+fn inserted_bytes(
+    alloc: Global,
+    bytes: &ByteList,
+    was: Option<&[u8]>,
+) -> Result<Option<ByteList>, AllocError>
     ensures { IfOk result (λ row. row ≡ inserted_bytes bytes.now (option_map (λ b. b.now) was.entry)) }
 {
     match was {
         None => Ok(Some(bytes.clone()?)),
-        Some(row) => Ok(Some(row.clone()?)),
+        Some(row) => Ok(Some(ByteList::from_vec(Vec::from_slice(alloc, row)?))),
     }
 }
 

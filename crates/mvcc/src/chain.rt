@@ -1,13 +1,14 @@
 //! The versions that wrote one row.
 
-ghost use Rattle.std.specs.Prelude.{◌≡◌, ◌≤◌, [], length, take, OnOk, OnErr, vec_len, vec_capacity};
+ghost use Rattle.std.specs.Prelude.{◌≡◌, ◌+◌, ◌≤◌, [], length, take, OnOk, OnErr, vec_len, vec_capacity};
 ghost use Rattle.std.specs.List.Sorted.{IsNonDecreasingBy};
 ghost use Rattle.std.specs.Option.{option_map};
-ghost use Rattle.mvcc.specs.Inner.Chains.{newest_in, latest_in, bytes_at, cut_at, linked};
+ghost use Rattle.mvcc.specs.Inner.Chains.{newest_in, latest_in, bytes_at, taken_back_at, linked};
 
 use crate::bytes_after::bytes_after_one;
+use crate::kept_bytes::KeptBytes;
 use crate::link::Link;
-use rows::{ByteList, Entry};
+use rows::Entry;
 use std::alloc::{AllocError, Global};
 use std::marker::Model;
 
@@ -44,18 +45,18 @@ impl Chain {
     }
 
     /// The row's bytes after the last link; `None` where it is not there.
-    pub fn latest(&self) -> Option<&ByteList>
+    pub fn latest(&self) -> Option<&[u8]>
         ensures { option_map (λ b. b.now) result ≡ latest_in self.now }
     {
         match self.links.last() {
             None => None,
-            Some(link) => link.bytes.as_ref(),
+            Some(link) => link.bytes.lend(),
         }
     }
 
     /// The row's bytes at a version; `None` where it is not there. The versions of the links do
     /// not fall.
-    pub fn bytes_at(&self, version: u64) -> Option<&ByteList>
+    pub fn bytes_at(&self, version: u64) -> Option<&[u8]>
         requires { IsNonDecreasingBy (λ link. link.version) self.now }
         ensures { option_map (λ b. b.now) result ≡ bytes_at version self.now }
     {
@@ -63,14 +64,14 @@ impl Chain {
         if end == 0 {
             return None;
         }
-        self.links[end - 1].bytes.as_ref()
+        self.links[end - 1].bytes.lend()
     }
 
     /// Takes the last link off, where it is of this number.
-    pub fn cut(&mut self, number: u64)
-        ensures { self.new ≡ cut_at number self.old }
+    pub fn take_back(&mut self, number: u64)
+        ensures { self.new ≡ taken_back_at number self.old }
     {
-        cut_links(&mut self.links, number);
+        take_back_links(&mut self.links, number);
     }
 
     /// Links what an entry of the commit of this number makes of the row. Fails only when out of
@@ -80,11 +81,11 @@ impl Chain {
         ensures err { OnErr result (self.new ≡ self.old) }
     {
         let bytes = bytes_after_one(alloc, entry, self.latest())?;
-        self.links.reserve(1)?;
-        cut_links(&mut self.links, number);
+        reserve_link(&mut self.links)?;
+        take_back_links(&mut self.links, number);
         self.links.push_reserved(Link {
             version: number,
-            bytes,
+            bytes: KeptBytes::of(bytes),
         });
         Ok(())
     }
@@ -109,9 +110,22 @@ fn end_of(links: &[Link], version: u64) -> usize
     links.partition_point(|link| link.version <= version)
 }
 
+/// Makes room for one more link. The first gets room for itself alone, since most rows are written once.
+fn reserve_link(links: &mut Vec<Link>) -> Result<(), AllocError>
+    ensures items { links.new.items ≡ links.old.items }
+    ensures len { vec_len links.new ≡ vec_len links.old }
+    ensures room { OnOk result (vec_len links.new + 1 ≤ vec_capacity links.new) }
+{
+    if links.is_empty() {
+        links.reserve_exact(1)
+    } else {
+        links.reserve(1)
+    }
+}
+
 /// Takes the last link off, where it is of this number. The memory stays.
-fn cut_links(links: &mut Vec<Link>, number: u64)
-    ensures items { links.new.items ≡ cut_at number links.old.items }
+fn take_back_links(links: &mut Vec<Link>, number: u64)
+    ensures items { links.new.items ≡ taken_back_at number links.old.items }
     ensures len { vec_len links.new ≤ vec_len links.old }
     ensures capacity { vec_capacity links.new ≡ vec_capacity links.old }
 {

@@ -3,11 +3,12 @@
 ghost use Rattle.std.specs.Prelude.{◌≡◌, ℕ, [], OnOk, OnErr};
 ghost use Rattle.std.specs.List.Sorted.{IsNonDecreasingBy};
 ghost use Rattle.std.specs.Option.{option_map};
-ghost use Rattle.mvcc.specs.Inner.Chains.{newest_in, bytes_at, linked, cut_at, links_at, cut_all, and_entries, Turns};
-ghost use Rattle.mvcc.specs.Inner.Chains.{AreChains, AreChainsCut};
+ghost use Rattle.mvcc.specs.Inner.Chains.{newest_in, bytes_at, linked, taken_back_at, links_at, all_taken_back, and_entries, Turns};
+ghost use Rattle.mvcc.specs.Inner.Chains.{AreChains, AreChainsTakenBack};
 
 use crate::chain::Chain;
-use rows::{ByteList, Commit, Entry, RowId};
+use crate::row_ids::row_of;
+use rows::{Commit, Entry, RowId};
 use std::alloc::{AllocError, Global};
 use std::collections::BTreeMap;
 use std::marker::Model;
@@ -47,7 +48,7 @@ impl Chains {
     }
 
     /// A row's bytes at a version; `None` where it is not there.
-    pub fn bytes_at(&self, version: u64, table: u8, row: RowId) -> Option<&ByteList>
+    pub fn bytes_at(&self, version: u64, table: u8, row: RowId) -> Option<&[u8]>
         requires { IsNonDecreasingBy (λ link. link.version) (links_at self.now table row.0) }
         ensures { option_map (λ b. b.now) result ≡ bytes_at version (links_at self.now table row.0) }
     {
@@ -71,13 +72,13 @@ impl Chains {
     {
         let linked = self.link_entries(alloc, commits, entries);
         if linked.is_err() {
-            self.cut_entries(commits.len() as u64 + 1, entries);
+            self.take_back_entries(commits.len() as u64 + 1, entries);
         }
         linked
     }
 
     /// Links the entries of the next commit in order, up to the first for which there is no
-    /// memory; the chains are then those of the commits before it once its rows are cut.
+    /// memory; the chains are then those of the commits before it once its rows are taken back.
     fn link_entries(
         &mut self,
         alloc: Global,
@@ -86,7 +87,7 @@ impl Chains {
     ) -> Result<(), AllocError>
         requires { AreChains commits.now self.old }
         ensures ok { OnOk result (AreChains (and_entries commits.now entries.now) self.new) }
-        ensures err { OnErr result (AreChainsCut commits.now entries.now self.new) }
+        ensures err { OnErr result (AreChainsTakenBack commits.now entries.now self.new) }
     {
         let number = commits.len() as u64 + 1;
         for entry in entries {
@@ -101,7 +102,7 @@ impl Chains {
         ensures ok { OnOk result (Turns entry.now (linked number entry.now) self.old self.new) }
         ensures err { OnErr result (self.new ≡ self.old) }
     {
-        let key = (entry.table(), entry.row().0);
+        let key = (entry.table(), row_of(entry).0);
         if let Some(chain) = self.chains.get_mut(&key) {
             return chain.link(alloc, number, entry);
         }
@@ -112,22 +113,23 @@ impl Chains {
     }
 
     /// Takes the links of the commit of this number off the chains of the entries' rows.
-    fn cut_entries(&mut self, number: u64, entries: &[Entry])
-        ensures { (table row : ℕ) → links_at self.new table row ≡ cut_all number table row entries.now (links_at self.old table row) }
+    fn take_back_entries(&mut self, number: u64, entries: &[Entry])
+        ensures { (table row : ℕ) → links_at self.new table row ≡ all_taken_back number table row entries.now
+            (links_at self.old table row) }
     {
         for entry in entries {
-            self.cut(number, entry);
+            self.take_back(number, entry);
         }
     }
 
     /// Takes the link of the commit of this number off the chain of the entry's row.
-    fn cut(&mut self, number: u64, entry: &Entry)
-        ensures { Turns entry.now (cut_at number) self.old self.new }
+    fn take_back(&mut self, number: u64, entry: &Entry)
+        ensures { Turns entry.now (taken_back_at number) self.old self.new }
     {
-        let key = (entry.table(), entry.row().0);
+        let key = (entry.table(), row_of(entry).0);
         let Some(chain) = self.chains.get_mut(&key) else {
             return;
         };
-        chain.cut(number);
+        chain.take_back(number);
     }
 }

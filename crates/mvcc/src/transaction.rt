@@ -10,7 +10,7 @@ ghost use Rattle.rows.specs.Shape.{shape_of};
 ghost use Rattle.rows.specs.Values.{bytes_of, value_bytes};
 ghost use Rattle.rows.specs.Tables.{rows_of, row_at};
 ghost use Rattle.mvcc.specs.History.{tables_at};
-ghost use Rattle.mvcc.specs.Draft.{Draft};
+ghost use Rattle.mvcc.specs.Transaction.{Transaction};
 ghost use Rattle.mvcc.specs.Inner.Cells.{cell_of};
 ghost use Rattle.mvcc.specs.Transactions.{insert_answer, set_answer, delete_answer, get_answer, match_column, column_kind, column_offset};
 ghost use Rattle.mvcc.specs.Transactions.{seen_by, seen_shape, sees};
@@ -18,6 +18,7 @@ ghost use Rattle.mvcc.specs.Transactions.{seen_by, seen_shape, sees};
 use crate::cells::cell_after;
 use crate::faults::TxFault;
 use crate::own_rows::{OwnRows, indices_with};
+use crate::row_ids::row_of;
 use crate::values::{is_value_of, matches_table};
 use crate::versions::Versions;
 use rows::limits::COMMIT_ENTRIES_MAX;
@@ -39,11 +40,11 @@ pub struct Transaction {
 
 impl Model for Transaction {
     ghost use Rattle.std.specs.Prelude.{◌≤◌, length};
-    ghost use Rattle.mvcc.specs.Draft.{Draft};
+    ghost use Rattle.mvcc.specs.Transaction.{Transaction};
     ghost use Rattle.mvcc.specs.Inner.OwnRows.{IsIndexOf};
     ghost use Rattle.rows.specs.Limits.{commit_entries_max};
 
-    ghost Value = { Draft };
+    ghost Value = { Transaction };
 
     ghost view = { λ t. record { snapshot = t.snapshot; entries = t.entries.items } };
 
@@ -323,7 +324,7 @@ impl Transaction {
         ensures err { OnErr result (self.new ≡ self.old) }
     {
         let table = entry.table();
-        let row = entry.row();
+        let row = row_of(&entry);
         let earlier = self.rows.indices(table, row);
         let indices = indices_with(self.alloc, self.entries.as_slice(), earlier, &entry)?;
         self.entries.reserve(1)?;

@@ -1,17 +1,22 @@
 //! Every version of the database: the list of its commits.
 
-ghost use Rattle.std.specs.Prelude.{◌≡◌, ◌≤◌, ◌-◌, ◌∷◌, [], ◌++◌, ℕ, length, true, IfOk, OnOk, OnErr, slice_get, take, None, IsOk};
+ghost use Rattle.std.specs.Prelude.{◌≡◌, ◌≤◌, ◌-◌, ◌∷◌, [], ◌++◌, ℕ, length, true, IfOk, IfErr, OnOk, OnErr, slice_get, take, None, IsOk};
 ghost use Rattle.std.specs.Prelude.{if◌then◌else◌, ◌==◌};
+ghost use Rattle.std.specs.Bool.{OnTrue};
+ghost use Rattle.std.specs.List.{AllByRecursion};
 ghost use Rattle.std.specs.Option.{option_map};
 ghost use Rattle.rows.specs.Shape.{shape_of};
 ghost use Rattle.rows.specs.Tables.{opening, is_row_at};
-ghost use Rattle.rows.specs.Commits.{commits_of, last_touching};
-ghost use Rattle.mvcc.specs.History.{defined_at, tables_at};
+ghost use Rattle.rows.specs.Commits.{apply_commits, last_touching};
+ghost use Rattle.rows.specs.Spelling.{HasSpelling};
+ghost use Rattle.mvcc.specs.History.{absorbed, defined_at, tables_at};
 ghost use Rattle.mvcc.specs.Newest.{newest_of};
 ghost use Rattle.mvcc.specs.Values.{value_in};
 
 use crate::cells::value_in_row;
 use crate::chains::Chains;
+use crate::defining::are_defined;
+use crate::row_ids::row_of;
 use rows::{Commit, Entry, EntryList, RowId, Schema, Value};
 use std::alloc::{AllocError, Global};
 use std::marker::Model;
@@ -56,9 +61,9 @@ impl Versions {
     /// Each entry of the commits is defined where it stands, in all of them and in the first of them
     /// up to any version. It does nothing: its contract is the law.
     pub fn keeps_defined(&self)
-        ensures all { IsOk (commits_of (opening (shape_of self.now.schema)) self.now.commits) }
+        ensures all { IsOk (apply_commits (opening (shape_of self.now.schema)) self.now.commits) }
         ensures first { (version : ℕ)
-            → IsOk (commits_of (opening (shape_of self.now.schema)) (take version self.now.commits)) }
+            → IsOk (apply_commits (opening (shape_of self.now.schema)) (take version self.now.commits)) }
     {
         // A look at a field brings the invariant to the proof.
         let _ = &self.chains;
@@ -108,15 +113,71 @@ impl Versions {
             (self.new ≡ record self.old { commits = self.old.commits ++ record { worker = worker; entries = entries.now } ∷ [] }) }
         ensures err { OnErr result (self.new ≡ self.old) }
     {
-        self.commits.reserve(1)?;
         let commit = Commit {
             worker,
-            entries: copied(self.alloc, entries)?,
+            entries: EntryList::from_slice(self.alloc, entries)?,
         };
-        self.chains
-            .link_commit(self.alloc, self.commits.as_slice(), entries)?;
+        self.add(commit).map_err(|_| AllocError)
+    }
+
+    /// Adds a commit at the end, with a copy of its entries, if each of them is defined where it
+    /// stands on the newest rows, and otherwise changes nothing; answers whether it was added. Fails
+    /// only when out of memory, and then nothing has changed.
+    pub fn apply(&mut self, commit: &Commit) -> Result<bool, AllocError>
+        ensures ok { IfOk result (λ added. (added ≡ defined_at self.old (length self.old.commits) commit.now.entries)
+            × (self.new ≡ absorbed self.old commit.now)) }
+        ensures err { OnErr result (self.new ≡ self.old) }
+    {
+        let entries = commit.entries.as_slice();
+        if !self.are_defined(self.len(), entries) {
+            return Ok(false);
+        }
+        self.absorb(commit.worker, entries)?;
+        Ok(true)
+    }
+
+    /// The same as `apply`, which takes the commit over and copies nothing of its list. Where it fails,
+    /// it hands the commit back.
+    pub fn apply_owned(&mut self, commit: Commit) -> Result<bool, Commit>
+        ensures ok { IfOk result (λ added. (added ≡ defined_at self.old (length self.old.commits) commit.entries)
+            × (self.new ≡ absorbed self.old commit)) }
+        ensures err { IfErr result (λ back. (back ≡ commit) × (self.new ≡ self.old)) }
+    {
+        if !self.are_defined(self.len(), commit.entries.as_slice()) {
+            return Ok(false);
+        }
+        self.add(commit)?;
+        Ok(true)
+    }
+
+    /// Adds a commit at the end. Fails only when out of memory, hands the commit back, and nothing has
+    /// changed.
+    fn add(&mut self, commit: Commit) -> Result<(), Commit>
+        requires { defined_at self.old (length self.old.commits) commit.entries ≡ true }
+        ensures ok { OnOk result (self.new ≡ record self.old { commits = self.old.commits ++ commit ∷ [] }) }
+        ensures err { IfErr result (λ back. (back ≡ commit) × (self.new ≡ self.old)) }
+    {
+        let Ok(()) = self.commits.reserve(1) else {
+            return Err(commit);
+        };
+        let commits = self.commits.as_slice();
+        let entries = commit.entries.as_slice();
+        let Ok(()) = self.chains.link_commit(self.alloc, commits, entries) else {
+            return Err(commit);
+        };
         self.commits.push_reserved(commit);
         Ok(())
+    }
+
+    /// Whether each of the entries is defined where it stands on the rows at that version. Each that is
+    /// has a spelling. A look-up or two an entry, while there is memory to note the rows that the
+    /// entries before it wrote; without it each entry walks over those before.
+    pub fn are_defined(&self, version: u64, entries: &[Entry]) -> bool
+        requires { version ≤ length self.now.commits }
+        ensures answer { result ≡ defined_at self.now version entries.now }
+        ensures spelled { OnTrue result (AllByRecursion HasSpelling entries.now) }
+    {
+        are_defined(self.alloc, self, version, entries)
     }
 
     /// Whether the row is there at that version.
@@ -135,7 +196,7 @@ impl Versions {
     {
         let kinds = self.schema.kinds(table as usize)?;
         let bytes = self.chains.bytes_at(version, table, row)?;
-        value_in_row(kinds, bytes.as_slice(), column)
+        value_in_row(kinds, bytes, column)
     }
 
     /// The number of the last commit with an entry of that row, 0 where there is none.
@@ -156,29 +217,11 @@ impl Versions {
         let _ = &self.chains;
         let mut last = 0;
         for entry in entries {
-            let newest = self.newest(entry.table(), entry.row());
+            let newest = self.newest(entry.table(), row_of(entry));
             if last < newest {
                 last = newest;
             }
         }
         last
     }
-}
-
-/// The same entries once more. Fails only when out of memory.
-fn copied(alloc: Global, entries: &[Entry]) -> Result<EntryList, AllocError>
-    ensures { IfOk result (λ copy. copy ≡ entries.now) }
-{
-    let mut copy = EntryList::new(alloc);
-    for entry in entries {
-        copy.push(copy_of(entry)?)?;
-    }
-    Ok(copy)
-}
-
-/// The same entry once more. Fails only when out of memory.
-fn copy_of(entry: &Entry) -> Result<Entry, AllocError>
-    ensures { IfOk result (λ copy. copy ≡ entry.now) }
-{
-    entry.clone()
 }

@@ -6,9 +6,9 @@ use Rattle.std.proofs.lemmas.List.Concat.{flat_map-append}
 use Rattle.rows.specs.declared.entry.Entry.{Entry}
 use Rattle.rows.specs.Limits.{commit_entries_max}
 use Rattle.update_log.specs.declared.frame.Frame.{Frame}
-use Rattle.update_log.proofs.Elements.{all-append, all-back}
+use Rattle.ordering.proofs.Elements.{all-append, all-back}
 use Rattle.ordering.specs.Merging.{AreMarked, HoldCommit}
-use Rattle.ordering.specs.Inner.Progress.{HoldNone, IsBegun}
+use Rattle.ordering.specs.Inner.Progress.{HoldNone, IsCommitBegun}
 use Rattle.ordering.proofs.Marking.{marked-end, none-behind, past-unmarked}
 
 -- the entries of frames
@@ -20,7 +20,7 @@ pub some-own : (number : ℕ) (entries : List Entry) (own : List Frame) → Hold
 some-own number entries [] holds = absurd (omega (arith, ap length holds.joined, holds.some))
 some-own number entries (frame ∷ own) holds = omega arith
 
-pub begun-none : (number : ℕ) → IsBegun number [] []
+pub begun-none : (number : ℕ) → IsCommitBegun number [] []
 begun-none number = record { numbered = tt; unmarked = tt; joined = refl; few = omega arith }
 
 -- the entries with those of one more frame
@@ -31,9 +31,9 @@ entries-more front frame entries joined =
     ∙ ap (λ (more : List Entry). entries_in front ++ more) (append-nil frame.entries)
     ∙ ap (λ (so_far : List Entry). so_far ++ frame.entries) joined
 
-pub begun-more : (number : ℕ) (entries now : List Entry) (front : List Frame) (frame : Frame) → IsBegun number entries front
+pub begun-more : (number : ℕ) (entries now : List Entry) (front : List Frame) (frame : Frame) → IsCommitBegun number entries front
     → frame.commit ≡ number → frame.last ≡ false → now ≡ entries ++ frame.entries
-    → length entries + length frame.entries ≤ commit_entries_max → IsBegun number now (front ++ frame ∷ [])
+    → length entries + length frame.entries ≤ commit_entries_max → IsCommitBegun number now (front ++ frame ∷ [])
 begun-more number entries now front frame begun numbered unmarked now_is few = record {
   numbered = all-append (λ (f : Frame). f.commit ≡ number) front (frame ∷ []) begun.numbered (numbered, tt);
   unmarked = all-append (λ (f : Frame). f.last ≡ false) front (frame ∷ []) begun.unmarked (unmarked, tt);
@@ -42,7 +42,7 @@ begun-more number entries now front frame begun numbered unmarked now_is few = r
 }
 
 -- the last frame comes
-pub begun-end : (number : ℕ) (entries now : List Entry) (front : List Frame) (frame : Frame) → IsBegun number entries front
+pub begun-end : (number : ℕ) (entries now : List Entry) (front : List Frame) (frame : Frame) → IsCommitBegun number entries front
     → frame.commit ≡ number → frame.last ≡ true → now ≡ entries ++ frame.entries
     → length entries + length frame.entries ≤ commit_entries_max → 0 < length now → HoldCommit number now (front ++ frame ∷ [])
 begun-end number entries now front frame begun numbered last now_is few some = record {
@@ -67,7 +67,7 @@ pub record IsBehind (number : ℕ) (so_far : List Entry) (tail : List Frame) : T
   pub whole : tail ≡ own ++ rest
 
 behind : (number : ℕ) (so_far : List Entry) (front tail : List Frame) (entries : List Entry) (own rest : List Frame)
-    → IsBegun number so_far front → front ++ tail ≡ own ++ rest → HoldCommit number entries own → IsBehind number so_far tail
+    → IsCommitBegun number so_far front → front ++ tail ≡ own ++ rest → HoldCommit number entries own → IsBehind number so_far tail
 behind number so_far front tail entries own rest begun whole holds =
     let past = past-unmarked front tail own rest begun.unmarked holds.marked (some-own number entries own holds) whole in
     let more : List Frame = past.0 in
@@ -92,7 +92,7 @@ behind number so_far front tail entries own rest begun whole holds =
     }
 
 -- no frames hold the commit where none is behind those so far
-pub none-end : (number : ℕ) (so_far : List Entry) (front : List Frame) → IsBegun number so_far front → HoldNone number front
+pub none-end : (number : ℕ) (so_far : List Entry) (front : List Frame) → IsCommitBegun number so_far front → HoldNone number front
 none-end number so_far front begun entries own rest whole holds =
     no-tail (behind number so_far front [] entries own rest begun (append-nil front ∙ whole) holds)
   where
@@ -115,13 +115,15 @@ next-of number so_far frame tail (first ∷ own) rest whole some numbered marked
       ),
     )
 
-pub none-other : (number : ℕ) (so_far : List Entry) (front : List Frame) (frame : Frame) (tail : List Frame) → IsBegun number so_far front
+pub none-other : (number : ℕ) (so_far : List Entry) (front : List Frame) (frame : Frame) (tail : List Frame)
+    → IsCommitBegun number so_far front
     → (frame.commit ≡ number → ⊥) → HoldNone number (front ++ frame ∷ tail)
 none-other number so_far front frame tail begun other entries own rest whole holds =
     let is = behind number so_far front (frame ∷ tail) entries own rest begun whole holds in
     other (next-of number so_far frame tail is.own is.rest is.whole is.some is.numbered is.marked).0
 
-pub none-many : (number : ℕ) (so_far : List Entry) (front : List Frame) (frame : Frame) (tail : List Frame) → IsBegun number so_far front
+pub none-many : (number : ℕ) (so_far : List Entry) (front : List Frame) (frame : Frame) (tail : List Frame)
+    → IsCommitBegun number so_far front
     → commit_entries_max < length so_far + length frame.entries → HoldNone number (front ++ frame ∷ tail)
 none-many number so_far front frame tail begun many entries own rest whole holds =
     let is = behind number so_far front (frame ∷ tail) entries own rest begun whole holds in
@@ -137,7 +139,7 @@ none-many number so_far front frame tail begun many entries own rest whole holds
     ))
 
 pub none-empty : (number : ℕ) (so_far now : List Entry) (front : List Frame) (frame : Frame) (tail : List Frame)
-    → IsBegun number so_far front → frame.last ≡ true → now ≡ so_far ++ frame.entries → length now ≡ 0
+    → IsCommitBegun number so_far front → frame.last ≡ true → now ≡ so_far ++ frame.entries → length now ≡ 0
     → HoldNone number (front ++ frame ∷ tail)
 none-empty number so_far now front frame tail begun last now_is none entries own rest whole holds =
     let is = behind number so_far front (frame ∷ tail) entries own rest begun whole holds in

@@ -4,9 +4,9 @@ use Rattle.std.proofs.Common.{length-append, arith}
 use Rattle.rows.specs.declared.commit.Commit.{Commit}
 use Rattle.update_log.specs.declared.frame.Frame.{Frame}
 use Rattle.ordering.specs.Merging.{AreHeld, IsMerge}
-use Rattle.ordering.specs.Inner.Progress.{HasCome, IsStep, IsStuck}
+use Rattle.ordering.specs.Inner.Progress.{WasTaken, IsCommitTaken, IsStuck}
 
-pub come-none : (frames : ℕ → List Frame) (from : ℕ) → HasCome frames from from [] frames
+pub come-none : (frames : ℕ → List Frame) (from : ℕ) → WasTaken frames from from [] frames
 come-none frames from = record { counted = omega arith; onto = λ more held. held; only = λ all held few. (all, refl, held) }
 
 -- what the frames that are left hold besides
@@ -14,8 +14,8 @@ abbrev Behind : ℕ → List Commit → (ℕ → List Frame) → List Commit →
 Behind before commits left all = (more : List Commit) × (all ≡ commits ++ more) × AreHeld before more left
 
 pub come-more : (frames left after : ℕ → List Frame) (from before : ℕ) (commits : List Commit) (commit : Commit)
-    → HasCome frames from before commits left → IsStep before left commit after
-    → HasCome frames from (before + 1) (commits ++ commit ∷ []) after
+    → WasTaken frames from before commits left → IsCommitTaken before left commit after
+    → WasTaken frames from (before + 1) (commits ++ commit ∷ []) after
 come-more frames left after from before commits commit come next = record {
   counted = omega (arith, come.counted, length-append commits (commit ∷ []));
   onto = λ more held.
@@ -40,7 +40,7 @@ come-more frames left after from before commits commit come next = record {
         )
 
 -- where no next commit stands, no list of commits is the merge
-pub come-stuck : (frames left : ℕ → List Frame) (from before to : ℕ) (commits : List Commit) → HasCome frames from before commits left
+pub come-stuck : (frames left : ℕ → List Frame) (from before to : ℕ) (commits : List Commit) → WasTaken frames from before commits left
     → IsStuck before left → before < to → (all : List Commit) → IsMerge frames from to all → ⊥
 come-stuck frames left from before to commits come stuck below all merge =
     let few : length commits ≤ length all = omega (arith, come.counted, merge.counted) in
@@ -52,7 +52,7 @@ come-stuck frames left from before to commits come stuck below all merge =
     one (other ∷ more) e held = stuck other more held
 
 -- where all numbers are there and no frame is left, the commits are the merge
-pub come-end : (frames left : ℕ → List Frame) (from to : ℕ) (commits : List Commit) → HasCome frames from to commits left
+pub come-end : (frames left : ℕ → List Frame) (from to : ℕ) (commits : List Commit) → WasTaken frames from to commits left
     → ((worker : ℕ) → left worker ≡ []) → IsMerge frames from to commits
 come-end frames left from to commits come none = record {
   counted = come.counted;
@@ -60,7 +60,7 @@ come-end frames left from to commits come none = record {
 }
 
 -- and where a frame is left, there is none
-pub come-left : (frames left : ℕ → List Frame) (from to : ℕ) (commits : List Commit) → HasCome frames from to commits left
+pub come-left : (frames left : ℕ → List Frame) (from to : ℕ) (commits : List Commit) → WasTaken frames from to commits left
     → (worker : ℕ) → 0 < length (left worker) → (all : List Commit) → IsMerge frames from to all → ⊥
 come-left frames left from to commits come worker some all merge =
     let few : length commits ≤ length all = omega (arith, come.counted, merge.counted) in

@@ -7,11 +7,10 @@ use Rattle.rows.specs.declared.commit.Commit.{Commit}
 use Rattle.rows.specs.declared.entry.Entry.{Entry}
 use Rattle.rows.specs.Commits.{IsCommit}
 use Rattle.update_log.specs.declared.frame.Frame.{Frame}
-use Rattle.update_log.specs.Parts.{joined, parts_of}
+use Rattle.update_log.specs.Parts.{joined, has_room, parts_from, parts_of}
 use Rattle.update_log.specs.Frames.{frames_from, frames_of}
 use Rattle.update_log.specs.Streams.{frame_count, stream_from, stream_of}
 use Rattle.update_log.proofs.Splitting.{stream-is_split}
-use Rattle.update_log.proofs.Uniqueness.{joined-from}
 use Rattle.ordering.specs.Merging.{AreMarked, HoldCommit, HoldCommits, HoldIfOwn, IsMerge}
 use Rattle.ordering.specs.Cutting.{commits_between, frames_cut}
 
@@ -35,6 +34,15 @@ cut-entries : (worker number seq : ℕ) (parts : List (List Entry))
     → flat_map (λ frame. frame.entries) (frames_from worker number seq parts) ≡ joined parts
 cut-entries worker number seq [] = refl
 cut-entries worker number seq (part ∷ parts) = ap (λ (es : List Entry). part ++ es) (cut-entries worker number (seq + 1) parts)
+
+joined-from : (rest part : List Entry) → joined (parts_from part rest) ≡ part ++ rest
+joined-from [] part = refl
+joined-from (entry ∷ rest) part = one (has_room part entry) (joined-from rest)
+  where
+    one : (b : Bool) → ((p : List Entry) → joined (parts_from p rest) ≡ p ++ rest)
+        → joined (cond b [] (part ∷ []) ++ parts_from (cond b (part ++ entry ∷ []) (entry ∷ [])) rest) ≡ part ++ entry ∷ rest
+    one true h = h (part ++ entry ∷ []) ∙ append_assoc part (entry ∷ []) rest
+    one false h = ap (λ (more : List Entry). part ++ more) (h (entry ∷ []))
 
 parts-join : (entries : List Entry) → joined (parts_of entries) ≡ entries
 parts-join [] = refl

@@ -7,7 +7,7 @@ use Rattle.rows.specs.declared.commit.Commit.{Commit}
 use Rattle.rows.specs.declared.entry.Entry.{Entry}
 use Rattle.update_log.specs.declared.frame.Frame.{Frame}
 use Rattle.ordering.specs.Merging.{HoldCommit, HoldIfOwn, HoldCommits, AreHeld, IsMerge}
-use Rattle.ordering.specs.Inner.Progress.{begins_with, HoldNone, IsStep, IsStuck}
+use Rattle.ordering.specs.Inner.Progress.{is_first_numbered, HoldNone, IsCommitTaken, IsStuck}
 use Rattle.ordering.proofs.Beginning.{some-own}
 use Rattle.ordering.proofs.Marking.{same-beginning}
 
@@ -72,7 +72,7 @@ later worker before (commit ∷ more) frame frames held = elim (cases_eq commit.
         of-own first.own first.rest (some-own (before + 1) commit.entries first.own first.holds) first.whole first.holds.numbered
 
 -- so frames that begin with that number hold no later commits alone
-not-later : (worker before : ℕ) (commits : List Commit) (frames : List Frame) → begins_with before frames ≡ true
+not-later : (worker before : ℕ) (commits : List Commit) (frames : List Frame) → is_first_numbered before frames ≡ true
     → HoldCommits worker before commits frames → ⊥
 not-later worker before commits [] begins held = absurd cc
 not-later worker before commits (frame ∷ frames) begins held =
@@ -82,13 +82,13 @@ not-later worker before commits (frame ∷ frames) begins held =
 
 -- frames that hold a commit begin with its number
 pub begins-own : (number : ℕ) (entries : List Entry) (own rest : List Frame) → HoldCommit number entries own
-    → begins_with number (own ++ rest) ≡ true
+    → is_first_numbered number (own ++ rest) ≡ true
 begins-own number entries [] rest holds = absurd (omega (arith, some-own number entries [] holds))
 begins-own number entries (frame ∷ own) rest holds = eq-eqb frame.commit number holds.numbered.0
 
 -- of whom the next commit is: of the worker whose frames begin with its number
 same-worker : (before worker : ℕ) (left : ℕ → List Frame) (other : Commit) (more : List Commit)
-    → begins_with (before + 1) (left worker) ≡ true → AreHeld before (other ∷ more) left → other.worker ≡ worker
+    → is_first_numbered (before + 1) (left worker) ≡ true → AreHeld before (other ∷ more) left → other.worker ≡ worker
 same-worker before worker left other more begins held = elim (cases_eq other.worker worker) [
   | inl e ↦ e
   | inr differ ↦
@@ -98,16 +98,16 @@ same-worker before worker left other more begins held = elim (cases_eq other.wor
 
 -- ---- where there is no next commit
 
-pub stuck-none : (before : ℕ) (left : ℕ → List Frame) → ((worker : ℕ) → begins_with (before + 1) (left worker) ≡ false)
+pub stuck-none : (before : ℕ) (left : ℕ → List Frame) → ((worker : ℕ) → is_first_numbered (before + 1) (left worker) ≡ false)
     → IsStuck before left
 stuck-none before left none other more held =
     let first = first-own other.worker before other more (left other.worker) refl (held other.worker) in
-    let begins : begins_with (before + 1) (left other.worker) ≡ true =
-    ap (begins_with (before + 1)) first.whole ∙ begins-own (before + 1) other.entries first.own first.rest first.holds in
-    let differs : begins_with (before + 1) (left other.worker) ≡ false = none other.worker in
+    let begins : is_first_numbered (before + 1) (left other.worker) ≡ true =
+    ap (is_first_numbered (before + 1)) first.whole ∙ begins-own (before + 1) other.entries first.own first.rest first.holds in
+    let differs : is_first_numbered (before + 1) (left other.worker) ≡ false = none other.worker in
     absurd cc
 
-pub stuck-here : (before worker : ℕ) (left : ℕ → List Frame) → begins_with (before + 1) (left worker) ≡ true
+pub stuck-here : (before worker : ℕ) (left : ℕ → List Frame) → is_first_numbered (before + 1) (left worker) ≡ true
     → HoldNone (before + 1) (left worker) → IsStuck before left
 stuck-here before worker left begins none other more held =
     let ours = same-worker before worker left other more begins held in
@@ -155,9 +155,9 @@ step-only before left commit own after holds is_taken other more held =
     entries_of : List Frame → List Entry
     entries_of frames = flat_map (λ frame. frame.entries) frames
 
-    begins : begins_with (before + 1) (left commit.worker) ≡ true
+    begins : is_first_numbered (before + 1) (left commit.worker) ≡ true
     begins =
-        ap (begins_with (before + 1)) is_taken.whole ∙ begins-own (before + 1) commit.entries own (after commit.worker) holds
+        ap (is_first_numbered (before + 1)) is_taken.whole ∙ begins-own (before + 1) commit.entries own (after commit.worker) holds
 
     ours : other.worker ≡ commit.worker
     ours = same-worker before commit.worker left other more begins held
@@ -182,7 +182,7 @@ step-only before left commit own after holds is_taken other more held =
     ]
 
 pub step : (before : ℕ) (left : ℕ → List Frame) (commit : Commit) (own : List Frame) (after : ℕ → List Frame)
-    → HoldCommit (before + 1) commit.entries own → IsTaken left commit.worker own after → IsStep before left commit after
+    → HoldCommit (before + 1) commit.entries own → IsTaken left commit.worker own after → IsCommitTaken before left commit after
 step before left commit own after holds is_taken = record {
   onto = step-onto before left commit own after holds is_taken;
   only = step-only before left commit own after holds is_taken;

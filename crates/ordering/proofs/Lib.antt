@@ -6,3 +6,4 @@ pub mod Between
 pub mod Taking
 pub mod Cut
 pub mod Kept
+pub mod Elements

@@ -6,7 +6,7 @@ use Rattle.std.proofs.lemmas.List.{get_or-set_same, get_or-set_other, get_or_pas
 use Rattle.intake.specs.State.{Arrivals}
 use Rattle.intake.specs.Kept.{frames_between}
 use Rattle.ordering.specs.Merging.{frames_in}
-use Rattle.ordering.specs.Inner.Progress.{begins_with}
+use Rattle.ordering.specs.Inner.Progress.{is_first_numbered}
 use Rattle.ordering.proofs.Between.{between-none, between-split}
 use Rattle.ordering.proofs.Holding.{IsTaken}
 
@@ -37,9 +37,9 @@ beyond all at highs worker same past =
 
 -- so where no worker that is there begins with a number, none does
 pub none-begins : (number : ℕ) (all : List Arrivals) (at highs : List ℕ) → length at ≡ length highs
-    → ((worker : ℕ) → worker < length at → begins_with number (frames_in all at highs worker) ≡ false)
-    → (worker : ℕ) → begins_with number (frames_in all at highs worker) ≡ false
+    → ((worker : ℕ) → worker < length at → is_first_numbered number (frames_in all at highs worker) ≡ false)
+    → (worker : ℕ) → is_first_numbered number (frames_in all at highs worker) ≡ false
 none-begins number all at highs same none worker = elim (cases_lt worker (length at)) [
   | inl there ↦ none worker there
-  | inr past ↦ ap (begins_with number) (beyond all at highs worker same past)
+  | inr past ↦ ap (is_first_numbered number) (beyond all at highs worker same past)
 ]

@@ -5,7 +5,7 @@ ghost use Rattle.rows.specs.declared.commit.Commit.{Commit as CommitOf};
 ghost use Rattle.rows.specs.Limits.{workers_max};
 ghost use Rattle.intake.specs.Kept.{AreKept, AreAllKept, frames_between};
 ghost use Rattle.ordering.specs.Merging.{IsMerge, frames_in};
-ghost use Rattle.ordering.specs.Inner.Progress.{begins_with, IsStep, IsStuck};
+ghost use Rattle.ordering.specs.Inner.Progress.{is_first_numbered, IsCommitTaken, IsStuck};
 
 use crate::faults::OrderFault;
 use crate::gathering::{gather, kept_frame};
@@ -71,7 +71,7 @@ fn next_commit(
     requires number { before + 1 < 2 ^ 64 }
     ensures kept { AreAllKept intake.now at.new high.now }
     ensures step { IfOk result (λ commit.
-        IsStep before (frames_in intake.now at.old high.now) commit (frames_in intake.now at.new high.now)) }
+        IsCommitTaken before (frames_in intake.now at.old high.now) commit (frames_in intake.now at.new high.now)) }
     ensures stuck { IfErr result (λ fault. fault ≡ OrderFault.Inconsistent
         → IsStuck before (frames_in intake.now at.old high.now)) }
 {
@@ -105,8 +105,8 @@ fn worker_of(intake: &Intake, at: &[u64], high: &[u64], number: u64) -> Option<u
     requires workers { length at.now ≤ workers_max }
     requires kept { AreAllKept intake.now at.now high.now }
     ensures { MatchOption result
-        ((worker : ℕ) → worker < length at.now → begins_with number (frames_in intake.now at.now high.now worker) ≡ false)
-        (λ worker. (worker < length at.now) × (begins_with number (frames_in intake.now at.now high.now worker) ≡ true)) }
+        ((worker : ℕ) → worker < length at.now → is_first_numbered number (frames_in intake.now at.now high.now worker) ≡ false)
+        (λ worker. (worker < length at.now) × (is_first_numbered number (frames_in intake.now at.now high.now worker) ≡ true)) }
 {
     for (worker, next) in at.iter().enumerate() {
         if is_next(intake, worker as u8, *next, high[worker], number) {
@@ -120,7 +120,7 @@ fn worker_of(intake: &Intake, at: &[u64], high: &[u64], number: u64) -> Option<u
 /// number.
 fn is_next(intake: &Intake, worker: u8, next: u64, end: u64, number: u64) -> bool
     requires { AreKept intake.now worker next end }
-    ensures { result ≡ begins_with number (frames_between intake.now worker next end) }
+    ensures { result ≡ is_first_numbered number (frames_between intake.now worker next end) }
 {
     next < end && kept_frame(intake, worker, next).commit == number
 }

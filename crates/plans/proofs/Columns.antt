@@ -60,7 +60,7 @@ fits shape plan e = by (is_too_many plan) (length plan.aggregates == 0) (refused
     by false true h = absurd (cc)
     by false false h = open_tables h
 
-or_none : (fault other : Option PlanFault) → option_or fault other ≡ None → (fault ≡ None) × (other ≡ None)
+pub or_none : (fault other : Option PlanFault) → option_or fault other ≡ None → (fault ≡ None) × (other ≡ None)
 or_none None other e = (refl, e)
 or_none (Some fault) other e = absurd (cc)
 

@@ -25,7 +25,8 @@ use Rattle.plans.specs.declared.plan.Plan.{Plan}
 use Rattle.plans.specs.Order.{group_cmp, rising}
 use Rattle.plans.specs.Answers.{JoinedRow, group_of, groups_of, rows_in, rows_among, joined_with, meets, aggregate_of, line_of}
 use Rattle.plans.specs.Answers.{answer_lines}
-use Rattle.plans.specs.Inner.Kept.{GroupList, IsWithin, AreWithin, grown_all, opening_of, opening_groups, with_row, kept_at, IsKept}
+use Rattle.plans.specs.Inner.Kept.{GroupList, IsWithin, AreWithin, grown_all, opening_of, opening_groups, with_joined_row, kept_at}
+use Rattle.plans.specs.Inner.Kept.{GroupsAreKept}
 use Rattle.plans.specs.Inner.Kept.{rows_before}
 use Rattle.plans.specs.Inner.TotalOrder.{group_cmp_total}
 use Rattle.plans.proofs.Orders.{group_cmp-exact, same_group, is_itself, flips, same_entries}
@@ -139,9 +140,10 @@ module _ (plan : Plan) (rows : List JoinedRow) (row : JoinedRow) where
       by false h = sym (kept-other group (flips group key ∙ h))
 
   -- a row is added to what is kept of those before it
-  pub kept-more : (count : ℕ) (groups after : GroupList) → IsKept plan rows count groups
-      → ((group : List Value) → lookup (is_at (group_cmp group)) after ≡ with_row row plan groups group) → AreWithin (count + 1) after
-      → IsKept plan (rows ++ row ∷ []) (count + 1) after
+  pub kept-more : (count : ℕ) (groups after : GroupList) → GroupsAreKept plan rows count groups
+      → ((group : List Value) → lookup (is_at (group_cmp group)) after ≡ with_joined_row row plan groups group)
+      → AreWithin (count + 1) after
+      → GroupsAreKept plan (rows ++ row ∷ []) (count + 1) after
   kept-more count groups after kept finds within = record {
     found = λ group.
         finds group
@@ -153,8 +155,8 @@ module _ (plan : Plan) (rows : List JoinedRow) (row : JoinedRow) where
   }
 
 -- a row that is not looked at
-pub kept-skip : (plan : Plan) (rows : List JoinedRow) (count : ℕ) (groups : GroupList) → IsKept plan rows count groups
-    → IsKept plan rows (count + 1) groups
+pub kept-skip : (plan : Plan) (rows : List JoinedRow) (count : ℕ) (groups : GroupList) → GroupsAreKept plan rows count groups
+    → GroupsAreKept plan rows (count + 1) groups
 kept-skip plan rows count groups kept = record {
   found = kept.found;
   within = λ group.
@@ -260,7 +262,7 @@ opening-within [] aggregates group = by (is_eq (group_cmp group []))
 opening-within (column ∷ columns) aggregates group = tt
 
 -- nothing is kept before the first row
-pub opening-kept : (plan : Plan) → IsKept plan [] 0 (opening_groups plan)
+pub opening-kept : (plan : Plan) → GroupsAreKept plan [] 0 (opening_groups plan)
 opening-kept plan = record {
   found = opening-found plan.groups plan.aggregates;
   within = opening-within plan.groups plan.aggregates;
@@ -276,7 +278,7 @@ lines-paired plan _ [] = refl
 lines-paired plan rows (group ∷ groups) = ap (λ rest. line_of plan rows group ∷ rest) (lines-paired plan rows groups)
 
 -- the lines of what is kept of all rows are those of the answer
-pub kept-lines : (plan : Plan) (rows : List JoinedRow) (count : ℕ) (groups : GroupList) → IsKept plan rows count groups
+pub kept-lines : (plan : Plan) (rows : List JoinedRow) (count : ℕ) (groups : GroupList) → GroupsAreKept plan rows count groups
     → IsStrictlySortedBy group_cmp (keys_of groups)
     → map (λ entry. map Stored entry.0 ++ entry.1) groups ≡ answer_lines plan rows
 kept-lines plan rows count groups kept sorted =

@@ -4,5 +4,5 @@ pub mod Aggregates
 pub mod Keeping
 pub mod Columns
 pub mod Taking
-pub mod Placing
 pub mod Texts
+pub mod Widening

@@ -24,8 +24,8 @@ row id site amount = (id, Int site ∷ Int amount ∷ [])
 abbrev two : ℕ → ℕ → Value
 two a b = Octets (a ∷ b ∷ [])
 
-abbrev pub accounts : Rows
-accounts =
+abbrev pub account_rows : Rows
+account_rows =
     row 10 (pos 1) (pos 100) ∷ row 11 (pos 2) (pos 50) ∷ row 12 (pos 1) (negsuc 29) ∷ row 13 (pos 9) (pos 7)
     ∷ row 14 (negsuc 0) (pos 8) ∷ []
 
@@ -38,7 +38,7 @@ tables_with rows =
     ∷ record { kinds = column_kinds.Octets 2 ∷ []; rows = sites } ∷ []
 
 abbrev pub worked_tables : Tables
-worked_tables = tables_with accounts
+worked_tables = tables_with account_rows
 
 abbrev pub empty_accounts : Tables
 empty_accounts = tables_with []

@@ -1,13 +1,13 @@
 //! Answering plans on a store.
 
-ghost use Rattle.std.specs.Prelude.{◌≡◌, ◌+◌, ◌<◌, true, length, map, Ok, IsSome, IfOk, OnOk};
+ghost use Rattle.std.specs.Prelude.{◌≡◌, ◌+◌, ◌<◌, [], true, length, map, Ok, IsSome, IfOk, OnOk};
 ghost use Rattle.std.specs.List.{AllByRecursion, list_all};
-ghost use Rattle.std.specs.Option.{option_map};
+ghost use Rattle.std.specs.Option.{option_map, unwrap_or};
 ghost use Rattle.rows.specs.Tables.{shape_in, rows_of};
 ghost use Rattle.plans.specs.Checking.{checked};
 ghost use Rattle.plans.specs.Answers.{column_in, id_of, joined_with, meets, plain_answer};
 ghost use Rattle.plans.specs.Inner.Kept.{IsKeptBefore, HasJoin};
-ghost use Rattle.plans.specs.Inner.Places.{row_at_place, or_none};
+ghost use Rattle.plans.specs.Inner.Places.{row_at_place};
 
 use crate::answer::Answer;
 use crate::comparing::{compare, passes};
@@ -18,7 +18,7 @@ use crate::row_place::{RowPlace, joined_value};
 use rows::{RowId, Value};
 use std::alloc::{AllocError, Global};
 use std::marker::Sync;
-use store::Store;
+use store::{Store, rows_stand_in_order};
 
 /// The answers of plans on the rows of a store, in their order. Each plan was checked against the
 /// kinds of the store's tables, and the store is whole. Fails only when out of memory.
@@ -67,6 +67,7 @@ fn take_row<S: Store>(
     ensures { OnOk result (IsKeptBefore (S.tables store.now) plan.now (i + 1) groups.new) }
 {
     store.keeps_kinds();
+    rows_stand_in_order();
     let id = store.id_at(plan.table, i);
     let Some(place) = store.find(plan.table, id) else {
         unreachable!();
@@ -84,9 +85,9 @@ fn take_row<S: Store>(
 /// not there.
 fn joined_row<S: Store>(store: &S, plan: &Plan, place: S::Place) -> Option<RowPlace<S::Place>>
     requires whole { S.is_whole store.now ≡ true }
-    requires there { HasJoin plan.now.join (or_none (S.values_at store.now plan.now.table place)) }
+    requires there { HasJoin plan.now.join (unwrap_or (S.values_at store.now plan.now.table place) []) }
     ensures { option_map (row_at_place (S.values_at store.now)) result
-        ≡ joined_with (S.tables store.now) plan.now.join (or_none (S.values_at store.now plan.now.table place)) }
+        ≡ joined_with (S.tables store.now) plan.now.join (unwrap_or (S.values_at store.now plan.now.table place) []) }
 {
     let table = plan.table;
     let Some(join) = plan.join else {

@@ -9,7 +9,7 @@ ghost use Rattle.rows.specs.declared.value.Value.{Value as ColumnValue};
 ghost use Rattle.plans.specs.declared.field.Field.TheVariants.{Stored};
 ghost use Rattle.plans.specs.Order.{group_cmp};
 ghost use Rattle.plans.specs.Answers.{aggregate_of, group_of, column_in};
-ghost use Rattle.plans.specs.Inner.Kept.{opening_groups, with_row, HasColumns, AreWithin};
+ghost use Rattle.plans.specs.Inner.Kept.{opening_groups, with_joined_row, HasColumns, AreWithin};
 ghost use Rattle.plans.specs.Inner.Places.{row_at_place};
 
 use crate::aggregate::Aggregate;
@@ -69,7 +69,7 @@ impl Groups {
         requires there { HasColumns plan.now (row_at_place (S.values_at store.now) row.now) }
         requires within { AreWithin rows self.old }
         ensures found { OnOk result ((group : List ColumnValue) → lookup (is_at (group_cmp group)) self.new
-            ≡ with_row (row_at_place (S.values_at store.now) row.now) plan.now self.old group) }
+            ≡ with_joined_row (row_at_place (S.values_at store.now) row.now) plan.now self.old group) }
         ensures within { OnOk result (AreWithin (rows + 1) self.new) }
     {
         let key = key_of(alloc, store, row, plan.groups.as_slice())?;

@@ -11,7 +11,7 @@ use Rattle.mvcc.specs.History.{History}
 use Rattle.update_log.specs.declared.frame.Frame.{Frame}
 use Rattle.update_log.specs.Parts.{parts_of}
 use Rattle.update_log.specs.Streams.{AreStreamsOf, stream_at}
-use Rattle.update_log.proofs.Elements.{all-append}
+use Rattle.primary.proofs.Elements.{all-append}
 use Rattle.journal.specs.Recovery.{HasRecord}
 use Rattle.primary.specs.Inner.Invariant.{AreLists}
 use Rattle.primary.proofs.Streams.{numbered-push}

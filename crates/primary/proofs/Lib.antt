@@ -1,8 +1,8 @@
-pub mod Definedness
-pub mod Telling
 pub mod Streams
 pub mod Flushing
+pub mod Lending
 pub mod Rebuilding
 pub mod Wanting
 pub mod Opening
 pub mod Committing
+pub mod Elements

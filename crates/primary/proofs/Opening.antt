@@ -9,6 +9,7 @@ use Rattle.byteorder.specs.Endian.{big_number}
 use Rattle.byteorder.specs.Numbers.{big_from-append}
 use Rattle.rows.specs.declared.commit.Commit.{Commit}
 use Rattle.rows.specs.Shape.{Shape}
+use Rattle.update_log.specs.Laws.{CutIsShort}
 use Rattle.journal.specs.declared.faults.JournalFault.{JournalFault}
 use Rattle.journal.specs.declared.faults.JournalFault.TheVariants.{OtherHeader, Damaged, OutOfOrder, Illegal, Memory}
 use Rattle.journal.specs.Laws.{IsRecoveredOnce, IsNotRefused, IsRefusedOnce}
@@ -21,13 +22,13 @@ use Rattle.primary.specs.Journaling.{IsStartRefusal, TellsFault, KeepsSame, AreN
 use Rattle.primary.proofs.Streams.{numbered-short}
 
 -- what is recovered of bytes is numbered within 64 bits, as there are no more bytes
-pub numbered-recovered : (workers : ℕ) (shape : Shape) (bytes : List ℕ) (commits : List Commit) (bytes_kept : ℕ)
+pub numbered-recovered : (law : CutIsShort) (workers : ℕ) (shape : Shape) (bytes : List ℕ) (commits : List Commit) (bytes_kept : ℕ)
     → IsRecovered workers shape bytes commits bytes_kept → length bytes < 2 ^ 64 → AreNumbered commits
-numbered-recovered workers shape bytes commits bytes_kept recovered short = elim recovered [
-  | inl ends ↦ subst AreNumbered (sym ends.1) (numbered-short [] (omega arith))
+numbered-recovered law workers shape bytes commits bytes_kept recovered short = elim recovered [
+  | inl ends ↦ subst AreNumbered (sym ends.1) (numbered-short law [] (omega arith))
   | inr kept ↦
       let begins = kept.0.0.text in
-      numbered-short commits
+      numbered-short law commits
       (omega (
         arith,
         ap length begins.1,
@@ -55,7 +56,7 @@ longer-front front list all begins begins' =
 front-length : {X : Type 0} (front list : List X) → IsBeginning front list → length front ≤ length list
 front-length front list begins = omega (arith, ap length begins.1, length-append front begins.0)
 
--- ---- a torn end that was cut
+-- ---- a torn end that was truncated
 
 torn-front : (front bytes : List ℕ) → IsBeginning front bytes → is_torn bytes ≡ true → is_torn front ≡ true
 torn-front front bytes begins torn =
@@ -75,12 +76,12 @@ torn-front front bytes begins torn =
           (lt-ltb (length front) (4 + big_number 4 front) (omega (arith, front-length front bytes begins))))
     ]
 
--- ---- a torn end that was cut in part
+-- ---- a torn end that was truncated in part
 
 -- where bytes keep commits, so do their beginnings that hold the text
-kept-cut : (workers : ℕ) (shape : Shape) (old new : List ℕ) (commits : List Commit) → IsKept workers shape old commits
+kept-truncated : (workers : ℕ) (shape : Shape) (old new : List ℕ) (commits : List Commit) → IsKept workers shape old commits
     → IsBeginning new old → length (journal_text workers shape commits) ≤ length new → IsKept workers shape new commits
-kept-cut workers shape old new commits kept begins long = record {
+kept-truncated workers shape old new commits kept begins long = record {
   journaled = kept.journaled;
   text = shorter-front (journal_text workers shape commits) new old kept.text begins long;
   longest = λ others journaled text.
@@ -91,14 +92,14 @@ kept-cut workers shape old new commits kept begins long = record {
 drop-front : (n : ℕ) (new old : List ℕ) → IsBeginning new old → n ≤ length new → IsBeginning (drop n new) (drop n old)
 drop-front n new old begins within = (begins.0, ap (drop n) begins.1 ∙ drop-append-le n new begins.0 within)
 
-cut-recovered : (workers : ℕ) (shape : Shape) (old new : List ℕ) (commits : List Commit) (bytes_kept : ℕ)
+truncated-recovered : (workers : ℕ) (shape : Shape) (old new : List ℕ) (commits : List Commit) (bytes_kept : ℕ)
     → IsRecovered workers shape old commits bytes_kept → length (header workers shape) ≤ length old → IsBeginning new old
     → bytes_kept ≤ length new → IsRecovered workers shape new commits bytes_kept
-cut-recovered workers shape old new commits bytes_kept recovered long begins enough = elim recovered [
+truncated-recovered workers shape old new commits bytes_kept recovered long begins enough = elim recovered [
   | inl ends ↦ absurd (omega (arith, ends.0.1))
   | inr kept ↦
       inr (
-        (kept-cut workers shape old new commits kept.0.0 begins (omega (arith, kept.0.1)), kept.0.1),
+        (kept-truncated workers shape old new commits kept.0.0 begins (omega (arith, kept.0.1)), kept.0.1),
         torn-front (drop bytes_kept new) (drop bytes_kept old) (drop-front bytes_kept new old begins enough) kept.1,
       )
 ]
@@ -272,7 +273,7 @@ partly-keeps_same workers shape bytes head new commits bytes_kept once law recov
       let long : length (header workers shape) ≤ length bytes = subst (λ h. length h ≤ length bytes) is cut.0 in
       let text = begins-with-text workers shape bytes commits bytes_kept recovered long in
       same-recovered workers shape bytes new commits bytes_kept bytes_kept once law recovered
-      (cut-recovered workers shape bytes new commits bytes_kept recovered long cut.1.0 cut.1.1)
+      (truncated-recovered workers shape bytes new commits bytes_kept recovered long cut.1.0 cut.1.1)
       (λ front. shorter-front (header workers shape) new bytes front cut.1.0
       (omega (arith, length-append (header workers shape) (records_from 0 commits), text.1, cut.1.1)))
 ]

@@ -7,20 +7,20 @@ use Rattle.std.proofs.lemmas.List.{take_all, drop_more}
 use Rattle.std.proofs.Math.ListN.{drop_of_length-le}
 use Rattle.rows.specs.declared.commit.Commit.{Commit}
 use Rattle.rows.specs.declared.kind.Kind.{Kind}
-use Rattle.rows.specs.Commits.{IsCommit, commits_of, tables_after}
+use Rattle.rows.specs.Commits.{IsCommit, apply_commits, tables_after}
 use Rattle.rows.specs.Limits.{workers_max}
 use Rattle.rows.specs.Shape.{Shape, shape_of}
-use Rattle.rows.specs.Tables.{Tables, Refusal, opening, changes_of}
+use Rattle.rows.specs.Tables.{Tables, Refusal, opening, apply_entries}
 use Rattle.rows.proofs.Presence.{and_then-parts}
-use Rattle.rows.proofs.TableLaws.{commits_of-split}
+use Rattle.rows.proofs.TableLaws.{apply_commits-split}
 use Rattle.mvcc.specs.History.{History, defined_at}
 use Rattle.update_log.specs.declared.frame.Frame.{Frame}
 use Rattle.update_log.specs.Frames.{IsCuttable}
 use Rattle.update_log.specs.Streams.{AreStreamsOf, stream_at}
-use Rattle.update_log.proofs.Elements.{all-get_or}
+use Rattle.primary.proofs.Elements.{all-get_or}
 use Rattle.journal.specs.Recovery.{HasRecord, IsJournaled}
 use Rattle.primary.specs.Journaling.{AreNumbered}
-use Rattle.primary.specs.Steps.{started}
+use Rattle.primary.specs.Steps.{started_primary}
 use Rattle.primary.specs.Inner.Parts.{primary_of}
 use Rattle.primary.proofs.Streams.{next-below}
 
@@ -40,19 +40,19 @@ pub defined-next : (versions : History) (schema : List (List ℕ × List Kind)) 
     → defined_at versions (length versions.commits) commit.entries ≡ true
 defined-next versions schema workers commits i commit h e journaled same taken =
     let shape = shape_of schema in
-    let all = ok-of (commits_of (opening shape) commits) journaled.legal.defined in
-    let split = commits_of-split shape commits i all.0 all.1 in
+    let all = ok-of (apply_commits (opening shape) commits) journaled.legal.defined in
+    let split = apply_commits-split shape commits i all.0 all.1 in
     let rest = drop (i + 1) commits in
     let next : drop i commits ≡ commit ∷ rest =
     drop_more commits i commit h ∙ ap (λ c. c ∷ rest) (sym e) in
     let parts =
-    and_then-parts (λ after. commits_of after rest) (changes_of (tables_after shape commits i) commit.entries) all.0
-    (ap (commits_of (tables_after shape commits i)) (sym next) ∙ split.1) in
+    and_then-parts (λ after. apply_commits after rest) (apply_entries (tables_after shape commits i) commit.entries) all.0
+    (ap (apply_commits (tables_after shape commits i)) (sym next) ∙ split.1) in
     let here : tables_after (shape_of versions.schema) versions.commits (length versions.commits) ≡ tables_after shape commits i =
     ap (λ s. tables_after (shape_of s) versions.commits (length versions.commits)) same
     ∙ ap (λ cs. tables_after shape cs (length cs)) taken
     ∙ tables-front shape commits i in
-    ap (λ tables. is_ok (changes_of tables commit.entries)) here ∙ ap is_ok parts.1
+    ap (λ tables. is_ok (apply_entries tables commit.entries)) here ∙ ap is_ok parts.1
 
 -- and its frames can be sent
 pub cuttable-next : (workers : ℕ) (shape : Shape) (commits : List Commit) (i : ℕ) (commit : Commit) (streams : List (List Frame))
@@ -78,7 +78,7 @@ cuttable-next workers shape commits i commit streams number h e few journaled nu
 -- the primary of versions that are all durable
 pub started-is : (versions : History) (schema : List (List ℕ × List Kind)) (durable workers : ℕ) (commits : List Commit)
     → versions.schema ≡ schema → versions.commits ≡ commits → durable ≡ length commits
-    → primary_of versions durable workers false ≡ started schema workers commits
+    → primary_of versions durable workers false ≡ started_primary schema workers commits
 started-is versions schema durable workers commits same are counted =
     let within : length versions.commits ≤ durable = omega (arith, ap length are) in
     let all : take durable versions.commits ≡ commits = take_all durable versions.commits within ∙ are in

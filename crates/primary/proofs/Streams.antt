@@ -14,9 +14,8 @@ use Rattle.update_log.specs.declared.frame.Frame.{Frame}
 use Rattle.update_log.specs.Frames.{IsSendable, IsCuttable, frames_from, frames_of}
 use Rattle.update_log.specs.Parts.{parts_of}
 use Rattle.update_log.specs.Streams.{stream_from, stream_of, frame_count}
-use Rattle.update_log.proofs.Elements.{all-append}
-use Rattle.update_log.proofs.Framing.{frames-sendable}
-use Rattle.update_log.proofs.Uniqueness.{cut-is_short}
+use Rattle.primary.proofs.Elements.{all-append}
+use Rattle.update_log.specs.Laws.{CutIsShort, FramesAreSendable}
 use Rattle.journal.specs.Recovery.{HasRecord, IsBeginning}
 use Rattle.journal.specs.Text.{record_of, records_from}
 use Rattle.wire.specs.Spelling.{AreCounts}
@@ -131,14 +130,15 @@ next-below commits i commit h e numbered =
 
 -- ---- frames that a datagram spells
 
-sendable-from : (workers worker before first : ℕ) (commits : List Commit) → workers ≤ workers_max
+sendable-from : (law : FramesAreSendable) (workers worker before first : ℕ) (commits : List Commit) → workers ≤ workers_max
     → AllByRecursion (IsCommit workers) commits
     → AllByRecursion HasRecord commits → before + length commits < 2 ^ 64
     → first + length (stream_from worker before first commits) < 2 ^ 64
     → AllByRecursion IsSendable (stream_from worker before first commits)
-sendable-from workers worker before first [] few each records numbers seqs = tt
-sendable-from workers worker before first (commit ∷ commits) few each records numbers seqs =
-    one (commit.worker == worker) (λ first. sendable-from workers worker (before + 1) first commits few each.1 records.1 (omega arith)) seqs
+sendable-from law workers worker before first [] few each records numbers seqs = tt
+sendable-from law workers worker before first (commit ∷ commits) few each records numbers seqs =
+    one (commit.worker == worker)
+    (λ first. sendable-from law workers worker (before + 1) first commits few each.1 records.1 (omega arith)) seqs
   where
     one : (ours : Bool)
         → ((first : ℕ) → first + length (stream_from worker (before + 1) first commits) < 2 ^ 64
@@ -161,13 +161,14 @@ sendable-from workers worker before first (commit ∷ commits) few each records 
           seqs_below = omega arith;
         } in
         all-append IsSendable own behind
-        (frames-sendable commit (before + 1) first own cuttable (omega arith) refl)
+        (law commit (before + 1) first cuttable (omega arith))
         (rest (first + length own) (omega arith))
 
-pub stream-sendable : (workers : ℕ) (commits : List Commit) (worker : ℕ) → workers ≤ workers_max → AllByRecursion (IsCommit workers) commits
-    → AllByRecursion HasRecord commits → AreNumbered commits → AllByRecursion IsSendable (stream_of commits worker)
-stream-sendable workers commits worker few each records numbered =
-    sendable-from workers worker 0 0 commits few each records (omega (arith, numbered.commits_below))
+pub stream-sendable : (law : FramesAreSendable) (workers : ℕ) (commits : List Commit) (worker : ℕ) → workers ≤ workers_max
+    → AllByRecursion (IsCommit workers) commits → AllByRecursion HasRecord commits → AreNumbered commits
+    → AllByRecursion IsSendable (stream_of commits worker)
+stream-sendable law workers commits worker few each records numbered =
+    sendable-from law workers worker 0 0 commits few each records (omega (arith, numbered.commits_below))
     (omega (arith, numbered.frames_below worker))
 
 -- ---- how long the streams of a text can be
@@ -187,16 +188,16 @@ entries-short (entry ∷ entries) =
       length-append (entry_spelling entry) (flat_map entry_spelling entries),
     )
 
-record-long : (number : ℕ) (commit : Commit) → 0 < length (record_of number commit)
+record-long : (law : CutIsShort) (number : ℕ) (commit : Commit) → 0 < length (record_of number commit)
     × (length (parts_of commit.entries) ≤ length (record_of number commit))
-record-long number commit =
-    (omega arith, omega (arith, cut-is_short commit.entries, entries-short commit.entries))
+record-long law number commit =
+    (omega arith, omega (arith, law commit.entries, entries-short commit.entries))
 
-stream-short : (worker before first : ℕ) (commits : List Commit)
+stream-short : (law : CutIsShort) (worker before first : ℕ) (commits : List Commit)
     → length (stream_from worker before first commits) ≤ length (records_from before commits)
-stream-short worker before first [] = omega arith
-stream-short worker before first (commit ∷ commits) =
-    one (commit.worker == worker) (λ first. stream-short worker (before + 1) first commits)
+stream-short law worker before first [] = omega arith
+stream-short law worker before first (commit ∷ commits) =
+    one (commit.worker == worker) (λ first. stream-short law worker (before + 1) first commits)
   where
     one : (ours : Bool)
         → ((first : ℕ) → length (stream_from worker (before + 1) first commits) ≤ length (records_from (before + 1) commits))
@@ -212,25 +213,25 @@ stream-short worker before first (commit ∷ commits) =
           rest (first + length own),
           length-append own (stream_from worker (before + 1) (first + length own) commits),
           frames-length commit.worker (before + 1) first (parts_of commit.entries),
-          (record-long (before + 1) commit).1,
+          (record-long law (before + 1) commit).1,
           length-append (record_of (before + 1) commit) (records_from (before + 1) commits),
         )
 
-commits-short : (before : ℕ) (commits : List Commit) → length commits ≤ length (records_from before commits)
-commits-short before [] = omega arith
-commits-short before (commit ∷ commits) =
+commits-short : (law : CutIsShort) (before : ℕ) (commits : List Commit) → length commits ≤ length (records_from before commits)
+commits-short law before [] = omega arith
+commits-short law before (commit ∷ commits) =
     omega (
       arith,
-      commits-short (before + 1) commits,
-      (record-long (before + 1) commit).0,
+      commits-short law (before + 1) commits,
+      (record-long law (before + 1) commit).0,
       length-append (record_of (before + 1) commit) (records_from (before + 1) commits),
     )
 
 -- commits whose records are within 64 bits are numbered within 64 bits
-pub numbered-short : (commits : List Commit) → length (records_from 0 commits) < 2 ^ 64 → AreNumbered commits
-numbered-short commits h = record {
-  commits_below = omega (arith, commits-short 0 commits);
-  frames_below = λ worker. omega (arith, stream-short worker 0 0 commits);
+pub numbered-short : (law : CutIsShort) (commits : List Commit) → length (records_from 0 commits) < 2 ^ 64 → AreNumbered commits
+numbered-short law commits h = record {
+  commits_below = omega (arith, commits-short law 0 commits);
+  frames_below = λ worker. omega (arith, stream-short law worker 0 0 commits);
 }
 
 -- ---- the counts of a Head

@@ -1,5 +1,6 @@
 -- What stands on the journal of a primary, and what is left where a flush or a start is refused.
-use Rattle.std.specs.Prelude.{◌≡◌, ℕ, ◌+◌, ◌<◌, ◌^◌, List, length, take, Bool, true, false, Result, Ok, Err, MatchResult}
+use Rattle.std.specs.Prelude.{◌≡◌, ℕ, ◌+◌, ◌<◌, ◌^◌, List, length, take, Bool, true, false, Option, None, is_some, Result, Ok, Err}
+use Rattle.std.specs.Prelude.{MatchResult}
 use Rattle.rows.specs.declared.commit.Commit.{Commit}
 use Rattle.rows.specs.Shape.{Shape, shape_of}
 use Rattle.update_log.specs.Streams.{stream_of}
@@ -12,38 +13,48 @@ use Rattle.primary.specs.declared.faults.FlushFault.{FlushFault}
 use Rattle.primary.specs.declared.faults.FlushFault.TheVariants as flushes
 use Rattle.primary.specs.declared.faults.StartFault.{StartFault}
 use Rattle.primary.specs.declared.faults.StartFault.TheVariants as starts
-use Rattle.primary.specs.State.{Primary, Core}
-use Rattle.primary.specs.Steps.{broken}
+use Rattle.primary.specs.State.{Primary, Core, is_honest_in, standing_in, faults_in}
+use Rattle.primary.specs.Steps.{failed_primary}
 
--- while it is honest and has not failed, the journal's bytes are the text of the durable list
+-- while it is there and honest and has not failed, the journal's bytes are the text of the durable list
 abbrev pub IsWritten : {J : Type 0} → (J → Bool) → (J → List ℕ) → Core J → Type 0
 IsWritten is_honest standing core =
-    is_honest core.journal ≡ true → core.primary.failed ≡ false
-    → standing core.journal ≡ journal_text core.primary.workers (shape_of core.primary.schema) core.primary.durable
+    is_honest_in is_honest core.journal ≡ true → core.primary.failed ≡ false
+    → standing_in standing core.journal ≡ journal_text core.primary.workers (shape_of core.primary.schema) core.primary.durable
 
 -- the records that a flush of so many commits offers to the journal
 abbrev pub offered : Primary → ℕ → List ℕ
 offered p count = records_from (length p.durable) (take count p.pending)
 
+-- a journal of which nothing that stands has changed, whatever room was made
+pub record IsUnchanged {J : Type 0} (is_honest : J → Bool) (standing : J → List ℕ) (fault_count : J → ℕ) (old new : Option J) : Type 0 where
+  pub there : is_some new ≡ is_some old
+  pub honest : is_honest_in is_honest new ≡ is_honest_in is_honest old
+  pub stands : is_honest_in is_honest old ≡ true → standing_in standing new ≡ standing_in standing old
+  pub faults : faults_in fault_count new ≡ faults_in fault_count old
+
+-- there is a commit to be moved, and the journal is there
+abbrev pub IsOffering : {J : Type 0} → Core J → ℕ → Type 0
+IsOffering core count = (core.primary.failed ≡ false) × (is_some core.journal ≡ true) × (0 < length (take count core.primary.pending))
+
 -- why a flush of so many commits is refused, and what it leaves: the journal is written, and memory taken, only where there is a
 -- commit to be moved
-abbrev pub IsFlushRefusal : Primary → ℕ → FlushFault → Primary → Type 0
-IsFlushRefusal p count flushes.Failed after = (p.failed ≡ true) × (after ≡ p)
-IsFlushRefusal p count flushes.Memory after = (p.failed ≡ false) × (0 < length (take count p.pending)) × (after ≡ p)
-IsFlushRefusal p count flushes.Journal after = (p.failed ≡ false) × (0 < length (take count p.pending)) × (after ≡ broken p)
+abbrev pub IsFlushRefusal : {J : Type 0} → Core J → ℕ → FlushFault → Primary → Type 0
+IsFlushRefusal core count flushes.Failed after = (core.primary.failed ≡ true) × (after ≡ core.primary)
+IsFlushRefusal core count flushes.Busy after = (core.primary.failed ≡ false) × (core.journal ≡ None) × (after ≡ core.primary)
+IsFlushRefusal core count flushes.NotLent after = ⊥
+IsFlushRefusal core count flushes.Memory after = IsOffering core count × (after ≡ core.primary)
+IsFlushRefusal core count flushes.Journal after = IsOffering core count × (after ≡ failed_primary core.primary)
 
 -- what stands where the journal did not take what it was offered: some beginning of that behind the bytes that stood
 abbrev pub StandsAfterFlush : FlushFault → List ℕ → List ℕ → List ℕ → Type 0
-StandsAfterFlush flushes.Failed offered old new = new ≡ old
-StandsAfterFlush flushes.Memory offered old new = new ≡ old
 StandsAfterFlush flushes.Journal offered old new = IsPartlyAppended old offered new
+StandsAfterFlush other offered old new = new ≡ old
 
 -- a fault is counted where the journal did not take what it was offered, and nowhere else
 abbrev pub CountsFlushFault : {A : Type 0} → Result A FlushFault → ℕ → ℕ → Type 0
-CountsFlushFault (Ok done) old new = new ≡ old
-CountsFlushFault (Err flushes.Failed) old new = new ≡ old
-CountsFlushFault (Err flushes.Memory) old new = new ≡ old
 CountsFlushFault (Err flushes.Journal) old new = new ≡ old + 1
+CountsFlushFault other old new = new ≡ old
 
 -- the commits that these bytes keep for the workers and the shape
 abbrev pub IsKeptOf : ℕ → Shape → List ℕ → List Commit → Type 0
@@ -56,16 +67,14 @@ pub record KeepsSame (workers : ℕ) (shape : Shape) (old new : List ℕ) : Type
 
 -- why a start on these bytes is refused: they are, where they are what stands; being out of memory is told as such
 abbrev pub IsStartRefusal : {F : Type 0} → ℕ → Shape → Bool → List ℕ → StartFault F → Type 0
-IsStartRefusal workers shape is_honest bytes (starts.Store fault) = Unit {0}
 IsStartRefusal workers shape is_honest bytes (starts.Journal fault) =
     ¬ (fault ≡ journals.Memory) × (is_honest ≡ true → IsRefusal workers shape bytes fault)
-IsStartRefusal workers shape is_honest bytes starts.Memory = Unit {0}
+IsStartRefusal workers shape is_honest bytes other = Unit {0}
 
 -- a start that is refused tells this fault of the bytes, unless the journal failed or it was out of memory
 abbrev pub TellsFault : {F : Type 0} → JournalFault → StartFault F → Type 0
-TellsFault fault (starts.Store failure) = Unit {0}
 TellsFault fault (starts.Journal told) = told ≡ fault
-TellsFault fault starts.Memory = Unit {0}
+TellsFault fault other = Unit {0}
 
 -- where these bytes are refused, so is a start on them, and it tells their fault; being out of memory is no fault of bytes
 abbrev pub TellsRefusal : {A J F : Type 0} → ℕ → Shape → List ℕ → Result A (J × StartFault F) → Type 0
@@ -73,17 +82,15 @@ TellsRefusal workers shape bytes result =
     (fault : JournalFault) → IsRefusal workers shape bytes fault → ¬ (fault ≡ journals.Memory)
     → MatchResult result (λ core. ⊥) (λ refusal. TellsFault fault refusal.1)
 
--- a start that is refused leaves the bytes as they were, but where they could not be cut or written
+-- a start that is refused leaves the bytes as they were, but where they could not be truncated or written
 abbrev pub LeavesBytes : {F : Type 0} → StartFault F → List ℕ → List ℕ → Type 0
 LeavesBytes (starts.Store fault) old new = Unit {0}
-LeavesBytes (starts.Journal fault) old new = new ≡ old
-LeavesBytes starts.Memory old new = new ≡ old
+LeavesBytes other old new = new ≡ old
 
--- a fault is counted where the journal could not be read, cut or written, and nowhere else
+-- a fault is counted where the journal could not be read, truncated or written, and nowhere else
 abbrev pub CountsStartFault : {F : Type 0} → StartFault F → ℕ → ℕ → Type 0
 CountsStartFault (starts.Store fault) old new = new ≡ old + 1
-CountsStartFault (starts.Journal fault) old new = new ≡ old
-CountsStartFault starts.Memory old new = new ≡ old
+CountsStartFault other old new = new ≡ old
 
 -- commits whose numbers are of 64 bits, and whose frames have seqs and counts of 64 bits
 pub record AreNumbered (commits : List Commit) : Type 0 where

@@ -44,9 +44,7 @@ frame_to replica frame = record { to = Replica replica; packet = frame_spelling 
 abbrev pub answers_to : Primary → Result Datagram WireFault → List Out
 answers_to p (Ok (Ask replica boot request)) = record { to = Replica replica; packet = spelling (head_for p replica boot request) } ∷ []
 answers_to p (Ok (Want replica worker from)) = map (frame_to replica) (wanted p worker from)
-answers_to p (Ok (Frame worker seq commit last entries)) = []
-answers_to p (Ok (Head replica boot request version counts)) = []
-answers_to p (Err fault) = []
+answers_to p other = []
 
 -- what bytes are answered
 abbrev pub answers : Primary → List ℕ → List Out

@@ -8,15 +8,15 @@ use Rattle.rows.specs.declared.kind.Kind.{Kind}
 use Rattle.rows.specs.Commits.{last_touching}
 use Rattle.primary.specs.declared.faults.CommitFault.{CommitFault}
 use Rattle.primary.specs.declared.faults.CommitFault.TheVariants.{Conflict, ReadOnly, Failed, NumbersUsedUp, Foreign}
-use Rattle.mvcc.specs.Draft.{Draft}
+use Rattle.mvcc.specs.Transaction.{Transaction}
 use Rattle.mvcc.specs.History.{History, defined_at}
 use Rattle.update_log.specs.Parts.{parts_of}
 use Rattle.update_log.specs.Streams.{stream_of}
 use Rattle.primary.specs.State.{Primary}
 
 -- a primary as it starts: these commits are durable, and no other is there
-abbrev pub started : List (List ℕ × List Kind) → ℕ → List Commit → Primary
-started schema workers commits = record { schema = schema; workers = workers; durable = commits; pending = []; failed = false }
+abbrev pub started_primary : List (List ℕ × List Kind) → ℕ → List Commit → Primary
+started_primary schema workers commits = record { schema = schema; workers = workers; durable = commits; pending = []; failed = false }
 
 -- the versions that a transaction may begin on: those of the durable list
 abbrev pub durable_versions : Primary → History
@@ -24,7 +24,7 @@ durable_versions p = record { schema = p.schema; commits = p.durable }
 
 -- whether a transaction is not of this primary: its snapshot is above what is durable, or an entry is not defined where
 -- it stands on the rows at the snapshot
-abbrev pub is_foreign : Primary → Draft → Bool
+abbrev pub is_foreign : Primary → Transaction → Bool
 is_foreign p draft =
     nat_lt (length p.durable) draft.snapshot || not (defined_at (durable_versions p) draft.snapshot draft.entries)
 
@@ -41,7 +41,7 @@ has_numbers p worker entries =
 
 -- what a commit of a worker answers: its number, or the first refusal. The first committer wins: a commit is refused
 -- where a row that it writes was written after its snapshot. Being out of memory aside.
-abbrev pub commit_answer : Primary → ℕ → Draft → Result ℕ CommitFault
+abbrev pub commit_answer : Primary → ℕ → Transaction → Result ℕ CommitFault
 commit_answer p worker draft =
     if p.failed then Err Failed else
     if length draft.entries == 0 then Err ReadOnly else
@@ -59,5 +59,5 @@ abbrev pub flushed : Primary → ℕ → Primary
 flushed p count = record p { durable = p.durable ++ take count p.pending; pending = drop count p.pending }
 
 -- the primary whose journal has failed
-abbrev pub broken : Primary → Primary
-broken p = record p { failed = true }
+abbrev pub failed_primary : Primary → Primary
+failed_primary p = record p { failed = true }

@@ -38,12 +38,18 @@ pub enum FlushFault {
     /// The journal failed earlier; the primary has to be started again.
     #[error("the journal failed")]
     Failed,
+    /// The journal is lent out: a flush has begun and not ended.
+    #[error("the journal is lent out")]
+    Busy,
+    /// The journal is not lent out, so no flush can end.
+    #[error("the journal is not lent out")]
+    NotLent,
 }
 
 /// Why a primary was not started.
 #[derive(Debug, Drop)]
 pub enum StartFault<F> {
-    /// The journal could not be read, cut or written.
+    /// The journal could not be read, truncated or written.
     Store(F),
     /// The journal's bytes are refused.
     Journal(JournalFault),

@@ -15,16 +15,19 @@
 //! `journal` and on `wire`.
 #![tactic(auto)]
 
+mod done;
 mod faults;
 mod judging;
 mod keeping;
 mod lists;
 mod primary_core;
-mod rows_told;
 mod sending;
 mod starting;
 mod ticket;
+mod work;
 
+pub use done::Done;
 pub use faults::{CommitFault, FlushFault, StartFault};
 pub use primary_core::PrimaryCore;
 pub use ticket::Ticket;
+pub use work::Work;

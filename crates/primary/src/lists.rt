@@ -1,6 +1,6 @@
 //! The durable list and the pending list.
 
-ghost use Rattle.std.specs.Prelude.{◌≡◌, ◌<◌, ◌≤◌, ◌++◌, ℕ, length, Ok, IfOk, IfErr, OnErr};
+ghost use Rattle.std.specs.Prelude.{◌≡◌, ◌<◌, ◌≤◌, ◌++◌, ℕ, length, take, Ok, IfOk, IfErr, OnErr};
 ghost use Rattle.std.specs.List.{AllByRecursion};
 ghost use Rattle.rows.specs.Faults.{IsFaultOf};
 ghost use Rattle.rows.specs.Limits.{workers_max};
@@ -12,7 +12,7 @@ ghost use Rattle.journal.specs.Text.{records_from};
 ghost use Rattle.wire.specs.Spelling.{IsAsk, spelling};
 ghost use Rattle.primary.specs.Journaling.{AreNumbered, offered};
 ghost use Rattle.primary.specs.Sending.{pushed, head_for, answers};
-ghost use Rattle.primary.specs.Steps.{started, commit_answer, committed, flushed, broken};
+ghost use Rattle.primary.specs.Steps.{started_primary, commit_answer, committed, flushed, failed_primary};
 
 use crate::faults::CommitFault;
 use crate::judging::judge;
@@ -24,7 +24,7 @@ use mvcc::{Transaction, Versions};
 use rows::{Commit, Schema};
 use std::alloc::{AllocError, Global};
 use std::marker::Model;
-use update_log::Streams;
+use update_log::{Streams, one_cut};
 use wire::{Datagram, Out, Packet, To, read};
 
 /// A primary but for its journal: the durable list of commits, the pending list, and whether the
@@ -67,7 +67,7 @@ impl Lists {
         requires few { workers ≤ workers_max }
         requires journaled { IsJournaled workers (shape_of schema.now) commits.now }
         requires numbered { AreNumbered commits.now }
-        ensures { IfOk result (λ lists. lists ≡ started schema.now workers commits.now) }
+        ensures { IfOk result (λ lists. lists ≡ started_primary schema.now workers commits.now) }
     {
         let rebuilt = rebuild(alloc, schema, workers, commits)?;
         Ok(Lists {
@@ -89,6 +89,7 @@ impl Lists {
         ensures some_workers { 0 < self.now.workers }
         ensures few_workers { self.now.workers ≤ workers_max }
     {
+        one_cut();
         self.versions.keeps_defined();
     }
 
@@ -104,6 +105,15 @@ impl Lists {
         ensures { result ≡ length self.now.pending }
     {
         self.versions.commits().len() - self.durable
+    }
+
+    /// How many workers there are, 1 to 16.
+    pub fn workers(&self) -> u8
+        ensures count { result ≡ self.now.workers }
+        ensures some { 0 < result }
+        ensures few { result ≤ workers_max }
+    {
+        self.workers
     }
 
     /// The versions of the durable list followed by the pending one.
@@ -133,7 +143,6 @@ impl Lists {
             × IsFaultOf (commit_answer self.old worker transaction) CommitFault.Memory refusal.1) }
     {
         let number = match judge(
-            self.alloc,
             &self.versions,
             &self.streams,
             self.durable,
@@ -164,9 +173,13 @@ impl Lists {
     /// The records of the first `count` pending commits, of all where there are fewer. Fails only
     /// where it is out of memory.
     pub fn records(&self, count: usize) -> Result<Vec<u8>, AllocError>
-        ensures { IfOk result (λ bytes. bytes.items ≡ offered self.now count) }
+        ensures ok { IfOk result (λ bytes. bytes.items ≡ offered self.now count) }
+        ensures err { OnErr result (0 < length (take count self.now.pending)) }
     {
         let moved = count.min(self.pending());
+        if moved == 0 {
+            return Ok(Vec::new(self.alloc));
+        }
         let commits = &self.versions.commits()[self.durable..self.durable + moved];
         records(self.alloc, commits, self.durable as u64 + 1)
     }
@@ -181,7 +194,7 @@ impl Lists {
 
     /// Notes that the journal has failed.
     pub fn fail(&mut self)
-        ensures { self.new ≡ broken self.old }
+        ensures { self.new ≡ failed_primary self.old }
     {
         self.failed = true;
     }

@@ -1,6 +1,6 @@
 //! The primary's core: bytes and values in, bytes and values out.
 
-ghost use Rattle.std.specs.Prelude.{◌≡◌, ◌<◌, ◌≤◌, ℕ, length, take, [], ◌++◌, true, false, Ok, IfOk, IfErr, OnOk, OnErr};
+ghost use Rattle.std.specs.Prelude.{◌≡◌, ◌<◌, ◌≤◌, ℕ, length, take, [], ◌++◌, true, false, Ok, IfOk, IfErr, OnOk, OnErr, is_some, is_none};
 ghost use Rattle.std.specs.List.{AllByRecursion};
 ghost use Rattle.rows.specs.Faults.{IsFaultOf};
 ghost use Rattle.rows.specs.Limits.{workers_max};
@@ -10,15 +10,19 @@ ghost use Rattle.update_log.specs.Streams.{stream_of};
 ghost use Rattle.journal.specs.Recovery.{IsJournaled};
 ghost use Rattle.journal.specs.Storing.{faults_max};
 ghost use Rattle.journal.specs.Text.{records_from};
-ghost use Rattle.primary.specs.Journaling.{IsWritten, offered, IsFlushRefusal, StandsAfterFlush, CountsFlushFault};
+ghost use Rattle.primary.specs.Journaling.{IsWritten, IsUnchanged, offered, IsFlushRefusal, StandsAfterFlush, CountsFlushFault};
 ghost use Rattle.primary.specs.Journaling.{IsKeptOf, KeepsSame, IsStartRefusal, TellsRefusal, LeavesBytes, CountsStartFault, AreNumbered};
+ghost use Rattle.primary.specs.Lending.{IsLentBy, EndsWritten, ended, end_answer};
 ghost use Rattle.primary.specs.Sending.{pushed, answers};
-ghost use Rattle.primary.specs.Steps.{started, commit_answer, committed, flushed};
+ghost use Rattle.primary.specs.State.{is_honest_in, standing_in, faults_in};
+ghost use Rattle.primary.specs.Steps.{started_primary, commit_answer, committed, flushed};
 
+use crate::done::Done;
 use crate::faults::{CommitFault, FlushFault, StartFault};
 use crate::lists::Lists;
 use crate::starting::open;
 use crate::ticket::Ticket;
+use crate::work::Work;
 use journal::JournalStore;
 use mvcc::{Transaction, Versions};
 use rows::Schema;
@@ -28,13 +32,14 @@ use wire::{Out, Packet};
 
 /// A primary: its durable list of commits, its pending list, whether it has failed, and its journal.
 ///
-/// Contracts see these lists with the schema and the number of workers, and the journal. While it is
-/// honest and has not failed, the journal's bytes are the text of the durable list; nothing but what
-/// is durable is ever pushed or counted.
+/// Contracts see these lists with the schema and the number of workers, and the journal, which is
+/// not there while it is lent out for a write. A journal that is honest and has not failed has the
+/// text of the durable list after a start, and each call keeps that; nothing but what is durable is
+/// ever pushed or counted.
 #[derive(Debug, Drop)]
 pub struct PrimaryCore<J: JournalStore> {
     lists: Lists,
-    journal: J,
+    journal: Option<J>,
 }
 
 impl<J: JournalStore> Model for PrimaryCore<J> {
@@ -45,15 +50,15 @@ impl<J: JournalStore> Model for PrimaryCore<J> {
 
     ghost view = { λ p. record { primary = p.lists; journal = p.journal } };
 
-    ghost invariant = { λ p. KeepsJournal J.is_honest J.standing J.fault_count (record { primary = p.lists; journal = p.journal }) };
+    ghost invariant = { λ p. KeepsJournal J.fault_count (record { primary = p.lists; journal = p.journal }) };
 }
 
 impl<J: JournalStore> PrimaryCore<J> {
     /// A primary for a schema and 1 to 16 workers, on a journal: what the journal keeps is durable.
-    /// What a stop left behind that is cut away, and what is missing of the header written, before
+    /// What a stop left behind that is truncated, and what is missing of the header written, before
     /// anything else.
     ///
-    /// Fails with `Store` where the journal could not be read, cut or written, which it has counted
+    /// Fails with `Store` where the journal could not be read, truncated or written, which it has counted
     /// as a fault; with `Journal` where its bytes are refused, and then with the fault that they have;
     /// with `Memory`. The journal is handed back, and keeps what it kept; its bytes are changed only
     /// where `Store` is answered.
@@ -66,12 +71,13 @@ impl<J: JournalStore> PrimaryCore<J> {
         requires some { 0 < workers }
         requires few { workers ≤ workers_max }
         requires countable { J.fault_count journal < faults_max }
-        ensures ok { IfOk result (λ core. core.primary ≡ started schema.now workers core.primary.durable) }
+        ensures ok { IfOk result (λ core. core.primary ≡ started_primary schema.now workers core.primary.durable) }
         ensures kept { J.is_honest journal ≡ true
             → IfOk result (λ core. IsKeptOf workers (shape_of schema.now) (J.standing journal) core.primary.durable) }
         ensures written { IfOk result (IsWritten J.is_honest J.standing) }
-        ensures journal { IfOk result (λ core. (J.is_honest core.journal ≡ J.is_honest journal)
-            × (J.fault_count core.journal ≡ J.fault_count journal)) }
+        ensures journal { IfOk result (λ core. (is_some core.journal ≡ true)
+            × (is_honest_in J.is_honest core.journal ≡ J.is_honest journal)
+            × (faults_in J.fault_count core.journal ≡ J.fault_count journal)) }
         ensures refused { IfErr result (λ refusal.
             IsStartRefusal workers (shape_of schema.now) (J.is_honest journal) (J.standing journal) refusal.1) }
         ensures told { J.is_honest journal ≡ true → TellsRefusal workers (shape_of schema.now) (J.standing journal) result }
@@ -85,15 +91,17 @@ impl<J: JournalStore> PrimaryCore<J> {
         journal::laws::stops_are_recovered();
         let mut journal = journal;
         match open(alloc, &mut journal, schema, workers) {
-            Ok(lists) => Ok(PrimaryCore { lists, journal }),
+            Ok(lists) => Ok(PrimaryCore {
+                lists,
+                journal: Some(journal),
+            }),
             Err(fault) => Err((journal, fault)),
         }
     }
 
     /// The durable list followed by the pending one is legal for the primary's schema and workers,
     /// and a journal may be of it; so may it be of the durable list alone. A datagram spells each
-    /// frame of the durable list. While it is honest and has not failed, the journal's bytes are the
-    /// text of that list. It does nothing: its contract is the law.
+    /// frame of the durable list. It does nothing: its contract is the law.
     pub fn keeps_legal(&self)
         ensures all { IsJournaled self.now.primary.workers (shape_of self.now.primary.schema)
             (self.now.primary.durable ++ self.now.primary.pending) }
@@ -102,7 +110,6 @@ impl<J: JournalStore> PrimaryCore<J> {
         ensures sendable { (worker : ℕ) → AllByRecursion IsSendable (stream_of self.now.primary.durable worker) }
         ensures some_workers { 0 < self.now.primary.workers }
         ensures few_workers { self.now.primary.workers ≤ workers_max }
-        ensures written { IsWritten J.is_honest J.standing self.now }
     {
         self.lists.keeps_legal();
     }
@@ -121,6 +128,15 @@ impl<J: JournalStore> PrimaryCore<J> {
         self.lists.pending()
     }
 
+    /// How many workers there are, 1 to 16: a transaction is committed for one that is below.
+    pub fn workers(&self) -> u8
+        ensures count { result ≡ self.now.primary.workers }
+        ensures some { 0 < result }
+        ensures few { result ≤ workers_max }
+    {
+        self.lists.workers()
+    }
+
     /// The versions of the durable list followed by the pending one.
     pub fn versions(&self) -> &Versions
         ensures { result.now ≡ record {
@@ -131,19 +147,34 @@ impl<J: JournalStore> PrimaryCore<J> {
         self.lists.versions()
     }
 
-    /// The journal, lent. Takes no memory.
-    pub fn journal(&self) -> &J
-        ensures { result.now ≡ self.now.journal }
+    /// Whether the journal is lent out: a flush has begun and not ended. Takes no memory.
+    pub fn lent(&self) -> bool
+        ensures { result ≡ is_none self.now.journal }
     {
-        &self.journal
+        self.journal.is_none()
+    }
+
+    /// The journal, to be looked at. Takes no memory.
+    pub fn journal(&self) -> &J
+        requires { is_some self.now.journal ≡ true }
+        ensures { self.now.journal ≡ Some result.now }
+    {
+        match &self.journal {
+            Some(journal) => journal,
+            None => unreachable!(),
+        }
     }
 
     /// The journal; the lists are gone. Takes no memory.
     pub fn into_journal(self) -> J
-        ensures { result ≡ self.journal }
+        requires { is_some self.journal ≡ true }
+        ensures { self.journal ≡ Some result }
     {
         let PrimaryCore { lists: _, journal } = self;
-        journal
+        match journal {
+            Some(journal) => journal,
+            None => unreachable!(),
+        }
     }
 
     /// The records of the pending commits, as a flush of all would write them. Fails only where it is
@@ -175,51 +206,40 @@ impl<J: JournalStore> PrimaryCore<J> {
         ensures refused { IfErr result (λ refusal. (refusal.0 ≡ transaction) × (self.new.primary ≡ self.old.primary)
             × IsFaultOf (commit_answer self.old.primary worker transaction) CommitFault.Memory refusal.1) }
         ensures journal { self.new.journal ≡ self.old.journal }
-        ensures written { IsWritten J.is_honest J.standing self.new }
+        ensures written { IsWritten J.is_honest J.standing self.old → IsWritten J.is_honest J.standing self.new }
     {
         self.lists.commit(transaction, worker)
     }
 
-    /// Moves the first `count` pending commits (all, if there are fewer) to the durable list, and
-    /// answers how many are durable then. Their records go to the journal in one append, for which
-    /// all memory is taken first; where there is nothing to move, nothing is written.
+    /// Begins a flush of the first `count` pending commits (all, if there are fewer): takes all
+    /// memory, and lends the journal out with their records. The lists stay as they are; commits,
+    /// pushes and answers go on while the records are written.
     ///
-    /// Fails with `Failed`, where the journal failed before; with `Memory`; or with `Journal`, where
-    /// the journal did not take the records and has counted a fault. The lists are then as they
-    /// were; after `Journal` some beginning of the records may stand, and each commit and flush
-    /// answers `Failed` until the primary is started again.
-    pub fn flush(&mut self, count: usize) -> Result<u64, FlushFault>
-        ensures ok { IfOk result (λ durable. (self.old.primary.failed ≡ false) × (self.new.primary ≡ flushed self.old.primary count)
-            × (durable ≡ length self.new.primary.durable)) }
-        ensures refused { IfErr result (λ fault. IsFlushRefusal self.old.primary count fault self.new.primary) }
-        ensures written { IsWritten J.is_honest J.standing self.new }
-        ensures left { J.is_honest self.old.journal ≡ true → IfErr result (λ fault.
-            StandsAfterFlush fault (offered self.old.primary count) (J.standing self.old.journal) (J.standing self.new.journal)) }
-        ensures nothing { take count self.old.primary.pending ≡ [] → self.new.journal ≡ self.old.journal }
-        ensures faults { CountsFlushFault result (J.fault_count self.old.journal) (J.fault_count self.new.journal) }
-        ensures honest { J.is_honest self.new.journal ≡ J.is_honest self.old.journal }
+    /// Fails with `Failed` if the journal failed before, with `Busy` if it is lent out, or with
+    /// `Memory`; nothing that stands has changed then.
+    pub fn begin_flush(&mut self, count: usize) -> Result<Work<J>, FlushFault>
+        ensures ok { IfOk result (IsLentBy J.is_honest J.standing J.fault_count self.old count) }
+        ensures lent { OnOk result (self.new ≡ record self.old { journal = None }) }
+        ensures refused { IfErr result (λ fault. IsFlushRefusal self.old count fault self.new.primary × ¬ (fault ≡ FlushFault.Journal)) }
+        ensures same { OnErr result (IsUnchanged J.is_honest J.standing J.fault_count self.old.journal self.new.journal) }
+        ensures nothing { OnErr result (take count self.old.primary.pending ≡ [] → self.new ≡ self.old) }
     {
         if self.lists.has_failed() {
             return Err(FlushFault::Failed);
         }
-        if count == 0 || self.lists.pending() == 0 {
-            return Ok(self.lists.durable());
-        }
+        let Some(journal) = &mut self.journal else {
+            return Err(FlushFault::Busy);
+        };
         let Ok(records) = self.lists.records(count) else {
             return Err(FlushFault::Memory);
         };
-        if self.journal.reserve(records.len()).is_err() {
+        let offered = count.min(self.lists.pending());
+        if offered > 0 && journal.reserve(records.len()).is_err() {
             return Err(FlushFault::Memory);
         }
-        match self.journal.append(&records) {
-            Ok(()) => {
-                self.lists.acknowledge(count);
-                Ok(self.lists.durable())
-            }
-            Err(_) => {
-                self.lists.fail();
-                Err(FlushFault::Journal)
-            }
+        match self.journal.take() {
+            Some(journal) => Ok(Work::new(journal, offered, records)),
+            None => unreachable!(),
         }
     }
 
@@ -241,5 +261,63 @@ impl<J: JournalStore> PrimaryCore<J> {
         ensures err { OnErr result (0 < length (answers self.now.primary bytes.now)) }
     {
         self.lists.on_bytes(bytes)
+    }
+}
+
+impl<J: JournalStore + Drop> PrimaryCore<J> {
+    /// Ends the flush that this primary began: takes the journal back, and answers how many commits
+    /// are durable. If the journal took the records, as many pending commits are durable now as were
+    /// offered, whatever was committed meanwhile. Takes no memory.
+    ///
+    /// Fails with `NotLent` if the journal is not lent out, and then nothing changes; or with
+    /// `Journal` if the journal did not take the records: the lists are then as they were, some
+    /// beginning of the records may stand, and each commit and flush answers `Failed` until the
+    /// primary is started again.
+    pub fn end_flush(&mut self, done: Done<J>) -> Result<u64, FlushFault>
+        ensures not_lent { is_some self.old.journal ≡ true → (result ≡ Err FlushFault.NotLent) × (self.new ≡ self.old) }
+        ensures ended { self.old.journal ≡ None → self.new ≡ ended self.old.primary done }
+        ensures answer { self.old.journal ≡ None → result ≡ end_answer self.old.primary done }
+        ensures written { self.old.journal ≡ None → EndsWritten J.is_honest J.standing J.fault_count self.old.primary done self.new }
+    {
+        let (journal, count, taken) = done.into_parts();
+        if self.journal.is_some() {
+            return Err(FlushFault::NotLent);
+        }
+        self.journal = Some(journal);
+        if taken {
+            self.lists.acknowledge(count);
+            Ok(self.lists.durable())
+        } else {
+            self.lists.fail();
+            Err(FlushFault::Journal)
+        }
+    }
+
+    /// Moves the first `count` pending commits (all, if there are fewer) to the durable list, and
+    /// answers how many are durable then. Their records go to the journal in one append, for which
+    /// all memory is taken first; if there is nothing to move, nothing is written. It begins a flush,
+    /// writes it and ends it.
+    ///
+    /// Fails with `Failed` if the journal failed before; with `Busy` if it is lent out; with
+    /// `Memory`; or with `Journal` if the journal did not take the records and has counted a fault.
+    /// The lists are then as they were; after `Journal` some beginning of the records may stand, and
+    /// each commit and flush answers `Failed` until the primary is started again.
+    pub fn flush(&mut self, count: usize) -> Result<u64, FlushFault>
+        ensures ok { IfOk result (λ durable. (self.old.primary.failed ≡ false) × (self.new.primary ≡ flushed self.old.primary count)
+            × (durable ≡ length self.new.primary.durable)) }
+        ensures refused { IfErr result (λ fault. IsFlushRefusal self.old count fault self.new.primary) }
+        ensures written { IsWritten J.is_honest J.standing self.old → IsWritten J.is_honest J.standing self.new }
+        ensures left { is_honest_in J.is_honest self.old.journal ≡ true → IfErr result (λ fault.
+            StandsAfterFlush fault (offered self.old.primary count)
+            (standing_in J.standing self.old.journal) (standing_in J.standing self.new.journal)) }
+        ensures nothing { take count self.old.primary.pending ≡ [] → self.new.journal ≡ self.old.journal }
+        ensures faults { CountsFlushFault result (faults_in J.fault_count self.old.journal) (faults_in J.fault_count self.new.journal) }
+        ensures honest { is_honest_in J.is_honest self.new.journal ≡ is_honest_in J.is_honest self.old.journal }
+        ensures there { is_some self.new.journal ≡ is_some self.old.journal }
+    {
+        match self.begin_flush(count) {
+            Ok(work) => self.end_flush(work.write()),
+            Err(fault) => Err(fault),
+        }
     }
 }

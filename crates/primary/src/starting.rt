@@ -8,17 +8,18 @@ ghost use Rattle.journal.specs.Storing.{IsPartlyAppended, faults_max};
 ghost use Rattle.journal.specs.Text.{journal_text};
 ghost use Rattle.primary.specs.Inner.Opening.{IsOfStore, settled, IsPartlySettled};
 ghost use Rattle.primary.specs.Journaling.{IsKeptOf, KeepsSame, IsStartRefusal, LeavesBytes, CountsStartFault, AreNumbered};
-ghost use Rattle.primary.specs.Steps.{started};
+ghost use Rattle.primary.specs.Steps.{started_primary};
 
 use crate::faults::StartFault;
 use crate::lists::Lists;
 use journal::{JournalFault, JournalStore, Recovered, header_bytes, recover};
 use rows::Schema;
 use std::alloc::Global;
+use update_log::one_cut;
 
-/// The lists of the commits that a journal keeps. What is torn is cut away from it then, or what
+/// The lists of the commits that a journal keeps. What is torn is truncated from it then, or what
 /// is missing of its header written; all memory is taken before that. Where it fails, the journal
-/// keeps what it kept, and its bytes are changed only where it could not be cut or written.
+/// keeps what it kept, and its bytes are changed only where it could not be truncated or written.
 pub fn open<J: JournalStore>(
     alloc: Global,
     journal: &mut J,
@@ -28,7 +29,7 @@ pub fn open<J: JournalStore>(
     requires some { 0 < workers }
     requires few { workers ≤ workers_max }
     requires countable { J.fault_count journal.old < faults_max }
-    ensures ok { IfOk result (λ lists. lists ≡ started schema.now workers lists.durable) }
+    ensures ok { IfOk result (λ lists. lists ≡ started_primary schema.now workers lists.durable) }
     ensures kept { J.is_honest journal.old ≡ true
         → IfOk result (λ lists. IsKeptOf workers (shape_of schema.now) (J.standing journal.old) lists.durable) }
     ensures text { J.is_honest journal.old ≡ true
@@ -90,6 +91,7 @@ fn kept<F>(
     ensures refused { IfErr result (IsStartRefusal workers (shape_of schema.now) true bytes.now) }
     ensures no_fault { (count : ℕ) → IfErr result (λ fault. CountsStartFault fault count count) }
 {
+    one_cut();
     // A look at the length brings its range to the proof: no list has more commits than bytes.
     let _ = bytes.len();
     match recover(alloc, bytes, schema, workers) {
@@ -100,7 +102,7 @@ fn kept<F>(
 }
 
 /// Makes a journal of these bytes the text of what they keep: where they end within the header, the
-/// rest of it is written, and otherwise what is torn behind the kept ones is cut away.
+/// rest of it is written, and otherwise what is torn behind the kept ones is truncated.
 fn settle<J: JournalStore>(
     journal: &mut J,
     bytes: &[u8],

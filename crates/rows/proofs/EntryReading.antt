@@ -2,7 +2,7 @@
 use Rattle.std.proofs.Common.{◌≡◌, ℕ, ◌+◌, ◌^◌, ◌<◌, ◌≤◌, ◌⊎◌, inl, inr, Bool, true, false, cond, eqb, ltb, not, ◌||◌, List, ◌∷◌, ◌++◌}
 use Rattle.std.proofs.Common.{length, get_or, take, drop, Option, Some, None, refl, sym, ap, subst, ◌∙◌, arith}
 use Rattle.std.specs.Option.{option_map, IfSome}
-use Rattle.std.proofs.lemmas.Bool.{ltb-false, le-ltb, eqb-true, cond-false}
+use Rattle.std.proofs.lemmas.Bool.{ltb-false, ltb-true, le-ltb, eqb-true, cond-false, or_from, or_parts, not_from_true}
 use Rattle.std.proofs.lemmas.Bool.Decides.{nat_tests}
 use Rattle.std.proofs.lemmas.List.{length-take, length-drop, length-append, take-append-drop, drop-drop, take_at}
 use Rattle.byteorder.specs.Endian.{big_bytes, big_number}
@@ -11,8 +11,7 @@ use Rattle.rows.specs.declared.entry.Entry.{Entry}
 use Rattle.rows.specs.declared.entry.Entry.TheVariants.{Insert, Patch, Delete}
 use Rattle.rows.specs.declared.limits.TheConstants.{TABLES_MAX, ROW_WIDTH_MAX, OCTETS_MAX}
 use Rattle.rows.specs.declared.entry_ref.EntryRef.{EntryRef}
-use Rattle.rows.specs.Reading.{entry_at, entry_behind, insert_at, patch_at, seen, IsSpelledAt}
-use Rattle.rows.specs.Laws.{FoundIsSpelled, SpelledIsFound}
+use Rattle.rows.specs.Reading.{entry_at, entry_behind, is_row_code, insert_at, patch_at, seen, IsSpelledAt}
 use Rattle.rows.specs.Spelling.{AreBytes, HasSpelling, entry_front, entry_spelling}
 use Rattle.rows.proofs.Bytes.{AreBytes-drop, AreBytes-take, cut_1, cut_2, cut_8, number_fits}
 
@@ -83,24 +82,28 @@ delete_of table row = (Delete table (record { 0 = row }), 10)
 -- which of the three an entry is, by its first byte
 abbrev by_op : ℕ → ℕ → ℕ → List ℕ → Option (Entry × ℕ)
 by_op op table row rest =
-    cond (eqb op 1) (insert_at table row rest)
-    (cond (eqb op 2) (patch_at table row rest) (cond (eqb op 3) (Some (delete_of table row)) None))
+    cond (eqb op 1) (insert_at table row rest) (cond (eqb op 2) (patch_at table row rest) (Some (delete_of table row)))
 
 abbrev IsOneOf : ℕ → ℕ → ℕ → List ℕ → Entry × ℕ → Type 0
 IsOneOf op table row rest found =
     ((op ≡ 1) × IsInsertAt table row rest found) ⊎ ((op ≡ 2) × IsPatchAt table row rest found) ⊎ ((op ≡ 3) × (delete_of table row ≡ found))
 
-by_op-only : (op table row : ℕ) (rest : List ℕ) (found : Entry × ℕ) → by_op op table row rest ≡ Some found → IsOneOf op table row rest found
+by_op-only : (op table row : ℕ) (rest : List ℕ) (found : Entry × ℕ) → is_row_code op ≡ true → by_op op table row rest ≡ Some found
+    → IsOneOf op table row rest found
 by_op-only op table row rest found = by_tests (eqb op 1) (eqb op 2) (eqb op 3) (eqb-true op 1) (eqb-true op 2) (eqb-true op 3)
   where
     by_tests : (first second third : Bool) → (first ≡ true → op ≡ 1) → (second ≡ true → op ≡ 2) → (third ≡ true → op ≡ 3)
-        → cond first (insert_at table row rest)
-        (cond second (patch_at table row rest) (cond third (Some (delete_of table row)) None)) ≡ Some found
+        → (first || second || third) ≡ true
+        → cond first (insert_at table row rest) (cond second (patch_at table row rest) (Some (delete_of table row))) ≡ Some found
         → IsOneOf op table row rest found
-    by_tests true second third f g h e = inl (f refl, insert_at-only table row rest found e)
-    by_tests false true third f g h e = inr (inl (g refl, patch_at-only table row rest found e))
-    by_tests false false true f g h e = inr (inr (h refl, cc))
-    by_tests false false false f g h e = absurd cc
+    by_tests true second third f g h known e = inl (f refl, insert_at-only table row rest found e)
+    by_tests false true third f g h known e = inr (inl (g refl, patch_at-only table row rest found e))
+    by_tests false false true f g h known e = inr (inr (h refl, cc))
+    by_tests false false false f g h known e = absurd cc
+
+not-refused : (b : Bool) → not b ≡ false → b ≡ true
+not-refused true e = refl
+not-refused false e = sym e
 
 abbrev found_in : List ℕ → Entry × ℕ → Type 0
 found_in bytes found = IsOneOf (get_or bytes 0 0) (get_or bytes 1 0) (big_number 8 (drop 2 bytes)) (drop 10 bytes) found
@@ -111,9 +114,15 @@ entry_at-only bytes found e =
     let op = get_or bytes 0 0 in
     let table = get_or bytes 1 0 in
     let row = big_number 8 (drop 2 bytes) in
-    let tested = guarded (ltb (length bytes) 10) (entry_behind op table row (drop 10 bytes)) found e in
-    let known = guarded (not (ltb table TABLES_MAX)) (by_op op table row (drop 10 bytes)) found tested.1 in
-    (ltb-false _ _ tested.0, grind (arith, nat_tests), by_op-only op table row (drop 10 bytes) found known.1)
+    let unfit = ltb (length bytes) 10 || not (ltb table TABLES_MAX) in
+    let coded = guarded (not (is_row_code op)) (cond unfit None (by_op op table row (drop 10 bytes))) found e in
+    let tested = guarded unfit (by_op op table row (drop 10 bytes)) found coded.1 in
+    let parts = or_parts (ltb (length bytes) 10) (not (ltb table TABLES_MAX)) tested.0 in
+    let below : ltb table TABLES_MAX ≡ true = not-refused (ltb table TABLES_MAX) parts.1 in (
+      ltb-false _ _ parts.0,
+      ltb-true _ _ below,
+      by_op-only op table row (drop 10 bytes) found (not-refused (is_row_code op) coded.0) tested.1,
+    )
 
 -- what an entry takes is there
 entry_at-within : (bytes : List ℕ) (found : Entry × ℕ) → entry_at bytes ≡ Some found → found.1 ≤ length bytes
@@ -232,7 +241,7 @@ spelled_here bytes found fits e =
       | inr (inr h) ↦ at 3 h.0 (delete-spelled table row rest found only.1 row_below rest_fits h.1)
     ]
 
-pub entry_at-spelled : FoundIsSpelled
+pub entry_at-spelled : (bytes : List ℕ) (found : Entry × ℕ) → AreBytes bytes → entry_at bytes ≡ Some found → IsSpelledAt bytes found
 entry_at-spelled bytes found fits e =
     let here = spelled_here bytes found fits e in
     let within = entry_at-within bytes found e in
@@ -252,15 +261,17 @@ found-spelled bytes (Some found) fits is = entry_at-spelled bytes (seen found) f
 
 -- ---- what is spelled so is read, whatever stands behind it
 
-front-again : (op table row : ℕ) (rest : List ℕ) → table < TABLES_MAX → row < 2 ^ 64
+front-again : (op table row : ℕ) (rest : List ℕ) → is_row_code op ≡ true → table < TABLES_MAX → row < 2 ^ 64
     → entry_at (entry_front op table row ++ rest) ≡ by_op op table row rest
-front-again op table row rest below row_below =
+front-again op table row rest coded below row_below =
     let bytes : List ℕ = entry_front op table row ++ rest in
     let row_is : big_number 8 (drop 2 bytes) ≡ row = big_number-reads_back 8 row rest row_below in
     let known : not (ltb table TABLES_MAX) ≡ false = grind (arith, nat_tests) in
-    cond-false (ltb (length bytes) 10) None (entry_behind op table (big_number 8 (drop 2 bytes)) rest) (le-ltb _ _ (omega arith))
+    let unfit = ltb (length bytes) 10 || not (ltb table TABLES_MAX) in
+    let behind = entry_behind op table (big_number 8 (drop 2 bytes)) rest in
+    cond-false (not (is_row_code op)) None (cond unfit None behind) (not_from_true (is_row_code op) coded)
+    ∙ cond-false unfit None behind (or_from (ltb (length bytes) 10) (not (ltb table TABLES_MAX)) (le-ltb _ _ (omega arith)) known)
     ∙ ap (λ (n : ℕ). entry_behind op table n rest) row_is
-    ∙ cond-false (not (ltb table TABLES_MAX)) None (by_op op table row rest) known
 
 insert_at-again : (table row : ℕ) (content rest : List ℕ) → 0 < length content → length content ≤ ROW_WIDTH_MAX
     → insert_at table row (big_bytes 2 (length content) ++ (content ++ rest)) ≡ Some
@@ -291,13 +302,15 @@ patch_at-again table row offset content rest some few within =
     let whole = take_at content rest (length content) refl in
     rw (short, offset_is, size_is, tested, whole) refl
 
-pub entry_at-again : SpelledIsFound
+pub entry_at-again : (entry : Entry) (rest : List ℕ) → HasSpelling entry
+    → entry_at (entry_spelling entry ++ rest) ≡ Some (entry, length (entry_spelling entry))
 entry_at-again (Insert table row content) rest fits =
-    front-again 1 table row.0 (big_bytes 2 (length content) ++ (content ++ rest)) fits.table_below fits.row_below
+    front-again 1 table row.0 (big_bytes 2 (length content) ++ (content ++ rest)) refl fits.table_below fits.row_below
     ∙ insert_at-again table row.0 content rest fits.some fits.few
     ∙ ap (λ (n : ℕ). Some (Insert table row content, n)) (omega arith)
 entry_at-again (Patch table row offset content) rest fits =
-    front-again 2 table row.0 (big_bytes 2 offset ++ (big_bytes 2 (length content) ++ (content ++ rest))) fits.table_below fits.row_below
+    front-again 2 table row.0 (big_bytes 2 offset ++ (big_bytes 2 (length content) ++ (content ++ rest))) refl
+    fits.table_below fits.row_below
     ∙ patch_at-again table row.0 offset content rest fits.some fits.few fits.within
     ∙ ap (λ (n : ℕ). Some (Patch table row offset content, n)) (omega arith)
-entry_at-again (Delete table row) rest fits = front-again 3 table row.0 rest fits.table_below fits.row_below
+entry_at-again (Delete table row) rest fits = front-again 3 table row.0 rest refl fits.table_below fits.row_below

@@ -6,7 +6,8 @@ pub mod TableLaws
 pub mod RowLaws
 pub mod Columns
 pub mod ValueKinds
-pub mod Keys
-pub mod Fronts
 pub mod Bytes
 pub mod EntryReading
+pub mod EntriesFilling
+pub mod Fronts
+pub mod EntryFits

@@ -10,11 +10,11 @@ use Rattle.rows.specs.declared.entry.Entry.{Entry}
 use Rattle.rows.specs.declared.entry.Entry.TheVariants.{Insert, Patch, Delete}
 use Rattle.rows.specs.declared.kind.Kind.{Kind}
 use Rattle.rows.specs.Shape.{Shape}
-use Rattle.rows.specs.Entries.{table_of, row_of, fitting, sized, placed, listed}
+use Rattle.rows.specs.Entries.{table_of, fitting, sized, placed, listed}
 use Rattle.rows.specs.Values.{values_of}
 use Rattle.rows.specs.Tables.{Rows, Table, Tables, Refusal, Exists, Missing, opening, shape_in, rows_of, kinds_of, is_present, is_row_at}
-use Rattle.rows.specs.Tables.{with_rows, inserted, patched, deleted, is_fit, change_where, change_of, changes_of, applied, and_then}
-use Rattle.rows.specs.Commits.{commits_of, is_of}
+use Rattle.rows.specs.Tables.{with_rows, inserted, patched, deleted, is_fit, change_where, apply_entry, apply_entries, applied, and_then}
+use Rattle.rows.specs.Commits.{apply_commits, is_of, overlaps}
 use Rattle.rows.specs.Presence.{stands_for, left_by, is_there_after_one, is_there_after}
 use Rattle.rows.specs.Inner.Presence.{is_there_after_commits, is_there_after_fit}
 use Rattle.rows.proofs.Rows.{is_present-with_row, is_present-with_patch, is_present-without_row}
@@ -116,6 +116,27 @@ fitting-within shape (Patch table row offset bytes) h =
     listed-within shape table (placed-listed (slice_get shape table) offset (length bytes) h)
 fitting-within shape (Delete table row) h = listed-within shape table h
 
+-- the row that an entry is of
+abbrev pub row_of : Entry → ℕ
+row_of (Insert table row bytes) = row.0
+row_of (Patch table row offset bytes) = row.0
+row_of (Delete table row) = row.0
+
+pub is_of-is : (t r : ℕ) (entry : Entry) → is_of t r entry ≡ ((table_of entry == t) && (row_of entry == r))
+is_of-is t r (Insert table row bytes) = refl
+is_of-is t r (Patch table row offset bytes) = refl
+is_of-is t r (Delete table row) = refl
+
+pub of-parts : (t r : ℕ) (entry : Entry) → is_of t r entry ≡ true → (table_of entry ≡ t) × (row_of entry ≡ r)
+of-parts t r entry e =
+    let parts = and_parts (table_of entry == t) (row_of entry == r) (sym (is_of-is t r entry) ∙ e) in
+    (eqb-true (table_of entry) t parts.0, eqb-true (row_of entry) r parts.1)
+
+pub overlaps-is : (entry other : Entry) → overlaps entry other ≡ is_of (table_of entry) (row_of entry) other
+overlaps-is (Insert table row bytes) other = refl
+overlaps-is (Patch table row offset bytes) other = refl
+overlaps-is (Delete table row) other = refl
+
 -- the tables that an entry makes
 abbrev pub made : Tables → Entry → Tables
 made tables (Insert table row bytes) = inserted tables table row.0 bytes
@@ -133,16 +154,16 @@ abbrev pub stands : Tables → Entry → Bool
 stands tables entry = stands_for entry (there tables (table_of entry) (row_of entry))
 
 -- a change is made where the entry fits and its row stands as it needs it
-pub change_of-is : (tables : Tables) (entry : Entry)
-    → change_of tables entry ≡ change_where (is_fit tables entry) (stands tables entry) (refusal_of entry) (made tables entry)
-change_of-is tables (Insert table row bytes) = refl
-change_of-is tables (Patch table row offset bytes) = refl
-change_of-is tables (Delete table row) = refl
+pub apply_entry-is : (tables : Tables) (entry : Entry)
+    → apply_entry tables entry ≡ change_where (is_fit tables entry) (stands tables entry) (refusal_of entry) (made tables entry)
+apply_entry-is tables (Insert table row bytes) = refl
+apply_entry-is tables (Patch table row offset bytes) = refl
+apply_entry-is tables (Delete table row) = refl
 
 -- what a change needs, and what it makes
-pub change_of-parts : (tables after : Tables) (entry : Entry) → change_of tables entry ≡ Ok after
+pub apply_entry-parts : (tables after : Tables) (entry : Entry) → apply_entry tables entry ≡ Ok after
     → (is_fit tables entry ≡ true) × (stands tables entry ≡ true) × (made tables entry ≡ after)
-change_of-parts tables after entry h = passed (is_fit tables entry) (stands tables entry) (sym (change_of-is tables entry) ∙ h)
+apply_entry-parts tables after entry h = passed (is_fit tables entry) (stands tables entry) (sym (apply_entry-is tables entry) ∙ h)
   where
     passed : (fits right : Bool) → change_where fits right (refusal_of entry) (made tables entry) ≡ Ok after → (fits ≡ true)
         × (right ≡ true) × (made tables entry ≡ after)
@@ -172,10 +193,10 @@ Turns-made tables (Delete table row) h =
     Turns-set tables table row.0 _ (λ was. false) (fit-within tables (Delete table row) h)
     (is_present-without_row (rows_of tables table) row.0)
 
-pub Turns-change : (tables after : Tables) (entry : Entry) → change_of tables entry ≡ Ok after
+pub Turns-change : (tables after : Tables) (entry : Entry) → apply_entry tables entry ≡ Ok after
     → Turns tables after (λ t r. is_there_after_one t r entry)
 Turns-change tables after entry h =
-    let parts = change_of-parts tables after entry h in
+    let parts = apply_entry-parts tables after entry h in
     subst (λ after. Turns tables after (λ t r. is_there_after_one t r entry)) parts.2 (Turns-made tables entry parts.0)
 
 -- what comes after a change that was not refused
@@ -184,24 +205,24 @@ pub and_then-parts : (next : Tables → Result Tables Refusal) (first : Result T
 and_then-parts next (Ok between) after h = (between, refl, h)
 and_then-parts next (Err refusal) after h = cc
 
-pub Turns-changes : (tables after : Tables) (entries : List Entry) → changes_of tables entries ≡ Ok after
+pub Turns-changes : (tables after : Tables) (entries : List Entry) → apply_entries tables entries ≡ Ok after
     → Turns tables after (λ t r. is_there_after t r entries)
 Turns-changes tables after [] h =
     let e : tables ≡ after = cc in
     subst (λ after. Turns tables after (λ t r. is_there_after t r [])) e (Turns-none tables)
 Turns-changes tables after (entry ∷ entries) h =
-    let parts = and_then-parts _ (change_of tables entry) after h in
+    let parts = and_then-parts _ (apply_entry tables entry) after h in
     let first = Turns-change tables parts.0 entry parts.1 in
     let others = Turns-changes parts.0 after entries parts.2 in
     Turns-both tables parts.0 after (λ t r. is_there_after_one t r entry) (λ t r. is_there_after t r entries) first others
 
-pub Turns-commits : (tables after : Tables) (commits : List Commit) → commits_of tables commits ≡ Ok after
+pub Turns-commits : (tables after : Tables) (commits : List Commit) → apply_commits tables commits ≡ Ok after
     → Turns tables after (λ t r. is_there_after_commits t r commits)
 Turns-commits tables after [] h =
     let e : tables ≡ after = cc in
     subst (λ after. Turns tables after (λ t r. is_there_after_commits t r [])) e (Turns-none tables)
 Turns-commits tables after (commit ∷ commits) h =
-    let parts = and_then-parts _ (changes_of tables commit.entries) after h in
+    let parts = and_then-parts _ (apply_entries tables commit.entries) after h in
     let first = Turns-changes tables parts.0 commit.entries parts.1 in
     let others = Turns-commits parts.0 after commits parts.2 in
     Turns-both tables parts.0 after (λ t r. is_there_after t r commit.entries) (λ t r. is_there_after_commits t r commits) first others
@@ -221,21 +242,20 @@ there-refused tables entry t r h = by (is_of t r entry) refl
     by : (here : Bool) → is_of t r entry ≡ here → there tables t r ≡ cond here (left_by entry (there tables t r)) (there tables t r)
     by false e = refl
     by true e =
-        let parts = and_parts (table_of entry == t) (row_of entry == r) e in
+        let at = of-parts t r entry e in
         let same : there tables (table_of entry) (row_of entry) ≡ there tables t r =
-        ap (λ t. there tables t (row_of entry)) (eqb-true (table_of entry) t parts.0)
-        ∙ ap (there tables t) (eqb-true (row_of entry) r parts.1) in
+        ap (λ t. there tables t (row_of entry)) at.0 ∙ ap (there tables t) at.1 in
         sym (left_by-refused entry (there tables t r) (ap (stands_for entry) (sym same) ∙ h))
 
 -- the tables after an entry, which stay where it is refused
 abbrev pub step : Tables → Entry → Tables
-step tables entry = result_unwrap_or (change_of tables entry) tables
+step tables entry = result_unwrap_or (apply_entry tables entry) tables
 
 Turns-step : (tables : Tables) (entry : Entry)
     → Turns tables (step tables entry) (λ t r was. cond (is_fit tables entry) (is_there_after_one t r entry was) was)
 Turns-step tables entry =
     subst (λ change. Turns tables (result_unwrap_or change tables)
-    (λ t r was. cond (is_fit tables entry) (is_there_after_one t r entry was) was)) (sym (change_of-is tables entry))
+    (λ t r was. cond (is_fit tables entry) (is_there_after_one t r entry was) was)) (sym (apply_entry-is tables entry))
     (by (is_fit tables entry) (stands tables entry) refl refl)
   where
     by : (fits right : Bool) → is_fit tables entry ≡ fits → stands tables entry ≡ right

@@ -7,7 +7,7 @@ use Rattle.std.specs.Option.{is_some, option_map}
 use Rattle.std.specs.Ordering.{nat_cmp}
 use Rattle.std.specs.BTreeMap.{is_at, insert_entry}
 use Rattle.std.specs.Result.{is_ok, result_unwrap_or}
-use Rattle.std.proofs.lemmas.Bool.{and_parts, or_parts, eqb-true, eq-eqb, ne_eqb, cases_eq}
+use Rattle.std.proofs.lemmas.Bool.{or_parts, eq-eqb, ne_eqb, cases_eq}
 use Rattle.std.proofs.lemmas.Bool.Decides.{nat_tests}
 use Rattle.std.proofs.lemmas.List.{take_more}
 use Rattle.rows.specs.declared.commit.Commit.{Commit}
@@ -16,18 +16,18 @@ use Rattle.rows.specs.declared.entry.Entry.TheVariants.{Insert, Patch, Delete}
 use Rattle.rows.specs.declared.kind.Kind.{Kind}
 use Rattle.rows.specs.declared.value.Value.{Value}
 use Rattle.rows.specs.Shape.{Shape, kinds_in}
-use Rattle.rows.specs.Entries.{table_of, row_of, fitting}
+use Rattle.rows.specs.Entries.{table_of, fitting}
 use Rattle.rows.specs.Values.{values_of}
 use Rattle.rows.specs.Tables.{Rows, Tables, opening, shape_in, rows_of, kinds_of, row_at, is_present}
 use Rattle.rows.specs.Tables.{is_row_at, with_row, with_patch, without_row}
-use Rattle.rows.specs.Tables.{patched_row, with_rows, is_fit, change_where, change_of, changes_of, applied}
-use Rattle.rows.specs.Commits.{commits_of, tables_after, is_of}
+use Rattle.rows.specs.Tables.{patched_row, with_rows, is_fit, change_where, apply_entry, apply_entries, applied}
+use Rattle.rows.specs.Commits.{apply_commits, tables_after, is_of}
 use Rattle.rows.specs.Presence.{stands_for}
 use Rattle.rows.specs.Inner.RowAfter.{inserted_row, row_after_one, row_after_entry, row_after, row_after_commits, row_after_fit}
 use Rattle.rows.proofs.Presence.{rows_of-set_same, rows_of-set_other, renewed, shape_in-with_rows, shape_in-opening}
-use Rattle.rows.proofs.Presence.{fit-within, made, refusal_of}
-use Rattle.rows.proofs.Presence.{stands, step, change_of-is, change_of-parts, and_then-parts, named, written}
-use Rattle.rows.proofs.TableLaws.{from_is_ok, commits_of-split, shape-at}
+use Rattle.rows.proofs.Presence.{fit-within, made, refusal_of, row_of, of-parts}
+use Rattle.rows.proofs.Presence.{stands, step, apply_entry-is, apply_entry-parts, and_then-parts, named, written}
+use Rattle.rows.proofs.TableLaws.{from_is_ok, apply_commits-split, shape-at}
 
 -- a look-up after an insert: the new key has its value, and any other as before
 pub lookup-insert_entry : {X : Type 0} (q k : ℕ) (v : X) (es : List (ℕ × X))
@@ -153,32 +153,32 @@ Leaves-made tables (Delete table row) h right =
     Leaves-set tables table row.0 _ (λ t was. None) (fit-within tables (Delete table row) h)
     (row_at-without_row (rows_of tables table) row.0)
 
-pub Leaves-change : (shape : Shape) (tables after : Tables) (entry : Entry) → shape_in tables ≡ shape → change_of tables entry ≡ Ok after
+pub Leaves-change : (shape : Shape) (tables after : Tables) (entry : Entry) → shape_in tables ≡ shape → apply_entry tables entry ≡ Ok after
     → Leaves tables after (λ t r. row_after_entry shape t r entry)
 Leaves-change shape tables after entry same h =
-    let parts = change_of-parts tables after entry h in
+    let parts = apply_entry-parts tables after entry h in
     subst (λ shape. Leaves tables after (λ t r. row_after_entry shape t r entry)) same
     (subst (λ after. Leaves tables after (λ t r. row_after_entry (shape_in tables) t r entry)) parts.2
     (Leaves-made tables entry parts.0 parts.1))
 
 pub Leaves-changes : (shape : Shape) (tables after : Tables) (entries : List Entry) → shape_in tables ≡ shape
-    → changes_of tables entries ≡ Ok after → Leaves tables after (λ t r. row_after shape t r entries)
+    → apply_entries tables entries ≡ Ok after → Leaves tables after (λ t r. row_after shape t r entries)
 Leaves-changes shape tables after [] same h =
     let e : tables ≡ after = cc in
     subst (λ after. Leaves tables after (λ t r. row_after shape t r [])) e (Leaves-none tables)
 Leaves-changes shape tables after (entry ∷ entries) same h =
-    let parts = and_then-parts _ (change_of tables entry) after h in
+    let parts = and_then-parts _ (apply_entry tables entry) after h in
     let first = Leaves-change shape tables parts.0 entry same parts.1 in
     let others = Leaves-changes shape parts.0 after entries (first.kinds ∙ same) parts.2 in
     Leaves-both tables parts.0 after (λ t r. row_after_entry shape t r entry) (λ t r. row_after shape t r entries) first others
 
 pub Leaves-commits : (shape : Shape) (tables after : Tables) (commits : List Commit) → shape_in tables ≡ shape
-    → commits_of tables commits ≡ Ok after → Leaves tables after (λ t r. row_after_commits shape t r commits)
+    → apply_commits tables commits ≡ Ok after → Leaves tables after (λ t r. row_after_commits shape t r commits)
 Leaves-commits shape tables after [] same h =
     let e : tables ≡ after = cc in
     subst (λ after. Leaves tables after (λ t r. row_after_commits shape t r [])) e (Leaves-none tables)
 Leaves-commits shape tables after (commit ∷ commits) same h =
-    let parts = and_then-parts _ (changes_of tables commit.entries) after h in
+    let parts = and_then-parts _ (apply_entries tables commit.entries) after h in
     let first = Leaves-changes shape tables parts.0 commit.entries same parts.1 in
     let others = Leaves-commits shape parts.0 after commits (first.kinds ∙ same) parts.2 in
     Leaves-both tables parts.0 after (λ t r. row_after shape t r commit.entries) (λ t r. row_after_commits shape t r commits) first others
@@ -201,10 +201,9 @@ row_in-refused shape tables entry t r h = by (is_of t r entry) refl
         → row_in tables t r ≡ cond here (row_after_one (kinds_in shape t) entry (row_in tables t r)) (row_in tables t r)
     by false e = refl
     by true e =
-        let parts = and_parts (table_of entry == t) (row_of entry == r) e in
+        let at = of-parts t r entry e in
         let same : row_in tables (table_of entry) (row_of entry) ≡ row_in tables t r =
-        ap (λ t. row_in tables t (row_of entry)) (eqb-true (table_of entry) t parts.0)
-        ∙ ap (row_in tables t) (eqb-true (row_of entry) r parts.1) in
+        ap (λ t. row_in tables t (row_of entry)) at.0 ∙ ap (row_in tables t) at.1 in
         sym (row_after_one-refused (kinds_in shape t) entry (row_in tables t r) (ap (λ was. stands_for entry (is_some was)) (sym same) ∙ h))
 
 -- the tables after an entry, which stay where it is refused
@@ -212,7 +211,7 @@ Leaves-step : (tables : Tables) (entry : Entry)
     → Leaves tables (step tables entry) (λ t r was. cond (is_fit tables entry) (row_after_entry (shape_in tables) t r entry was) was)
 Leaves-step tables entry =
     subst (λ change. Leaves tables (result_unwrap_or change tables)
-    (λ t r was. cond (is_fit tables entry) (row_after_entry (shape_in tables) t r entry was) was)) (sym (change_of-is tables entry))
+    (λ t r was. cond (is_fit tables entry) (row_after_entry (shape_in tables) t r entry was) was)) (sym (apply_entry-is tables entry))
     (by (is_fit tables entry) (stands tables entry) refl refl)
   where
     by : (fits right : Bool) → is_fit tables entry ≡ fits → stands tables entry ≡ right
@@ -234,11 +233,11 @@ Leaves-applied shape tables (entry ∷ entries) same =
     (λ t r. row_after_fit shape t r entries) first others
 
 -- a row at a version is what the commits up to it leave of it
-pub row-at : (shape : Shape) (commits : List Commit) (version table row : ℕ) → is_ok (commits_of (opening shape) commits) ≡ true
+pub row-at : (shape : Shape) (commits : List Commit) (version table row : ℕ) → is_ok (apply_commits (opening shape) commits) ≡ true
     → row_at (rows_of (tables_after shape commits version) table) row ≡ row_after_commits shape table row (take version commits) None
 row-at shape commits version table row h =
     let all = from_is_ok _ h in
-    let split = commits_of-split shape commits version all.0 all.1 in
+    let split = apply_commits-split shape commits version all.0 all.1 in
     let leaves =
     Leaves-commits shape (opening shape) (tables_after shape commits version) (take version commits)
     (shape_in-opening shape) split.0 in

@@ -21,7 +21,7 @@ use Rattle.rows.specs.declared.kind.Kind.TheVariants.{Int, Octets}
 use Rattle.rows.specs.declared.faults.SchemaFault.TheVariants.{Empty, TooManyTables}
 use Rattle.rows.specs.declared.limits.TheConstants.{TABLES_MAX}
 use Rattle.rows.specs.Shape.{shape_of, width_of, row_width, is_good, column_from, AreColumns, AreTables}
-use Rattle.rows.specs.Inner.Shown.{shown}
+use Rattle.rows.specs.Inner.Shown.{kept_table}
 use Rattle.rows.specs.SchemaFaults.{schema_fault, table_fault, tables_fault}
 
 -- a test that names a fault was not passed
@@ -101,8 +101,6 @@ length-le-row_width (kind ∷ kinds) h =
     let parts = and_parts (is_good kind) (list_all is_good kinds) h in
     omega (arith, (good-width kind parts.0).0, length-le-row_width kinds parts.1, sum_by-cons width_of kind kinds)
 
-pub ruleset row_width_lemmas = (length-le-row_width)
-
 -- a column has 1 to 64 bytes, and they stand within the row
 pub column_from-within : (before : ℕ) (kinds : List Kind) (offset size : ℕ) → list_all is_good kinds ≡ true
     → is_some (column_from before kinds offset size) ≡ true
@@ -144,11 +142,11 @@ list_any-map test f (x ∷ xs) = ap (λ b. test (f x) || b) (list_any-map test f
 
 -- the kinds of the table at an index of the map
 pub kinds_at : (entries : List (String Global × List Kind)) (i : ℕ) (name : String Global) (kinds : List Kind)
-    → Some (name, kinds) ≡ slice_get entries i → Some kinds ≡ slice_get (shape_of (map shown entries)) i
+    → Some (name, kinds) ≡ slice_get entries i → Some kinds ≡ slice_get (shape_of (map kept_table entries)) i
 kinds_at entries i name kinds e =
-    ap (λ found. option_map (λ table. table.1) (option_map shown found)) e
-    ∙ ap (option_map (λ table. table.1)) (sym (slice_get-map shown entries i))
-    ∙ sym (slice_get-map (λ table. table.1) (map shown entries) i)
+    ap (λ found. option_map (λ table. table.1) (option_map kept_table found)) e
+    ∙ ap (option_map (λ table. table.1)) (sym (slice_get-map kept_table entries i))
+    ∙ sym (slice_get-map (λ table. table.1) (map kept_table entries) i)
 
 -- bytes are compared in either order
 bytes_eq_comm : (xs ys : List ℕ) → bytes_eq xs ys ≡ bytes_eq ys xs
@@ -156,7 +154,7 @@ bytes_eq_comm xs ys = same_from_decides _ _ (bytes_eq-Decides xs ys) (Decides-li
 
 -- in tables of which none has this name, a look-up by the name finds nothing
 pub absent : (entries : List (String Global × List Kind)) (name : String Global)
-    → list_any (λ other. bytes_eq other.0 (string_bytes name)) (map shown entries) ≡ false → lookup (string_eq name) entries ≡ None
+    → list_any (λ other. bytes_eq other.0 (string_bytes name)) (map kept_table entries) ≡ false → lookup (string_eq name) entries ≡ None
 absent [] name h = refl
 absent (e ∷ entries) name h =
     let parts = or_parts (bytes_eq (string_bytes e.0) (string_bytes name)) _ h in
@@ -165,12 +163,12 @@ absent (e ∷ entries) name h =
 
 -- a table with a new name goes behind those of the map
 pub shown-insert_entry : {S : Type 0} (tables : IndexMap (String Global) (List Kind) S) (name : String Global) (kinds : List Kind)
-    → table_fault (map shown tables.entries) (string_bytes name, kinds) ≡ None
-    → map shown (insert_entry string_eq tables.entries name kinds) ≡ map shown tables.entries ++ (string_bytes name, kinds) ∷ []
+    → table_fault (map kept_table tables.entries) (string_bytes name, kinds) ≡ None
+    → map kept_table (insert_entry string_eq tables.entries name kinds) ≡ map kept_table tables.entries ++ (string_bytes name, kinds) ∷ []
 shown-insert_entry tables name kinds h =
-    ap (map shown) (insert_entry-new string_eq tables name kinds
-    (absent tables.entries name (new_name (map shown tables.entries) (string_bytes name, kinds) h)))
-    ∙ map-append shown tables.entries ((name, kinds) ∷ [])
+    ap (map kept_table) (insert_entry-new string_eq tables name kinds
+    (absent tables.entries name (new_name (map kept_table tables.entries) (string_bytes name, kinds) h)))
+    ∙ map-append kept_table tables.entries ((name, kinds) ∷ [])
 
 -- the first index that passes, in what a function gives
 position_or_len-map : {X Y : Type 0} (test : Y → Bool) (f : X → Y) (xs : List X)
@@ -183,7 +181,8 @@ position-map test f xs = rw (position_or_len-map test f xs, length-map xs f)
 
 -- a name has the same number among the map's keys and among its tables
 pub place_of_name : (name : List ℕ) (entries : List (String Global × List Kind))
-    → position (λ key. bytes_eq name (string_bytes key)) (keys_of entries) ≡ position (λ table. bytes_eq name table.0) (map shown entries)
+    → position (λ key. bytes_eq name (string_bytes key)) (keys_of entries) ≡ position (λ table. bytes_eq name table.0)
+    (map kept_table entries)
 place_of_name name entries =
     position-map (λ key. bytes_eq name (string_bytes key)) (λ entry. entry.0) entries
-    ∙ sym (position-map (λ table. bytes_eq name table.0) shown entries)
+    ∙ sym (position-map (λ table. bytes_eq name table.0) kept_table entries)

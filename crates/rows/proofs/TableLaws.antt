@@ -11,14 +11,15 @@ use Rattle.std.proofs.lemmas.Bool.Decides.{nat_tests}
 use Rattle.rows.specs.declared.commit.Commit.{Commit}
 use Rattle.rows.specs.declared.entry.Entry.{Entry}
 use Rattle.rows.specs.Shape.{Shape}
-use Rattle.rows.specs.Entries.{table_of, row_of, fitting}
-use Rattle.rows.specs.Tables.{Tables, Refusal, opening, shape_in, is_row_at, is_fit, change_where, change_of, changes_of, applied, and_then}
-use Rattle.rows.specs.Commits.{commits_of, tables_after, touches, last_where, last_touching}
+use Rattle.rows.specs.Entries.{table_of, fitting}
+use Rattle.rows.specs.Tables.{Tables, Refusal, opening, shape_in, is_row_at, is_fit, change_where, apply_entry, apply_entries, applied}
+use Rattle.rows.specs.Tables.{and_then}
+use Rattle.rows.specs.Commits.{apply_commits, tables_after, is_of, overlaps, touches, last_where, last_touching}
 use Rattle.rows.specs.Laws.{EntryKeepsKinds, EntriesKeepKinds, AppliedKeepKinds, CommitsKeepKinds, VersionsKeepKinds, IsSymmetric}
 use Rattle.rows.specs.Presence.{stands_for, is_there_after_one, is_there_after}
 use Rattle.rows.specs.Inner.Presence.{is_there_after_commits, is_there_after_fit}
-use Rattle.rows.proofs.Presence.{there, shape_in-opening, opening-empty, Turns, made, refusal_of}
-use Rattle.rows.proofs.Presence.{stands, change_of-is, change_of-parts, Turns-change}
+use Rattle.rows.proofs.Presence.{there, shape_in-opening, opening-empty, Turns, made, refusal_of, row_of, is_of-is, of-parts, overlaps-is}
+use Rattle.rows.proofs.Presence.{stands, apply_entry-is, apply_entry-parts, Turns-change}
 use Rattle.rows.proofs.Presence.{Turns-changes, Turns-commits, Turns-applied, and_then-parts}
 
 -- two changes in a row, the second of them two again
@@ -28,17 +29,17 @@ and_then-assoc f g h (Ok between) same = same between
 and_then-assoc f g h (Err refusal) same = refl
 
 -- entries behind others, and commits behind others
-changes_of-append : (tables : Tables) (before entries : List Entry)
-    → changes_of tables (before ++ entries) ≡ and_then (λ after. changes_of after entries) (changes_of tables before)
-changes_of-append tables [] entries = refl
-changes_of-append tables (entry ∷ before) entries =
-    and_then-assoc _ _ _ (change_of tables entry) (λ between. changes_of-append between before entries)
+apply_entries-append : (tables : Tables) (before entries : List Entry)
+    → apply_entries tables (before ++ entries) ≡ and_then (λ after. apply_entries after entries) (apply_entries tables before)
+apply_entries-append tables [] entries = refl
+apply_entries-append tables (entry ∷ before) entries =
+    and_then-assoc _ _ _ (apply_entry tables entry) (λ between. apply_entries-append between before entries)
 
-commits_of-append : (tables : Tables) (before commits : List Commit)
-    → commits_of tables (before ++ commits) ≡ and_then (λ after. commits_of after commits) (commits_of tables before)
-commits_of-append tables [] commits = refl
-commits_of-append tables (commit ∷ before) commits =
-    and_then-assoc _ _ _ (changes_of tables commit.entries) (λ between. commits_of-append between before commits)
+apply_commits-append : (tables : Tables) (before commits : List Commit)
+    → apply_commits tables (before ++ commits) ≡ and_then (λ after. apply_commits after commits) (apply_commits tables before)
+apply_commits-append tables [] commits = refl
+apply_commits-append tables (commit ∷ before) commits =
+    and_then-assoc _ _ _ (apply_entries tables commit.entries) (λ between. apply_commits-append between before commits)
 
 -- a change that is not refused has tables after it
 pub from_is_ok : (first : Result Tables Refusal) → is_ok first ≡ true → (after : Tables) × (first ≡ Ok after)
@@ -46,33 +47,33 @@ from_is_ok (Ok after) h = (after, refl)
 from_is_ok (Err refusal) h = cc
 
 -- the first of commits that are defined are defined too, and the others on what they leave
-pub commits_of-split : (shape : Shape) (commits : List Commit) (version : ℕ) (after : Tables)
-    → commits_of (opening shape) commits ≡ Ok after
-    → (commits_of (opening shape) (take version commits) ≡ Ok (tables_after shape commits version))
-    × (commits_of (tables_after shape commits version) (drop version commits) ≡ Ok after)
-commits_of-split shape commits version after h =
-    let joined = commits_of-append (opening shape) (take version commits) (drop version commits) in
-    let whole = ap (commits_of (opening shape)) (take-append-drop version commits) in
+pub apply_commits-split : (shape : Shape) (commits : List Commit) (version : ℕ) (after : Tables)
+    → apply_commits (opening shape) commits ≡ Ok after
+    → (apply_commits (opening shape) (take version commits) ≡ Ok (tables_after shape commits version))
+    × (apply_commits (tables_after shape commits version) (drop version commits) ≡ Ok after)
+apply_commits-split shape commits version after h =
+    let joined = apply_commits-append (opening shape) (take version commits) (drop version commits) in
+    let whole = ap (apply_commits (opening shape)) (take-append-drop version commits) in
     let parts =
-    and_then-parts (λ between. commits_of between (drop version commits))
-    (commits_of (opening shape) (take version commits)) after (sym joined ∙ whole ∙ h) in
+    and_then-parts (λ between. apply_commits between (drop version commits))
+    (apply_commits (opening shape) (take version commits)) after (sym joined ∙ whole ∙ h) in
     rw parts.1 (refl, parts.2)
 
 -- the tables at a version have the kinds that they were opened with
 pub shape-at : VersionsKeepKinds
-shape-at shape commits version = kept (commits_of (opening shape) (take version commits)) refl
+shape-at shape commits version = kept (apply_commits (opening shape) (take version commits)) refl
   where
-    kept : (after : Result Tables Refusal) → commits_of (opening shape) (take version commits) ≡ after
+    kept : (after : Result Tables Refusal) → apply_commits (opening shape) (take version commits) ≡ after
         → shape_in (tables_after shape commits version) ≡ shape
     kept (Ok after) e = rw e ((Turns-commits (opening shape) after (take version commits) e).kinds ∙ shape_in-opening shape)
     kept (Err refusal) e = rw e (shape_in-opening shape)
 
 -- the rows at a version are those that the commits up to it leave there
-pub there-at : (shape : Shape) (commits : List Commit) (version table row : ℕ) → is_ok (commits_of (opening shape) commits) ≡ true
+pub there-at : (shape : Shape) (commits : List Commit) (version table row : ℕ) → is_ok (apply_commits (opening shape) commits) ≡ true
     → is_row_at (tables_after shape commits version) table row ≡ is_there_after_commits table row (take version commits) false
 there-at shape commits version table row h =
     let all = from_is_ok _ h in
-    let split = commits_of-split shape commits version all.0 all.1 in
+    let split = apply_commits-split shape commits version all.0 all.1 in
     let turns = Turns-commits (opening shape) (tables_after shape commits version) (take version commits) split.0 in
     turns.rows table row ∙ ap (is_there_after_commits table row (take version commits)) (opening-empty shape table row)
 
@@ -85,13 +86,13 @@ there-seen shape commits version entries table row =
 
 -- entries that are defined fit, so what those that fit leave is what all leave
 pub is_there_after_fit-defined : (shape : Shape) (tables : Tables) (entries : List Entry) (table row : ℕ) (was : Bool)
-    → shape_in tables ≡ shape → is_ok (changes_of tables entries) ≡ true
+    → shape_in tables ≡ shape → is_ok (apply_entries tables entries) ≡ true
     → is_there_after_fit shape table row entries was ≡ is_there_after table row entries was
 is_there_after_fit-defined shape tables [] table row was same h = refl
 is_there_after_fit-defined shape tables (entry ∷ entries) table row was same h =
     let all = from_is_ok _ h in
-    let parts = and_then-parts _ (change_of tables entry) all.0 all.1 in
-    let first = change_of-parts tables parts.0 entry parts.1 in
+    let parts = and_then-parts _ (apply_entry tables entry) all.0 all.1 in
+    let first = apply_entry-parts tables parts.0 entry parts.1 in
     let fits : is_ok (fitting shape entry) ≡ true = ap (λ shape. is_ok (fitting shape entry)) (sym same) ∙ first.0 in
     let turns = Turns-change tables parts.0 entry parts.1 in
     ap (λ fits. is_there_after_fit shape table row entries (cond fits (is_there_after_one table row entry was) was)) fits
@@ -99,8 +100,8 @@ is_there_after_fit-defined shape tables (entry ∷ entries) table row was same h
     (ap is_ok parts.2)
 
 -- an entry is defined where it fits and its row stands as it needs it
-defined-change : (tables : Tables) (entry : Entry) → is_ok (change_of tables entry) ≡ (is_fit tables entry && stands tables entry)
-defined-change tables entry = ap is_ok (change_of-is tables entry) ∙ tested (is_fit tables entry) (stands tables entry)
+defined-change : (tables : Tables) (entry : Entry) → is_ok (apply_entry tables entry) ≡ (is_fit tables entry && stands tables entry)
+defined-change tables entry = ap is_ok (apply_entry-is tables entry) ∙ tested (is_fit tables entry) (stands tables entry)
   where
     tested : (fits right : Bool) → is_ok (change_where fits right (refusal_of entry) (made tables entry)) ≡ (fits && right)
     tested true true = refl
@@ -109,16 +110,16 @@ defined-change tables entry = ap is_ok (change_of-is tables entry) ∙ tested (i
 
 -- an entry behind others that are defined is defined where it fits, and its row stands as it needs it after those
 defined-push : (shape : Shape) (tables : Tables) (before : List Entry) (entry : Entry) → shape_in tables ≡ shape
-    → is_ok (changes_of tables before) ≡ true
-    → is_ok (changes_of tables (before ++ entry ∷ []))
+    → is_ok (apply_entries tables before) ≡ true
+    → is_ok (apply_entries tables (before ++ entry ∷ []))
     ≡ (is_ok (fitting shape entry) && stands_for entry
     (is_there_after (table_of entry) (row_of entry) before (there tables (table_of entry) (row_of entry))))
 defined-push shape tables before entry same h =
     let middle = from_is_ok _ h in
     let turns = Turns-changes tables middle.0 before middle.1 in
-    ap is_ok (changes_of-append tables before (entry ∷ []))
-    ∙ ap (λ first. is_ok (and_then (λ after. changes_of after (entry ∷ [])) first)) middle.1
-    ∙ alone (change_of middle.0 entry)
+    ap is_ok (apply_entries-append tables before (entry ∷ []))
+    ∙ ap (λ first. is_ok (and_then (λ after. apply_entries after (entry ∷ [])) first)) middle.1
+    ∙ alone (apply_entry middle.0 entry)
     ∙ defined-change middle.0 entry
     ∙ ap (λ shape. is_ok (fitting shape entry) && stands middle.0 entry) (turns.kinds ∙ same)
     ∙ ap (λ b. is_ok (fitting shape entry) && stands_for entry b) (turns.rows (table_of entry) (row_of entry))
@@ -128,21 +129,25 @@ defined-push shape tables before entry same h =
     alone (Err refusal) = refl
 
 -- the same on the rows at a version
-pub defined_behind : (shape : Shape) (commits : List Commit) (version : ℕ) (before : List Entry) (entry : Entry)
-    → is_ok (changes_of (tables_after shape commits version) before) ≡ true
-    → is_ok (changes_of (tables_after shape commits version) (before ++ entry ∷ []))
+pub defined_behind : (shape : Shape) (commits : List Commit) (version : ℕ) (before : List Entry) (entry : Entry) (table row : ℕ)
+    → is_of table row entry ≡ true → is_ok (apply_entries (tables_after shape commits version) before) ≡ true
+    → is_ok (apply_entries (tables_after shape commits version) (before ++ entry ∷ []))
     ≡ (is_ok (fitting shape entry)
-    && stands_for entry (is_there_after (table_of entry) (row_of entry) before
-    (is_row_at (tables_after shape commits version) (table_of entry) (row_of entry))))
-defined_behind shape commits version before entry h =
-    defined-push shape (tables_after shape commits version) before entry (shape-at shape commits version) h
+    && stands_for entry (is_there_after table row before (is_row_at (tables_after shape commits version) table row)))
+defined_behind shape commits version before entry table row of h =
+    let at = of-parts table row entry of in
+    let tables = tables_after shape commits version in
+    defined-push shape tables before entry (shape-at shape commits version) h
+    ∙ ap (λ t. is_ok (fitting shape entry) && stands_for entry (is_there_after t (row_of entry) before
+    (is_row_at tables t (row_of entry)))) at.0
+    ∙ ap (λ r. is_ok (fitting shape entry) && stands_for entry (is_there_after table r before (is_row_at tables table r))) at.1
 
 -- the first of entries that are defined are defined too
-pub defined_before : (tables : Tables) (before entries : List Entry) → is_ok (changes_of tables before) ≡ false
-    → is_ok (changes_of tables (before ++ entries)) ≡ false
-defined_before tables before entries h = ap is_ok (changes_of-append tables before entries) ∙ refused (changes_of tables before) h
+pub defined_before : (tables : Tables) (before entries : List Entry) → is_ok (apply_entries tables before) ≡ false
+    → is_ok (apply_entries tables (before ++ entries)) ≡ false
+defined_before tables before entries h = ap is_ok (apply_entries-append tables before entries) ∙ refused (apply_entries tables before) h
   where
-    refused : (first : Result Tables Refusal) → is_ok first ≡ false → is_ok (and_then (λ after. changes_of after entries) first) ≡ false
+    refused : (first : Result Tables Refusal) → is_ok first ≡ false → is_ok (and_then (λ after. apply_entries after entries) first) ≡ false
     refused (Ok after) h = cc
     refused (Err refusal) h = refl
 
@@ -164,14 +169,14 @@ SameRows-turns tables others tables' others' turned (entry ∷ entries) x y same
 
 -- entries that are defined on one are defined on the other
 defined-elsewhere : (tables others after : Tables) (entries : List Entry) → shape_in others ≡ shape_in tables
-    → SameRows tables others entries → changes_of tables entries ≡ Ok after → is_ok (changes_of others entries) ≡ true
+    → SameRows tables others entries → apply_entries tables entries ≡ Ok after → is_ok (apply_entries others entries) ≡ true
 defined-elsewhere tables others after [] alike same h = refl
 defined-elsewhere tables others after (entry ∷ entries) alike same h =
-    let parts = and_then-parts _ (change_of tables entry) after h in
-    let first = change_of-parts tables parts.0 entry parts.1 in
+    let parts = and_then-parts _ (apply_entry tables entry) after h in
+    let first = apply_entry-parts tables parts.0 entry parts.1 in
     let fits : is_fit others entry ≡ true = ap (λ shape. is_ok (fitting shape entry)) alike ∙ first.0 in
     let other =
-    from_is_ok (change_of others entry)
+    from_is_ok (apply_entry others entry)
     (defined-change others entry ∙ and_from _ _ fits (ap (stands_for entry) same.0 ∙ first.1)) in
     let turns = Turns-change tables parts.0 entry parts.1 in
     let turns' = Turns-change others other.0 entry other.1 in
@@ -251,15 +256,20 @@ module _ (holds : Commit → Bool) where
       later-le (cond (holds commit) (before + 1) 0) (last_where holds (before + 1) commits) (before + suc count) h in
       last_where-behind (before + 1) count commits (omega arith)
 
+-- entries that conflict with an entry are those of its row
+any-overlaps : (entry : Entry) (entries : List Entry) → list_any (overlaps entry) entries ≡ named entries (table_of entry) (row_of entry)
+any-overlaps entry [] = refl
+any-overlaps entry (other ∷ entries) = rw (overlaps-is entry other, any-overlaps entry entries) refl
+
 -- commits that touch none of these entries' rows write none of them
 touches-split : (entry : Entry) (entries : List Entry) (commits : List Commit) → list_any (touches (entry ∷ entries)) commits ≡ false
     → (written commits (table_of entry) (row_of entry) ≡ false) × (list_any (touches entries) commits ≡ false)
 touches-split entry entries [] h = (refl, refl)
 touches-split entry entries (commit ∷ commits) h =
     let parts = or_parts (touches (entry ∷ entries) commit) _ h in
-    let here = or_parts (named commit.entries (table_of entry) (row_of entry)) (touches entries commit) parts.0 in
+    let here = or_parts (list_any (overlaps entry) commit.entries) (touches entries commit) parts.0 in
     let others = touches-split entry entries commits parts.1 in
-    (or_from _ _ here.0 others.0, or_from _ _ here.1 others.1)
+    (or_from _ _ (sym (any-overlaps entry commit.entries) ∙ here.0) others.0, or_from _ _ here.1 others.1)
 
 SameRows-untouched : (tables others : Tables) (entries : List Entry) (commits : List Commit)
     → Turns tables others (λ t r. is_there_after_commits t r commits) → list_any (touches entries) commits ≡ false
@@ -274,18 +284,18 @@ SameRows-untouched tables others (entry ∷ entries) commits turns h =
     )
 
 -- at the newest version all commits have been taken
-newest : (shape : Shape) (commits : List Commit) (after : Tables) → commits_of (opening shape) commits ≡ Ok after
+newest : (shape : Shape) (commits : List Commit) (after : Tables) → apply_commits (opening shape) commits ≡ Ok after
     → tables_after shape commits (length commits) ≡ after
 newest shape commits after h = rw (take_all (length commits) commits (omega arith), h)
 
 -- entries that are defined at a version, and of rows that no later commit touches, are defined at the newest
 pub still_defined : (shape : Shape) (commits : List Commit) (version : ℕ) (entries : List Entry)
-    → is_ok (commits_of (opening shape) commits) ≡ true → last_touching entries 0 commits ≤ version
-    → is_ok (changes_of (tables_after shape commits version) entries) ≡ true
-    → is_ok (changes_of (tables_after shape commits (length commits)) entries) ≡ true
+    → is_ok (apply_commits (opening shape) commits) ≡ true → last_touching entries 0 commits ≤ version
+    → is_ok (apply_entries (tables_after shape commits version) entries) ≡ true
+    → is_ok (apply_entries (tables_after shape commits (length commits)) entries) ≡ true
 still_defined shape commits version entries legal last defined =
     let all = from_is_ok _ legal in
-    let split = commits_of-split shape commits version all.0 all.1 in
+    let split = apply_commits-split shape commits version all.0 all.1 in
     let turns = Turns-commits (tables_after shape commits version) all.0 (drop version commits) split.1 in
     let rows =
     SameRows-untouched (tables_after shape commits version) all.0 entries (drop version commits) turns
@@ -295,13 +305,13 @@ still_defined shape commits version entries legal last defined =
     (defined-elsewhere (tables_after shape commits version) all.0 made.0 entries turns.kinds rows made.1)
 
 -- a commit that is defined at the newest version goes behind the others
-pub commits_of-push : (shape : Shape) (commits : List Commit) (commit : Commit) → is_ok (commits_of (opening shape) commits) ≡ true
-    → is_ok (changes_of (tables_after shape commits (length commits)) commit.entries) ≡ true
-    → is_ok (commits_of (opening shape) (commits ++ commit ∷ [])) ≡ true
-commits_of-push shape commits commit legal defined =
+pub apply_commits-push : (shape : Shape) (commits : List Commit) (commit : Commit) → is_ok (apply_commits (opening shape) commits) ≡ true
+    → is_ok (apply_entries (tables_after shape commits (length commits)) commit.entries) ≡ true
+    → is_ok (apply_commits (opening shape) (commits ++ commit ∷ [])) ≡ true
+apply_commits-push shape commits commit legal defined =
     let all = from_is_ok _ legal in
-    let made = from_is_ok (changes_of all.0 commit.entries) (rw (newest shape commits all.0 all.1) at defined) in
-    rw (commits_of-append (opening shape) commits (commit ∷ []), all.1, made.1)
+    let made = from_is_ok (apply_entries all.0 commit.entries) (rw (newest shape commits all.0 all.1) at defined) in
+    rw (apply_commits-append (opening shape) commits (commit ∷ []), all.1, made.1)
 
 -- entries and commits leave the kinds of each table's columns
 pub entry-kinds : EntryKeepsKinds
@@ -318,4 +328,9 @@ commits-kinds tables after commits h = (Turns-commits tables after commits h).ki
 
 -- two entries are of one row in either order
 pub overlaps-symmetric : IsSymmetric
-overlaps-symmetric entry other = grind (arith, nat_tests)
+overlaps-symmetric entry other =
+    overlaps-is entry other ∙ is_of-is (table_of entry) (row_of entry) other ∙ turned (table_of entry) (row_of entry)
+    ∙ sym (is_of-is (table_of other) (row_of other) entry) ∙ sym (overlaps-is other entry)
+  where
+    turned : (t r : ℕ) → ((table_of other == t) && (row_of other == r)) ≡ ((t == table_of other) && (r == row_of other))
+    turned t r = grind (arith, nat_tests)

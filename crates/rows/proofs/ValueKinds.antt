@@ -16,12 +16,12 @@ use Rattle.rows.specs.declared.value.Value.{Value}
 use Rattle.rows.specs.declared.faults.EntryFault.TheVariants.{WrongSize}
 use Rattle.rows.specs.Shape.{Shape, width_of, row_width, kinds_in, column_from, column_at}
 use Rattle.rows.specs.Values.{value_of, values_of, is_of_kind, are_of_kinds}
-use Rattle.rows.specs.Entries.{table_of, row_of, sized, fitting}
-use Rattle.rows.specs.Tables.{Tables, Refusal, opening, shape_in, RowsAreOfKinds, patched_row, change_of, changes_of}
-use Rattle.rows.specs.Commits.{commits_of, tables_after, is_of}
+use Rattle.rows.specs.Entries.{table_of, sized, fitting}
+use Rattle.rows.specs.Tables.{Tables, Refusal, opening, shape_in, RowsAreOfKinds, patched_row, apply_entry, apply_entries}
+use Rattle.rows.specs.Commits.{apply_commits, tables_after, is_of}
 use Rattle.rows.specs.Laws.{EntryKeepsRows, CommitsKeepRows, VersionsAreOfKinds}
 use Rattle.rows.specs.Inner.RowAfter.{row_after_one, row_after_entry}
-use Rattle.rows.proofs.Presence.{change_of-parts, and_then-parts}
+use Rattle.rows.proofs.Presence.{apply_entry-parts, and_then-parts, of-parts}
 use Rattle.rows.proofs.RowLaws.{row_in, opening-none, Leaves-change}
 
 -- the value at the front of enough bytes is of its kind
@@ -116,23 +116,23 @@ module _ (shape : Shape) (table row : ℕ) where
   entry-of-kinds entry was h kept = by (is_of table row entry) refl
     where
       by : (here : Bool) → is_of table row entry ≡ here → IsOfKinds (cond here (row_after_one (kinds_in shape table) entry was) was)
-      by true e = one-of-kinds entry was (eqb-true _ _ (and_parts (table_of entry == table) (row_of entry == row) e).0) h kept
+      by true e = one-of-kinds entry was (of-parts table row entry e).0 h kept
       by false e = kept
 
 pub entry-rows : EntryKeepsRows
 entry-rows tables after entry kept h table row =
     let leaves = Leaves-change (shape_in tables) tables after entry refl h in
-    let fits = (change_of-parts tables after entry h).0 in
+    let fits = (apply_entry-parts tables after entry h).0 in
     let left = entry-of-kinds (shape_in tables) table row entry (row_in tables table row) fits (kept table row) in
     rw (leaves.rows table row, leaves.kinds) left
 
-entries-rows : (tables after : Tables) (entries : List Entry) → RowsAreOfKinds tables → changes_of tables entries ≡ Ok after
+entries-rows : (tables after : Tables) (entries : List Entry) → RowsAreOfKinds tables → apply_entries tables entries ≡ Ok after
     → RowsAreOfKinds after
 entries-rows tables after [] kept h =
     let e : tables ≡ after = cc in
     subst RowsAreOfKinds e kept
 entries-rows tables after (entry ∷ entries) kept h =
-    let parts = and_then-parts _ (change_of tables entry) after h in
+    let parts = and_then-parts _ (apply_entry tables entry) after h in
     entries-rows parts.0 after entries (entry-rows tables parts.0 entry kept parts.1) parts.2
 
 pub commits-rows : CommitsKeepRows
@@ -140,7 +140,7 @@ commits-rows tables after [] kept h =
     let e : tables ≡ after = cc in
     subst RowsAreOfKinds e kept
 commits-rows tables after (commit ∷ commits) kept h =
-    let parts = and_then-parts _ (changes_of tables commit.entries) after h in
+    let parts = and_then-parts _ (apply_entries tables commit.entries) after h in
     commits-rows parts.0 after commits (entries-rows tables parts.0 commit.entries kept parts.1) parts.2
 
 -- at the opening there are no rows
@@ -148,9 +148,9 @@ opening-rows : (shape : Shape) → RowsAreOfKinds (opening shape)
 opening-rows shape table row = rw (opening-none shape table row) tt
 
 pub versions-rows : VersionsAreOfKinds
-versions-rows shape commits version = by (commits_of (opening shape) (take version commits)) refl
+versions-rows shape commits version = by (apply_commits (opening shape) (take version commits)) refl
   where
-    by : (after : Result Tables Refusal) → commits_of (opening shape) (take version commits) ≡ after
+    by : (after : Result Tables Refusal) → apply_commits (opening shape) (take version commits) ≡ after
         → RowsAreOfKinds (tables_after shape commits version)
     by (Ok after) e = rw e (commits-rows (opening shape) after (take version commits) (opening-rows shape) e)
     by (Err refusal) e = rw e (opening-rows shape)

@@ -3,15 +3,15 @@ use Rattle.std.specs.Prelude.{ℕ, ◌+◌, ◌<◌, ◌≤◌, List, [], ◌∷
 use Rattle.std.specs.List.{list_any, AllByRecursion}
 use Rattle.rows.specs.declared.commit.Commit.{Commit}
 use Rattle.rows.specs.declared.entry.Entry.{Entry}
+use Rattle.rows.specs.declared.entry.Entry.TheVariants.{Insert, Patch, Delete}
 use Rattle.rows.specs.Limits.{commit_entries_max}
 use Rattle.rows.specs.Shape.{Shape}
-use Rattle.rows.specs.Entries.{table_of, row_of}
-use Rattle.rows.specs.Tables.{Tables, Refusal, opening, changes_of, and_then}
+use Rattle.rows.specs.Tables.{Tables, Refusal, opening, apply_entries, and_then}
 
 -- the tables after all entries of these commits, in order, or the first refusal
-abbrev pub commits_of : Tables → List Commit → Result Tables Refusal
-commits_of tables [] = Ok tables
-commits_of tables (commit ∷ commits) = and_then (λ after. commits_of after commits) (changes_of tables commit.entries)
+abbrev pub apply_commits : Tables → List Commit → Result Tables Refusal
+apply_commits tables [] = Ok tables
+apply_commits tables (commit ∷ commits) = and_then (λ after. apply_commits after commits) (apply_entries tables commit.entries)
 
 -- a commit's worker is there, and it has 1 to 4096 entries
 pub record IsCommit (workers : ℕ) (commit : Commit) : Type 0 where
@@ -22,11 +22,11 @@ pub record IsCommit (workers : ℕ) (commit : Commit) : Type 0 where
 -- a list of commits that a primary may have: each is a commit, and each entry is defined where it stands
 pub record IsLegal (shape : Shape) (workers : ℕ) (commits : List Commit) : Type 0 where
   pub each : AllByRecursion (IsCommit workers) commits
-  pub defined : IsOk (commits_of (opening shape) commits)
+  pub defined : IsOk (apply_commits (opening shape) commits)
 
 -- the tables after the first `version` commits of a legal list
 abbrev pub tables_after : Shape → List Commit → ℕ → Tables
-tables_after shape commits version = or_opening (commits_of (opening shape) (take version commits))
+tables_after shape commits version = or_opening (apply_commits (opening shape) (take version commits))
   where
     -- a list that is not legal has no tables; this says nothing of it
     or_opening : Result Tables Refusal → Tables
@@ -35,11 +35,15 @@ tables_after shape commits version = or_opening (commits_of (opening shape) (tak
 
 -- whether an entry is of that row of that table
 abbrev pub is_of : ℕ → ℕ → Entry → Bool
-is_of table row entry = (table_of entry == table) && (row_of entry == row)
+is_of table row (Insert at id bytes) = (at == table) && (id.0 == row)
+is_of table row (Patch at id offset bytes) = (at == table) && (id.0 == row)
+is_of table row (Delete at id) = (at == table) && (id.0 == row)
 
 -- whether two entries conflict: they are of the same row of the same table
 abbrev pub overlaps : Entry → Entry → Bool
-overlaps entry other = is_of (table_of entry) (row_of entry) other
+overlaps (Insert table row bytes) other = is_of table row.0 other
+overlaps (Patch table row offset bytes) other = is_of table row.0 other
+overlaps (Delete table row) other = is_of table row.0 other
 
 -- whether some entry of the commit overlaps with one of these
 abbrev pub touches : List Entry → Commit → Bool

@@ -1,4 +1,4 @@
--- Which entries fit a shape, and of which row an entry is.
+-- Which entries fit a shape, and of which table an entry is.
 use Rattle.std.specs.Prelude.{ℕ, List, length, Option, None, Some, Result, Ok, Err, ◌==◌, if◌then◌else◌, slice_get, is_some}
 use Rattle.rows.specs.declared.entry.Entry.{Entry}
 use Rattle.rows.specs.declared.entry.Entry.TheVariants.{Insert, Patch, Delete}
@@ -12,12 +12,6 @@ abbrev pub table_of : Entry → ℕ
 table_of (Insert table row bytes) = table
 table_of (Patch table row offset bytes) = table
 table_of (Delete table row) = table
-
--- the row that an entry is of, by its identifier
-abbrev pub row_of : Entry → ℕ
-row_of (Insert table row bytes) = row.0
-row_of (Patch table row offset bytes) = row.0
-row_of (Delete table row) = row.0
 
 -- whether an insert's data has the width of the table's rows
 abbrev pub sized : Option (List Kind) → ℕ → Result (Unit {0}) EntryFault
@@ -34,8 +28,12 @@ abbrev pub listed : Option (List Kind) → Result (Unit {0}) EntryFault
 listed None = Err NoTable
 listed (Some kinds) = Ok tt
 
+-- whether an entry fits its table, where that is there, by the kinds of the table's columns; or its first fault
+abbrev pub fitting_in : Option (List Kind) → Entry → Result (Unit {0}) EntryFault
+fitting_in kinds (Insert table row bytes) = sized kinds (length bytes)
+fitting_in kinds (Patch table row offset bytes) = placed kinds offset (length bytes)
+fitting_in kinds (Delete table row) = listed kinds
+
 -- whether an entry fits the shape, or its first fault
 abbrev pub fitting : Shape → Entry → Result (Unit {0}) EntryFault
-fitting shape (Insert table row bytes) = sized (slice_get shape table) (length bytes)
-fitting shape (Patch table row offset bytes) = placed (slice_get shape table) offset (length bytes)
-fitting shape (Delete table row) = listed (slice_get shape table)
+fitting shape entry = fitting_in (slice_get shape (table_of entry)) entry

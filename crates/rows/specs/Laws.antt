@@ -1,27 +1,33 @@
--- Laws of the definitions: what changes leave as it is, how an entry is read, and which entries conflict.
-use Rattle.std.specs.Prelude.{◌≡◌, ℕ, List, ◌++◌, length, Ok, Some}
+-- Laws of the definitions: what changes leave as it is, how entries are read, which entries conflict, and what is equal.
+use Rattle.std.specs.Prelude.{◌≡◌, ℕ, List, length, nat_eq, Ok, Some}
+use Rattle.std.specs.Bool.{Decides}
+use Rattle.std.specs.List.{flat_map, AllByRecursion}
+use Rattle.std.specs.Cmp.Lexicographic.{pointwise}
 use Rattle.rows.specs.declared.commit.Commit.{Commit}
 use Rattle.rows.specs.declared.entry.Entry.{Entry}
 use Rattle.rows.specs.Shape.{Shape}
-use Rattle.rows.specs.Tables.{Tables, shape_in, RowsAreOfKinds, change_of, changes_of, applied}
-use Rattle.rows.specs.Commits.{commits_of, tables_after, overlaps}
+use Rattle.rows.specs.Tables.{Tables, shape_in, RowsAreOfKinds, apply_entry, apply_entries, applied}
+use Rattle.rows.specs.Commits.{apply_commits, tables_after, overlaps}
+use Rattle.rows.specs.Equality.{is_same_entry, is_same_commit}
 use Rattle.rows.specs.Spelling.{AreBytes, HasSpelling, entry_spelling}
-use Rattle.rows.specs.Reading.{entry_at, IsSpelledAt}
+use Rattle.rows.specs.Reading.{entries_filling}
 
 -- an entry leaves the kinds of each table's columns
 abbrev pub EntryKeepsKinds : Type 0
-EntryKeepsKinds = (tables after : Tables) (entry : Entry) → change_of tables entry ≡ Ok after → shape_in after ≡ shape_in tables
+EntryKeepsKinds = (tables after : Tables) (entry : Entry) → apply_entry tables entry ≡ Ok after → shape_in after ≡ shape_in tables
 
 -- and so do entries, whether each must be defined or one that is refused changes nothing
 abbrev pub EntriesKeepKinds : Type 0
-EntriesKeepKinds = (tables after : Tables) (entries : List Entry) → changes_of tables entries ≡ Ok after → shape_in after ≡ shape_in tables
+EntriesKeepKinds =
+    (tables after : Tables) (entries : List Entry) → apply_entries tables entries ≡ Ok after → shape_in after ≡ shape_in tables
 
 abbrev pub AppliedKeepKinds : Type 0
 AppliedKeepKinds = (tables : Tables) (entries : List Entry) → shape_in (applied tables entries) ≡ shape_in tables
 
 -- and so do commits
 abbrev pub CommitsKeepKinds : Type 0
-CommitsKeepKinds = (tables after : Tables) (commits : List Commit) → commits_of tables commits ≡ Ok after → shape_in after ≡ shape_in tables
+CommitsKeepKinds =
+    (tables after : Tables) (commits : List Commit) → apply_commits tables commits ≡ Ok after → shape_in after ≡ shape_in tables
 
 -- the tables at each version have the kinds that they were opened with
 abbrev pub VersionsKeepKinds : Type 0
@@ -30,27 +36,42 @@ VersionsKeepKinds = (shape : Shape) (commits : List Commit) (version : ℕ) → 
 -- where each row has values of its columns' kinds, it still has after an entry
 abbrev pub EntryKeepsRows : Type 0
 EntryKeepsRows =
-    (tables after : Tables) (entry : Entry) → RowsAreOfKinds tables → change_of tables entry ≡ Ok after → RowsAreOfKinds after
+    (tables after : Tables) (entry : Entry) → RowsAreOfKinds tables → apply_entry tables entry ≡ Ok after → RowsAreOfKinds after
 
 -- and after commits
 abbrev pub CommitsKeepRows : Type 0
 CommitsKeepRows =
-    (tables after : Tables) (commits : List Commit) → RowsAreOfKinds tables → commits_of tables commits ≡ Ok after → RowsAreOfKinds after
+    (tables after : Tables) (commits : List Commit) → RowsAreOfKinds tables → apply_commits tables commits ≡ Ok after → RowsAreOfKinds after
 
 -- so each row at each version has values of its columns' kinds
 abbrev pub VersionsAreOfKinds : Type 0
 VersionsAreOfKinds = (shape : Shape) (commits : List Commit) (version : ℕ) → RowsAreOfKinds (tables_after shape commits version)
 
--- an entry that is read at the front of bytes is spelled there
-abbrev pub FoundIsSpelled : Type 0
-FoundIsSpelled = (bytes : List ℕ) (found : Entry × ℕ) → AreBytes bytes → entry_at bytes ≡ Some found → IsSpelledAt bytes found
+-- entries that are read from bytes are as many as were asked for, and spelled there
+abbrev pub FoundAreSpelled : Type 0
+FoundAreSpelled =
+    (count : ℕ) (bytes : List ℕ) (entries : List Entry) → AreBytes bytes → entries_filling count bytes ≡ Some entries
+    → (length entries ≡ count) × AllByRecursion HasSpelling entries × (bytes ≡ flat_map entry_spelling entries)
 
--- and an entry that is spelled there is read, whatever stands behind it
-abbrev pub SpelledIsFound : Type 0
-SpelledIsFound =
-    (entry : Entry) (rest : List ℕ) → HasSpelling entry
-    → entry_at (entry_spelling entry ++ rest) ≡ Some (entry, length (entry_spelling entry))
+-- and entries that are spelled there are read
+abbrev pub SpelledAreFound : Type 0
+SpelledAreFound =
+    (entries : List Entry) → AllByRecursion HasSpelling entries
+    → entries_filling (length entries) (flat_map entry_spelling entries) ≡ Some entries
 
 -- an entry overlaps with another where the other does with it
 abbrev pub IsSymmetric : Type 0
 IsSymmetric = (entry other : Entry) → overlaps entry other ≡ overlaps other entry
+
+-- `==` of bytes, of entries, of lists of them and of commits is true exactly where they are equal
+abbrev pub BytesEqual : Type 0
+BytesEqual = (bytes other : List ℕ) → Decides (pointwise nat_eq bytes other) (bytes ≡ other)
+
+abbrev pub EntryEquals : Type 0
+EntryEquals = (entry other : Entry) → Decides (is_same_entry entry other) (entry ≡ other)
+
+abbrev pub EntriesEqual : Type 0
+EntriesEqual = (entries others : List Entry) → Decides (pointwise is_same_entry entries others) (entries ≡ others)
+
+abbrev pub CommitEquals : Type 0
+CommitEquals = (commit other : Commit) → Decides (is_same_commit commit other) (commit ≡ other)

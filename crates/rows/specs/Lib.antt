@@ -4,6 +4,7 @@ pub mod Shape
 pub mod SchemaFaults
 pub mod Values
 pub mod Entries
+pub mod Equality
 pub mod Tables
 pub mod Commits
 pub mod Laws

@@ -1,6 +1,7 @@
--- Reading an entry from the front of bytes.
-use Rattle.std.specs.Prelude.{◌≡◌, ℕ, ◌+◌, List, ◌++◌, length, take, drop, Option, None, Some, slice_index, nat_lt}
-use Rattle.std.specs.Prelude.{◌==◌, ◌||◌, not, if◌then◌else◌}
+-- Reading an entry from the front of bytes, and entries that fill bytes.
+use Rattle.std.specs.Prelude.{◌≡◌, ℕ, zero, suc, ◌+◌, List, [], ◌∷◌, ◌++◌, length, take, drop, Option, None, Some, slice_index}
+use Rattle.std.specs.Prelude.{nat_lt, Bool, ◌==◌, ◌||◌, not, if◌then◌else◌}
+use Rattle.std.specs.Option.{option_map}
 use Rattle.byteorder.specs.Endian.{big_number}
 use Rattle.rows.specs.declared.entry.Entry.{Entry}
 use Rattle.rows.specs.declared.entry.Entry.TheVariants.{Insert, Patch, Delete}
@@ -44,16 +45,30 @@ patch_at table row rest =
         if (size == 0) || nat_lt octets_max size || nat_lt row_width_max (offset + size) || nat_lt (length content) size then None else
         Some (Patch table (record { 0 = row }) offset (take size content), 14 + size)
 
+-- whether an entry that begins with this is of a row
+abbrev pub is_row_code : ℕ → Bool
+is_row_code code = (code == insert_code) || (code == patch_code) || (code == delete_code)
+
 -- an entry behind its row, by what it begins with
 abbrev pub entry_behind : ℕ → ℕ → ℕ → List ℕ → Option (Entry × ℕ)
 entry_behind code table row rest =
-    if not (nat_lt table tables_max) then None else
     if code == insert_code then insert_at table row rest else
-    if code == patch_code then patch_at table row rest else
-    if code == delete_code then Some (Delete table (record { 0 = row }), 10) else None
+    if code == patch_code then patch_at table row rest else Some (Delete table (record { 0 = row }), 10)
 
 -- the entry at the front of the bytes, and how many it takes; none where no entry is spelled there
 abbrev pub entry_at : List ℕ → Option (Entry × ℕ)
 entry_at bytes =
-    if nat_lt (length bytes) 10 then None else
+    if not (is_row_code (slice_index bytes 0)) then None else
+    if nat_lt (length bytes) 10 || not (nat_lt (slice_index bytes 1) tables_max) then None else
     entry_behind (slice_index bytes 0) (slice_index bytes 1) (big_number 8 (drop 2 bytes)) (drop 10 bytes)
+
+-- the list behind a first entry
+abbrev pub behind : Option (Entry × ℕ) → (ℕ → Option (List Entry)) → Option (List Entry)
+behind None others = None
+behind (Some found) others = option_map (λ entries. found.0 ∷ entries) (others found.1)
+
+-- the entries that the bytes spell: this many, and all of the bytes; none where they do not
+abbrev pub entries_filling : ℕ → List ℕ → Option (List Entry)
+entries_filling zero [] = Some []
+entries_filling zero (byte ∷ bytes) = None
+entries_filling (suc count) bytes = behind (entry_at bytes) (λ len. entries_filling count (drop len bytes))

@@ -2,6 +2,7 @@
 use Rattle.std.specs.Prelude.{◌≡◌, ℕ, ◌<◌, ◌≤◌, ◌+◌, ◌-◌, List, [], ◌∷◌, length, map, Bool, true, Option, None, Some, nat_lt, ◌==◌, ◌&&◌}
 use Rattle.std.specs.Prelude.{not, if◌then◌else◌, slice_get}
 use Rattle.std.specs.List.{sum_by, list_all, AllByRecursion}
+use Rattle.std.specs.Option.{unwrap_or}
 use Rattle.std.specs.Borrow.{Bor}
 use Rattle.rows.specs.declared.kind.Kind.{Kind}
 use Rattle.rows.specs.declared.kind.Kind.TheVariants.{Int, Octets}
@@ -20,11 +21,7 @@ shape_of schema = map (λ table. table.1) schema
 
 -- the kinds of a table's columns; none where there is no table of that number
 abbrev pub kinds_in : Shape → ℕ → List Kind
-kinds_in shape table = or_none (slice_get shape table)
-  where
-    or_none : Option (List Kind) → List Kind
-    or_none None = []
-    or_none (Some kinds) = kinds
+kinds_in shape table = unwrap_or (slice_get shape table) []
 
 -- how many bytes a value of this kind takes
 abbrev pub width_of : Kind → ℕ

@@ -6,6 +6,7 @@
 use Rattle.std.specs.Prelude.{ℕ, List, [], ◌∷◌, map, length, Bool, Option, None, Some, Result, Ok, Err, ◌==◌, not, if◌then◌else◌, slice_get}
 use Rattle.std.specs.Prelude.{◌≡◌, true, slice_set, is_some, is_ok, IfSome}
 use Rattle.std.specs.List.{filter}
+use Rattle.std.specs.Option.{option_map_or}
 use Rattle.std.specs.Result.{result_unwrap_or}
 use Rattle.std.specs.Ordering.{nat_cmp}
 use Rattle.std.specs.Map.{lookup, set_value}
@@ -45,11 +46,7 @@ kinds_of tables table = kinds_in (shape_in tables) table
 
 -- the rows of a table; none where there is no table of that number
 abbrev pub rows_of : Tables → ℕ → Rows
-rows_of tables table = or_none (slice_get tables table)
-  where
-    or_none : Option Table → Rows
-    or_none None = []
-    or_none (Some found) = found.rows
+rows_of tables table = option_map_or (λ found. found.rows) (slice_get tables table) []
 
 -- the values of a row, where it is there
 abbrev pub row_at : Rows → ℕ → Option (List Value)
@@ -127,13 +124,13 @@ abbrev pub change_where : Bool → Bool → Refusal → Tables → Result Tables
 change_where fits stands refusal after = if fits then (if stands then Ok after else Err refusal) else Err Unfit
 
 -- the tables after one entry, or why it is refused
-abbrev pub change_of : Tables → Entry → Result Tables Refusal
-change_of tables (Insert table row bytes) =
+abbrev pub apply_entry : Tables → Entry → Result Tables Refusal
+apply_entry tables (Insert table row bytes) =
     change_where (is_fit tables (Insert table row bytes)) (not (is_row_at tables table row.0)) Exists (inserted tables table row.0 bytes)
-change_of tables (Patch table row offset bytes) =
+apply_entry tables (Patch table row offset bytes) =
     change_where (is_fit tables (Patch table row offset bytes)) (is_row_at tables table row.0) Missing
     (patched tables table row.0 offset bytes)
-change_of tables (Delete table row) =
+apply_entry tables (Delete table row) =
     change_where (is_fit tables (Delete table row)) (is_row_at tables table row.0) Missing (deleted tables table row.0)
 
 -- what comes after a change, where it is not refused
@@ -142,11 +139,11 @@ and_then next (Ok tables) = next tables
 and_then next (Err refusal) = Err refusal
 
 -- the tables after a list of entries, one after the other, or the first refusal
-abbrev pub changes_of : Tables → List Entry → Result Tables Refusal
-changes_of tables [] = Ok tables
-changes_of tables (entry ∷ entries) = and_then (λ after. changes_of after entries) (change_of tables entry)
+abbrev pub apply_entries : Tables → List Entry → Result Tables Refusal
+apply_entries tables [] = Ok tables
+apply_entries tables (entry ∷ entries) = and_then (λ after. apply_entries after entries) (apply_entry tables entry)
 
 -- the tables after a list of entries, where one that is refused changes nothing
 abbrev pub applied : Tables → List Entry → Tables
 applied tables [] = tables
-applied tables (entry ∷ entries) = applied (result_unwrap_or (change_of tables entry) tables) entries
+applied tables (entry ∷ entries) = applied (result_unwrap_or (apply_entry tables entry) tables) entries

@@ -1,6 +1,8 @@
 //! Bytes that contracts see as a list.
 
-ghost use Rattle.std.specs.Prelude.{◌≡◌, ◌==◌, length};
+ghost use Rattle.std.specs.Prelude.{◌≡◌, ◌==◌, length, nat_eq};
+ghost use Rattle.std.specs.Cmp.{partial_equiv_from_equiv};
+ghost use Rattle.std.specs.Cmp.Lexicographic.{pointwise, nat_list_eq_equiv};
 
 use std::marker::Model;
 
@@ -29,6 +31,13 @@ impl ByteList {
         ByteList { items }
     }
 
+    /// The bytes as a `Vec`. Takes no memory.
+    pub fn into_vec(self) -> Vec<u8>
+        ensures { result.items ≡ self }
+    {
+        self.items
+    }
+
     /// The bytes, lent.
     pub fn as_slice(&self) -> &[u8]
         ensures { result.now ≡ self.now }
@@ -49,4 +58,18 @@ impl ByteList {
     {
         self.items.is_empty()
     }
+}
+
+impl PartialEq for ByteList {
+    ghost eq = { λ list other. pointwise nat_eq list other };
+
+    ghost laws = { partial_equiv_from_equiv nat_list_eq_equiv };
+
+    fn eq(&self, other: &ByteList) -> bool {
+        self.as_slice() == other.as_slice()
+    }
+}
+
+impl Eq for ByteList {
+    ghost laws = { nat_list_eq_equiv };
 }

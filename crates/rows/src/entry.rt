@@ -1,6 +1,9 @@
 //! Entries, and what each tells of its row.
 
 ghost use Rattle.std.specs.Prelude.{◌≡◌};
+ghost use Rattle.std.specs.Cmp.{partial_equiv_from_equiv};
+ghost use Rattle.rows.specs.Equality.{is_same_entry};
+ghost use Rattle.rows.specs.Inner.Equivalence.{same_entry_equiv};
 
 use crate::byte_list::ByteList;
 use crate::entry_ref::EntryRef;
@@ -31,7 +34,7 @@ pub enum Entry {
 }
 
 impl Entry {
-    ghost use Rattle.rows.specs.Entries.{table_of, row_of};
+    ghost use Rattle.rows.specs.Entries.{table_of};
     ghost use Rattle.rows.specs.Commits.{is_of};
     ghost use Rattle.rows.specs.Presence.{stands_for, left_by};
     ghost use Rattle.rows.specs.Reading.{entry_of};
@@ -75,21 +78,27 @@ impl Entry {
         }
     }
 
-    /// The row that the entry is of.
-    pub fn row(&self) -> RowId
-        ensures { result.0 ≡ row_of self.now }
-    {
-        match self {
-            Entry::Insert { row, .. } | Entry::Patch { row, .. } | Entry::Delete { row, .. } =>
-                *row,
-        }
-    }
-
     /// Whether the entry is of that row.
     pub fn is_of(&self, table: u8, row: RowId) -> bool
         ensures { result ≡ is_of table row.0 self.now }
     {
-        self.table() == table && self.row().0 == row.0
+        match self {
+            Entry::Insert {
+                table: at,
+                row: id,
+                ..
+            }
+            | Entry::Patch {
+                table: at,
+                row: id,
+                ..
+            }
+            | Entry::Delete {
+                table: at,
+                row: id,
+                ..
+            } => *at == table && id.0 == row.0,
+        }
     }
 
     /// Whether the entry is possible, where its row is there or not: an insert needs it absent, a
@@ -113,4 +122,52 @@ impl Entry {
             Entry::Delete { .. } => false,
         }
     }
+}
+
+impl PartialEq for Entry {
+    ghost eq = { is_same_entry };
+
+    ghost laws = { partial_equiv_from_equiv same_entry_equiv };
+
+    fn eq(&self, other: &Entry) -> bool {
+        match (self, other) {
+            (
+                Entry::Insert { table, row, bytes },
+                Entry::Insert {
+                    table: other_table,
+                    row: other_row,
+                    bytes: others,
+                },
+            ) => *table == *other_table && row.0 == other_row.0 && *bytes == *others,
+            (
+                Entry::Patch {
+                    table,
+                    row,
+                    offset,
+                    bytes,
+                },
+                Entry::Patch {
+                    table: other_table,
+                    row: other_row,
+                    offset: other_offset,
+                    bytes: others,
+                },
+            ) => *table == *other_table
+                && row.0 == other_row.0
+                && *offset == *other_offset
+                && *bytes == *others,
+            (
+                Entry::Delete { table, row },
+                Entry::Delete {
+                    table: other_table,
+                    row: other_row,
+                },
+            ) => *table == *other_table && row.0 == other_row.0,
+            _ => false,
+        }
+    }
+}
+
+impl Eq for Entry {
+    ghost laws = { same_entry_equiv };
 }

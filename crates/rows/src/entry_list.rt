@@ -1,6 +1,10 @@
 //! The entries of a commit, which contracts see as a list.
 
-ghost use Rattle.std.specs.Prelude.{◌≡◌, ◌==◌, ◌∷◌, [], ◌++◌, length, OnOk, OnErr};
+ghost use Rattle.std.specs.Prelude.{◌≡◌, ◌==◌, ◌∷◌, [], ◌++◌, length, IfOk, OnOk, OnErr, IsOk};
+ghost use Rattle.std.specs.Cmp.{partial_equiv_from_equiv};
+ghost use Rattle.std.specs.Cmp.Lexicographic.{pointwise, lists_equiv};
+ghost use Rattle.rows.specs.Equality.{is_same_entry};
+ghost use Rattle.rows.specs.Inner.Equivalence.{same_entry_equiv};
 
 use crate::entry::Entry;
 use std::alloc::{AllocError, Global};
@@ -41,6 +45,26 @@ impl EntryList {
         EntryList { items }
     }
 
+    /// A copy of these entries, with room for exactly them: that of none takes no memory. Fails only
+    /// when out of memory.
+    pub fn from_slice(alloc: Global, entries: &[Entry]) -> Result<EntryList, AllocError>
+        ensures ok { IfOk result (λ list. list ≡ entries.now) }
+        ensures none { length entries.now ≡ 0 → IsOk result }
+    {
+        let mut items = Vec::with_capacity(alloc, entries.len())?;
+        for entry in entries {
+            items.push_reserved(copy_of(entry)?);
+        }
+        Ok(EntryList { items })
+    }
+
+    /// The entries as a `Vec`. Takes no memory.
+    pub fn into_vec(self) -> Vec<Entry>
+        ensures { result.items ≡ self }
+    {
+        self.items
+    }
+
     /// Adds an entry at the end. Fails only when out of memory, and then nothing has changed.
     pub fn push(&mut self, entry: Entry) -> Result<(), AllocError>
         ensures ok { OnOk result (self.new ≡ self.old ++ entry ∷ []) }
@@ -70,4 +94,25 @@ impl EntryList {
     {
         self.items.is_empty()
     }
+}
+
+impl PartialEq for EntryList {
+    ghost eq = { λ list other. pointwise is_same_entry list other };
+
+    ghost laws = { partial_equiv_from_equiv (lists_equiv same_entry_equiv) };
+
+    fn eq(&self, other: &EntryList) -> bool {
+        self.as_slice() == other.as_slice()
+    }
+}
+
+impl Eq for EntryList {
+    ghost laws = { lists_equiv same_entry_equiv };
+}
+
+/// The same entry once more. Fails only when out of memory.
+fn copy_of(entry: &Entry) -> Result<Entry, AllocError>
+    ensures { IfOk result (λ copy. copy ≡ entry.now) }
+{
+    entry.clone()
 }

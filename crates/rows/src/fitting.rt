@@ -1,14 +1,16 @@
 //! Whether an entry fits a schema.
 
-ghost use Rattle.std.specs.Prelude.{◌≡◌, OnOk, slice_get, length};
+ghost use Rattle.std.specs.Prelude.{◌≡◌, ◌≤◌, Some, OnOk, slice_get, length};
 ghost use Rattle.rows.specs.Shape.{shape_of};
 ghost use Rattle.rows.specs.Spelling.{HasSpelling, IsInsert, IsPatch, IsDelete};
-ghost use Rattle.rows.specs.Entries.{fitting, sized, placed, listed};
+ghost use Rattle.rows.specs.Entries.{fitting, fitting_in, sized, placed, listed};
 ghost use Rattle.rows.specs.Reading.{entry_of};
 
 use crate::entry::Entry;
 use crate::entry_ref::EntryRef;
 use crate::faults::EntryFault;
+use crate::kind::Kind;
+use crate::limits::COLUMNS_MAX;
 use crate::row_id::RowId;
 use crate::schema::{Schema, column_at, width_of_row};
 
@@ -39,22 +41,51 @@ pub fn fits_lent(schema: &Schema, lent: EntryRef<'_>) -> Result<(), EntryFault>
     }
 }
 
+/// Whether the entry fits a table with columns of these kinds, which is taken for its own: just as
+/// `fits` says it where that table is there. Takes no memory.
+pub fn fits_columns(kinds: &[Kind], entry: &Entry) -> Result<(), EntryFault>
+    requires { length kinds.now ≤ COLUMNS_MAX }
+    ensures { result ≡ fitting_in (Some kinds.now) entry.now }
+{
+    match entry {
+        Entry::Insert { bytes, .. } => sized(kinds, bytes.as_slice().len()),
+        Entry::Patch { offset, bytes, .. } => placed(kinds, *offset, bytes.as_slice().len()),
+        Entry::Delete { .. } => Ok(()),
+    }
+}
+
+/// Whether an insert of so many bytes fits columns of these kinds.
+fn sized(kinds: &[Kind], size: usize) -> Result<(), EntryFault>
+    requires { length kinds.now ≤ COLUMNS_MAX }
+    ensures { result ≡ sized (Some kinds.now) size }
+{
+    if size == width_of_row(kinds) {
+        Ok(())
+    } else {
+        Err(EntryFault::WrongSize)
+    }
+}
+
+/// Whether a patch of so many bytes at an offset fits columns of these kinds.
+fn placed(kinds: &[Kind], offset: u16, size: usize) -> Result<(), EntryFault>
+    ensures { result ≡ placed (Some kinds.now) offset size }
+{
+    if column_at(kinds, offset as usize, size).is_some() {
+        Ok(())
+    } else {
+        Err(EntryFault::NotAColumn)
+    }
+}
+
 /// Whether an insert fits: its table is there, with rows as wide as its data. The row matters to
 /// the contract alone, which says that an insert that fits has a spelling.
-#[tactic(auto, using(crate::proofs::Schemas::row_width_lemmas))]
 fn insert_fits(schema: &Schema, table: u8, row: RowId, bytes: &[u8]) -> Result<(), EntryFault>
     ensures exact { result ≡ sized (slice_get (shape_of schema.now) table) (length bytes.now) }
     ensures spelled { OnOk result (IsInsert table row.0 bytes.now) }
 {
     match schema.kinds(table as usize) {
         None => Err(EntryFault::NoTable),
-        Some(kinds) => {
-            if bytes.len() == width_of_row(kinds) {
-                Ok(())
-            } else {
-                Err(EntryFault::WrongSize)
-            }
-        }
+        Some(kinds) => sized(kinds, bytes.len()),
     }
 }
 
@@ -72,13 +103,7 @@ fn patch_fits(
 {
     match schema.kinds(table as usize) {
         None => Err(EntryFault::NoTable),
-        Some(kinds) => {
-            if column_at(kinds, offset as usize, bytes.len()).is_some() {
-                Ok(())
-            } else {
-                Err(EntryFault::NotAColumn)
-            }
-        }
+        Some(kinds) => placed(kinds, offset, bytes.len()),
     }
 }
 

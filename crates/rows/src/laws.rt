@@ -1,7 +1,8 @@
 //! Laws of the definitions.
 
 ghost use Rattle.rows.specs.Laws.{EntryKeepsKinds, EntriesKeepKinds, AppliedKeepKinds, CommitsKeepKinds, VersionsKeepKinds};
-ghost use Rattle.rows.specs.Laws.{EntryKeepsRows, CommitsKeepRows, VersionsAreOfKinds, FoundIsSpelled, SpelledIsFound, IsSymmetric};
+ghost use Rattle.rows.specs.Laws.{EntryKeepsRows, CommitsKeepRows, VersionsAreOfKinds, FoundAreSpelled, SpelledAreFound, IsSymmetric};
+ghost use Rattle.rows.specs.Laws.{BytesEqual, EntryEquals, EntriesEqual, CommitEquals};
 
 /// Entries and commits leave the kinds of each table's columns. It does nothing: its contract is
 /// the law.
@@ -21,15 +22,23 @@ pub fn rows_are_of_kinds()
     ensures versions { VersionsAreOfKinds }
 {}
 
-/// An entry that is read at the front of bytes is spelled there, and one that is spelled there is
-/// read. It does nothing: its contract is the law.
+/// Entries that are read from bytes, all of which they fill, are spelled there, and entries that
+/// are spelled there are read. It does nothing: its contract is the law.
 pub fn entries_are_read_as_spelled()
-    ensures found { FoundIsSpelled }
-    ensures spelled { SpelledIsFound }
+    ensures found { FoundAreSpelled }
+    ensures spelled { SpelledAreFound }
 {}
 
 /// Whether two entries conflict is told the same from either. It does nothing: its contract is
 /// the law.
 pub fn overlap_is_symmetric()
     ensures { IsSymmetric }
+{}
+
+/// `==` is true exactly where both sides are equal. It does nothing: its contract is the law.
+pub fn equal_is_same()
+    ensures bytes { BytesEqual }
+    ensures entry { EntryEquals }
+    ensures entries { EntriesEqual }
+    ensures commit { CommitEquals }
 {}

@@ -7,8 +7,8 @@
 //! and lines of words are written (`Text.antt`).
 //!
 //! Promised: `fits` says exactly which entries fit a schema; `write_entry` and `read_entry` are
-//! the spelling and its reading; `row_values` and `row_bytes` are a row's two forms; `append_value`
-//! adds a value's text to what is written.
+//! the spelling and its reading, and `read_entries` that of entries that fill bytes; `row_values` and
+//! `row_bytes` are a row's two forms; `append_value` adds a value's text to what is written.
 //! It stands on `byteorder` for numbers as bytes, on `itoa` for those in decimal, and on `indexmap`
 //! for tables by name.
 #![tactic(auto)]
@@ -20,6 +20,7 @@ mod entry;
 mod entry_list;
 mod entry_ref;
 mod faults;
+mod filling;
 mod fitting;
 mod kind;
 mod kind_list;
@@ -41,7 +42,8 @@ pub use entry::Entry;
 pub use entry_list::EntryList;
 pub use entry_ref::EntryRef;
 pub use faults::{EntryFault, SchemaFault};
-pub use fitting::{fits, fits_lent};
+pub use filling::{entries_fill, entries_fit, read_entries};
+pub use fitting::{fits, fits_columns, fits_lent};
 pub use kind::Kind;
 pub use kind_list::KindList;
 pub use octets::Octets;

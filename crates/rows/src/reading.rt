@@ -3,7 +3,7 @@
 ghost use Rattle.std.specs.Prelude.{◌≡◌, ℕ, List, ◌++◌, length, Some, IfSome};
 ghost use Rattle.std.specs.Option.{option_map};
 ghost use Rattle.rows.specs.declared.entry.Entry.{Entry};
-ghost use Rattle.rows.specs.Reading.{entry_at, insert_at, patch_at, seen, IsSpelledAt};
+ghost use Rattle.rows.specs.Reading.{entry_at, insert_at, patch_at, is_row_code, seen, IsSpelledAt};
 ghost use Rattle.rows.specs.Spelling.{HasSpelling, entry_spelling};
 
 use crate::codes::{DELETE_CODE, INSERT_CODE, PATCH_CODE};
@@ -29,21 +29,27 @@ pub fn read_entry(bytes: &[u8]) -> Option<(EntryRef<'_>, usize)>
 fn front_entry(bytes: &[u8]) -> Option<(EntryRef<'_>, usize)>
     ensures { option_map seen result ≡ entry_at bytes.now }
 {
-    if bytes.len() < 10 {
+    if bytes.is_empty() || !is_row_code(bytes[0]) {
+        return None;
+    }
+    if bytes.len() < 10 || bytes[1] as usize >= TABLES_MAX {
         return None;
     }
     let (front, rest) = bytes.split_at(10);
     let table = front[1];
     let row = RowId(BigEndian::read_u64(&front[2..]));
-    if table as usize >= TABLES_MAX {
-        return None;
-    }
     match front[0] {
         INSERT_CODE => read_insert(table, row, rest),
         PATCH_CODE => read_patch(table, row, rest),
-        DELETE_CODE => Some((EntryRef::Delete { table, row }, 10)),
-        _ => None,
+        _ => Some((EntryRef::Delete { table, row }, 10)),
     }
+}
+
+/// Whether an entry that begins with this is of a row.
+fn is_row_code(code: u8) -> bool
+    ensures { result ≡ is_row_code code }
+{
+    code == INSERT_CODE || code == PATCH_CODE || code == DELETE_CODE
 }
 
 /// What stands behind an insert's row: the size, and the data.

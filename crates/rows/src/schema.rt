@@ -6,7 +6,7 @@ ghost use Rattle.std.specs.List.{list_any, list_all};
 ghost use Rattle.std.specs.Str.{bytes_eq};
 ghost use Rattle.rows.specs.Faults.{IsFirstFault};
 ghost use Rattle.rows.specs.SchemaFaults.{schema_fault, table_fault, tables_fault};
-ghost use Rattle.rows.specs.Inner.Shown.{shown};
+ghost use Rattle.rows.specs.Inner.Shown.{kept_table};
 ghost use Rattle.rows.specs.Shape.{given, shape_of, row_width, is_good, column_at, AreColumns, AreTables};
 
 use crate::faults::SchemaFault;
@@ -30,13 +30,13 @@ impl Model for Schema {
     ghost use Rattle.std.specs.Prelude.{◌≡◌, List, ℕ, map, None};
     ghost use Rattle.rows.specs.declared.kind.Kind.{Kind};
     ghost use Rattle.rows.specs.SchemaFaults.{schema_fault};
-    ghost use Rattle.rows.specs.Inner.Shown.{shown};
+    ghost use Rattle.rows.specs.Inner.Shown.{kept_table};
 
     ghost Value = { List (List ℕ × List Kind) };
 
-    ghost view = { λ s. map shown s.tables.entries };
+    ghost view = { λ s. map kept_table s.tables.entries };
 
-    ghost invariant = { λ s. schema_fault (map shown s.tables.entries) ≡ None };
+    ghost invariant = { λ s. schema_fault (map kept_table s.tables.entries) ≡ None };
 }
 
 impl Schema {
@@ -214,7 +214,7 @@ fn build(
     tables: &[(&str, &[Kind])],
 ) -> Result<IndexMap<String, KindList>, AllocError>
     requires { schema_fault (map given tables.now) ≡ None }
-    ensures { IfOk result (λ made. map shown made.entries ≡ map given tables.now) }
+    ensures { IfOk result (λ made. map kept_table made.entries ≡ map given tables.now) }
 {
     let mut made = IndexMap::new(alloc);
     for (name, kinds) in tables {
@@ -225,8 +225,8 @@ fn build(
 
 /// A second map of the same tables. Fails only when out of memory.
 fn copy_of(tables: &IndexMap<String, KindList>) -> Result<IndexMap<String, KindList>, AllocError>
-    requires { tables_fault [] (map shown tables.now.entries) ≡ None }
-    ensures { IfOk result (λ made. map shown made.entries ≡ map shown tables.now.entries) }
+    requires { tables_fault [] (map kept_table tables.now.entries) ≡ None }
+    ensures { IfOk result (λ made. map kept_table made.entries ≡ map kept_table tables.now.entries) }
 {
     let alloc = *tables.allocator();
     let mut made = IndexMap::new(alloc);
@@ -243,9 +243,9 @@ fn add_table(
     name: &str,
     kinds: &[Kind],
 ) -> Result<(), AllocError>
-    requires { table_fault (map shown tables.old.entries) (name.now, kinds.now) ≡ None }
+    requires { table_fault (map kept_table tables.old.entries) (name.now, kinds.now) ≡ None }
     ensures { OnOk result
-        (map shown tables.new.entries ≡ map shown tables.old.entries ++ (name.now, kinds.now) ∷ []) }
+        (map kept_table tables.new.entries ≡ map kept_table tables.old.entries ++ (name.now, kinds.now) ∷ []) }
 {
     let name = String::from_str(alloc, name)?;
     let kinds = KindList::from_slice(alloc, kinds)?;

@@ -4,7 +4,7 @@ ghost use Rattle.std.specs.Prelude.{◌<◌, ◌≤◌, IfOk};
 ghost use Rattle.std.specs.List.{AllByRecursion};
 ghost use Rattle.rows.specs.Limits.{workers_max};
 ghost use Rattle.rows.specs.Spelling.{HasSpelling as EntryHasSpelling};
-ghost use Rattle.wire.specs.Spelling.{HasSpelling, FrameHasSpelling};
+ghost use Rattle.wire.specs.Spelling.{HasDatagramSpelling, FrameHasSpelling};
 
 use rows::{Commit, Entry, RowId};
 use scenarios_common::worker_datagrams::{ASK, FRAME, HEAD, HEAD_OF_TWO, WANT, changed, want_from};
@@ -236,7 +236,7 @@ fn other_entry() -> Option<usize> {
 /// and so many others have none.
 fn head_of(others: u8) -> Datagram<'static>
     requires { others ≤ 1 }
-    ensures { HasSpelling result }
+    ensures { HasDatagramSpelling result }
 {
     let mut counts = Counts::new();
     counts.push(1);
@@ -254,7 +254,7 @@ fn head_of(others: u8) -> Datagram<'static>
 
 /// Whether a buffer that it fills, and `Packet`, have these bytes.
 fn is_written(datagram: &Datagram<'_>, bytes: &[u8]) -> bool
-    requires { HasSpelling datagram.now }
+    requires { HasDatagramSpelling datagram.now }
 {
     let mut room = [0xee; 99];
     let (front, rest) = room.split_at_mut(bytes.len().min(99));

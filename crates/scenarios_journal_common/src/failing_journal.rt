@@ -79,11 +79,13 @@ fn put(content: &mut Vec<u8>, bytes: &[u8])
 }
 
 impl JournalStore for FailingJournal {
-    ghost use Rattle.std.specs.Prelude.{true, ◌-◌, vec_len, vec_capacity};
+    ghost use Rattle.std.specs.Prelude.{[], true, ◌-◌, vec_len, vec_capacity};
 
     type Fault = Refused;
 
     ghost standing = { λ j. j.content.items };
+
+    ghost left_behind = { λ _. [] };
 
     ghost room = { λ j. vec_capacity j.content - vec_len j.content };
 

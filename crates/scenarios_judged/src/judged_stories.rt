@@ -188,6 +188,108 @@ fn refused_events_can_be_tried_again(rt: HostRuntime) -> Result<(), Fail> {
     Ok(())
 }
 
+/// The primary stops, and nothing of what was pending stands.
+const STOP: Event = Event::Stop { count: 0 };
+
+/// What happened before the last event of a story.
+#[derive(Clone, Copy)]
+enum Before {
+    Nothing,
+    Begun,
+    Committed,
+    Stopped,
+    Opened,
+    Asked,
+}
+
+/// The events of a story: what happened before, and the last one.
+fn story_of(alloc: Global, before: Before, last: Event) -> Result<Vec<Event>, AllocError> {
+    let mut events = match before {
+        Before::Nothing => Vec::new(alloc),
+        Before::Begun => Vec::from_slice(alloc, &[Event::Begin])?,
+        Before::Committed => Vec::from_slice(alloc, &[Event::Begin, INSERT, COMMIT])?,
+        Before::Stopped => Vec::from_slice(alloc, &[STOP])?,
+        Before::Opened => Vec::from_slice(alloc, &[OPEN])?,
+        Before::Asked => Vec::from_slice(alloc, &[OPEN, ASK])?,
+    };
+    events.push(last)?;
+    Ok(events)
+}
+
+/// What a story prints before its last event.
+fn printed_before(before: Before) -> &'static str {
+    match before {
+        Before::Nothing => "",
+        Before::Begun => "tx 0 at 0\n",
+        Before::Committed => "tx 0 at 0\nok\nticket 1\n",
+        Before::Stopped => "stopped\n",
+        Before::Opened => "opened 1\n",
+        Before::Asked => "opened 1\nsent 0 23\n",
+    }
+}
+
+/// Stories by what happened before and the last event, and whether that one may answer `memory`: an
+/// event that asks for no memory may not.
+const LAST: [(Before, Event, bool); 26] = [
+    (Before::Nothing, VERSION, false),
+    (Before::Nothing, Event::Abort { transaction: 0 }, false),
+    (Before::Begun, Event::Abort { transaction: 0 }, false),
+    (Before::Nothing, FLUSH, false),
+    (Before::Committed, Event::Flush { count: 0 }, false),
+    (Before::Committed, FLUSH, true),
+    (Before::Begun, INSERT, true),
+    (Before::Nothing, INSERT, false),
+    (Before::Nothing, COMMIT, false),
+    (Before::Begun, COMMIT, false),
+    (Before::Begun, STOP, true),
+    (Before::Stopped, STOP, false),
+    (Before::Stopped, Event::Begin, false),
+    (Before::Stopped, Event::Start, true),
+    (Before::Nothing, Event::Start, false),
+    (Before::Nothing, PUSH, false),
+    (
+        Before::Nothing,
+        Event::Deliver { index: 0, node: R0 },
+        false,
+    ),
+    (Before::Nothing, Event::Show { index: 0 }, false),
+    (Before::Nothing, OPEN, true),
+    (Before::Nothing, ASK, false),
+    (Before::Opened, ASK, true),
+    (Before::Nothing, RUN, false),
+    (Before::Asked, RUN, false),
+    (Before::Nothing, DUMP, true),
+    (
+        Before::Nothing,
+        Event::Restart {
+            replica: 0,
+            boot: 1,
+        },
+        false,
+    ),
+    (
+        Before::Nothing,
+        Event::Restart {
+            replica: 0,
+            boot: 2,
+        },
+        true,
+    ),
+];
+
+#[test]
+fn events_that_ask_for_no_memory_do_not_lack_it(rt: HostRuntime) -> Result<(), Fail> {
+    for (before, last, is_allowed) in LAST {
+        let events = story_of(rt.alloc(), before, last)?;
+        let front = printed_before(before);
+        let refused = refused_at(rt.alloc(), events.as_slice(), &[], &[front, "memory\n"])?;
+        let index = events.len().wrapping_sub(1);
+        let expected = if is_allowed { None } else { Some(index) };
+        assert_eq!(rt; refused, expected, "behind {front}");
+    }
+    Ok(())
+}
+
 /// A replica is started anew between its Ask and the Head, and then has a boot that it had.
 const RESTARTS: [Event; 12] = [
     OPEN,

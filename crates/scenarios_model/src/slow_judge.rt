@@ -45,6 +45,9 @@ fn judge_event(
     printed: &[u8],
 ) -> Result<Option<usize>, AllocError> {
     if printed.starts_with(b"memory\n") {
+        if !asks_for_memory(world, alloc, script, event)? {
+            return Ok(None);
+        }
         refuse_memory(world, event);
         return Ok(Some(7));
     }
@@ -77,6 +80,47 @@ fn ready_version(world: &World, number: u8) -> Option<u64> {
             Some(version)
         }
         _ => None,
+    }
+}
+
+/// Whether an event asks for memory, by what it would answer with ample memory.
+fn asks_for_memory(
+    world: &World,
+    alloc: Global,
+    script: &Script,
+    event: &Event,
+) -> Result<bool, AllocError> {
+    let mut ample = world.clone()?;
+    let mut lines = String::new(alloc);
+    step(&mut ample, alloc, script, event, &mut lines)?;
+    Ok(takes_memory(world, event, lines.as_bytes()))
+}
+
+/// Whether these lines of an event are made with memory.
+fn takes_memory(world: &World, event: &Event, lines: &[u8]) -> bool {
+    match event {
+        Event::Get { .. } | Event::Abort { .. } | Event::Version { .. } => false,
+        Event::Begin => lines.starts_with(b"tx "),
+        Event::Insert { .. } | Event::Set { .. } | Event::Delete { .. } => lines
+            == b"ok\n".as_slice(),
+        Event::Commit { .. } => lines.starts_with(b"ticket "),
+        Event::Flush { count } => {
+            lines.starts_with(b"durable ") && *count != 0 && world.durable < world.last
+        }
+        Event::Stop { .. } => !world.stopped,
+        Event::Start => lines.starts_with(b"durable "),
+        Event::Push { .. } | Event::Ask { .. } => lines.starts_with(b"sent "),
+        Event::Deliver { .. } | Event::Raw { .. } => {
+            lines.starts_with(b"sent ") || lines == b"stored\n".as_slice()
+        }
+        Event::Show { .. } => lines != b"never sent\n".as_slice(),
+        Event::Open { .. } => lines.starts_with(b"opened "),
+        Event::Run { .. } => {
+            lines.starts_with(b"version ")
+                || (lines.starts_with(b"waiting ") && lines != b"waiting head\n".as_slice())
+        }
+        Event::Dump { .. } => lines.starts_with(b"version "),
+        Event::Restart { .. } => lines.starts_with(b"boot ") && lines != b"boot used\n".as_slice(),
     }
 }
 

@@ -11,7 +11,7 @@ use crate::slow_transactions::{Transaction, abort, begin, change, commit, flush,
 use std::alloc::{AllocError, Global};
 
 /// Everything there is.
-#[derive(Drop)]
+#[derive(Clone, Drop)]
 pub struct World {
     pub settings: Settings,
     /// The changes of all commits, durable or pending, in their order.

@@ -10,6 +10,7 @@ use plans::{
     Aggregate, AggregateList, Column, ColumnList, Comparison, Condition, ConditionList, Join, Plan,
     PlanFault, answer_batch, report,
 };
+use rows::laws::changes_keep_kinds;
 use rows::{Entry, Kind, Octets, RowId, Schema, Value, row_bytes};
 use std::alloc::{AllocError, Global};
 use std::test::Fail;
@@ -77,6 +78,7 @@ pub fn filled(alloc: Global, schema: &Schema, lines: &[Line]) -> Result<PlainSto
     ensures whole { IfOk result (λ store. store.whole ≡ true) }
     ensures kinds { IfOk result (λ store. shape_in store.tables ≡ shape_of schema.now) }
 {
+    changes_keep_kinds();
     let mut store = PlainStore::new(alloc, schema)?;
     for line in lines {
         put(alloc, &mut store, line)?;

@@ -1,14 +1,7 @@
 //! Accounts, each a number and two bytes, and commits that change them.
 
-ghost use Rattle.std.specs.Prelude.{◌≡◌, ◌∷◌, [], ◌++◌, length, true};
-ghost use Rattle.std.specs.Bool.{OnTrue};
-ghost use Rattle.rows.specs.Entries.{table_of, row_of};
-ghost use Rattle.rows.specs.Presence.{is_there_after};
-ghost use Rattle.rows.specs.Tables.{is_row_at};
-ghost use Rattle.mvcc.specs.History.{tables_at, defined_at};
-
 use mvcc::Versions;
-use rows::{Entry, Kind, Octets, Schema, Value, fits, is_there_after};
+use rows::{Entry, Kind, Octets, Schema, Value};
 use scenarios_common::wanted::{SIX, Table, Wanted, all_made};
 use std::alloc::Global;
 use std::test::Fail;
@@ -92,42 +85,8 @@ fn absorb_all(
 /// Absorbs a commit of worker 0 that is defined on the newest rows, if there is memory; answers
 /// whether there was.
 pub fn is_absorbed(versions: &mut Versions, entries: &[Entry]) -> Result<bool, Fail> {
-    if !are_defined(versions, entries) {
+    if !versions.are_defined(versions.len(), entries) {
         return Err("not defined".into());
     }
     Ok(versions.absorb(0, entries).is_ok())
-}
-
-/// Whether each of the entries is defined where it stands on the newest rows.
-fn are_defined(versions: &Versions, entries: &[Entry]) -> bool
-    ensures { OnTrue result (defined_at versions.now (length versions.now.commits) entries.now ≡ true) }
-{
-    for index in 0..entries.len() {
-        let (before, _) = entries.split_at(index);
-        if !is_defined(versions, before, &entries[index]) {
-            return false;
-        }
-    }
-    true
-}
-
-/// Whether an entry is defined behind these, which are, on the newest rows.
-#[tactic(auto, using(crate::proofs::Defined::defined_at_push))]
-fn is_defined(versions: &Versions, before: &[Entry], entry: &Entry) -> bool
-    requires { defined_at versions.now (length versions.now.commits) before.now ≡ true }
-    ensures { result ≡ defined_at versions.now (length versions.now.commits) (before.now ++ entry.now ∷ []) }
-{
-    fits(versions.schema(), entry).is_ok()
-        && entry.is_possible(is_row_there_after(versions, before, entry))
-}
-
-/// Whether the row of the entry is there after these entries, on the newest rows.
-fn is_row_there_after(versions: &Versions, before: &[Entry], entry: &Entry) -> bool
-    ensures { result ≡ is_there_after (table_of entry.now) (row_of entry.now) before.now
-        (is_row_at (tables_at versions.now (length versions.now.commits)) (table_of entry.now) (row_of entry.now)) }
-{
-    let table = entry.table();
-    let row = entry.row();
-    let was = versions.is_present(versions.len(), table, row);
-    is_there_after(table, row, before, was)
 }

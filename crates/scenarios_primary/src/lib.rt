@@ -7,6 +7,8 @@ mod accounts;
 #[cfg(test)]
 mod commits;
 #[cfg(test)]
+mod lending;
+#[cfg(test)]
 mod primary_starts;
 #[cfg(test)]
 mod primary_steps;

@@ -85,6 +85,9 @@ fn live_on(
     primary.keeps_legal();
     let is_started = started == Started::Durable(primary.durable());
     let other = other_step_of(alloc, 2, &mut primary, story)?;
+    if primary.lent() {
+        return Err("the journal is lent out".into());
+    }
     Ok((primary.into_journal(), is_started && other.is_none()))
 }
 

@@ -78,7 +78,7 @@ fn other_step(alloc: Global, workers: u8, story: &[Line]) -> Result<Option<usize
 }
 
 /// A primary without commits, whose journal is in memory.
-fn start(alloc: Global, workers: u8) -> Result<PrimaryCore<MemJournal>, Fail>
+pub fn start(alloc: Global, workers: u8) -> Result<PrimaryCore<MemJournal>, Fail>
     requires some { 0 < workers }
     requires few { workers ≤ workers_max }
     ensures { IfOk result (λ primary. primary.primary.workers ≡ workers) }
@@ -92,13 +92,14 @@ fn start(alloc: Global, workers: u8) -> Result<PrimaryCore<MemJournal>, Fail>
 }
 
 /// The index of the first step that a primary answers otherwise.
-pub fn other_step_of<J: JournalStore>(
+pub fn other_step_of<J: JournalStore + Drop>(
     alloc: Global,
     workers: u8,
     primary: &mut PrimaryCore<J>,
     story: &[Line],
 ) -> Result<Option<usize>, Fail>
     requires { primary.old.primary.workers ≡ workers }
+    ensures { primary.new.primary.workers ≡ workers }
 {
     for (index, (step, durable, pending)) in story.iter().enumerate() {
         if !is_answered(alloc, workers, primary, step)? || counts(primary) != (*durable, *pending) {
@@ -114,7 +115,7 @@ fn counts<J: JournalStore>(primary: &PrimaryCore<J>) -> (u64, usize) {
 }
 
 /// Whether this step answers as it should.
-fn is_answered<J: JournalStore>(
+fn is_answered<J: JournalStore + Drop>(
     alloc: Global,
     workers: u8,
     primary: &mut PrimaryCore<J>,
@@ -249,7 +250,7 @@ fn is_expected(
 
 /// Whether a flush of so many commits is answered so. Where memory is refused, that has moved
 /// nothing, and it is asked for once more.
-fn is_flushed<J: JournalStore>(
+fn is_flushed<J: JournalStore + Drop>(
     primary: &mut PrimaryCore<J>,
     count: usize,
     expected: Result<u64, FlushFault>,
@@ -257,24 +258,11 @@ fn is_flushed<J: JournalStore>(
     ensures { primary.new.primary.workers ≡ primary.old.primary.workers }
 {
     let before = counts(primary);
-    let flushed = flush(primary, count)?;
+    let flushed = primary.flush(count);
     if flushed == Err(FlushFault::Memory) {
-        return Ok(counts(primary) == before && flush(primary, count)? == expected);
+        return Ok(counts(primary) == before && primary.flush(count) == expected);
     }
     Ok(flushed == expected)
-}
-
-/// Flushes so many commits.
-fn flush<J: JournalStore>(
-    primary: &mut PrimaryCore<J>,
-    count: usize,
-) -> Result<Result<u64, FlushFault>, Fail>
-    ensures { primary.new.primary.workers ≡ primary.old.primary.workers }
-{
-    if primary.journal().faults() == u64::MAX {
-        return Err("too many faults".into());
-    }
-    Ok(primary.flush(count))
 }
 
 /// Whether the records of the pending commits are these, at once or where that was refused for

@@ -2,7 +2,7 @@
 
 use crate::accounts::{ACCOUNTS, Cell, HISTORY, is_absorbed, is_held, versions_of};
 use mvcc::Versions;
-use rows::{Entry, RowId};
+use rows::{Commit, Entry, RowId};
 use scenarios_common::wanted::{Wanted, all_made};
 use std::alloc::Global;
 use std::test::Fail;
@@ -237,5 +237,96 @@ fn is_made(alloc: Global) -> Result<bool, Fail> {
 #[test]
 fn a_commit_absorbed_without_memory_changes_nothing(rt: HostRuntime) -> Result<(), Fail> {
     assert!(rt; is_made(rt.alloc())?);
+    Ok(())
+}
+
+/// How a commit is applied.
+#[derive(Clone, Copy)]
+enum Applying {
+    Lent,
+    HandedOver,
+}
+
+/// Commits, and whether each is added, one after the other, behind four commits of the history:
+/// account 7 is there, account 8 is taken out twice, and that commit is not possible again.
+const APPLIED: [(&[Wanted<'static>], bool); 4] = [
+    (&[Wanted::Insert(0, 7, b"\0\0\0\0\0\0\0\x05ab")], false),
+    (&[Wanted::Delete(0, 8), Wanted::Delete(0, 8)], false),
+    (&COMMIT, true),
+    (&COMMIT, false),
+];
+
+/// Whether the commit is added.
+fn is_added(versions: &mut Versions, commit: Commit, applying: Applying) -> Result<bool, Fail> {
+    match applying {
+        Applying::Lent => Ok(versions.apply(&commit)?),
+        Applying::HandedOver => match versions.apply_owned(commit) {
+            Ok(added) => Ok(added),
+            Err(_) => Err("out of memory".into()),
+        },
+    }
+}
+
+/// The commit of worker 0 of these entries.
+fn commit_of(alloc: Global, wanted: &[Wanted<'_>]) -> Result<Commit, Fail> {
+    let entries = all_made(alloc, wanted)?;
+    Ok(Commit { worker: 0, entries })
+}
+
+/// The index of the first of these commits that is added where it is not to be, or not added.
+fn other_added(
+    alloc: Global,
+    versions: &mut Versions,
+    applying: Applying,
+) -> Result<Option<usize>, Fail> {
+    for (index, (wanted, expected)) in APPLIED.iter().enumerate() {
+        let commit = commit_of(alloc, wanted)?;
+        if is_added(versions, commit, applying)? != *expected {
+            return Ok(Some(index));
+        }
+    }
+    Ok(None)
+}
+
+/// Whether these commits are applied as they should be.
+fn are_applied(alloc: Global, applying: Applying) -> Result<bool, Fail> {
+    let mut versions = versions_of(alloc, &ACCOUNTS, &HISTORY[..4])?;
+    let other = other_added(alloc, &mut versions, applying)?;
+    Ok(other.is_none() && other_found(alloc, &versions, &BEHIND)?.is_none())
+}
+
+/// A commit is added if its entries are defined, and otherwise changes nothing.
+#[test]
+fn commits_that_are_defined_are_applied(rt: HostRuntime) -> Result<(), Fail> {
+    assert!(rt; are_applied(rt.alloc(), Applying::Lent)?);
+    assert!(rt; are_applied(rt.alloc(), Applying::HandedOver)?);
+    Ok(())
+}
+
+/// Hands a commit over, and again where it was handed back for want of memory; answers whether it
+/// was added, and whether refused memory had left what was found before.
+fn is_taken_over(alloc: Global, versions: &mut Versions, commit: Commit) -> Result<bool, Fail> {
+    match versions.apply_owned(commit) {
+        Ok(added) => Ok(added),
+        Err(back) => {
+            let kept = other_found(alloc, versions, &BEFORE)?.is_none();
+            Ok(kept && is_added(versions, back, Applying::HandedOver)?)
+        }
+    }
+}
+
+/// Whether that commit is handed over as it should be, behind four commits of the history.
+fn is_handed_over(alloc: Global) -> Result<bool, Fail> {
+    let mut versions = versions_of(alloc, &ACCOUNTS, &HISTORY[..4])?;
+    let commit = commit_of(alloc, &COMMIT)?;
+    let taken = is_taken_over(alloc, &mut versions, commit)?;
+    Ok(taken && other_found(alloc, &versions, &BEHIND)?.is_none())
+}
+
+/// Whichever request for memory is refused: a commit that was handed back has changed nothing, and
+/// is added when it is handed over again.
+#[test]
+fn a_commit_handed_over_without_memory_changes_nothing(rt: HostRuntime) -> Result<(), Fail> {
+    assert!(rt; is_handed_over(rt.alloc())?);
     Ok(())
 }

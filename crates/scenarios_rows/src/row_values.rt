@@ -86,10 +86,14 @@ fn is_that_commit(commit: &Commit) -> bool {
     }
 }
 
-/// Whether the copy of a commit holds its entries.
+/// Whether the copy of a commit holds its entries, and equals one with a copy of them, and none
+/// without entries.
 fn holds_its_entries(alloc: Global) -> Result<bool, Fail> {
     let commit = copy_of_a_commit(alloc)?;
-    Ok(commit.entries.len() == 1 && is_that_commit(&commit))
+    let entries = EntryList::from_slice(alloc, commit.entries.as_slice())?;
+    let same = Commit { worker: 3, entries } == commit;
+    let none = commit.entries == EntryList::new(alloc);
+    Ok(commit.entries.len() == 1 && is_that_commit(&commit) && same && !none)
 }
 
 #[test]

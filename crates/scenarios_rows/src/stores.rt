@@ -4,8 +4,8 @@
 ghost use Rattle.std.specs.Prelude.{◌≡◌, [], ◌∷◌, length, true, Ok, IfOk, OnOk, IsOkAnd, IsSome};
 ghost use Rattle.rows.specs.declared.kind.Kind.TheVariants.{Int, Octets as OctetsOf};
 ghost use Rattle.rows.specs.Reading.{entry_of};
-ghost use Rattle.rows.specs.Tables.{rows_of, row_at, change_of};
-ghost use Rattle.rows.specs.Commits.{commits_of};
+ghost use Rattle.rows.specs.Tables.{rows_of, row_at, apply_entry};
+ghost use Rattle.rows.specs.Commits.{apply_commits};
 ghost use Rattle.store.specs.Changes.{column_of};
 
 use rows::{ByteList, Commit, Entry, EntryRef, Kind, Octets, RowId, Schema, Value};
@@ -103,7 +103,11 @@ fn kind_of_change<S: Store>(store: &mut S, entry: &Entry) -> u8 {
 
 /// Whether the store is whole, and whether it has the row of that entry. Takes no memory.
 fn told<S: Store>(store: &S, entry: &Entry) -> (bool, bool) {
-    let place = store.find(entry.table(), entry.row());
+    let place = match entry {
+        Entry::Insert { table, row, .. }
+        | Entry::Patch { table, row, .. }
+        | Entry::Delete { table, row } => store.find(*table, *row),
+    };
     (store.whole(), place.is_some())
 }
 
@@ -152,7 +156,7 @@ fn made_commits(alloc: Global, lists: &[&[Wanted<'_>]]) -> Result<Vec<Commit>, A
 /// How many accounts there are once these commits are applied to a store without rows. The clauses
 /// of the bound alone say that it is what the commits make.
 fn count_after<S: ApplyStore + Sync>(store: &mut S, commits: &[Commit]) -> Result<usize, ApplyFault>
-    ensures { IfOk result (λ count. IsOkAnd (commits_of (S.tables store.old) commits.now)
+    ensures { IfOk result (λ count. IsOkAnd (apply_commits (S.tables store.old) commits.now)
         (λ after. count ≡ length (rows_of after 0))) }
 {
     store.apply_all(commits)?;
@@ -324,7 +328,7 @@ fn owned(alloc: Global, lent: EntryRef<'_>) -> Result<Entry, AllocError>
 
 /// The store makes the change of an entry.
 fn make(alloc: Global, store: &mut PlainStore, lent: EntryRef<'_>) -> Result<(), Fail>
-    ensures made { OnOk result (change_of store.old.tables (entry_of lent.entry) ≡ Ok store.new.tables) }
+    ensures made { OnOk result (apply_entry store.old.tables (entry_of lent.entry) ≡ Ok store.new.tables) }
     ensures whole { store.new.whole ≡ store.old.whole }
 {
     store.change(&owned(alloc, lent)?)?;

@@ -15,12 +15,12 @@ use Rattle.script.specs.declared.faults.Reason.TheVariants.{UnknownEvent, NoTabl
 use Rattle.script.specs.EventText.{event_words, tables_in, node_text}
 use Rattle.script.specs.Events.{HasLine, IsPossible, IsThere}
 use Rattle.script.specs.Tables.{table_called}
-use Rattle.script.specs.Inner.Reading.{placed, row_of, node_of, begin_of, commit_of, abort_of, flush_of}
+use Rattle.script.specs.Inner.Reading.{on_table, row_of, node_of, begin_of, commit_of, abort_of, flush_of}
 use Rattle.script.specs.Inner.WordReading.{or_no_table}
 use Rattle.script.specs.Inner.Reading.{pair_of, stop_of, start_of, raw_of}
 use Rattle.script.specs.Inner.Reading.{deliver_of, show_of, replica_of, insert_of, set_of, delete_of, get_of, open_of}
 use Rattle.script.specs.Inner.PlanReading.{plan_of}
-use Rattle.script.specs.Inner.Reading.{opened}
+use Rattle.script.specs.Inner.Reading.{open_event}
 use Rattle.script.specs.Inner.Reading.{one_of, two_of, three_of, four_of, five_of, three_and_more}
 use Rattle.script.specs.Inner.Reading.{replica_event, network_event, primary_event, event_of}
 use Rattle.script.specs.Tables.{AreNamed}
@@ -46,7 +46,7 @@ at_tables setup naming (Delete transaction table row) =
     tabled (table_called setup.schema (naming table)) (λ found. Delete transaction found row)
 at_tables setup naming (Get transaction table row column) =
     tabled (table_called setup.schema (naming table)) (λ found. Get transaction found row column)
-at_tables setup naming (Open replica plan) = opened (Some replica) (plan_of setup.schema (plan_words naming plan))
+at_tables setup naming (Open replica plan) = open_event (Some replica) (plan_of setup.schema (plan_words naming plan))
 at_tables setup naming other = Ok other
 
 -- what words give
@@ -55,7 +55,7 @@ words_event setup [] = Err UnknownEvent
 words_event setup (first ∷ words) = event_of setup first words
 
 placed-tabled : {A : Type 0} (parts : A) (found : Option ℕ) (make : A → ℕ → Event)
-    → placed (Some parts) (or_no_table found) make ≡ tabled found (make parts)
+    → on_table (Some parts) (or_no_table found) make ≡ tabled found (make parts)
 placed-tabled parts None make = refl
 placed-tabled parts (Some table) make = refl
 

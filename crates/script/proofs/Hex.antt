@@ -14,7 +14,7 @@ use Rattle.rows.specs.Limits.{octets_max}
 use Rattle.rows.specs.Spelling.{AreBytes}
 use Rattle.rows.specs.Text.{hex_text}
 use Rattle.script.specs.EventText.{bytes_text}
-use Rattle.script.specs.Inner.WordReading.{both, made, two, digit_of, byte_of, bytes_of, hex_of, sized, octets_of}
+use Rattle.script.specs.Inner.WordReading.{both, made, two, digit_of, byte_of, bytes_of_digits, hex_of, of_octets_size, octets_of}
 use Rattle.script.proofs.Numbers.{words_same}
 
 -- the parts of what two of them made
@@ -38,14 +38,14 @@ made-some make None b h = absurd (cc)
 made-some make (Some a) b h = (a, refl, cc)
 
 -- how many digits bytes have
-pub bytes_of-length : (digits bytes : List ℕ) → bytes_of digits ≡ Some bytes → length digits ≡ 2 * length bytes
+pub bytes_of-length : (digits bytes : List ℕ) → bytes_of_digits digits ≡ Some bytes → length digits ≡ 2 * length bytes
 bytes_of-length [] bytes h =
     let same : [] ≡ bytes = cc in
     let P : List ℕ → Type 0 = λ made. 0 ≡ 2 * length made in
     subst P same refl
 bytes_of-length (high ∷ []) bytes h = absurd (cc)
 bytes_of-length (high ∷ low ∷ digits) bytes h =
-    let p = both-some (byte_of high low) (bytes_of digits) (λ byte rest. byte ∷ rest) bytes h in
+    let p = both-some (byte_of high low) (bytes_of_digits digits) (λ byte rest. byte ∷ rest) bytes h in
     let few : length digits ≡ 2 * length p.1 = bytes_of-length digits p.1 p.3 in
     let P : List ℕ → Type 0 = λ made. length (high ∷ low ∷ digits) ≡ 2 * length made in
     subst P p.4 (omega arith)
@@ -70,8 +70,8 @@ onto-none (Some bytes) = refl
 
 pub hex-more : (digits front : List ℕ) (i byte : ℕ) → 2 * i + 1 < length digits
     → byte_of (get_or digits (2 * i) 0) (get_or digits (2 * i + 1) 0) ≡ Some byte
-    → onto front (bytes_of (drop (2 * i) digits)) ≡ onto (front ++ byte ∷ []) (bytes_of (drop (2 * (i + 1)) digits))
-hex-more digits front i byte within is = rw (pair_at digits i within) (rw is (by (bytes_of (drop (2 * (i + 1)) digits))))
+    → onto front (bytes_of_digits (drop (2 * i) digits)) ≡ onto (front ++ byte ∷ []) (bytes_of_digits (drop (2 * (i + 1)) digits))
+hex-more digits front i byte within is = rw (pair_at digits i within) (rw is (by (bytes_of_digits (drop (2 * (i + 1)) digits))))
   where
     by : (rest : Option (List ℕ)) → onto front (both (Some byte) rest (λ first more. first ∷ more)) ≡ onto (front ++ byte ∷ []) rest
     by None = refl
@@ -79,37 +79,38 @@ hex-more digits front i byte within is = rw (pair_at digits i within) (rw is (by
 
 pub hex-step : (digits bytes : List ℕ) (i byte : ℕ) → 2 * i + 1 < length digits → i < length bytes
     → byte_of (get_or digits (2 * i) 0) (get_or digits (2 * i + 1) 0) ≡ Some byte
-    → onto (take i bytes) (bytes_of (drop (2 * i) digits)) ≡ onto (take (i + 1) (set bytes i byte)) (bytes_of (drop (2 * (i + 1)) digits))
+    → onto (take i bytes) (bytes_of_digits (drop (2 * i) digits)) ≡ onto (take (i + 1) (set bytes i byte))
+    (bytes_of_digits (drop (2 * (i + 1)) digits))
 hex-step digits bytes i byte within room is =
     rw (take_more_set bytes i byte room) (hex-more digits (take i bytes) i byte within is)
 
 pub hex-stop : (digits : List ℕ) (front : List ℕ) (i : ℕ) → 2 * i + 1 < length digits
-    → byte_of (get_or digits (2 * i) 0) (get_or digits (2 * i + 1) 0) ≡ None → onto front (bytes_of (drop (2 * i) digits)) ≡ None
+    → byte_of (get_or digits (2 * i) 0) (get_or digits (2 * i + 1) 0) ≡ None → onto front (bytes_of_digits (drop (2 * i) digits)) ≡ None
 hex-stop digits front i within none = rw (pair_at digits i within) (rw none refl)
 
 -- no octets of a wrong number of digits
 pub octets-none : (digits : List ℕ) → ((count : ℕ) → 0 < count → count ≤ octets_max → length digits ≡ 2 * count → ⊥)
     → octets_of digits ≡ None
 unfolding octets_of
-octets-none digits none = by (bytes_of digits) refl
+octets-none digits none = by (bytes_of_digits digits) refl
   where
-    few : (bytes : List ℕ) (some fits : Bool) → bytes_of digits ≡ Some bytes → nat_lt 0 (length bytes) ≡ some
+    few : (bytes : List ℕ) (some fits : Bool) → bytes_of_digits digits ≡ Some bytes → nat_lt 0 (length bytes) ≡ some
         → nat_le (length bytes) octets_max ≡ fits → cond (some && fits) (Some bytes) None ≡ None
     few bytes true true e a b =
         absurd (none (length bytes) (ltb-true 0 (length bytes) a) (leb-true (length bytes) octets_max b) (bytes_of-length digits bytes e))
     few bytes true false e a b = refl
     few bytes false fits e a b = refl
 
-    by : (found : Option (List ℕ)) → bytes_of digits ≡ found → sized found ≡ None
+    by : (found : Option (List ℕ)) → bytes_of_digits digits ≡ found → of_octets_size found ≡ None
     by None e = refl
     by (Some bytes) e = few bytes _ _ e refl refl
 
-pub octets-of : (digits bytes : List ℕ) → bytes_of digits ≡ Some bytes → 0 < length bytes → length bytes ≤ octets_max
+pub octets-of : (digits bytes : List ℕ) → bytes_of_digits digits ≡ Some bytes → 0 < length bytes → length bytes ≤ octets_max
     → octets_of digits ≡ Some bytes
 unfolding octets_of
 octets-of digits bytes e some few = rw e (rw (lt-ltb 0 (length bytes) some) (rw (le-leb (length bytes) octets_max few) refl))
 
-pub octets-broken : (digits : List ℕ) → bytes_of digits ≡ None → octets_of digits ≡ None
+pub octets-broken : (digits : List ℕ) → bytes_of_digits digits ≡ None → octets_of digits ≡ None
 unfolding octets_of
 octets-broken digits e = rw e refl
 
@@ -146,19 +147,19 @@ byte_of-some high low byte h =
     (omega arith, ap (digit_glyph false) front ∙ a.1, ap (digit_glyph false) back ∙ b.1)
 
 -- the bytes of what they are written as
-bytes_of-text : (bytes : List ℕ) → AreBytes bytes → bytes_of (hex_text bytes) ≡ Some bytes
+bytes_of-text : (bytes : List ℕ) → AreBytes bytes → bytes_of_digits (hex_text bytes) ≡ Some bytes
 bytes_of-text [] are = refl
 bytes_of-text (byte ∷ bytes) are =
     rw (byte_of-text byte (are 0)) (rw (bytes_of-text bytes (λ i. are (suc i))) refl)
 
-bytes_of-some : (digits bytes : List ℕ) → bytes_of digits ≡ Some bytes → AreBytes bytes × (hex_text bytes ≡ digits)
+bytes_of-some : (digits bytes : List ℕ) → bytes_of_digits digits ≡ Some bytes → AreBytes bytes × (hex_text bytes ≡ digits)
 bytes_of-some [] bytes h =
     let same : [] ≡ bytes = cc in
     let P : List ℕ → Type 0 = λ made. AreBytes made × (hex_text made ≡ []) in
     subst P same (λ i. lit< tt, refl)
 bytes_of-some (high ∷ []) bytes h = absurd (cc)
 bytes_of-some (high ∷ low ∷ digits) bytes h =
-    let p = both-some (byte_of high low) (bytes_of digits) (λ byte rest. byte ∷ rest) bytes h in
+    let p = both-some (byte_of high low) (bytes_of_digits digits) (λ byte rest. byte ∷ rest) bytes h in
     let front = byte_of-some high low p.0 p.2 in
     let rest = bytes_of-some digits p.1 p.3 in
     let P : List ℕ → Type 0 = λ made. AreBytes made × (hex_text made ≡ high ∷ low ∷ digits) in
@@ -180,7 +181,7 @@ hex_of-text [] are = refl
 hex_of-text (byte ∷ bytes) are = by (bytes_eq (hex_text (byte ∷ bytes)) (codes "-")) refl
   where
     by : (is : Bool) → bytes_eq (hex_text (byte ∷ bytes)) (codes "-") ≡ is
-        → cond is (Some []) (bytes_of (hex_text (byte ∷ bytes))) ≡ Some (byte ∷ bytes)
+        → cond is (Some []) (bytes_of_digits (hex_text (byte ∷ bytes))) ≡ Some (byte ∷ bytes)
     by true e =
         let counts : suc (suc (length (hex_text bytes))) ≡ 1 =
         ap (λ (word : List ℕ). length word) (words_same (hex_text (byte ∷ bytes)) (codes "-") e) in
@@ -196,7 +197,7 @@ hex_of-some (first ∷ rest) bytes h = by (bytes_eq (first ∷ rest) (codes "-")
     written [] e = cc
     written (byte ∷ more) e = e
 
-    by : (is : Bool) → bytes_eq (first ∷ rest) (codes "-") ≡ is → cond is (Some []) (bytes_of (first ∷ rest)) ≡ Some bytes
+    by : (is : Bool) → bytes_eq (first ∷ rest) (codes "-") ≡ is → cond is (Some []) (bytes_of_digits (first ∷ rest)) ≡ Some bytes
         → AreBytes bytes × (bytes_text bytes ≡ first ∷ rest)
     by true e k =
         let same : [] ≡ bytes = cc in
@@ -213,7 +214,7 @@ hex-dash [] e = cc
 hex-dash (first ∷ rest) e = rw e refl
 
 -- another word is pairs of digits
-pub hex-pairs : (word : List ℕ) → (length word == 0) ≡ false → bytes_eq word (codes "-") ≡ false → hex_of word ≡ bytes_of word
+pub hex-pairs : (word : List ℕ) → (length word == 0) ≡ false → bytes_eq word (codes "-") ≡ false → hex_of word ≡ bytes_of_digits word
 unfolding hex_of
 hex-pairs [] some e = cc
 hex-pairs (first ∷ rest) some e = rw e refl
@@ -223,9 +224,9 @@ pub hex-odd : (word : List ℕ) → bytes_eq word (codes "-") ≡ false → ((co
     → hex_of word ≡ None
 unfolding hex_of
 hex-odd [] e odd = refl
-hex-odd (first ∷ rest) e odd = rw e (by (bytes_of (first ∷ rest)) refl)
+hex-odd (first ∷ rest) e odd = rw e (by (bytes_of_digits (first ∷ rest)) refl)
   where
-    by : (found : Option (List ℕ)) → bytes_of (first ∷ rest) ≡ found → found ≡ None
+    by : (found : Option (List ℕ)) → bytes_of_digits (first ∷ rest) ≡ found → found ≡ None
     by None f = refl
     by (Some bytes) f =
         let even : length (first ∷ rest) ≡ 2 * length bytes = bytes_of-length (first ∷ rest) bytes f in
@@ -233,10 +234,10 @@ hex-odd (first ∷ rest) e odd = rw e (by (bytes_of (first ∷ rest)) refl)
 
 -- all digits were read
 pub hex-made : (digits bytes : List ℕ) (len : ℕ) → length digits ≡ 2 * len
-    → bytes_of digits ≡ onto bytes (bytes_of (drop (2 * len) digits)) → bytes_of digits ≡ Some bytes
+    → bytes_of_digits digits ≡ onto bytes (bytes_of_digits (drop (2 * len) digits)) → bytes_of_digits digits ≡ Some bytes
 hex-made digits bytes len even made =
     let gone : drop (2 * len) digits ≡ [] = drop_all (2 * len) digits (omega arith) in
-    made ∙ ap (λ (rest : List ℕ). onto bytes (bytes_of rest)) gone ∙ ap (λ (whole : List ℕ). Some whole) (append-nil bytes)
+    made ∙ ap (λ (rest : List ℕ). onto bytes (bytes_of_digits rest)) gone ∙ ap (λ (whole : List ℕ). Some whole) (append-nil bytes)
 
 -- octets and their digits
 pub octets_of-text : (bytes : List ℕ) → (0 < length bytes) × (length bytes ≤ octets_max) × AreBytes bytes
@@ -246,9 +247,9 @@ octets_of-text bytes good = octets-of (hex_text bytes) bytes (bytes_of-text byte
 pub octets_of-some : (digits bytes : List ℕ) → octets_of digits ≡ Some bytes
     → ((0 < length bytes) × (length bytes ≤ octets_max) × AreBytes bytes) × (hex_text bytes ≡ digits)
 unfolding octets_of
-octets_of-some digits bytes h = by (bytes_of digits) refl h
+octets_of-some digits bytes h = by (bytes_of_digits digits) refl h
   where
-    few : (found : List ℕ) (some fits : Bool) → bytes_of digits ≡ Some found → nat_lt 0 (length found) ≡ some
+    few : (found : List ℕ) (some fits : Bool) → bytes_of_digits digits ≡ Some found → nat_lt 0 (length found) ≡ some
         → nat_le (length found) octets_max ≡ fits → cond (some && fits) (Some found) None ≡ Some bytes
         → ((0 < length bytes) × (length bytes ≤ octets_max) × AreBytes bytes) × (hex_text bytes ≡ digits)
     few found true true e a b k =
@@ -259,19 +260,19 @@ octets_of-some digits bytes h = by (bytes_of digits) refl h
     few found true false e a b k = absurd (cc)
     few found false fits e a b k = absurd (cc)
 
-    by : (found : Option (List ℕ)) → bytes_of digits ≡ found → sized found ≡ Some bytes
+    by : (found : Option (List ℕ)) → bytes_of_digits digits ≡ found → of_octets_size found ≡ Some bytes
         → ((0 < length bytes) × (length bytes ≤ octets_max) × AreBytes bytes) × (hex_text bytes ≡ digits)
     by None e k = absurd (cc)
     by (Some found) e k = few found _ _ e refl refl k
 
 -- all digits were read
 pub octets-made : (digits bytes : List ℕ) (len : ℕ) → length digits ≡ 2 * len → 0 < len → len ≤ 64 → length bytes ≡ 64
-    → bytes_of digits ≡ onto (take len bytes) (bytes_of (drop (2 * len) digits))
+    → bytes_of_digits digits ≡ onto (take len bytes) (bytes_of_digits (drop (2 * len) digits))
     → cond (nat_lt 64 (length (take len bytes))) None (Some (take len bytes)) ≡ octets_of digits
 octets-made digits bytes len even some few room made =
     let gone : drop (2 * len) digits ≡ [] = drop_all (2 * len) digits (omega arith) in
-    let all : bytes_of digits ≡ Some (take len bytes) =
-    made ∙ ap (λ (rest : List ℕ). onto (take len bytes) (bytes_of rest)) gone
+    let all : bytes_of_digits digits ≡ Some (take len bytes) =
+    made ∙ ap (λ (rest : List ℕ). onto (take len bytes) (bytes_of_digits rest)) gone
     ∙ ap (λ (whole : List ℕ). Some whole) (append-nil (take len bytes)) in
     let count : length (take len bytes) ≡ len = length-take-le len bytes (omega arith) in
     let small : nat_lt 64 (length (take len bytes)) ≡ false = grind (arith, nat_tests) in

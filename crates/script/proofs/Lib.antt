@@ -27,3 +27,6 @@ mod Beginnings
 mod OneLine
 pub mod Pieces
 mod WholeTexts
+mod EventFaults
+mod NextLines
+mod TextFaults

@@ -13,7 +13,7 @@ use Rattle.script.specs.declared.setup.Setup.{Setup}
 use Rattle.script.specs.Text.{is_text}
 use Rattle.script.specs.EventText.{event_text}
 use Rattle.script.specs.EventLines.{IsEventLine, IsEventFault, begins_with, setting_names}
-use Rattle.script.specs.Settings.{IsNext, IsSetup, is_ready, settings_lines, setup_lines}
+use Rattle.script.specs.Settings.{IsNextSetting, IsSetup, is_ready, settings_lines, setup_lines}
 use Rattle.script.specs.Scripts.{AreEvents, IsLineFault, events_lines, is_kept}
 use Rattle.script.specs.Inner.LineFaults.{OrMemory}
 use Rattle.script.specs.Inner.OneLine.{IsLineRead}
@@ -80,7 +80,7 @@ no-lines (Ready setup) = refl
 
 -- a setting stands behind those before it, where no event is
 pub setting-read : (settings next : Settings) (line : List ℕ) (events : List Event) → is_text line ≡ true → is_kept line ≡ true
-    → events ≡ [] → IsNext settings line next → IsLineRead settings events line next events
+    → events ≡ [] → IsNextSetting settings line next → IsLineRead settings events line next events
 setting-read settings next line events text kept none is =
     let P : List Event → Type 0 = λ all. IsLineRead settings all line next all in
     subst P (sym none) (record {
@@ -120,7 +120,7 @@ setting-not (Ready setup) line events (Because BadSetting) text kept none begins
 -- what is read of a line as a setting is read of it behind the settings
 pub setting-line : (settings : Settings) (line : List ℕ) (events : List Event) (result : Result Settings LineFault) → is_text line ≡ true
     → is_kept line ≡ true → events ≡ [] → (is_ready settings ≡ true → begins_with setting_names line ≡ true)
-    → MatchResult result (IsNext settings line) (OrMemory (IsSettingFault settings line))
+    → MatchResult result (IsNextSetting settings line) (OrMemory (IsSettingFault settings line))
     → MatchResult result (λ next. IsLineRead settings events line next events) (OrMemory (IsLineFault settings events line))
 setting-line settings line events (Ok next) text kept none begins read = setting-read settings next line events text kept none read
 setting-line settings line events (Err fault) text kept none begins read = setting-not settings line events fault text kept none begins read

@@ -245,7 +245,7 @@ conditions-read conditions groups words good =
         condition-other (codes "and") (codes "by") (map column_text (column ∷ columns) ++ (codes "get" ∷ words)) refl
 
 -- a join with the name of its table
-abbrev named_join : (ℕ → List ℕ) → Option Join → Option (ℕ × List ℕ)
+abbrev pub named_join : (ℕ → List ℕ) → Option Join → Option (ℕ × List ℕ)
 named_join naming None = None
 named_join naming (Some join) = Some (join.column, naming join.table)
 

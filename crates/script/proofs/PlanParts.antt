@@ -15,7 +15,7 @@ use Rattle.script.specs.PlanText.{column_text, comparison_text, condition_words,
 use Rattle.script.specs.PlanText.{HasColumnWord, HasConditionWords, HasAggregateWords}
 use Rattle.script.specs.Inner.WordReading.{made, below_of, value_of}
 use Rattle.script.specs.Inner.PlanReading.{column_of, comparison_of, compared, before, condition_behind, column_first, by_first}
-use Rattle.script.specs.Inner.PlanReading.{aggregate_of, aggregate_on, aggregate_first, get_first, query_of, joined, join_of}
+use Rattle.script.specs.Inner.PlanReading.{aggregate_of, aggregate_on, aggregate_first, get_first, query_of, join_read, join_of}
 use Rattle.script.proofs.Numbers.{below_of-some, below_of-decimal, first-is, first-decimal, words_eq, words_same}
 use Rattle.script.proofs.Hex.{made-some}
 use Rattle.script.proofs.Values.{value_of-text, value_of-some}
@@ -328,7 +328,7 @@ join-sound (word ∷ column ∷ name ∷ words) =
   where
     by : (is : Bool) → bytes_eq word (codes "join") ≡ is → (named : Bool) → is_name name ≡ named
         → (found : Option ℕ) → below_of (2 ^ 8) column ≡ found
-        → (let it = cond (is && named) (joined found name words (word ∷ column ∷ name ∷ words)) (None, word ∷ column ∷ name ∷ words) in
+        → (let it = cond (is && named) (join_read found name words (word ∷ column ∷ name ∷ words)) (None, word ∷ column ∷ name ∷ words) in
         IsNamedJoin it.0 × (named_join_words it.0 ++ it.1 ≡ word ∷ column ∷ name ∷ words))
     by false e named f found g = (tt, refl)
     by true e false f found g = (tt, refl)

@@ -22,7 +22,7 @@ use Rattle.plans.specs.declared.plan.Plan.{Plan}
 use Rattle.script.specs.Tables.{AreNamed}
 use Rattle.script.proofs.PlanLaws.{plan-read, plan-not-bad}
 use Rattle.script.specs.Events.{HasLine}
-use Rattle.script.specs.Inner.Reading.{opened}
+use Rattle.script.specs.Inner.Reading.{open_event}
 use Rattle.script.proofs.Complete.{words_event, at_tables, tabled, complete}
 use Rattle.script.proofs.Sound.{IsOf, IsSound, event-sound}
 use Rattle.script.proofs.Spaces.{event-plain}
@@ -61,20 +61,24 @@ some_words naming (Dump replica) = omega arith
 some_words naming (Restart replica boot) = omega arith
 some_words naming (Raw node bytes) = omega arith
 
+-- the line of an event falls into its words
+pub line-parts : (setup : Setup) (naming : ℕ → List ℕ) (event : Event) (line : List ℕ) → setup.workers < 2 ^ 64 → setup.replicas < 2 ^ 64
+    → IsSpelled setup naming event line → line_words line ≡ event_words naming event
+line-parts setup naming event line w r s =
+    let are = event-plain setup.workers setup.replicas naming event w r s.named s.form s.possible in
+    ap line_words (sym s.text) ∙ split-words (event_words naming event) (some_words naming event) are
+
 -- what the words of a line give, where it is that of an event
 pub given-line : (setup : Setup) (naming : ℕ → List ℕ) (event : Event) (line : List ℕ) → setup.workers < 2 ^ 64 → setup.replicas < 2 ^ 64
     → IsSpelled setup naming event line → words_event setup (line_words line) ≡ at_tables setup naming event
 given-line setup naming event line w r s =
-    let are = event-plain setup.workers setup.replicas naming event w r s.named s.form s.possible in
-    let parts : line_words line ≡ event_words naming event =
-    ap line_words (sym s.text) ∙ split-words (event_words naming event) (some_words naming event) are in
-    ap (words_event setup) parts ∙ complete setup naming event w r s.named s.form s.possible
+    ap (words_event setup) (line-parts setup naming event line w r s) ∙ complete setup naming event w r s.named s.form s.possible
 
 tabled-fine : (found : Option ℕ) (make : ℕ → Event) → tabled found make ≡ Err BadWords → ⊥
 tabled-fine None make h = cc
 tabled-fine (Some table) make h = cc
 
-opened-bad : (replica : ℕ) (plan : Result Plan Reason) → opened (Some replica) plan ≡ Err BadWords → plan ≡ Err BadWords
+opened-bad : (replica : ℕ) (plan : Result Plan Reason) → open_event (Some replica) plan ≡ Err BadWords → plan ≡ Err BadWords
 opened-bad replica (Ok plan) h = cc
 opened-bad replica (Err reason) h = cc
 
@@ -103,7 +107,7 @@ at_tables-fine setup naming (Restart replica boot) named form h = cc
 at_tables-fine setup naming (Raw node bytes) named form h = cc
 
 -- the first word
-first_word-is : (line first : List ℕ) (words : List (List ℕ)) → line_words line ≡ first ∷ words → first_word line ≡ first
+pub first_word-is : (line first : List ℕ) (words : List (List ℕ)) → line_words line ≡ first ∷ words → first_word line ≡ first
 first_word-is line first words h =
     let p = split-first line in
     let e : first_word line ∷ p.0 ≡ first ∷ words = sym p.1 ∙ h in
@@ -159,7 +163,7 @@ kept_tables setup line Start s = refl
 kept_tables setup line (Push worker seq) s = refl
 kept_tables setup line (Deliver index node) s = refl
 kept_tables setup line (Show index) s = refl
-kept_tables setup line (Open replica plan) s = ap (opened (Some replica)) (plan-read setup.schema plan s.form s.named s.found)
+kept_tables setup line (Open replica plan) s = ap (open_event (Some replica)) (plan-read setup.schema plan s.form s.named s.found)
 kept_tables setup line (Ask replica) s = refl
 kept_tables setup line (Run replica) s = refl
 kept_tables setup line (Version replica) s = refl
@@ -167,7 +171,8 @@ kept_tables setup line (Dump replica) s = refl
 kept_tables setup line (Restart replica boot) s = refl
 kept_tables setup line (Raw node bytes) s = refl
 
-event-read : (setup : Setup) (line : List ℕ) (event : Event) → setup.workers < 2 ^ 64 → setup.replicas < 2 ^ 64
+-- the line of an event gives it
+pub event-read : (setup : Setup) (line : List ℕ) (event : Event) → setup.workers < 2 ^ 64 → setup.replicas < 2 ^ 64
     → IsEventLine setup line event → words_event setup (line_words line) ≡ Ok event
 event-read setup line event w r s =
     given-line setup (name_in setup.schema) event line w r

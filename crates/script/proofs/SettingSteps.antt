@@ -9,7 +9,7 @@ use Rattle.rows.specs.SchemaFaults.{schema_fault}
 use Rattle.script.specs.declared.setup.Setup.{Setup}
 use Rattle.script.specs.declared.settings.Settings.TheVariants.{Nothing, Workers, Replicas, Ready}
 use Rattle.script.specs.Text.{is_name}
-use Rattle.script.specs.Settings.{IsCount, IsNext, IsNoSetting, IsSetup, table_line, workers_line, replicas_line}
+use Rattle.script.specs.Settings.{IsCount, IsNextSetting, IsNoSetting, IsSetup, table_line, workers_line, replicas_line}
 use Rattle.script.specs.declared.faults.LineFault.{LineFault}
 use Rattle.script.specs.declared.faults.LineFault.TheVariants.{Because, Memory}
 use Rattle.script.specs.Inner.LineFaults.{OrMemory}
@@ -53,7 +53,7 @@ module _ (line : List ℕ) (words : List (List ℕ)) (split : words ≡ slice_sp
 
   -- the workers go first
   pub workers-next : (count : ℕ) → IsCount workers_max count → words ≡ codes "workers" ∷ decimal count ∷ []
-      → IsNext Nothing line (Workers count)
+      → IsNextSetting Nothing line (Workers count)
   workers-next count is set = (is, ap (λ (first : List ℕ). first ∷ []) (workers-set count is set))
 
   pub workers-none : ((count : ℕ) → IsCount workers_max count → words ≢ codes "workers" ∷ decimal count ∷ []) → IsNoSetting Nothing line
@@ -68,7 +68,7 @@ module _ (line : List ℕ) (words : List (List ℕ)) (split : words ≡ slice_sp
   -- then the replicas
   pub replicas-next : (workers count : ℕ) → IsCount workers_max workers → IsCount replicas_max count
       → words ≡ codes "replicas" ∷ decimal count ∷ []
-      → IsNext (Workers workers) line (Replicas workers count)
+      → IsNextSetting (Workers workers) line (Replicas workers count)
   replicas-next workers count before is set =
       ((before, is), ap (λ (second : List ℕ). workers_line workers ∷ second ∷ []) (replicas-set count is set))
 
@@ -134,7 +134,7 @@ module _ (line : List ℕ) (words : List (List ℕ)) (split : words ≡ slice_sp
 
   pub first-next : (workers replicas : ℕ) (after : List (List ℕ × List Kind)) → IsCount workers_max workers → IsCount replicas_max replicas
       → IsTableMore [] words after
-      → IsNext (Replicas workers replicas) line (Ready (record { schema = after; workers = workers; replicas = replicas }))
+      → IsNextSetting (Replicas workers replicas) line (Ready (record { schema = after; workers = workers; replicas = replicas }))
   first-next workers replicas after some_workers some_replicas more =
       let next = tables-next workers replicas [] after some_workers some_replicas refl more in
       (next.0, ap (λ (tables : List (List ℕ)). workers_line workers ∷ replicas_line replicas ∷ tables) next.1)
@@ -150,7 +150,7 @@ module _ (line : List ℕ) (words : List (List ℕ)) (split : words ≡ slice_sp
       tables-none [] setup.schema tt none next.0.names next.0.tables rest
 
   pub table-next : (setup : Setup) (after : List (List ℕ × List Kind)) → IsSetup setup → IsTableMore setup.schema words after
-      → IsNext (Ready setup) line (Ready (record { schema = after; workers = setup.workers; replicas = setup.replicas }))
+      → IsNextSetting (Ready setup) line (Ready (record { schema = after; workers = setup.workers; replicas = setup.replicas }))
   table-next setup after is more =
       let next = tables-next setup.workers setup.replicas setup.schema after is.workers is.replicas is.names more in
       (next.0, ap (λ (tables : List (List ℕ)). workers_line setup.workers ∷ replicas_line setup.replicas ∷ tables) next.1)

@@ -23,13 +23,13 @@ use Rattle.script.specs.Events.{HasLine, IsPossible, IsThere, IsValue}
 use Rattle.script.specs.Values.{HasWord}
 use Rattle.script.specs.Tables.{table_called}
 use Rattle.script.specs.EventLines.{event_names, setting_names}
-use Rattle.script.specs.Inner.WordReading.{both, two, made, number_of, below_of, value_of, values_of, hex_of}
-use Rattle.script.specs.Inner.Reading.{placed, or_bad_words, row_of, row_id, node_of, begin_of, commit_of}
+use Rattle.script.specs.Inner.WordReading.{both, two, made, number_of, below_of, value_of, values_in_words, hex_of}
+use Rattle.script.specs.Inner.Reading.{on_table, or_bad_words, row_of, row_id, node_of, begin_of, commit_of}
 use Rattle.script.specs.Inner.WordReading.{or_no_table, table_of}
 use Rattle.script.specs.Inner.Reading.{abort_of, flush_of, stop_of, start_of, pair_of, raw_of}
 use Rattle.script.specs.Inner.Reading.{deliver_of, show_of, replica_of, insert_of, set_of, delete_of, get_of, open_of}
 use Rattle.script.specs.Inner.PlanReading.{plan_of}
-use Rattle.script.specs.Inner.Reading.{opened}
+use Rattle.script.specs.Inner.Reading.{open_event}
 use Rattle.script.specs.Inner.Reading.{one_of, two_of, three_of, four_of, five_of, three_and_more}
 use Rattle.script.specs.Inner.Reading.{replica_event, network_event, primary_event, event_of}
 use Rattle.plans.specs.declared.plan.Plan.{Plan}
@@ -77,13 +77,13 @@ located : {A : Type 0} (setup : Setup) (first : List ℕ) (words : List (List �
     → ((a : A) (table : ℕ) (naming : ℕ → List ℕ) → parts ≡ Some a → naming table ≡ name → is_name (naming table) ≡ true
     → IsOf setup naming (make a table) (first ∷ words))
     → ((a : A) (table : ℕ) → tables_in (make a table) ≡ table ∷ [])
-    → IsSound setup first words (placed parts (table_of setup.schema name) make)
+    → IsSound setup first words (on_table parts (table_of setup.schema name) make)
 unfolding table_of
 located setup first words None name make known good at = known
 located setup first words (Some a) name make known good at = by (is_name name) refl (table_called setup.schema name) refl
   where
     by : (is : Bool) → is_name name ≡ is → (found : Option ℕ) → table_called setup.schema name ≡ found
-        → IsSound setup first words (placed (Some a) (cond is (or_no_table found) (Err BadWords)) make)
+        → IsSound setup first words (on_table (Some a) (cond is (or_no_table found) (Err BadWords)) make)
     by false e found f = known
     by true e None f =
         let P : List ℕ → Type 0 = λ tables. IsOneMissing setup.schema (λ table. name) tables in
@@ -372,9 +372,9 @@ insert-sound setup (transaction ∷ name ∷ []) = refl
 insert-sound setup (transaction ∷ name ∷ row ∷ []) = refl
 insert-sound setup (transaction ∷ name ∷ row ∷ first ∷ more) =
     located setup (codes "insert") (transaction ∷ name ∷ row ∷ first ∷ more)
-    (two (row_of transaction row) (values_of (first ∷ more))) name (λ parts table. Insert parts.0.0 table parts.0.1 parts.1) refl
+    (two (row_of transaction row) (values_in_words (first ∷ more))) name (λ parts table. Insert parts.0.0 table parts.0.1 parts.1) refl
     (λ parts table naming e same named.
-    let p = two-some (row_of transaction row) (values_of (first ∷ more)) parts e in
+    let p = two-some (row_of transaction row) (values_in_words (first ∷ more)) parts e in
     let r = row_of-some transaction row parts.0 p.0 in
     let v = values_of-some (first ∷ more) parts.1 p.1 in
     let count : length (map value_text parts.1) ≡ length (first ∷ more) = ap (λ (words : List (List ℕ)). length words) v.1 in
@@ -394,7 +394,7 @@ open-sound setup (replica ∷ words) =
   where
     by : (number : Option ℕ) → below_of setup.replicas replica ≡ number → (plan : Result Plan Reason)
         → IsPlanSound setup.schema words plan
-        → IsSound setup (codes "open") (replica ∷ words) (opened number plan)
+        → IsSound setup (codes "open") (replica ∷ words) (open_event number plan)
     by None e plan sound = refl
     by (Some number) e (Err NotText) sound = sound
     by (Some number) e (Err BadSetting) sound = absurd sound

@@ -44,11 +44,11 @@ table-same a b a_is b_is same =
     words-same a b a_is.good b_is.good (sym (split-table a a_is) ∙ ap (slice_split parts_words) same ∙ split-table b b_is)
 
 -- a test that names a fault was not passed
-no_fault : {X : Type 0} (test : Bool) (x : X) (rest : Option X) → cond test (Some x) rest ≡ None → rest ≡ None
+pub no_fault : {X : Type 0} (test : Bool) (x : X) (rest : Option X) → cond test (Some x) rest ≡ None → rest ≡ None
 no_fault true x rest none = cc
 no_fault false x rest none = none
 
-neither : {X : Type 0} (a b : Option X) → option_or a b ≡ None → (a ≡ None) × (b ≡ None)
+pub neither : {X : Type 0} (a b : Option X) → option_or a b ≡ None → (a ≡ None) × (b ≡ None)
 neither None b none = (refl, none)
 neither (Some x) b none = cc
 

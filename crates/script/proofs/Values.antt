@@ -9,7 +9,7 @@ use Rattle.rows.specs.declared.value.Value.{Value}
 use Rattle.rows.specs.declared.value.Value.TheVariants.{Int, Octets}
 use Rattle.rows.specs.Text.{value_text}
 use Rattle.script.specs.Values.{HasWord}
-use Rattle.script.specs.Inner.WordReading.{made, octets_of, int_of, value_of, values_of}
+use Rattle.script.specs.Inner.WordReading.{made, octets_of, int_of, value_of, values_in_words}
 use Rattle.script.proofs.Numbers.{first-decimal, first-is, int_of-signed, int_of-some}
 use Rattle.script.proofs.Hex.{both-some, made-some, octets_of-text, octets_of-some}
 
@@ -63,18 +63,18 @@ value-once one other a b e =
     cc
 
 -- the values of what they are written as
-pub values_of-text : (values : List Value) → AllByRecursion HasWord values → values_of (map value_text values) ≡ Some values
+pub values_of-text : (values : List Value) → AllByRecursion HasWord values → values_in_words (map value_text values) ≡ Some values
 values_of-text [] good = refl
 values_of-text (value ∷ values) good = rw (value_of-text value good.0) (rw (values_of-text values good.1) refl)
 
-pub values_of-some : (words : List (List ℕ)) (values : List Value) → values_of words ≡ Some values
+pub values_of-some : (words : List (List ℕ)) (values : List Value) → values_in_words words ≡ Some values
     → AllByRecursion HasWord values × (map value_text values ≡ words)
 values_of-some [] values h =
     let same : [] ≡ values = cc in
     let P : List Value → Type 0 = λ made. AllByRecursion HasWord made × (map value_text made ≡ []) in
     subst P same (tt, refl)
 values_of-some (word ∷ words) values h =
-    let p = both-some (value_of word) (values_of words) (λ value rest. value ∷ rest) values h in
+    let p = both-some (value_of word) (values_in_words words) (λ value rest. value ∷ rest) values h in
     let first = value_of-some word p.0 p.2 in
     let rest = values_of-some words p.1 p.3 in
     let P : List Value → Type 0 = λ made. AllByRecursion HasWord made × (map value_text made ≡ word ∷ words) in

@@ -13,8 +13,8 @@ use Rattle.script.specs.declared.settings.Settings.TheVariants.{Ready}
 use Rattle.script.specs.Tables.{name_in}
 use Rattle.script.specs.EventText.{event_words, event_text}
 use Rattle.script.specs.EventLines.{IsEventLine}
-use Rattle.script.specs.Settings.{IsCount, IsSetup, table_line, workers_line, replicas_line}
-use Rattle.script.specs.Scripts.{AreEvents}
+use Rattle.script.specs.Settings.{IsCount, IsSetup, settings_lines, table_line, workers_line, replicas_line}
+use Rattle.script.specs.Scripts.{AreEvents, events_lines}
 use Rattle.script.specs.Laws.{TextsDetermineScripts}
 use Rattle.script.proofs.Plain.{decimal-same}
 use Rattle.script.proofs.TableLines.{HasTableLine, table-same, schema-has-lines}
@@ -24,7 +24,7 @@ abbrev first_byte : List ℕ → ℕ
 first_byte line = get_or line 0 0
 
 -- no event has a table's line, since none begins with its first letter
-event-no-table : (naming : ℕ → List ℕ) (event : Event) (table : List ℕ × List Kind)
+pub event-no-table : (naming : ℕ → List ℕ) (event : Event) (table : List ℕ × List Kind)
     → words_text (event_words naming event) ≡ table_line table → ⊥
 event-no-table naming Begin table same = let heads : 98 ≡ 116 = ap first_byte same in omega (arith, heads)
 event-no-table naming (Insert transaction at row values) table same = let heads : 105 ≡ 116 = ap first_byte same in omega (arith, heads)
@@ -85,31 +85,30 @@ events-same setup (one ∷ events) (two ∷ more) w r good more_good same =
     let rest : events ≡ more = events-same setup events more w r good.1 more_good.1 tails in
     cc
 
-workers-same : (one other : ℕ) → IsCount workers_max one → IsCount workers_max other → workers_line one ≡ workers_line other → one ≡ other
+pub workers-same : (one other : ℕ) → IsCount workers_max one → IsCount workers_max other → workers_line one ≡ workers_line other
+    → one ≡ other
 workers-same one other one_is other_is same =
     decimal-same one other (omega (arith, one_is.1)) (omega (arith, other_is.1))
     (append_cancel_left (codes "workers" ++ 32 ∷ []) (decimal one) (decimal other) same)
 
-replicas-same : (one other : ℕ) → IsCount replicas_max one → IsCount replicas_max other → replicas_line one ≡ replicas_line other
+pub replicas-same : (one other : ℕ) → IsCount replicas_max one → IsCount replicas_max other → replicas_line one ≡ replicas_line other
     → one ≡ other
 replicas-same one other one_is other_is same =
     decimal-same one other (omega (arith, one_is.1)) (omega (arith, other_is.1))
     (append_cancel_left (codes "replicas" ++ 32 ∷ []) (decimal one) (decimal other) same)
 
-setup-same : (one other : Setup) → one.schema ≡ other.schema → one.workers ≡ other.workers → one.replicas ≡ other.replicas → one ≡ other
+pub setup-same : (one other : Setup) → one.schema ≡ other.schema → one.workers ≡ other.workers → one.replicas ≡ other.replicas → one ≡ other
 setup-same one other schemas workers replicas =
     ap (λ schema. record { schema = schema; workers = one.workers; replicas = one.replicas }) schemas
     ∙ ap (λ count. record { schema = other.schema; workers = count; replicas = one.replicas }) workers
     ∙ ap (λ count. record { schema = other.schema; workers = other.workers; replicas = count }) replicas
 
-pub script-once : TextsDetermineScripts
-script-once text one other events more is also =
-    let one_is : IsSetup one = is.good_settings in
-    let other_is : IsSetup other = also.good_settings in
-    let lines :
-    workers_line one.workers ∷ replicas_line one.replicas ∷ map table_line one.schema ++ map (event_text one.schema) events
-    ≡ workers_line other.workers ∷ replicas_line other.replicas ∷ map table_line other.schema ++ map (event_text other.schema) more
-    = sym is.kept ∙ also.kept in
+-- settings and events with one list of lines are one
+pub same-script : (one other : Setup) (events more : List Event) → IsSetup one → IsSetup other → AreEvents (Ready one) events
+    → AreEvents (Ready other) more
+    → settings_lines (Ready one) ++ events_lines (Ready one) events ≡ settings_lines (Ready other) ++ events_lines (Ready other) more
+    → (one ≡ other) × (events ≡ more)
+same-script one other events more one_is other_is good also lines =
     let first : workers_line one.workers ≡ workers_line other.workers = cc in
     let second : replicas_line one.replicas ≡ replicas_line other.replicas = cc in
     let rest : map table_line one.schema ++ map (event_text one.schema) events
@@ -122,6 +121,10 @@ script-once text one other events more is also =
     let P : Setup → Type 0 = λ setup. AreEvents (Ready setup) more in
     let Q : List (List ℕ × List Kind) → Type 0 = λ schema. map (event_text one.schema) events ≡ map (event_text schema) more in (
       setups,
-      events-same one events more (omega (arith, one_is.workers.1)) (omega (arith, one_is.replicas.1)) is.good_events
-          (subst P (sym setups) also.good_events) (subst Q (sym tables.0) tables.1),
+      events-same one events more (omega (arith, one_is.workers.1)) (omega (arith, one_is.replicas.1)) good
+          (subst P (sym setups) also) (subst Q (sym tables.0) tables.1),
     )
+
+pub script-once : TextsDetermineScripts
+script-once text one other events more is also =
+    same-script one other events more is.good_settings also.good_settings is.good_events also.good_events (sym is.kept ∙ also.kept)

@@ -67,6 +67,5 @@ echoed_one schema event output = codes "> " ++ event_text schema event ++ 10 ∷
 
 -- the text of events and their outputs
 abbrev pub echoed_text : List (List ℕ × List Kind) → List Event → List Output → List ℕ
-echoed_text schema [] outputs = []
-echoed_text schema (event ∷ events) [] = []
 echoed_text schema (event ∷ events) (output ∷ outputs) = echoed_one schema event output ++ echoed_text schema events outputs
+echoed_text schema events outputs = []

@@ -24,19 +24,12 @@ IsValue (values.Octets bytes) = AreBytes bytes
 -- an event that may be asked for: the workers and replicas that it names are there, the identifier of a row that it
 -- changes has 64 bits, and its values and bytes can be held
 abbrev pub IsPossible : ℕ → ℕ → Event → Type 0
-IsPossible workers replicas events.Begin = Unit {0}
 IsPossible workers replicas (events.Insert transaction table row values) = (row.0 < 2 ^ 64) × AllByRecursion IsValue values
 IsPossible workers replicas (events.Set transaction table row column value) = (row.0 < 2 ^ 64) × IsValue value
 IsPossible workers replicas (events.Delete transaction table row) = row.0 < 2 ^ 64
-IsPossible workers replicas (events.Get transaction table row column) = Unit {0}
 IsPossible workers replicas (events.Commit transaction worker) = worker < workers
-IsPossible workers replicas (events.Abort transaction) = Unit {0}
-IsPossible workers replicas (events.Flush count) = Unit {0}
-IsPossible workers replicas (events.Stop bytes) = Unit {0}
-IsPossible workers replicas events.Start = Unit {0}
 IsPossible workers replicas (events.Push worker seq) = worker < workers
 IsPossible workers replicas (events.Deliver index node) = IsThere replicas node
-IsPossible workers replicas (events.Show index) = Unit {0}
 IsPossible workers replicas (events.Open replica plan) = replica < replicas
 IsPossible workers replicas (events.Ask replica) = replica < replicas
 IsPossible workers replicas (events.Run replica) = replica < replicas
@@ -44,11 +37,11 @@ IsPossible workers replicas (events.Version replica) = replica < replicas
 IsPossible workers replicas (events.Dump replica) = replica < replicas
 IsPossible workers replicas (events.Restart replica boot) = (replica < replicas) × (boot < 2 ^ 64)
 IsPossible workers replicas (events.Raw node bytes) = IsThere replicas node × AreBytes bytes
+IsPossible workers replicas other = Unit {0}
 
 -- an event that a line can have: a column is a number of 8 bits, the count of a flush one of 32 and each other number
 -- one of 64, a row is put in with at least one value, and words can have the values, the bytes and the plan
 abbrev pub HasLine : Event → Type 0
-HasLine events.Begin = Unit {0}
 HasLine (events.Insert transaction table row values) =
     (transaction < 2 ^ 64) × (row.0 < 2 ^ 64) × (0 < length values) × AllByRecursion HasWord values
 HasLine (events.Set transaction table row column value) =
@@ -59,14 +52,10 @@ HasLine (events.Commit transaction worker) = transaction < 2 ^ 64
 HasLine (events.Abort transaction) = transaction < 2 ^ 64
 HasLine (events.Flush count) = count < 2 ^ 32
 HasLine (events.Stop bytes) = bytes < 2 ^ 64
-HasLine events.Start = Unit {0}
 HasLine (events.Push worker seq) = seq < 2 ^ 64
 HasLine (events.Deliver index node) = index < 2 ^ 64
 HasLine (events.Show index) = index < 2 ^ 64
 HasLine (events.Open replica plan) = HasPlanWords plan
-HasLine (events.Ask replica) = Unit {0}
-HasLine (events.Run replica) = Unit {0}
-HasLine (events.Version replica) = Unit {0}
-HasLine (events.Dump replica) = Unit {0}
 HasLine (events.Restart replica boot) = boot < 2 ^ 64
 HasLine (events.Raw node bytes) = AreBytes bytes
+HasLine other = Unit {0}

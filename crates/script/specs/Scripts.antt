@@ -68,13 +68,14 @@ abbrev pub IsFaultNext : Settings → List Event → Option (List ℕ) → Reaso
 IsFaultNext settings events (Some line) reason = IsLineFault settings events line reason
 IsFaultNext settings events None reason = (is_ready settings ≡ false) × (reason ≡ BadSetting)
 
--- why a text that has settings alone cannot go on with what comes next: a further line is no setting
+-- why a text that has settings alone cannot go on with what comes next: a further line is no setting. No events stand before it
 abbrev pub IsSettingsFaultNext : Settings → List Event → Option (List ℕ) → Reason → Type 0
-IsSettingsFaultNext settings events (Some line) NotText = is_text line ≡ false
-IsSettingsFaultNext settings events (Some line) BadSetting =
+IsSettingsFaultNext settings (event ∷ events) next reason = ⊥
+IsSettingsFaultNext settings [] (Some line) NotText = is_text line ≡ false
+IsSettingsFaultNext settings [] (Some line) BadSetting =
     (is_text line ≡ true) × (is_kept line ≡ true) × IsNoSetting settings line
-IsSettingsFaultNext settings events (Some line) reason = ⊥
-IsSettingsFaultNext settings events None reason = (is_ready settings ≡ false) × (reason ≡ BadSetting)
+IsSettingsFaultNext settings [] (Some line) reason = ⊥
+IsSettingsFaultNext settings [] None reason = (is_ready settings ≡ false) × (reason ≡ BadSetting)
 
 -- the lines before this one, counted from 1, begin a script, and this line, or the end behind the last line, has this fault
 pub record IsFaultAt (IsNextFault : Settings → List Event → Option (List ℕ) → Reason → Type 0) (text : List ℕ) (line : ℕ)

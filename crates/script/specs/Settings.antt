@@ -60,9 +60,9 @@ is_ready (Ready setup) = true
 is_ready other = false
 
 -- these settings have one line more than those
-abbrev pub IsNext : Settings → List ℕ → Settings → Type 0
-IsNext settings line next = AreSettings next × (settings_lines next ≡ settings_lines settings ++ line ∷ [])
+abbrev pub IsNextSetting : Settings → List ℕ → Settings → Type 0
+IsNextSetting settings line next = AreSettings next × (settings_lines next ≡ settings_lines settings ++ line ∷ [])
 
 -- a line is none that goes on with these settings
 abbrev pub IsNoSetting : Settings → List ℕ → Type 0
-IsNoSetting settings line = (next : Settings) → ¬ IsNext settings line next
+IsNoSetting settings line = (next : Settings) → ¬ IsNextSetting settings line next

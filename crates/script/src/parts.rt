@@ -1,9 +1,8 @@
-//! Reading a plan by itself, and what holds of the text of scripts and events.
+//! Reading a plan by itself.
 
 ghost use Rattle.std.specs.Prelude.{IfOk, MatchOption};
 ghost use Rattle.plans.specs.declared.plan.Plan.{Plan};
 ghost use Rattle.script.specs.EventLines.{IsPlanText};
-ghost use Rattle.script.specs.Laws.{LinesDetermineEvents, TextsDetermineScripts};
 
 use crate::faults::LineFault;
 use crate::plan_reading::read_plan_words;
@@ -25,15 +24,3 @@ pub fn read_plan(alloc: Global, text: &[u8], setup: &Setup) -> Result<Option<Pla
         Err(LineFault::Memory) => Err(AllocError),
     }
 }
-
-/// A text is that of one script alone: no two that differ in their settings or in their events have
-/// one text. It does nothing: its contract says so of the text of scripts, whoever reads it.
-pub fn texts_determine_scripts()
-    ensures { TextsDetermineScripts }
-{}
-
-/// A line is that of one event alone. It does nothing: its contract says so of the text of events,
-/// whoever reads it.
-pub fn lines_determine_events()
-    ensures { LinesDetermineEvents }
-{}

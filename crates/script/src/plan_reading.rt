@@ -2,7 +2,7 @@
 
 ghost use Rattle.std.specs.Prelude.{◌≡◌, map, None, Some, IfOk, MatchOption};
 ghost use Rattle.script.specs.Inner.LineFaults.{Gives, because};
-ghost use Rattle.script.specs.Inner.PlanParts.{shown, named, Finds};
+ghost use Rattle.script.specs.Inner.PlanParts.{lent_lists, named, Finds};
 ghost use Rattle.script.specs.Inner.PlanReading.{column_of, comparison_of, condition_behind, column_first, by_first};
 ghost use Rattle.script.specs.Inner.PlanReading.{aggregate_of, aggregate_first, get_first, conditions_of, groups_of, aggregates_of};
 ghost use Rattle.script.specs.Inner.PlanReading.{query_of, join_of, join_table, plan_on, plan_of};
@@ -74,8 +74,8 @@ fn plan_on(
 /// The name behind `query`, and the words behind it.
 #[tactic(auto, unfolding(crate::specs::Inner::PlanReading::query_of))]
 fn read_query<'a>(words: &'a [&'a [u8]]) -> Option<(&'a [u8], &'a [&'a [u8]])>
-    ensures { MatchOption result (query_of (shown words.now) ≡ None)
-        (λ it. query_of (shown words.now) ≡ Some (it.0.now, shown it.1.now)) }
+    ensures { MatchOption result (query_of (lent_lists words.now) ≡ None)
+        (λ it. query_of (lent_lists words.now) ≡ Some (it.0.now, lent_lists it.1.now)) }
 {
     let [word, name, behind @ ..] = words else {
         return None;
@@ -92,7 +92,7 @@ fn read_query<'a>(words: &'a [&'a [u8]]) -> Option<(&'a [u8], &'a [&'a [u8]])>
 /// A join's column and the name of its table, where there is a join, and the words behind it.
 #[tactic(auto, unfolding(crate::specs::Inner::PlanReading::join_of))]
 fn read_join<'a>(words: &'a [&'a [u8]]) -> (Option<(u8, &'a [u8])>, &'a [&'a [u8]])
-    ensures { join_of (shown words.now) ≡ (named result.0, shown result.1.now) }
+    ensures { join_of (lent_lists words.now) ≡ (named result.0, lent_lists result.1.now) }
 {
     let [word, column, name, behind @ ..] = words else {
         return (None, words);
@@ -128,7 +128,7 @@ fn read_conditions<'a>(
     alloc: Global,
     words: &'a [&'a [u8]],
 ) -> Result<(Vec<Condition>, &'a [&'a [u8]]), AllocError>
-    ensures { IfOk result (λ it. conditions_of (shown words.now) ≡ (it.0.items, shown it.1.now)) }
+    ensures { IfOk result (λ it. conditions_of (lent_lists words.now) ≡ (it.0.items, lent_lists it.1.now)) }
 {
     let mut conditions = Vec::new(alloc);
     let Some((first, behind_first)) = condition_behind(b"where".as_slice(), words) else {
@@ -152,7 +152,7 @@ fn condition_behind<'a>(
     opening: &[u8],
     words: &'a [&'a [u8]],
 ) -> Option<(Condition, &'a [&'a [u8]])>
-    ensures { Finds (condition_behind opening.now (shown words.now)) result }
+    ensures { Finds (condition_behind opening.now (lent_lists words.now)) result }
 {
     let [word, column, comparison, value, behind @ ..] = words else {
         return None;
@@ -206,7 +206,7 @@ fn read_groups<'a>(
     alloc: Global,
     words: &'a [&'a [u8]],
 ) -> Result<(Vec<Column>, &'a [&'a [u8]]), AllocError>
-    ensures { IfOk result (λ it. groups_of (shown words.now) ≡ (it.0.items, shown it.1.now)) }
+    ensures { IfOk result (λ it. groups_of (lent_lists words.now) ≡ (it.0.items, lent_lists it.1.now)) }
 {
     let mut groups = Vec::new(alloc);
     let Some((first, behind_first)) = by_first(words) else {
@@ -227,7 +227,7 @@ fn read_groups<'a>(
 /// `by` and a column, and the words behind them.
 #[tactic(auto, unfolding(crate::specs::Inner::PlanReading::by_first))]
 fn by_first<'a>(words: &'a [&'a [u8]]) -> Option<(Column, &'a [&'a [u8]])>
-    ensures { Finds (by_first (shown words.now)) result }
+    ensures { Finds (by_first (lent_lists words.now)) result }
 {
     let [word, behind @ ..] = words else {
         return None;
@@ -241,7 +241,7 @@ fn by_first<'a>(words: &'a [&'a [u8]]) -> Option<(Column, &'a [&'a [u8]])>
 /// A column, and the words behind it.
 #[tactic(auto, unfolding(crate::specs::Inner::PlanReading::column_first))]
 fn column_first<'a>(words: &'a [&'a [u8]]) -> Option<(Column, &'a [&'a [u8]])>
-    ensures { Finds (column_first (shown words.now)) result }
+    ensures { Finds (column_first (lent_lists words.now)) result }
 {
     let [word, behind @ ..] = words else {
         return None;
@@ -256,7 +256,7 @@ fn read_aggregates<'a>(
     alloc: Global,
     words: &'a [&'a [u8]],
 ) -> Result<(Vec<Aggregate>, &'a [&'a [u8]]), AllocError>
-    ensures { IfOk result (λ it. aggregates_of (shown words.now) ≡ (it.0.items, shown it.1.now)) }
+    ensures { IfOk result (λ it. aggregates_of (lent_lists words.now) ≡ (it.0.items, lent_lists it.1.now)) }
 {
     let mut aggregates = Vec::new(alloc);
     let Some((first, behind_first)) = get_first(words) else {
@@ -277,7 +277,7 @@ fn read_aggregates<'a>(
 /// `get` and an aggregate, and the words behind them.
 #[tactic(auto, unfolding(crate::specs::Inner::PlanReading::get_first))]
 fn get_first<'a>(words: &'a [&'a [u8]]) -> Option<(Aggregate, &'a [&'a [u8]])>
-    ensures { Finds (get_first (shown words.now)) result }
+    ensures { Finds (get_first (lent_lists words.now)) result }
 {
     let [word, behind @ ..] = words else {
         return None;
@@ -291,7 +291,7 @@ fn get_first<'a>(words: &'a [&'a [u8]]) -> Option<(Aggregate, &'a [&'a [u8]])>
 /// An aggregate, and the words behind it.
 #[tactic(auto, unfolding(crate::specs::Inner::PlanReading::aggregate_first))]
 fn aggregate_first<'a>(words: &'a [&'a [u8]]) -> Option<(Aggregate, &'a [&'a [u8]])>
-    ensures { Finds (aggregate_first (shown words.now)) result }
+    ensures { Finds (aggregate_first (lent_lists words.now)) result }
 {
     let [word, behind @ ..] = words else {
         return None;

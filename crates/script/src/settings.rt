@@ -7,7 +7,7 @@ ghost use Rattle.std.specs.Option.{option_map};
 ghost use Rattle.rows.specs.Shape.{given, is_good};
 ghost use Rattle.rows.specs.declared.kind.Kind.{Kind};
 ghost use Rattle.script.specs.Text.{is_name};
-ghost use Rattle.script.specs.Settings.{AreSettings, IsCount, IsNext, kind_text};
+ghost use Rattle.script.specs.Settings.{AreSettings, IsCount, IsNextSetting, kind_text};
 ghost use Rattle.script.specs.Inner.LineFaults.{OrMemory};
 ghost use Rattle.script.specs.Inner.SettingWords.{texts, IsTable, IsNoTable, AreKinds, AreNoKinds, IsTableMore, IsNoTableMore};
 ghost use Rattle.script.specs.Inner.SettingWords.{IsSettingFault};
@@ -32,7 +32,7 @@ pub enum Settings {
 /// Reads the next setting: the workers, then the replicas, then the tables.
 pub fn read_setting(alloc: Global, settings: Settings, line: &[u8]) -> Result<Settings, LineFault>
     requires { AreSettings settings }
-    ensures { MatchResult result (IsNext settings line.now) (OrMemory (IsSettingFault settings line.now)) }
+    ensures { MatchResult result (IsNextSetting settings line.now) (OrMemory (IsSettingFault settings line.now)) }
 {
     let Ok(words) = words_of(alloc, line) else {
         return Err(LineFault::Memory);

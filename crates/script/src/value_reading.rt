@@ -5,7 +5,7 @@ ghost use Rattle.rows.specs.Text.{value_text};
 ghost use Rattle.rows.specs.declared.value.Value.{Value};
 ghost use Rattle.script.specs.Laws.{WordsDetermineValues};
 ghost use Rattle.script.specs.Inner.LineFaults.{OrMemory};
-ghost use Rattle.script.specs.Inner.WordReading.{values_of, hex_of};
+ghost use Rattle.script.specs.Inner.WordReading.{values_in_words, hex_of};
 ghost use Rattle.script.specs.Values.{HasWord};
 
 use crate::faults::{LineFault, Reason};
@@ -27,9 +27,9 @@ pub fn read_value(word: &[u8]) -> Option<Value>
 ///
 /// Fails with `BadWords` where one of them stands for none, or with `Memory`.
 pub fn read_values(alloc: Global, words: &[&[u8]]) -> Result<Vec<Value>, LineFault>
-    ensures ok { IfOk result (λ values. values_of (map (λ word. word.now) words.now) ≡ Some values.items) }
+    ensures ok { IfOk result (λ values. values_in_words (map (λ word. word.now) words.now) ≡ Some values.items) }
     ensures err { IfErr result (OrMemory (λ reason.
-        (reason ≡ Reason.BadWords) × (values_of (map (λ word. word.now) words.now) ≡ None))) }
+        (reason ≡ Reason.BadWords) × (values_in_words (map (λ word. word.now) words.now) ≡ None))) }
 {
     let mut values = Vec::new(alloc);
     for word in words {

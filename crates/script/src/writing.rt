@@ -29,7 +29,7 @@ pub fn write_text_of<W: Write>(
     outputs: &[Output],
 ) -> Result<(), WriteFault>
     ensures written { OnOk result (Appends (W.contents writer.old) (W.contents writer.new) (outputs_text outputs.now)) }
-    ensures cut { result ≡ Err WriteFault.Write
+    ensures interrupted { result ≡ Err WriteFault.Write
         → IsPartlyWritten (W.contents writer.old) (W.contents writer.new) (outputs_text outputs.now) }
     ensures unwritten { result ≡ Err WriteFault.Memory → Keeps (W.contents writer.old) (W.contents writer.new) }
 {
@@ -56,7 +56,7 @@ pub fn write_echoed_text_of<W: Write>(
 ) -> Result<(), WriteFault>
     ensures written { OnOk result (Appends (W.contents writer.old) (W.contents writer.new)
         (echoed_text schema.now events.now outputs.now)) }
-    ensures cut { result ≡ Err WriteFault.Write
+    ensures interrupted { result ≡ Err WriteFault.Write
         → IsPartlyWritten (W.contents writer.old) (W.contents writer.new) (echoed_text schema.now events.now outputs.now) }
     ensures unwritten { result ≡ Err WriteFault.Memory → Keeps (W.contents writer.old) (W.contents writer.new) }
 {
@@ -107,7 +107,7 @@ fn room_for_echoed(
 fn write_outputs<W: Write>(writer: &mut W, text: &mut Vec<u8>, outputs: &[Output]) -> io::Result<()>
     requires { text.old.items ≡ [] }
     ensures written { OnOk result (Appends (W.contents writer.old) (W.contents writer.new) (outputs_text outputs.now)) }
-    ensures cut { OnErr result (IsPartlyWritten (W.contents writer.old) (W.contents writer.new) (outputs_text outputs.now)) }
+    ensures interrupted { OnErr result (IsPartlyWritten (W.contents writer.old) (W.contents writer.new) (outputs_text outputs.now)) }
 {
     for output in outputs {
         push_output(text, output)?;
@@ -127,7 +127,7 @@ fn write_echoed<W: Write>(
     requires { text.old.items ≡ [] }
     ensures written { OnOk result (Appends (W.contents writer.old) (W.contents writer.new)
         (echoed_text schema.now events.now outputs.now)) }
-    ensures cut { OnErr result (IsPartlyWritten (W.contents writer.old) (W.contents writer.new)
+    ensures interrupted { OnErr result (IsPartlyWritten (W.contents writer.old) (W.contents writer.new)
         (echoed_text schema.now events.now outputs.now)) }
 {
     let len = if events.len() < outputs.len() {
@@ -145,7 +145,7 @@ fn write_echoed<W: Write>(
 /// Writes a text where it is a piece, and empties it then.
 fn write_piece<W: Write>(writer: &mut W, text: &mut Vec<u8>) -> io::Result<()>
     ensures written { OnOk result (IsWrittenBut (W.contents writer.old) (W.contents writer.new) text.old.items text.new.items) }
-    ensures cut { OnErr result (IsPartlyWritten (W.contents writer.old) (W.contents writer.new) text.old.items) }
+    ensures interrupted { OnErr result (IsPartlyWritten (W.contents writer.old) (W.contents writer.new) text.old.items) }
 {
     if text.len() >= PIECE {
         write_bytes(writer, text.as_slice())?;
@@ -158,7 +158,7 @@ fn write_piece<W: Write>(writer: &mut W, text: &mut Vec<u8>) -> io::Result<()>
 /// nothing.
 fn write_bytes<W: Write>(writer: &mut W, bytes: &[u8]) -> io::Result<()>
     ensures written { OnOk result (Appends (W.contents writer.old) (W.contents writer.new) bytes.now) }
-    ensures cut { OnErr result (IsPartlyWritten (W.contents writer.old) (W.contents writer.new) bytes.now) }
+    ensures interrupted { OnErr result (IsPartlyWritten (W.contents writer.old) (W.contents writer.new) bytes.now) }
 {
     let mut rest = bytes;
     // A writer that is interrupted again and again is given up at last.

@@ -1,5 +1,4 @@
 pub mod Rows
 pub mod Ids
 pub mod Runs
-pub mod Openings
-pub mod TablesOf
+pub mod TableKinds

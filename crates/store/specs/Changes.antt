@@ -4,7 +4,7 @@ use Rattle.std.specs.Prelude.{IsSomeAnd}
 use Rattle.std.specs.Option.{option_map}
 use Rattle.rows.specs.declared.entry.Entry.{Entry}
 use Rattle.rows.specs.declared.value.Value.{Value}
-use Rattle.rows.specs.Tables.{Rows, Tables, Refusal, Unfit, Exists, Missing, change_of, changes_of}
+use Rattle.rows.specs.Tables.{Rows, Tables, Refusal, Unfit, Exists, Missing, apply_entry, apply_entries}
 use Rattle.store.specs.declared.faults.StoreFault.TheVariants as faults
 use Rattle.store.specs.Faults.{number_of}
 
@@ -34,6 +34,6 @@ fault_kind true (Ok tables) = number_of faults.Memory
 -- refused; a store that is not whole refuses the first
 pub record StopsAt (whole : Bool) (old new : Tables) (entries : List Entry) (i kind : ℕ) : Type 0 where
   pub within : i < length entries
-  pub before : changes_of old (take i entries) ≡ Ok new
-  pub refused : IsSomeAnd (slice_get entries i) (λ entry. kind ≡ fault_kind whole (change_of new entry))
+  pub before : apply_entries old (take i entries) ≡ Ok new
+  pub refused : IsSomeAnd (slice_get entries i) (λ entry. kind ≡ fault_kind whole (apply_entry new entry))
   pub first : whole ≡ false → i ≡ 0

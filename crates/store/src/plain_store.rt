@@ -1,4 +1,4 @@
-//! A store that keeps each table in an ordered map, and its identifiers in a list.
+//! A store that keeps each table's rows in an ordered map, and their identifiers in a list.
 
 ghost use Rattle.std.specs.Prelude.{◌≡◌, [], true, IfOk, MatchOption};
 ghost use Rattle.rows.specs.Shape.{shape_of};
@@ -21,15 +21,14 @@ use std::marker::Model;
 #[derive(Debug, Drop)]
 pub struct PlainStore {
     alloc: Global,
-    schema: Schema,
     tables: Vec<TableMap>,
     whole: bool,
 }
 
 impl Model for PlainStore {
-    ghost use Rattle.store.specs.State.{State};
+    ghost use Rattle.store.specs.State.{StoreState};
 
-    ghost Value = { State };
+    ghost Value = { StoreState };
 
     ghost use Rattle.store.specs.Inner.Invariant.{state_of, IsStore};
 
@@ -48,15 +47,14 @@ impl PlainStore {
         laws::rows_are_of_kinds();
         Ok(PlainStore {
             alloc,
-            schema: schema.clone()?,
-            tables: empty_tables(alloc, schema.len())?,
+            tables: empty_tables(alloc, schema)?,
             whole: true,
         })
     }
 
-    /// The rows of a table, lent; `None` where there is no table of that number.
-    fn rows(&self, table: u8) -> Option<&TableMap>
-        ensures { MatchOption result (rows_of self.now.tables table ≡ []) (λ rows. rows_of self.now.tables table ≡ rows.now) }
+    /// A table, lent; `None` where there is no table of that number.
+    fn table(&self, table: u8) -> Option<&TableMap>
+        ensures { MatchOption result (rows_of self.now.tables table ≡ []) (λ found. rows_of self.now.tables table ≡ found.now.rows) }
     {
         self.tables.get(table as usize)
     }
@@ -93,7 +91,7 @@ impl Store for PlainStore {
 
     /// The identifier of a row of a table; `None` where the row or the table is not there.
     fn find(&self, table: u8, row: RowId) -> Option<RowId> {
-        if self.rows(table)?.contains(row.0) {
+        if self.table(table)?.contains(row.0) {
             Some(row)
         } else {
             None
@@ -102,10 +100,10 @@ impl Store for PlainStore {
 
     /// The value of one column of a row, columns being counted from 0.
     fn value(&self, table: u8, place: RowId, column: usize) -> Value {
-        let Some(rows) = self.rows(table) else {
+        let Some(found) = self.table(table) else {
             unreachable!();
         };
-        let Some(values) = rows.row(place.0) else {
+        let Some(values) = found.row(place.0) else {
             unreachable!();
         };
         values[column]
@@ -113,18 +111,18 @@ impl Store for PlainStore {
 
     /// How many rows a table has; 0 where there is no table of that number.
     fn len(&self, table: u8) -> usize {
-        match self.rows(table) {
-            Some(rows) => rows.len(),
+        match self.table(table) {
+            Some(found) => found.len(),
             None => 0,
         }
     }
 
     /// The identifier of the row at an index of the table's order, counted from 0, in one step.
     fn id_at(&self, table: u8, i: usize) -> RowId {
-        let Some(rows) = self.rows(table) else {
+        let Some(found) = self.table(table) else {
             unreachable!();
         };
-        RowId(rows.id_at(i))
+        RowId(found.id_at(i))
     }
 
     /// Makes one change, or refuses it and changes nothing: `Broken`; `Unfit`; `Exists` or
@@ -134,7 +132,7 @@ impl Store for PlainStore {
             return Err(StoreFault::Broken);
         }
         laws::rows_are_of_kinds();
-        change_tables(self.alloc, &self.schema, &mut self.tables, entry)
+        change_tables(self.alloc, &mut self.tables, entry)
     }
 
     /// The number of a fault: 1 Exists, 2 Missing, 3 Unfit, 4 Memory, 5 Broken.
@@ -157,7 +155,7 @@ impl ApplyStore for PlainStore {
             return Err(ApplyFault::Broken);
         }
         laws::rows_are_of_kinds();
-        let applied = apply_commits(self.alloc, &self.schema, &mut self.tables, commits);
+        let applied = apply_commits(self.alloc, &mut self.tables, commits);
         self.whole = applied.is_ok();
         applied
     }

@@ -1,7 +1,7 @@
 //! Runs of entries.
 
 ghost use Rattle.std.specs.Prelude.{◌≡◌, Ok, OnOk, IfErr};
-ghost use Rattle.rows.specs.Tables.{shape_in, changes_of};
+ghost use Rattle.rows.specs.Tables.{shape_in, apply_entries};
 ghost use Rattle.store.specs.Changes.{StopsAt};
 
 use crate::store::Store;
@@ -13,7 +13,7 @@ use rows::Entry;
 /// it. The changes of the entries before it are then made, and no other. A store that is not whole
 /// refuses the first entry.
 pub fn run<S: Store>(store: &mut S, entries: &[Entry]) -> Result<(), (usize, S::Fault)>
-    ensures ok { OnOk result (changes_of (S.tables store.old) entries.now ≡ Ok (S.tables store.new)) }
+    ensures ok { OnOk result (apply_entries (S.tables store.old) entries.now ≡ Ok (S.tables store.new)) }
     ensures err { IfErr result (λ stop. StopsAt (S.is_whole store.old) (S.tables store.old)
         (S.tables store.new) entries.now stop.0 (S.kind_of stop.1)) }
     ensures whole { S.is_whole store.new ≡ S.is_whole store.old }

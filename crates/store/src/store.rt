@@ -1,7 +1,7 @@
 //! The interface to a store of rows.
 
 ghost use Rattle.std.specs.Prelude.{◌≡◌, ℕ, ◌<◌, length, true, Ok, Some, is_some, IsSome, IfSome, OnOk, OnErr, IfErr};
-ghost use Rattle.rows.specs.Tables.{shape_in, rows_of, row_at, is_row_at, RowsAreOfKinds, change_of};
+ghost use Rattle.rows.specs.Tables.{shape_in, rows_of, row_at, is_row_at, RowsAreOfKinds, apply_entry};
 ghost use Rattle.store.specs.Changes.{column_of, id_in, IsAboveAllBefore, fault_kind};
 
 use rows::{Entry, RowId, Value};
@@ -72,11 +72,11 @@ pub trait Store {
     /// whole; 3 Unfit, the entry does not fit the schema; 1 Exists, an insert of a row that is
     /// there; 2 Missing, a patch or a delete of a row that is not there; 4 Memory.
     fn change(&mut self, entry: &Entry) -> Result<(), Self::Fault>
-        ensures ok { OnOk result (change_of (tables self.old) entry.now ≡ Ok (tables self.new)) }
+        ensures ok { OnOk result (apply_entry (tables self.old) entry.now ≡ Ok (tables self.new)) }
         ensures only_whole { OnOk result (is_whole self.old ≡ true) }
         ensures err { OnErr result (tables self.new ≡ tables self.old) }
         ensures refused { IfErr result
-            (λ fault. kind_of fault ≡ fault_kind (is_whole self.old) (change_of (tables self.old) entry.now)) }
+            (λ fault. kind_of fault ≡ fault_kind (is_whole self.old) (apply_entry (tables self.old) entry.now)) }
         ensures whole { is_whole self.new ≡ is_whole self.old }
         ensures kinds { shape_in (tables self.new) ≡ shape_in (tables self.old) };
 

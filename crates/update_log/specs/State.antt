@@ -3,7 +3,7 @@ use Rattle.std.specs.Prelude.{ℕ, List}
 use Rattle.update_log.specs.declared.frame.Frame.{Frame}
 
 -- the streams that are kept, by worker
-pub record State : Type 0 where
+pub record StreamsState : Type 0 where
   pub streams : List (List Frame)
   -- how many more frames each can take without memory
   pub rooms : List ℕ

@@ -4,7 +4,7 @@ use Rattle.std.specs.Prelude.{◌==◌, if◌then◌else◌}
 use Rattle.rows.specs.declared.commit.Commit.{Commit}
 use Rattle.update_log.specs.declared.frame.Frame.{Frame}
 use Rattle.update_log.specs.Frames.{frames_of}
-use Rattle.update_log.specs.State.{State, Next}
+use Rattle.update_log.specs.State.{StreamsState, Next}
 
 -- the worker's frames of commits that stand behind `before` others, the first frame with the seq `first`
 abbrev pub stream_from : ℕ → ℕ → ℕ → List Commit → List Frame
@@ -43,5 +43,5 @@ abbrev pub extended : List (List Frame) → Next → List (List Frame)
 extended streams next = slice_set streams next.worker (stream_at streams next.worker ++ next.frames)
 
 -- these frames can be added without memory
-abbrev pub HasRoom : State → Next → Type 0
+abbrev pub HasRoom : StreamsState → Next → Type 0
 HasRoom state next = length next.frames ≤ unwrap_or (slice_get state.rooms next.worker) 0

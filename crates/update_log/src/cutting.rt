@@ -103,15 +103,15 @@ fn part_len(entries: &[Entry]) -> usize
     entries.len()
 }
 
-/// The same entries once more. Fails only where it is out of memory.
+/// The same entries once more, with room for no others. Fails only where it is out of memory.
 fn copied(alloc: Global, entries: &[Entry]) -> Result<EntryList, AllocError>
     ensures { IfOk result (λ copy. copy ≡ entries.now) }
 {
-    let mut copy = EntryList::new(alloc);
+    let mut copy = Vec::with_capacity(alloc, entries.len())?;
     for entry in entries {
-        copy.push(copy_of(entry)?)?;
+        copy.push_reserved(copy_of(entry)?);
     }
-    Ok(copy)
+    Ok(EntryList::from_vec(copy))
 }
 
 /// The same entry once more. Fails only where it is out of memory.

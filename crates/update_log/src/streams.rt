@@ -29,9 +29,9 @@ pub struct Streams {
 impl Model for Streams {
     ghost use Rattle.std.specs.Prelude.{◌≡◌, length, map};
     ghost use Rattle.rows.specs.Limits.{workers_max};
-    ghost use Rattle.update_log.specs.State.{State};
+    ghost use Rattle.update_log.specs.State.{StreamsState};
 
-    ghost Value = { State };
+    ghost Value = { StreamsState };
 
     ghost view = { λ s. record {
       streams = map (λ kept. kept.frames) s.workers.items;

@@ -9,7 +9,7 @@ use Rattle.rows.specs.declared.entry.Entry.{Entry}
 use Rattle.rows.specs.declared.limits.TheConstants.{WORKERS_MAX, REPLICAS_MAX}
 use Rattle.wire.specs.declared.datagram.Datagram.{Datagram}
 use Rattle.wire.specs.declared.datagram.Datagram.TheVariants.{Frame, Ask, Head, Want}
-use Rattle.wire.specs.Entries.{entries_filling}
+use Rattle.rows.specs.Reading.{entries_filling}
 use Rattle.wire.specs.Reading.{frame_at, ask_at, head_at, want_at, counts_at}
 use Rattle.wire.proofs.Passing.{guarded}
 

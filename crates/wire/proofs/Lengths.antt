@@ -11,7 +11,7 @@ use Rattle.rows.specs.Spelling.{entry_spelling}
 use Rattle.wire.specs.declared.faults.TooSmall.{TooSmall}
 use Rattle.wire.specs.declared.datagram.Datagram.{Datagram}
 use Rattle.wire.specs.declared.datagram.Datagram.TheVariants.{Frame, Ask, Head, Want}
-use Rattle.wire.specs.Spelling.{spelling, HasSpelling, datagram_front, frame_head, head_head}
+use Rattle.wire.specs.Spelling.{spelling, HasDatagramSpelling, datagram_front, frame_head, head_head}
 
 -- no entry is spelled by nothing
 entry_some : (entry : Entry) → 0 < length (entry_spelling entry)
@@ -29,7 +29,7 @@ pub length-counts : (counts : List ℕ) → length (flat_map (big_bytes 8) count
 length-counts [] = refl
 length-counts (count ∷ counts) = let rest = length-counts counts in omega arith
 
-pub spelling_few : (datagram : Datagram) → HasSpelling datagram → length (spelling datagram) ≤ DATAGRAM_MAX
+pub spelling_few : (datagram : Datagram) → HasDatagramSpelling datagram → length (spelling datagram) ≤ DATAGRAM_MAX
 spelling_few (Frame worker seq commit last entries) fits = omega (arith, fits.few)
 spelling_few (Ask replica boot request) fits = omega arith
 spelling_few (Head replica boot request version counts) fits = omega (arith, length-counts counts, fits.2.few)

@@ -1,7 +1,6 @@
 pub mod Passing
 pub mod Joining
 pub mod Lengths
-pub mod Filling
 pub mod Counting
 pub mod Bodies
 pub mod ReadIsSpelled

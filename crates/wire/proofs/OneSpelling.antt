@@ -6,10 +6,10 @@ use Rattle.byteorder.specs.Endian.{big_bytes, big_number}
 use Rattle.byteorder.specs.Numbers.{big_number-reads_back}
 use Rattle.rows.specs.declared.limits.TheConstants.{DATAGRAM_MAX}
 use Rattle.rows.specs.Spelling.{entry_spelling}
-use Rattle.rows.specs.Laws.{SpelledIsFound}
+use Rattle.rows.specs.Laws.{SpelledAreFound}
 use Rattle.wire.specs.declared.datagram.Datagram.{Datagram}
 use Rattle.wire.specs.declared.datagram.Datagram.TheVariants.{Frame, Ask, Head, Want}
-use Rattle.wire.specs.Spelling.{datagram_of, frame_head, ask_body, head_head, want_body, spelling, HasSpelling}
+use Rattle.wire.specs.Spelling.{datagram_of, frame_head, ask_body, head_head, want_body, spelling, HasDatagramSpelling}
 use Rattle.wire.specs.Reading.{reading}
 use Rattle.wire.proofs.Lengths.{spelling_few}
 use Rattle.wire.proofs.SpelledIsRead.{reading-again}
@@ -19,7 +19,7 @@ total_in_front : (kind : ℕ) (body rest : List ℕ) → 6 + length body ≤ DAT
     → big_number 2 (drop 4 (datagram_of kind body ++ rest)) ≡ 6 + length body
 total_in_front kind body rest few = big_number-reads_back 2 (6 + length body) (body ++ rest) (omega arith)
 
-total_is : (datagram : Datagram) (rest : List ℕ) → HasSpelling datagram
+total_is : (datagram : Datagram) (rest : List ℕ) → HasDatagramSpelling datagram
     → big_number 2 (drop 4 (spelling datagram ++ rest)) ≡ length (spelling datagram)
 total_is (Frame worker seq commit last entries) rest fits =
     let few = spelling_few (Frame worker seq commit last entries) fits in
@@ -33,12 +33,13 @@ total_is (Head replica boot request version counts) rest fits =
 total_is (Want replica worker from) rest fits = total_in_front 4 (want_body replica worker from) rest (omega arith)
 
 -- what shares a spelling reads as one datagram
-pub is_one_to_one : (law : SpelledIsFound) (d e : Datagram) → HasSpelling d → HasSpelling e → spelling d ≡ spelling e → d ≡ e
+pub is_one_to_one : (law : SpelledAreFound) (d e : Datagram) → HasDatagramSpelling d → HasDatagramSpelling e → spelling d ≡ spelling e
+    → d ≡ e
 is_one_to_one law d e fits_d fits_e same =
     let found = sym (reading-again law d fits_d) ∙ ap reading same ∙ reading-again law e fits_e in
     cc
 
-pub is_prefix_free : (law : SpelledIsFound) (d e : Datagram) (rest : List ℕ) → HasSpelling d → HasSpelling e
+pub is_prefix_free : (law : SpelledAreFound) (d e : Datagram) (rest : List ℕ) → HasDatagramSpelling d → HasDatagramSpelling e
     → spelling d ++ rest ≡ spelling e → (d ≡ e) × (rest ≡ [])
 is_prefix_free law d e rest fits_d fits_e same =
     let total : length (spelling d) ≡ length (spelling e) =

@@ -9,21 +9,20 @@ use Rattle.std.proofs.lemmas.List.{nil_from_length}
 use Rattle.byteorder.specs.Endian.{big_bytes, big_number}
 use Rattle.rows.specs.declared.limits.TheConstants.{DATAGRAM_MAX}
 use Rattle.rows.specs.Spelling.{AreBytes, entry_spelling}
-use Rattle.rows.specs.Laws.{FoundIsSpelled}
+use Rattle.rows.specs.Laws.{FoundAreSpelled}
 use Rattle.wire.specs.declared.datagram.Datagram.{Datagram}
 use Rattle.wire.specs.declared.faults.WireFault.{WireFault}
 use Rattle.wire.specs.declared.faults.WireFault.TheVariants.{Short, Magic, Version, Kind, Length, Body}
-use Rattle.wire.specs.Spelling.{datagram_of, frame_head, ask_body, head_head, want_body, spelling, HasSpelling, flag}
+use Rattle.wire.specs.Spelling.{datagram_of, frame_head, ask_body, head_head, want_body, spelling, HasDatagramSpelling, flag}
 use Rattle.wire.specs.Reading.{reading, body_at, frame_at, ask_at, head_at, want_at, counts_at}
 use Rattle.wire.proofs.Passing.{passed}
 use Rattle.rows.proofs.Bytes.{AreBytes-drop, cut_1, cut_2, cut_8, number_fits}
 use Rattle.wire.proofs.Bodies.{frame_of, frame_at-only, ask_of, ask_at-only, head_of, head_at-only, want_of, want_at-only}
-use Rattle.wire.proofs.Filling.{filling-spelled, filling-length}
 use Rattle.wire.proofs.Counting.{counts_at-spelled, length-counts_at}
 
 -- a body that is the rest of what is found in it
 record IsSpelledBody (kind : ℕ) (body : List ℕ) (found : Datagram) : Type 0 where
-  spelled : HasSpelling found
+  spelled : HasDatagramSpelling found
   whole : datagram_of kind body ≡ spelling found
 
 flag_is : (n : ℕ) → n ≤ 1 → flag (eqb n 1) ≡ n
@@ -31,7 +30,7 @@ flag_is zero h = refl
 flag_is (suc zero) h = refl
 flag_is (suc (suc n)) h = absurd (omega arith)
 
-frame_at-spelled : (law : FoundIsSpelled) (body : List ℕ) (found : Datagram) → AreBytes body → 6 + length body ≤ DATAGRAM_MAX
+frame_at-spelled : (law : FoundAreSpelled) (body : List ℕ) (found : Datagram) → AreBytes body → 6 + length body ≤ DATAGRAM_MAX
     → frame_at body ≡ Some found → IsSpelledBody 1 body found
 frame_at-spelled law body found fits few e =
     let only = frame_at-only body found e in
@@ -43,11 +42,11 @@ frame_at-spelled law body found fits few e =
     let seq = big_number 8 (drop 1 body) in
     let last = eqb (get_or body 17 0) 1 in
     let worker = get_or body 0 0 in
-    let as_many = filling-length count (drop 20 body) entries only.1.1 in
-    let rest = filling-spelled law count (drop 20 body) entries (AreBytes-drop 20 body fits) only.1.1 in
+    let read = law count (drop 20 body) entries (AreBytes-drop 20 body fits) only.1.1 in
+    let as_many = read.0 in
     let joined = flat_map entry_spelling entries in
     let at_18 : big_bytes 2 (length entries) ++ joined ≡ drop 18 body =
-    ap (λ (n : ℕ). big_bytes 2 n ++ joined) as_many ∙ ap (λ (t : List ℕ). big_bytes 2 count ++ t) (sym rest.1)
+    ap (λ (n : ℕ). big_bytes 2 n ++ joined) as_many ∙ ap (λ (t : List ℕ). big_bytes 2 count ++ t) (sym read.2)
     ∙ cut_2 18 body (omega arith) fits in
     let at_17 : flag last ∷ drop 18 body ≡ drop 17 body =
     ap (λ (n : ℕ). n ∷ drop 18 body) (flag_is (get_or body 17 0) tested.flag) ∙ cut_1 17 body (omega arith) in
@@ -67,7 +66,7 @@ frame_at-spelled law body found fits few e =
             commit_numbered = tested.numbered;
             commit_below = number_fits 8 9 body fits;
             some = omega (arith, as_many, tested.some);
-            spelled = rest.0;
+            spelled = read.1;
             few = omega arith;
           };
       whole = ap (datagram_of 1) (sym parts);
@@ -167,7 +166,7 @@ unknown kind = not (eqb kind 1) && not (eqb kind 2) && not (eqb kind 3) && not (
 known_kind : (n : ℕ) → unknown (suc (suc (suc (suc (suc n))))) ≡ false → ⊥
 known_kind n known = grind (arith, nat_tests)
 
-body_at-spelled : (law : FoundIsSpelled) (kind : ℕ) (body : List ℕ) (found : Datagram) → AreBytes body → 6 + length body ≤ DATAGRAM_MAX
+body_at-spelled : (law : FoundAreSpelled) (kind : ℕ) (body : List ℕ) (found : Datagram) → AreBytes body → 6 + length body ≤ DATAGRAM_MAX
     → unknown kind ≡ false → body_at kind body ≡ Some found → IsSpelledBody kind body found
 body_at-spelled law zero body found fits few known e = absurd cc
 body_at-spelled law (suc zero) body found fits few known e = frame_at-spelled law body found fits few e
@@ -227,8 +226,8 @@ reading-only bytes found e =
       ok_or_ok (body_at kind (drop 6 bytes)) found p4.1,
     )
 
-pub reading-spelled : (law : FoundIsSpelled) (bytes : List ℕ) (found : Datagram) → AreBytes bytes → reading bytes ≡ Ok found
-    → HasSpelling found × (bytes ≡ spelling found)
+pub reading-spelled : (law : FoundAreSpelled) (bytes : List ℕ) (found : Datagram) → AreBytes bytes → reading bytes ≡ Ok found
+    → HasDatagramSpelling found × (bytes ≡ spelling found)
 reading-spelled law bytes found fits e =
     let only = reading-only bytes found e in
     let front = only.0 in
@@ -239,7 +238,7 @@ reading-spelled law bytes found fits e =
     (body.spelled, front_parts bytes fits front ∙ body.whole)
 
 -- the same of what a reader returned
-pub is_found : (law : FoundIsSpelled) (bytes : List ℕ) (result : Result Datagram WireFault) → AreBytes bytes → result ≡ reading bytes
-    → IfOk result (λ found. HasSpelling found × (bytes ≡ spelling found))
+pub is_found : (law : FoundAreSpelled) (bytes : List ℕ) (result : Result Datagram WireFault) → AreBytes bytes → result ≡ reading bytes
+    → IfOk result (λ found. HasDatagramSpelling found × (bytes ≡ spelling found))
 is_found law bytes (Ok found) fits is = reading-spelled law bytes found fits (sym is)
 is_found law bytes (Err fault) fits is = tt

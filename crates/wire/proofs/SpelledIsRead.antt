@@ -8,15 +8,14 @@ use Rattle.byteorder.specs.Numbers.{big_number-reads_back}
 use Rattle.rows.specs.declared.entry.Entry.{Entry}
 use Rattle.rows.specs.declared.limits.TheConstants.{DATAGRAM_MAX}
 use Rattle.rows.specs.Spelling.{entry_spelling}
-use Rattle.rows.specs.Laws.{SpelledIsFound}
+use Rattle.rows.specs.Laws.{SpelledAreFound}
 use Rattle.wire.specs.declared.datagram.Datagram.{Datagram}
 use Rattle.wire.specs.declared.datagram.Datagram.TheVariants.{Frame, Ask, Head, Want}
-use Rattle.wire.specs.Entries.{entries_filling}
+use Rattle.rows.specs.Reading.{entries_filling}
 use Rattle.update_log.specs.Frames.{IsFrame}
-use Rattle.wire.specs.Spelling.{datagram_of, frame_head, ask_body, head_head, want_body, IsAsk, spelling, HasSpelling, flag}
+use Rattle.wire.specs.Spelling.{datagram_of, frame_head, ask_body, head_head, want_body, IsAsk, spelling, HasDatagramSpelling, flag}
 use Rattle.wire.specs.Reading.{reading, body_at, frame_at, ask_at, head_at, want_at, counts_at}
 use Rattle.wire.proofs.Bodies.{frame_at-is, ask_at-is, head_at-is, want_at-is}
-use Rattle.wire.proofs.Filling.{filling-again}
 use Rattle.wire.proofs.Counting.{counts_at-again}
 use Rattle.wire.proofs.Lengths.{entries_few, length-counts, spelling_few}
 
@@ -28,7 +27,7 @@ flag_few : (last : Bool) → flag last ≤ 1
 flag_few false = omega arith
 flag_few true = omega arith
 
-frame_at-again : (law : SpelledIsFound) (worker seq commit : ℕ) (last : Bool) (entries : List Entry) → IsFrame worker seq commit entries
+frame_at-again : (law : SpelledAreFound) (worker seq commit : ℕ) (last : Bool) (entries : List Entry) → IsFrame worker seq commit entries
     → frame_at (frame_head worker seq commit last (length entries) ++ flat_map entry_spelling entries) ≡ Some
     (Frame worker seq commit last entries)
 frame_at-again law worker seq commit last entries fits =
@@ -39,7 +38,7 @@ frame_at-again law worker seq commit last entries fits =
     let commit_is : big_number 8 (drop 9 body) ≡ commit = big_number-reads_back 8 commit (drop 17 body) fits.commit_below in
     let seq_is : big_number 8 (drop 1 body) ≡ seq = big_number-reads_back 8 seq (drop 9 body) fits.seq_below in
     let filled : entries_filling (big_number 2 (drop 18 body)) joined ≡ Some entries =
-    ap (λ (n : ℕ). entries_filling n joined) count_is ∙ filling-again law entries fits.spelled in
+    ap (λ (n : ℕ). entries_filling n joined) count_is ∙ law entries fits.spelled in
     frame_at-is body entries (record {
       long = omega arith;
       worker = fits.worker_below;
@@ -61,7 +60,7 @@ ask_at-again replica boot request fits =
     ∙ ap (λ (n : ℕ). Some (Ask replica n (big_number 8 (drop 9 body)))) boot_is
     ∙ ap (λ (n : ℕ). Some (Ask replica boot n)) request_is
 
-head_at-again : (replica boot request version : ℕ) (counts : List ℕ) → HasSpelling (Head replica boot request version counts)
+head_at-again : (replica boot request version : ℕ) (counts : List ℕ) → HasDatagramSpelling (Head replica boot request version counts)
     → head_at (head_head replica boot request version (length counts) ++ flat_map (big_bytes 8) counts) ≡ Some
     (Head replica boot request version counts)
 head_at-again replica boot request version counts fits =
@@ -84,7 +83,7 @@ head_at-again replica boot request version counts fits =
     ∙ ap (λ (n : ℕ). Some (Head replica boot request n (counts_at (length counts) joined))) version_is
     ∙ ap (λ (t : List ℕ). Some (Head replica boot request version t)) counts_are
 
-want_at-again : (replica worker from : ℕ) → HasSpelling (Want replica worker from)
+want_at-again : (replica worker from : ℕ) → HasDatagramSpelling (Want replica worker from)
     → want_at (want_body replica worker from) ≡ Some (Want replica worker from)
 want_at-again replica worker from fits =
     let body : List ℕ = want_body replica worker from in
@@ -116,7 +115,7 @@ module _ (kind : ℕ) (body : List ℕ) where
       let whole = takes_total few in
       rw (long, known, whole, is) refl
 
-pub reading-again : (law : SpelledIsFound) (datagram : Datagram) → HasSpelling datagram → reading (spelling datagram) ≡ Ok datagram
+pub reading-again : (law : SpelledAreFound) (datagram : Datagram) → HasDatagramSpelling datagram → reading (spelling datagram) ≡ Ok datagram
 reading-again law (Frame worker seq commit last entries) fits =
     let few = spelling_few (Frame worker seq commit last entries) fits in
     reading-front 1 (frame_head worker seq commit last (length entries) ++ flat_map entry_spelling entries)

@@ -1,14 +1,16 @@
 -- Laws of the format.
 use Rattle.std.specs.Prelude.{◌≡◌, ℕ, List, [], ◌++◌}
 use Rattle.wire.specs.declared.datagram.Datagram.{Datagram}
-use Rattle.wire.specs.Spelling.{spelling, HasSpelling}
+use Rattle.wire.specs.Spelling.{spelling, HasDatagramSpelling}
 
 -- datagrams that share a spelling are equal
-abbrev pub IsOneToOne : Type 0
-IsOneToOne = (datagram other : Datagram) → HasSpelling datagram → HasSpelling other → spelling datagram ≡ spelling other → datagram ≡ other
+abbrev pub SpellingsAreOneToOne : Type 0
+SpellingsAreOneToOne = (datagram other : Datagram) → HasDatagramSpelling datagram → HasDatagramSpelling other
+    → spelling datagram ≡ spelling other → datagram ≡ other
 
 -- no spelling is a proper beginning of another
 abbrev pub IsPrefixFree : Type 0
 IsPrefixFree =
-    (datagram other : Datagram) (rest : List ℕ) → HasSpelling datagram → HasSpelling other → spelling datagram ++ rest ≡ spelling other
+    (datagram other : Datagram) (rest : List ℕ) → HasDatagramSpelling datagram → HasDatagramSpelling other
+    → spelling datagram ++ rest ≡ spelling other
     → (datagram ≡ other) × (rest ≡ [])

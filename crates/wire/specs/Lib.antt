@@ -1,4 +1,3 @@
-pub mod Entries
 pub mod Spelling
 pub mod Reading
 pub mod Laws

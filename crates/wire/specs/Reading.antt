@@ -8,8 +8,8 @@ use Rattle.wire.specs.declared.datagram.Datagram.{Datagram}
 use Rattle.wire.specs.declared.datagram.Datagram.TheVariants.{Frame, Ask, Head, Want}
 use Rattle.wire.specs.declared.faults.WireFault.{WireFault}
 use Rattle.wire.specs.declared.faults.WireFault.TheVariants.{Short, Magic, Version, Kind, Length, Body}
-use Rattle.wire.specs.Entries.{entries_filling}
-use Rattle.wire.specs.Spelling.{frame_kind, ask_kind, head_kind, want_kind}
+use Rattle.rows.specs.Reading.{entries_filling}
+use Rattle.wire.specs.Spelling.{datagram_magic, datagram_version, frame_kind, ask_kind, head_kind, want_kind}
 
 -- a Frame's body: the worker is below 16, the commit's number not 0, the flag 0 or 1, the count not 0, and exactly
 -- that many entries fill the rest
@@ -59,8 +59,8 @@ body_at kind body =
 abbrev pub reading : List ℕ → Result Datagram WireFault
 reading bytes =
     if nat_lt (length bytes) 6 then Err Short else
-    if not (big_number 2 bytes == 0x4244) then Err Magic else
-    if not (slice_index bytes 2 == 1) then Err Version else
+    if not (big_number 2 bytes == datagram_magic) then Err Magic else
+    if not (slice_index bytes 2 == datagram_version) then Err Version else
     if not (slice_index bytes 3 == frame_kind) && not (slice_index bytes 3 == ask_kind) && not (slice_index bytes 3 == head_kind)
     && not (slice_index bytes 3 == want_kind) then Err Kind else
     if not (big_number 2 (drop 4 bytes) == length bytes) || nat_lt datagram_max (length bytes) then Err Length else

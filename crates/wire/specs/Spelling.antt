@@ -12,6 +12,14 @@ use Rattle.update_log.specs.Frames.{IsFrame}
 use Rattle.wire.specs.declared.datagram.Datagram.{Datagram}
 use Rattle.wire.specs.declared.datagram.Datagram.TheVariants.{Frame, Ask, Head, Want}
 
+-- the first bytes of each datagram, as one number
+abbrev pub datagram_magic : ℕ
+datagram_magic = 0x4244
+
+-- the version of this format: the third byte
+abbrev pub datagram_version : ℕ
+datagram_version = 1
+
 -- the kinds of datagrams: the fourth byte
 abbrev pub frame_kind : ℕ
 frame_kind = 1
@@ -27,7 +35,7 @@ want_kind = 4
 
 -- the six bytes that begin a datagram of this kind and total length
 abbrev pub datagram_front : ℕ → ℕ → List ℕ
-datagram_front kind total = (0x42 ∷ 0x44 ∷ 1 ∷ kind ∷ []) ++ big_bytes 2 total
+datagram_front kind total = big_bytes 2 datagram_magic ++ (datagram_version ∷ kind ∷ []) ++ big_bytes 2 total
 
 -- a datagram of this kind with this body
 abbrev pub datagram_of : ℕ → List ℕ → List ℕ
@@ -77,11 +85,11 @@ pub record AreCounts (counts : List ℕ) : Type 0 where
   pub below : AllByRecursion (λ count. count < 2 ^ 64) counts
 
 -- which datagrams have a spelling: a Frame where it is one, and the others where their numbers are in range
-abbrev pub HasSpelling : Datagram → Type 0
-HasSpelling (Frame worker seq commit last entries) = IsFrame worker seq commit entries
-HasSpelling (Ask replica boot request) = IsAsk replica boot request
-HasSpelling (Head replica boot request version counts) = IsAsk replica boot request × (version < 2 ^ 64) × AreCounts counts
-HasSpelling (Want replica worker from) = (replica < replicas_max) × (worker < workers_max) × (from < 2 ^ 64)
+abbrev pub HasDatagramSpelling : Datagram → Type 0
+HasDatagramSpelling (Frame worker seq commit last entries) = IsFrame worker seq commit entries
+HasDatagramSpelling (Ask replica boot request) = IsAsk replica boot request
+HasDatagramSpelling (Head replica boot request version counts) = IsAsk replica boot request × (version < 2 ^ 64) × AreCounts counts
+HasDatagramSpelling (Want replica worker from) = (replica < replicas_max) × (worker < workers_max) × (from < 2 ^ 64)
 
 -- an owned frame as a datagram
 abbrev pub datagram_of_frame : frames.Frame → Datagram
@@ -91,4 +99,4 @@ abbrev pub frame_spelling : frames.Frame → List ℕ
 frame_spelling frame = spelling (datagram_of_frame frame)
 
 abbrev pub FrameHasSpelling : frames.Frame → Type 0
-FrameHasSpelling frame = HasSpelling (datagram_of_frame frame)
+FrameHasSpelling frame = HasDatagramSpelling (datagram_of_frame frame)

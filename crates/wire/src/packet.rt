@@ -2,7 +2,7 @@
 
 ghost use Rattle.std.specs.Prelude.{◌≡◌, ◌≤◌, length, Ok};
 ghost use Rattle.wire.specs.Reading.{reading};
-ghost use Rattle.wire.specs.Spelling.{spelling, HasSpelling, datagram_of_frame, frame_spelling, FrameHasSpelling};
+ghost use Rattle.wire.specs.Spelling.{spelling, HasDatagramSpelling, datagram_of_frame, frame_spelling, FrameHasSpelling};
 
 use crate::datagram::Datagram;
 use crate::faults::TooSmall;
@@ -33,7 +33,7 @@ impl Model for Packet {
 impl Packet {
     /// The spelling of a datagram. Takes no memory.
     pub fn of(datagram: &Datagram<'_>) -> Packet
-        requires { HasSpelling datagram.now }
+        requires { HasDatagramSpelling datagram.now }
         ensures spelled { result ≡ spelling datagram.now }
         ensures reads_back { reading result ≡ Ok datagram.now }
     {

@@ -3,7 +3,7 @@
 ghost use Rattle.std.specs.Prelude.{◌≡◌, ◌≤◌, ◌*◌, ◌==◌, ◌&&◌, not, length, Ok, IfOk};
 ghost use Rattle.wire.specs.declared.datagram.Datagram.{Datagram};
 ghost use Rattle.wire.specs.Reading.{reading, body_at, frame_at, ask_at, head_at, want_at, counts_at};
-ghost use Rattle.wire.specs.Spelling.{HasSpelling, spelling, frame_kind, ask_kind, head_kind, want_kind};
+ghost use Rattle.wire.specs.Spelling.{HasDatagramSpelling, spelling, frame_kind, ask_kind, head_kind, want_kind};
 
 use crate::counts::Counts;
 use crate::datagram::Datagram;
@@ -15,10 +15,10 @@ use rows::laws;
 use rows::limits::{DATAGRAM_MAX, REPLICAS_MAX, WORKERS_MAX};
 
 /// The first bytes of every datagram.
-pub const MAGIC: u16 = 0x4244;
+pub const DATAGRAM_MAGIC: u16 = 0x4244;
 
 /// The version of the format.
-pub const VERSION: u8 = 1;
+pub const DATAGRAM_VERSION: u8 = 1;
 
 /// The datagram that the bytes spell, its parts lent by them. Otherwise the first of these
 /// faults: `Short`, fewer than 6 bytes; `Magic`, other first bytes than 42 44; `Version`, another
@@ -29,8 +29,8 @@ pub fn read(bytes: &[u8]) -> Result<Datagram<'_>, WireFault>
     ensures exact { result ≡ reading bytes.now }
 
     // What is read is spelled so, and what is spelled so is read.
-    ensures found { IfOk result (λ datagram. HasSpelling datagram × (bytes.now ≡ spelling datagram)) }
-    ensures only { (datagram : Datagram) → HasSpelling datagram → bytes.now ≡ spelling datagram → result ≡ Ok datagram }
+    ensures found { IfOk result (λ datagram. HasDatagramSpelling datagram × (bytes.now ≡ spelling datagram)) }
+    ensures only { (datagram : Datagram) → HasDatagramSpelling datagram → bytes.now ≡ spelling datagram → result ≡ Ok datagram }
 {
     laws::entries_are_read_as_spelled();
     read_datagram(bytes)
@@ -44,10 +44,10 @@ fn read_datagram(bytes: &[u8]) -> Result<Datagram<'_>, WireFault>
         return Err(WireFault::Short);
     }
     let (head, body) = bytes.split_at(6);
-    if BigEndian::read_u16(head) != MAGIC {
+    if BigEndian::read_u16(head) != DATAGRAM_MAGIC {
         return Err(WireFault::Magic);
     }
-    if head[2] != VERSION {
+    if head[2] != DATAGRAM_VERSION {
         return Err(WireFault::Version);
     }
     let kind = head[3];

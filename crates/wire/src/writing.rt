@@ -3,7 +3,7 @@
 ghost use Rattle.std.specs.Prelude.{◌≡◌, ◌<◌, ◌≤◌, ◌+◌, ◌*◌, ◌++◌, ◌∷◌, [], ◌↔◌, length, drop, IfOk, OnErr, IsErr};
 ghost use Rattle.rows.specs.Spelling.{HasSpelling as EntryHasSpelling, entry_spelling};
 ghost use Rattle.std.specs.List.{flat_map, AllByRecursion};
-ghost use Rattle.wire.specs.Spelling.{spelling, frame_spelling, HasSpelling, FrameHasSpelling, datagram_front, frame_head};
+ghost use Rattle.wire.specs.Spelling.{spelling, frame_spelling, HasDatagramSpelling, FrameHasSpelling, datagram_front, frame_head};
 ghost use Rattle.update_log.specs.Frames.{IsFrame};
 ghost use Rattle.wire.specs.Spelling.{frame_kind, ask_kind, head_kind, want_kind};
 ghost use Rattle.wire.specs.Spelling.{ask_body, head_head, want_body};
@@ -12,7 +12,7 @@ ghost use Rattle.rows.specs.Limits.{workers_max};
 use crate::datagram::Datagram;
 use crate::faults::TooSmall;
 use crate::kinds::{ASK_KIND, FRAME_KIND, HEAD_KIND, WANT_KIND};
-use crate::reading::{MAGIC, VERSION};
+use crate::reading::{DATAGRAM_MAGIC, DATAGRAM_VERSION};
 use byteorder::{BigEndian, ByteOrder};
 use rows::limits::DATAGRAM_MAX;
 use rows::{Entry, entry_len, write_entry};
@@ -25,7 +25,7 @@ const FRAME_FRONT_LEN: usize = 26;
 /// bytes behind it stay. `TooSmall` exactly where the buffer is shorter than the spelling, and
 /// then the buffer is unchanged. Takes no memory.
 pub fn write(datagram: &Datagram<'_>, buffer: &mut [u8]) -> Result<usize, TooSmall>
-    requires { HasSpelling datagram.now }
+    requires { HasDatagramSpelling datagram.now }
     ensures ok { IfOk result (λ len. (len ≡ length (spelling datagram.now)) × (buffer.new ≡ spelling datagram.now ++ drop len buffer.old)) }
     ensures small { IsErr result ↔ (length buffer.old < length (spelling datagram.now)) }
     ensures err { OnErr result (buffer.new ≡ buffer.old) }
@@ -240,8 +240,8 @@ fn start(kind: u8, total: u16, bytes: &mut [u8])
     requires { 6 ≤ length bytes.old }
     ensures { bytes.new ≡ datagram_front kind total ++ drop 6 bytes.old }
 {
-    BigEndian::write_u16(bytes, MAGIC);
-    bytes[2] = VERSION;
+    BigEndian::write_u16(bytes, DATAGRAM_MAGIC);
+    bytes[2] = DATAGRAM_VERSION;
     bytes[3] = kind;
     BigEndian::write_u16(&mut bytes[4..], total);
 }

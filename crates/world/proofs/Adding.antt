@@ -1,48 +1,57 @@
 -- A change of a transaction that is taken adds one entry, and its row stands as the entry needs it.
-use Rattle.std.proofs.Common.{◌≡◌, ℕ, Bool, true, false, cond, not, List, [], ◌∷◌, ◌++◌, length, Ok, Err, nat_lt, refl, sym, ap}
+use Rattle.std.proofs.Common.{◌≡◌, ℕ, Bool, true, false, cond, not, ◌&&◌, ◌==◌, List, [], ◌∷◌, ◌++◌, length, Ok, Err, nat_lt, refl, sym, ap}
 use Rattle.std.proofs.Common.{subst, ◌∙◌}
 use Rattle.std.specs.List.{slice_get}
 use Rattle.std.specs.Option.{is_some}
+use Rattle.std.proofs.lemmas.Bool.{and_from, eq-eqb}
 use Rattle.rows.specs.declared.commit.Commit.{Commit}
 use Rattle.rows.specs.declared.entry.Entry.{Entry}
 use Rattle.rows.specs.declared.entry.Entry.TheVariants.{Insert, Patch, Delete}
 use Rattle.rows.specs.declared.value.Value.{Value}
 use Rattle.rows.specs.Shape.{Shape}
-use Rattle.rows.specs.Entries.{table_of, row_of}
+use Rattle.rows.specs.Commits.{is_of}
 use Rattle.rows.specs.Presence.{stands_for}
 use Rattle.rows.specs.Values.{bytes_of, value_bytes}
 use Rattle.mvcc.specs.declared.faults.TxFault.TheVariants.{Exists, Missing, Unfit, TooManyEntries}
 use Rattle.rows.specs.declared.limits.TheConstants.{COMMIT_ENTRIES_MAX}
-use Rattle.mvcc.specs.Draft.{Draft}
+use Rattle.mvcc.specs.Transaction.{Transaction}
 use Rattle.mvcc.proofs.Seen.{seen-shape}
-use Rattle.mvcc.specs.Transactions.{match_table, match_column, column_kind, column_offset, seen_shape, sees, draft_with, insert_answer}
+use Rattle.mvcc.specs.Transactions.{match_table, match_column, column_kind, column_offset, seen_shape, sees, transaction_with}
+use Rattle.mvcc.specs.Transactions.{insert_answer}
 use Rattle.mvcc.specs.Transactions.{set_answer}
 use Rattle.mvcc.specs.Transactions.{delete_answer}
 
 -- the transaction with this entry behind its others
-pub record IsAdded (shape : Shape) (commits : List Commit) (draft : Draft) (entry : Entry) (new : Draft) : Type 0 where
-  pub stands : stands_for entry (sees shape commits draft (table_of entry) (row_of entry)) ≡ true
+pub record IsAdded (shape : Shape) (commits : List Commit) (draft : Transaction) (entry : Entry) (new : Transaction) : Type 0 where
+  pub table : ℕ
+  pub row : ℕ
+  pub of_row : is_of table row entry ≡ true
+  pub stands : stands_for entry (sees shape commits draft table row) ≡ true
   pub made : new ≡ record draft { entries = draft.entries ++ entry ∷ [] }
 
-pub reads_same : (shape : Shape) (commits : List Commit) (draft : Draft) (entry : Entry) (new : Draft)
+pub reads_same : (shape : Shape) (commits : List Commit) (draft : Transaction) (entry : Entry) (new : Transaction)
     → IsAdded shape commits draft entry new → new.snapshot ≡ draft.snapshot
-reads_same shape commits draft entry new added = ap (λ (d : Draft). d.snapshot) added.made
+reads_same shape commits draft entry new added = ap (λ (d : Transaction). d.snapshot) added.made
 
-added_to : (shape : Shape) (commits : List Commit) (draft : Draft) (entry : Entry) (new : Draft)
-    → stands_for entry (sees shape commits draft (table_of entry) (row_of entry)) ≡ true
-    → draft_with draft entry ≡ Ok new → IsAdded shape commits draft entry new
-added_to shape commits draft entry new stands h = by (nat_lt (length draft.entries) COMMIT_ENTRIES_MAX) h
+-- a row is itself
+own : (table row : ℕ) → ((table == table) && (row == row)) ≡ true
+own table row = and_from _ _ (eq-eqb table table refl) (eq-eqb row row refl)
+
+added_to : (shape : Shape) (commits : List Commit) (draft : Transaction) (entry : Entry) (new : Transaction) (table row : ℕ)
+    → is_of table row entry ≡ true → stands_for entry (sees shape commits draft table row) ≡ true
+    → transaction_with draft entry ≡ Ok new → IsAdded shape commits draft entry new
+added_to shape commits draft entry new table row of_row stands h = by (nat_lt (length draft.entries) COMMIT_ENTRIES_MAX) h
   where
-    with : Draft
+    with : Transaction
     with = record draft { entries = draft.entries ++ entry ∷ [] }
 
     by : (c : Bool) → cond c (Ok with) (Err TooManyEntries) ≡ Ok new → IsAdded shape commits draft entry new
     by false h = absurd (cc)
     by true h =
         let same : with ≡ new = cc in
-        record { stands = stands; made = sym same }
+        record { table = table; row = row; of_row = of_row; stands = stands; made = sym same }
 
-module _ (shape : Shape) (commits : List Commit) (draft : Draft) (table row : ℕ) (new : Draft) where
+module _ (shape : Shape) (commits : List Commit) (draft : Transaction) (table row : ℕ) (new : Transaction) where
   pub insert-added : (values : List Value) → insert_answer shape commits draft table row values ≡ Ok new
       → (match_table values (slice_get shape table) ≡ true)
       × IsAdded shape commits draft (Insert table (record { 0 = row }) (bytes_of values)) new
@@ -53,13 +62,13 @@ module _ (shape : Shape) (commits : List Commit) (draft : Draft) (table row : �
       entry = Insert table (record { 0 = row }) (bytes_of values)
 
       by : (a b : Bool) → match_table values (slice_get (seen_shape shape commits draft) table) ≡ a → sees shape commits draft table row ≡ b
-          → cond (not a) (Err Unfit) (cond b (Err Exists) (draft_with draft entry)) ≡ Ok new
+          → cond (not a) (Err Unfit) (cond b (Err Exists) (transaction_with draft entry)) ≡ Ok new
           → (match_table values (slice_get shape table) ≡ true) × IsAdded shape commits draft entry new
       by false b e f h = absurd (cc)
       by true true e f h = absurd (cc)
       by true false e f h = (
         ap (λ (s : Shape). match_table values (slice_get s table)) (sym (seen-shape shape commits draft)) ∙ e,
-        added_to shape commits draft entry new (ap not f) h,
+        added_to shape commits draft entry new table row (own table row) (ap not f) h,
       )
 
   pub set-added : (column : ℕ) (value : Value) → set_answer shape commits draft table row column value ≡ Ok new
@@ -73,7 +82,7 @@ module _ (shape : Shape) (commits : List Commit) (draft : Draft) (table row : �
 
       by : (a b : Bool) → match_column value (column_kind (seen_shape shape commits draft) table column) ≡ a
           → sees shape commits draft table row ≡ b
-          → cond (not a) (Err Unfit) (cond (not b) (Err Missing) (draft_with draft entry)) ≡ Ok new
+          → cond (not a) (Err Unfit) (cond (not b) (Err Missing) (transaction_with draft entry)) ≡ Ok new
           → (match_column value (column_kind shape table column) ≡ true)
           × IsAdded shape commits draft (Patch table (record { 0 = row }) (column_offset shape table column) (value_bytes value)) new
       by false b e f h = absurd (cc)
@@ -83,7 +92,7 @@ module _ (shape : Shape) (commits : List Commit) (draft : Draft) (table row : �
             ap (λ (s : Shape). match_column value (column_kind s table column)) (sym seen) ∙ e,
             subst (λ (s : Shape). IsAdded shape commits draft
                 (Patch table (record { 0 = row }) (column_offset s table column) (value_bytes value)) new) seen
-                (added_to shape commits draft entry new f h),
+                (added_to shape commits draft entry new table row (own table row) f h),
           )
 
   pub delete-added : delete_answer shape commits draft table row ≡ Ok new → (is_some (slice_get shape table) ≡ true)
@@ -94,11 +103,11 @@ module _ (shape : Shape) (commits : List Commit) (draft : Draft) (table row : �
       entry = Delete table (record { 0 = row })
 
       by : (a b : Bool) → is_some (slice_get (seen_shape shape commits draft) table) ≡ a → sees shape commits draft table row ≡ b
-          → cond (not a) (Err Unfit) (cond (not b) (Err Missing) (draft_with draft entry)) ≡ Ok new
+          → cond (not a) (Err Unfit) (cond (not b) (Err Missing) (transaction_with draft entry)) ≡ Ok new
           → (is_some (slice_get shape table) ≡ true) × IsAdded shape commits draft entry new
       by false b e f h = absurd (cc)
       by true false e f h = absurd (cc)
       by true true e f h = (
         ap (λ (s : Shape). is_some (slice_get s table)) (sym (seen-shape shape commits draft)) ∙ e,
-        added_to shape commits draft entry new f h,
+        added_to shape commits draft entry new table row (own table row) f h,
       )

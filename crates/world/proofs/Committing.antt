@@ -23,7 +23,7 @@ use Rattle.wire.specs.Spelling.{spelling, frame_spelling, IsAsk}
 use Rattle.mvcc.specs.declared.faults.TxFault.{TxFault}
 use Rattle.primary.specs.declared.faults.CommitFault.{CommitFault}
 use Rattle.primary.specs.declared.faults.CommitFault.TheVariants as faults
-use Rattle.mvcc.specs.Draft.{Draft}
+use Rattle.mvcc.specs.Transaction.{Transaction}
 use Rattle.primary.specs.Steps.{commit_answer, flushed, is_foreign, next_number, has_numbers}
 use Rattle.primary.specs.Sending.{answers, answers_to, head_for, counts_of, wanted, frame_to}
 use Rattle.primary.specs.State.{Primary}
@@ -33,66 +33,69 @@ use Rattle.script.specs.declared.output.Output.{Output}
 use Rattle.script.specs.declared.output.Output.TheVariants as outputs
 use Rattle.world.specs.Outputs.{of_look, packets_of}
 use Rattle.world.specs.Parts.{Parts}
-use Rattle.world.specs.Steps.{World, open_draft, change_happens, commit_happens, abort_happens, on_draft, push_happens, deliver_happens}
+use Rattle.world.specs.Steps.{World, open_transaction, change_happens, commit_happens, abort_happens, on_transaction, push_happens}
+use Rattle.world.specs.Steps.{deliver_happens}
 use Rattle.world.specs.Steps.{stop_happens, delivered, raw_happens, is_forged}
 use Rattle.world.specs.Stops.{stopped_at, whole_in, closed}
 use Rattle.world.specs.Inner.Boots.{IsOfBoot}
-use Rattle.world.specs.Inner.Sound.{Sound, AreLists, IsAnswer, Means}
+use Rattle.world.specs.Inner.Sound.{Sound, PrimaryListsAreLegal, IsAnswer, Means}
 use Rattle.world.specs.Standing.{boots_at, world_of}
 use Rattle.world.proofs.Boots.{of-boot}
 use Rattle.world.proofs.Datagrams.{frame-read, head-read}
 use Rattle.world.proofs.Durable.{legal-front, stream-grows}
 use Rattle.world.proofs.FedLaws.{FedLaws}
 use Rattle.world.proofs.Lists.{get-set, get-append, get-one, All-get}
-use Rattle.world.proofs.Moves.{Sound-drafts, Sound-sent, Sound-one, Sound-pending, Sound-grown, Sound-apart}
+use Rattle.world.proofs.Moves.{Sound-transactions, Sound-sent, Sound-one, Sound-pending, Sound-grown, Sound-apart}
 use Rattle.world.proofs.Raw.{unforged}
 use Rattle.world.proofs.Streams.{frame-at, get-take, get-drop, counts-length, counts-are, counts-spelled}
 use Rattle.world.proofs.Worlds.{beside_of}
 
 -- ---- transactions
 
-pub opened : (found : Option (Option Draft)) (draft : Draft) → option_and_then (λ slot. slot) found ≡ Some draft → found ≡ Some (Some draft)
+pub opened : (found : Option (Option Transaction)) (draft : Transaction) → option_and_then (λ slot. slot) found ≡ Some draft
+    → found ≡ Some (Some draft)
 opened None draft h = absurd (none-some draft h)
 opened (Some slot) draft h = ap Some h
 
 -- the transactions with one more
-pub drafts-begun : (shape : Shape) (p : Parts) → Sound shape p
+pub transactions-begun : (shape : Shape) (p : Parts) → Sound shape p
     → Sound shape (record p { transactions = p.transactions ++ Some (record { snapshot = length p.primary.durable; entries = [] }) ∷ [] })
-drafts-begun shape p sound =
-    let fresh : Draft = record { snapshot = length p.primary.durable; entries = [] } in
-    Sound-drafts shape p (p.transactions ++ Some fresh ∷ []) sound
+transactions-begun shape p sound =
+    let fresh : Transaction = record { snapshot = length p.primary.durable; entries = [] } in
+    Sound-transactions shape p (p.transactions ++ Some fresh ∷ []) sound
     (λ i draft here. elim (get-append p.transactions (Some fresh ∷ []) i (Some draft) here) [
-      | inl old ↦ sound.drafts_are i draft old
+      | inl old ↦ sound.transactions_are i draft old
       | inr new ↦
           let same : draft ≡ fresh = same_Some draft fresh (get-one (Some fresh) new.0 (Some draft) new.1) in
-          let snapshot = ap (λ (d : Draft). d.snapshot) same in
+          let snapshot = ap (λ (d : Transaction). d.snapshot) same in
           omega arith
     ])
 
 -- one transaction changed
-drafts-changed : (shape : Shape) (p : Parts) (number : ℕ) (new : Draft) → Sound shape p → new.snapshot ≤ length p.primary.durable
+transactions-changed : (shape : Shape) (p : Parts) (number : ℕ) (new : Transaction) → Sound shape p
+    → new.snapshot ≤ length p.primary.durable
     → Sound shape (record p { transactions = slice_set p.transactions number (Some new) })
-drafts-changed shape p number new sound known =
-    Sound-drafts shape p (slice_set p.transactions number (Some new)) sound
+transactions-changed shape p number new sound known =
+    Sound-transactions shape p (slice_set p.transactions number (Some new)) sound
     (λ i draft here. elim (get-set p.transactions number (Some new) i (Some draft) here) [
       | inl same ↦
-          let snapshot = ap (λ (d : Draft). d.snapshot) (same_Some draft new same.1) in
+          let snapshot = ap (λ (d : Transaction). d.snapshot) (same_Some draft new same.1) in
           omega arith
-      | inr old ↦ sound.drafts_are i draft old
+      | inr old ↦ sound.transactions_are i draft old
     ])
 
 -- one transaction no longer open
-drafts-ended : (shape : Shape) (p : Parts) (number : ℕ) → Sound shape p
+transactions-ended : (shape : Shape) (p : Parts) (number : ℕ) → Sound shape p
     → Sound shape (record p { transactions = slice_set p.transactions number None })
-drafts-ended shape p number sound =
-    Sound-drafts shape p (slice_set p.transactions number None) sound
+transactions-ended shape p number sound =
+    Sound-transactions shape p (slice_set p.transactions number None) sound
     (λ i draft here. elim (get-set p.transactions number None i (Some draft) here) [
       | inl same ↦ absurd (none-some draft (sym same.1))
-      | inr old ↦ sound.drafts_are i draft old
+      | inr old ↦ sound.transactions_are i draft old
     ])
 
 -- none is open
-pub none-open : (transactions : List (Option Draft)) (number : ℕ) (draft : Draft)
+pub none-open : (transactions : List (Option Transaction)) (number : ℕ) (draft : Transaction)
     → ¬ (slice_get (closed transactions) number ≡ Some (Some draft))
 none-open [] number draft h = absurd (none-some (Some draft) h)
 none-open (slot ∷ slots) zero draft h = none-some draft (same_Some None (Some draft) h)
@@ -100,35 +103,35 @@ none-open (slot ∷ slots) (suc number) draft h = none-open slots number draft h
 
 -- ---- changes, looks, and giving up
 
-changed : (shape : Shape) (p : Parts) (number : ℕ) (answer : Result Draft TxFault) → Sound shape p
-    → ((new : Draft) → answer ≡ Ok new → new.snapshot ≤ length p.primary.durable)
+changed : (shape : Shape) (p : Parts) (number : ℕ) (answer : Result Transaction TxFault) → Sound shape p
+    → ((new : Transaction) → answer ≡ Ok new → new.snapshot ≤ length p.primary.durable)
     → Sound shape (beside_of (change_happens (world_of p) number answer).1 p)
-changed shape p number (Ok new) sound known = drafts-changed shape p number new sound (known new refl)
+changed shape p number (Ok new) sound known = transactions-changed shape p number new sound (known new refl)
 changed shape p number (Err fault) sound known = sound
 
-pub change-sound : (shape : Shape) (p : Parts) (number : ℕ) (change : Draft → Result Draft TxFault) (found : Option Draft)
+pub change-sound : (shape : Shape) (p : Parts) (number : ℕ) (change : Transaction → Result Transaction TxFault) (found : Option Transaction)
     → Sound shape p
-    → ((draft new : Draft) → change draft ≡ Ok new → new.snapshot ≡ draft.snapshot) → open_draft p.transactions number ≡ found
-    → Sound shape (beside_of (on_draft (world_of p) found (λ draft. change_happens (world_of p) number (change draft))).1 p)
+    → ((draft new : Transaction) → change draft ≡ Ok new → new.snapshot ≡ draft.snapshot) → open_transaction p.transactions number ≡ found
+    → Sound shape (beside_of (on_transaction (world_of p) found (λ draft. change_happens (world_of p) number (change draft))).1 p)
 change-sound shape p number change None sound reads at = sound
 change-sound shape p number change (Some draft) sound reads at =
-    let known = sound.drafts_are number draft (opened (slice_get p.transactions number) draft at) in
+    let known = sound.transactions_are number draft (opened (slice_get p.transactions number) draft at) in
     changed shape p number (change draft) sound (λ new h. let same = reads draft new h in omega arith)
 
-pub look-sound : (shape : Shape) (p : Parts) (look : Draft → Result Value TxFault) (found : Option Draft) → Sound shape p
-    → Sound shape (beside_of (on_draft (world_of p) found (λ draft. (of_look (look draft), world_of p))).1 p)
+pub look-sound : (shape : Shape) (p : Parts) (look : Transaction → Result Value TxFault) (found : Option Transaction) → Sound shape p
+    → Sound shape (beside_of (on_transaction (world_of p) found (λ draft. (of_look (look draft), world_of p))).1 p)
 look-sound shape p look None sound = sound
 look-sound shape p look (Some draft) sound = sound
 
-pub abort-sound : (shape : Shape) (p : Parts) (number : ℕ) (found : Option Draft) → Sound shape p
-    → Sound shape (beside_of (on_draft (world_of p) found (λ draft. abort_happens (world_of p) number)).1 p)
+pub abort-sound : (shape : Shape) (p : Parts) (number : ℕ) (found : Option Transaction) → Sound shape p
+    → Sound shape (beside_of (on_transaction (world_of p) found (λ draft. abort_happens (world_of p) number)).1 p)
 abort-sound shape p number None sound = sound
-abort-sound shape p number (Some draft) sound = drafts-ended shape p number sound
+abort-sound shape p number (Some draft) sound = transactions-ended shape p number sound
 
 -- ---- commits
 
 -- a commit that is answered by its number has one of 64 bits
-pub commit-numbered : (p : Primary) (worker : ℕ) (draft : Draft) (number : ℕ) → commit_answer p worker draft ≡ Ok number
+pub commit-numbered : (p : Primary) (worker : ℕ) (draft : Transaction) (number : ℕ) → commit_answer p worker draft ≡ Ok number
     → next_number p < 2 ^ 64
 commit-numbered p worker draft number h =
     by p.failed (length draft.entries == 0) (is_foreign p draft)
@@ -150,27 +153,27 @@ commit-numbered p worker draft number h =
         (and_parts (nat_lt (next_number p) (2 ^ 64))
         (nat_lt (length (stream_of (p.durable ++ p.pending) worker) + length (parts_of draft.entries)) (2 ^ 64)) t).0
 
-commits : (shape : Shape) (p : Parts) (number worker : ℕ) (draft : Draft) (answer : Result ℕ CommitFault) → Sound shape p
+commits : (shape : Shape) (p : Parts) (number worker : ℕ) (draft : Transaction) (answer : Result ℕ CommitFault) → Sound shape p
     → Sound shape (beside_of (commit_happens (world_of p) number worker draft answer).1 p)
 commits shape p number worker draft (Ok ticket) sound =
     Sound-pending shape (record p { transactions = slice_set p.transactions number None })
-    (p.primary.pending ++ record { worker = worker; entries = draft.entries } ∷ []) (drafts-ended shape p number sound)
-commits shape p number worker draft (Err fault) sound = drafts-ended shape p number sound
+    (p.primary.pending ++ record { worker = worker; entries = draft.entries } ∷ []) (transactions-ended shape p number sound)
+commits shape p number worker draft (Err fault) sound = transactions-ended shape p number sound
 
-pub commit-sound : (shape : Shape) (p : Parts) (number worker : ℕ) (found : Option Draft) → Sound shape p
-    → Sound shape (beside_of (on_draft (world_of p) found
+pub commit-sound : (shape : Shape) (p : Parts) (number worker : ℕ) (found : Option Transaction) → Sound shape p
+    → Sound shape (beside_of (on_transaction (world_of p) found
     (λ draft. commit_happens (world_of p) number worker draft (commit_answer p.primary worker draft))).1 p)
 commit-sound shape p number worker None sound = sound
 commit-sound shape p number worker (Some draft) sound = commits shape p number worker draft (commit_answer p.primary worker draft) sound
 
 -- the legal list of a primary's shape
-own-legal : (shape : Shape) (p : Parts) → AreLists p.primary → Sound shape p
+own-legal : (shape : Shape) (p : Parts) → PrimaryListsAreLegal p.primary → Sound shape p
     → IsLegal shape p.primary.workers (p.primary.durable ++ p.primary.pending)
 own-legal shape p lists sound =
     subst (λ (s : Shape). IsLegal s p.primary.workers (p.primary.durable ++ p.primary.pending)) sound.primary_is.shape_is lists.all.legal
 
 -- the first of the pending commits behind the durable ones are legal
-legal-taken : (shape : Shape) (p : Parts) (count : ℕ) → AreLists p.primary → Sound shape p
+legal-taken : (shape : Shape) (p : Parts) (count : ℕ) → PrimaryListsAreLegal p.primary → Sound shape p
     → IsLegal shape p.primary.workers (p.primary.durable ++ take count p.primary.pending)
 legal-taken shape p count lists sound =
     let durable = p.primary.durable in
@@ -182,7 +185,7 @@ legal-taken shape p count lists sound =
     (subst (IsLegal shape p.primary.workers) (sym whole) (own-legal shape p lists sound))
 
 pub flush-sound : (laws : FedLaws) (shape : Shape) (p : Parts) (count : ℕ) (failed : Bool) (refused answered : Output)
-    → AreLists p.primary → Sound shape p
+    → PrimaryListsAreLegal p.primary → Sound shape p
     → Sound shape (beside_of (cond {A = Output × World} failed (refused, world_of p)
     (answered, world_of (record p { primary = flushed p.primary count }))).1 p)
 flush-sound laws shape p count true refused answered lists sound = sound
@@ -191,12 +194,12 @@ flush-sound laws shape p count false refused answered lists sound =
 
 -- ---- stops and starts
 
-pub stop-sound : (laws : FedLaws) (shape : Shape) (p : Parts) (bytes : ℕ) → AreLists p.primary → Sound shape p
+pub stop-sound : (laws : FedLaws) (shape : Shape) (p : Parts) (bytes : ℕ) → PrimaryListsAreLegal p.primary → Sound shape p
     → Sound shape (beside_of (stop_happens (world_of p) bytes).1 p)
 stop-sound laws shape p bytes lists sound =
     let count = whole_in (length p.primary.durable) p.primary.pending bytes in
     let ended =
-    Sound-drafts shape p (closed p.transactions) sound
+    Sound-transactions shape p (closed p.transactions) sound
     (λ i draft here. absurd (none-open p.transactions i draft here)) in
     let grown =
     Sound-grown laws shape (record p { transactions = closed p.transactions }) (take count p.primary.pending) []
@@ -214,7 +217,7 @@ start-sound shape p false sound = sound
 -- ---- what the primary sends
 
 -- a frame of the durable list tells the truth of it
-frame-means : (p : Parts) (worker seq : ℕ) (frame : Frame) → AreLists p.primary
+frame-means : (p : Parts) (worker seq : ℕ) (frame : Frame) → PrimaryListsAreLegal p.primary
     → slice_get (stream_of p.primary.durable worker) seq ≡ Some frame
     → Means p.primary.workers p.primary.durable p.boots p.replicas (reading (frame_spelling frame))
 frame-means p worker seq frame lists h =
@@ -228,7 +231,7 @@ frame-means p worker seq frame lists h =
       requests = tt;
     })
 
-pub push-sound : (shape : Shape) (p : Parts) (worker seq : ℕ) (found : Option Frame) → AreLists p.primary → Sound shape p
+pub push-sound : (shape : Shape) (p : Parts) (worker seq : ℕ) (found : Option Frame) → PrimaryListsAreLegal p.primary → Sound shape p
     → slice_get (stream_of p.primary.durable worker) seq ≡ found
     → Sound shape (beside_of (push_happens (world_of p) (option_map frame_spelling found)).1 p)
 push-sound shape p worker seq None lists sound here = sound
@@ -236,13 +239,14 @@ push-sound shape p worker seq (Some frame) lists sound here =
     Sound-one shape p (frame_spelling frame) sound (frame-means p worker seq frame lists here)
 
 -- the streams of the durable list have numbers of 64 bits
-durable-below : (p : Primary) → AreLists p → (worker : ℕ) → length (stream_of p.durable worker) < 2 ^ 64
+durable-below : (p : Primary) → PrimaryListsAreLegal p → (worker : ℕ) → length (stream_of p.durable worker) < 2 ^ 64
 durable-below p lists worker =
     let below = lists.numbered.frames_below worker in
     let grows = stream-grows p.durable p.pending worker in
     omega arith
 
-head-means : (shape : Shape) (p : Parts) (replica boot request : ℕ) → AreLists p.primary → Sound shape p → IsAsk replica boot request
+head-means : (shape : Shape) (p : Parts) (replica boot request : ℕ) → PrimaryListsAreLegal p.primary → Sound shape p
+    → IsAsk replica boot request
     → ((r : Replica) → slice_get p.replicas replica ≡ Some r → IsOfBoot (boots_at p.boots replica) r.boot boot (request ≤ r.request))
     → Means p.primary.workers p.primary.durable p.boots p.replicas (reading (spelling (head_for p.primary replica boot request)))
 head-means shape p replica boot request lists sound ask asked =
@@ -269,7 +273,7 @@ packets-at replica [] i bytes h = absurd (none-some bytes h)
 packets-at replica (frame ∷ frames) zero bytes h = (frame, refl, same_Some (frame_spelling frame) bytes h)
 packets-at replica (frame ∷ frames) (suc i) bytes h = packets-at replica frames i bytes h
 
-want-means : (p : Parts) (replica worker from : ℕ) → AreLists p.primary → (i : ℕ) (bytes : List ℕ)
+want-means : (p : Parts) (replica worker from : ℕ) → PrimaryListsAreLegal p.primary → (i : ℕ) (bytes : List ℕ)
     → slice_get (packets_of (map (frame_to replica) (wanted p.primary worker from))) i ≡ Some bytes
     → Means p.primary.workers p.primary.durable p.boots p.replicas (reading bytes)
 want-means p replica worker from lists i bytes h =
@@ -279,7 +283,7 @@ want-means p replica worker from lists i bytes h =
     subst (λ (b : List ℕ). Means p.primary.workers p.primary.durable p.boots p.replicas (reading b)) found.2
     (frame-means p worker (from + i) found.0 lists at)
 
-answers-mean : (shape : Shape) (p : Parts) (datagram : Result Datagram WireFault) → AreLists p.primary → Sound shape p
+answers-mean : (shape : Shape) (p : Parts) (datagram : Result Datagram WireFault) → PrimaryListsAreLegal p.primary → Sound shape p
     → Means p.primary.workers p.primary.durable p.boots p.replicas datagram
     → (i : ℕ) (bytes : List ℕ) → slice_get (packets_of (answers_to p.primary datagram)) i ≡ Some bytes
     → Means p.primary.workers p.primary.durable p.boots p.replicas (reading bytes)
@@ -294,13 +298,13 @@ answers-mean shape p (Ok (datagrams.Want replica worker from)) lists sound means
     h
 
 -- bytes that come to the primary
-hand-sound : (shape : Shape) (p : Parts) (bytes : List ℕ) → AreLists p.primary → Sound shape p
+hand-sound : (shape : Shape) (p : Parts) (bytes : List ℕ) → PrimaryListsAreLegal p.primary → Sound shape p
     → Means p.primary.workers p.primary.durable p.boots p.replicas (reading bytes)
     → Sound shape (beside_of (delivered (world_of p) bytes nodes.Primary).1 p)
 hand-sound shape p bytes lists sound means =
     Sound-sent shape p (packets_of (answers p.primary bytes)) sound (answers-mean shape p (reading bytes) lists sound means)
 
-pub deliver-sound : (shape : Shape) (p : Parts) (index : ℕ) (found : Option (List ℕ)) → AreLists p.primary → Sound shape p
+pub deliver-sound : (shape : Shape) (p : Parts) (index : ℕ) (found : Option (List ℕ)) → PrimaryListsAreLegal p.primary → Sound shape p
     → slice_get p.sent index ≡ found → Sound shape (beside_of (deliver_happens (world_of p) nodes.Primary found).1 p)
 deliver-sound shape p index None lists sound here = sound
 deliver-sound shape p index (Some bytes) lists sound here = hand-sound shape p bytes lists sound (sound.sent_is index bytes here)
@@ -312,7 +316,7 @@ raw-means shape p bytes sound =
     unforged (Means p.primary.workers p.primary.durable p.boots p.replicas) p.sent bytes (λ fault. record { tells = tt; requests = tt })
     sound.sent_is
 
-pub raw-sound : (shape : Shape) (p : Parts) (bytes : List ℕ) → AreLists p.primary → Sound shape p
+pub raw-sound : (shape : Shape) (p : Parts) (bytes : List ℕ) → PrimaryListsAreLegal p.primary → Sound shape p
     → Sound shape (beside_of (raw_happens (world_of p) nodes.Primary bytes).1 p)
 raw-sound shape p bytes lists sound = by (is_forged p.sent bytes) refl
   where

@@ -9,13 +9,14 @@ use Rattle.rows.specs.declared.limits.TheConstants.{WAITING_QUERIES_MAX}
 use Rattle.rows.specs.declared.kind.Kind.{Kind}
 use Rattle.rows.specs.declared.value.Value.{Value}
 use Rattle.rows.specs.Shape.{shape_of}
+use Rattle.rows.specs.Tables.{shape_in}
 use Rattle.wire.specs.declared.datagram.Datagram.{Datagram}
 use Rattle.wire.specs.declared.datagram.Datagram.TheVariants as datagrams
 use Rattle.wire.specs.declared.faults.WireFault.{WireFault}
 use Rattle.wire.specs.Reading.{reading}
 use Rattle.intake.specs.Known.{is_known, is_ahead}
 use Rattle.mvcc.specs.declared.faults.TxFault.{TxFault}
-use Rattle.mvcc.specs.Draft.{Draft}
+use Rattle.mvcc.specs.Transaction.{Transaction}
 use Rattle.mvcc.specs.Transactions.{insert_answer, set_answer, delete_answer, get_answer}
 use Rattle.primary.specs.declared.faults.CommitFault.{CommitFault}
 use Rattle.primary.specs.Steps.{commit_answer, flushed}
@@ -30,21 +31,22 @@ use Rattle.script.specs.declared.event.Node.{Node}
 use Rattle.script.specs.declared.event.Node.TheVariants as nodes
 use Rattle.script.specs.declared.output.Output.{Output}
 use Rattle.script.specs.declared.output.Output.TheVariants as outputs
-use Rattle.world.specs.Database.{Reader, Database, new_reader, HasAsked, IsFetched, IsMoved, IsAnswered, Becomes, Says, Goes}
-use Rattle.world.specs.Steps.{World, Member, Batch, fresh_from, open_draft, happens, unless_stopped, on_draft, change_happens}
+use Rattle.world.specs.Database.{Reader, Database, new_reader, HasAsked, IsFetched, IsMoved, IsAnswered, Becomes, Says, IsDatabaseStep}
+use Rattle.world.specs.Steps.{World, Member, AskedBatch, fresh_from, open_transaction, happens, unless_stopped, on_transaction}
+use Rattle.world.specs.Steps.{change_happens, durable_tables}
 use Rattle.world.specs.Steps.{commit_happens}
-use Rattle.world.specs.Steps.{push_happens, with_member, known_of, with_known, head_happens, datagram_happens, on_member, member_output}
+use Rattle.world.specs.Steps.{push_happens, with_member, known_seqs, with_known, head_happens, datagram_happens, on_member, member_output}
 use Rattle.world.specs.Steps.{delivered, deliver_happens, is_forged, shown, open_happens, ask_happens, new_batch, run_happens}
 use Rattle.world.specs.Steps.{fetched_happens}
-use Rattle.world.specs.Steps.{answer_happens, lacking, dump_at, send, ask_bytes, abort_happens, opening_world, stop_happens}
+use Rattle.world.specs.Steps.{answer_happens, first_lacked, dump_at, send, ask_bytes, abort_happens, opening_world, stop_happens}
 use Rattle.world.specs.Steps.{restarted, restart_happens, had_boot}
-use Rattle.world.specs.Allowed.{RunIsCut, RunIsCutAt, MayHappen, RunsBy, Runs}
+use Rattle.world.specs.Allowed.{RunIsInterrupted, RunIsInterruptedAt, MayHappen, RunsBy, Runs}
 use Rattle.world.specs.Theorem.{seen_batch, reader_of, database_of, RunsAreOfDatabase}
 use Rattle.world.specs.Outputs.{of_change, of_look}
 use Rattle.world.specs.Inner.Fresh.{IsFreshBatch, IsFreshReading, Fresh, HasBoot}
 use Rattle.world.proofs.Fresh.{opening-fresh}
 use Rattle.world.proofs.Freshness.{ready-batch, step-serves, possible-boots}
-use Rattle.world.proofs.Honest.{step-fine}
+use Rattle.world.proofs.Undamaged.{step-fine}
 use Rattle.world.proofs.Requested.{step-counts}
 use Rattle.world.proofs.Lists.{set-same}
 use Rattle.world.proofs.Serving.{IsSilent, change-silent, look-silent, commit-silent}
@@ -112,7 +114,7 @@ module _ (w : World) (h : Fresh w) (i : ℕ) (m : Member) (here : slice_get w.me
 
   -- a batch that a replica has after a datagram is fresh
   abbrev IsFreshAfter : Output × Member → Type 0
-  IsFreshAfter answer = (batch : Batch) → answer.1.batch ≡ Some batch → IsFreshBatch w.primary.durable answer.1.version batch
+  IsFreshAfter answer = (batch : AskedBatch) → answer.1.batch ≡ Some batch → IsFreshBatch w.primary.durable answer.1.version batch
 
   frame-tells : (worker seq : ℕ) (b c : Bool)
       → Tells w (member_output w (cond b (outputs.Repeat, m)
@@ -128,11 +130,11 @@ module _ (w : World) (h : Fresh w) (i : ℕ) (m : Member) (here : slice_get w.me
   fetched-tells version counts plans asked_at (Some fetched) has fresh = alike m outputs.Ignored refl refl tt
   fetched-tells version counts plans asked_at None has fresh =
       let came : Fetched = record { version = version; counts = counts } in
-      let batch : Batch = record { plans = plans; asked_at = asked_at; fetched = Some came } in
+      let batch : AskedBatch = record { plans = plans; asked_at = asked_at; fetched = Some came } in
       becomes (IsFetched w.primary.durable version) (record m { batch = Some batch }) refl
       (plans, asked_at, ap (option_map seen_batch) has, (fresh batch refl).fetched_is came refl, refl)
 
-  head-tells : (version : ℕ) (counts : List ℕ) (found : Option Batch) → m.batch ≡ found
+  head-tells : (version : ℕ) (counts : List ℕ) (found : Option AskedBatch) → m.batch ≡ found
       → IsFreshAfter (head_happens m version counts found) → Tells w (member_output w (head_happens m version counts found))
   head-tells version counts None has fresh = alike m outputs.Ignored refl refl tt
   head-tells version counts (Some batch) has fresh = fetched-tells version counts batch.plans batch.asked_at batch.fetched has fresh
@@ -141,7 +143,7 @@ module _ (w : World) (h : Fresh w) (i : ℕ) (m : Member) (here : slice_get w.me
       → Tells w (member_output w (datagram_happens m read))
   datagram-tells (Err fault) fresh = alike m outputs.Ignored refl refl tt
   datagram-tells (Ok (datagrams.Frame worker seq commit last entries)) fresh =
-      frame-tells worker seq (is_known (known_of m.known worker) seq) (is_ahead (known_of m.known worker) seq)
+      frame-tells worker seq (is_known (known_seqs m.known worker) seq) (is_ahead (known_seqs m.known worker) seq)
   datagram-tells (Ok (datagrams.Ask replica boot request)) fresh = alike m outputs.Ignored refl refl tt
   datagram-tells (Ok (datagrams.Head replica boot request version counts)) fresh =
       by ((replica == m.number) && (boot == m.boot) && (request == m.request)) fresh
@@ -158,7 +160,7 @@ module _ (w : World) (h : Fresh w) (i : ℕ) (m : Member) (here : slice_get w.me
   open-tells plan (Err fault) = stays w (outputs.BadPlan fault) tt
   open-tells plan (Ok fits) = alike (record m { waiting = m.waiting ++ plan ∷ [] }) (outputs.Opened (length m.waiting + 1)) refl refl tt
 
-  ask-tells : (batch : Option Batch) → m.batch ≡ batch → Tells w (ask_happens w m batch)
+  ask-tells : (batch : Option AskedBatch) → m.batch ≡ batch → Tells w (ask_happens w m batch)
   ask-tells (Some batch) has = by batch.fetched
     where
       by : (fetched : Option Fetched)
@@ -186,13 +188,13 @@ module _ (w : World) (h : Fresh w) (i : ℕ) (m : Member) (here : slice_get w.me
       → m.batch ≡ Some (record { plans = plans; asked_at = asked_at; fetched = fetched })
       → Tells w (fetched_happens w m plans fetched)
   fetched-runs plans asked_at None has = stays w outputs.WaitingHead tt
-  fetched-runs plans asked_at (Some fetched) has = by (lacking m.known fetched.counts)
+  fetched-runs plans asked_at (Some fetched) has = by (first_lacked m.known fetched.counts)
     where
-      by : (missing : Option (ℕ × ℕ)) → Tells w (answer_happens w m plans fetched missing)
+      by : (first_lacked : Option (ℕ × ℕ)) → Tells w (answer_happens w m plans fetched first_lacked)
       by None = report-tells plans asked_at fetched has
-      by (Some missing) = same-readers w (answer_happens w m plans fetched (Some missing)) tt refl
+      by (Some first_lacked) = same-readers w (answer_happens w m plans fetched (Some first_lacked)) tt refl
 
-  run-tells : (batch : Option Batch) → m.batch ≡ batch → Tells w (run_happens w m batch)
+  run-tells : (batch : Option AskedBatch) → m.batch ≡ batch → Tells w (run_happens w m batch)
   run-tells None has = stays w outputs.NoBatch tt
   run-tells (Some batch) has = fetched-runs batch.plans batch.asked_at batch.fetched has
 
@@ -220,7 +222,7 @@ module _ (w : World) (h : Fresh w) (i : ℕ) (m : Member) (here : slice_get w.me
       by false = becomes (λ old new. new ≡ new_reader) (restarted w.primary.workers m boot) refl refl
 
   -- a run that is out of memory
-  cut-tells : (output : Output) (new : World) → RunIsCut w (Some m) output new → Tells w (output, new)
+  cut-tells : (output : Output) (new : World) → RunIsInterrupted w (Some m) output new → Tells w (output, new)
   cut-tells output new cut = let at = ready-batch w i m cut.0 h here cut.1 in elim cut.2 [
     | inl memory ↦ is outputs.Memory (record m { version = cut.0.version }) memory.0 memory.1
         (inr (becomes (IsMoved w.primary.durable) (record m { version = cut.0.version }) refl (
@@ -262,22 +264,22 @@ module _ (w : World) (h : Fresh w) where
       by true = stays w outputs.Stopped tt
       by false = tells
 
-  changing : (number : ℕ) (found : Option Draft) (answer : Draft → Result Draft TxFault)
-      → Tells w (on_draft w found (λ draft. change_happens w number (answer draft)))
+  changing : (number : ℕ) (found : Option Transaction) (answer : Transaction → Result Transaction TxFault)
+      → Tells w (on_transaction w found (λ draft. change_happens w number (answer draft)))
   changing number None answer = stays w outputs.NoTx tt
   changing number (Some draft) answer = by (answer draft)
     where
-      by : (made : Result Draft TxFault) → Tells w (change_happens w number made)
+      by : (made : Result Transaction TxFault) → Tells w (change_happens w number made)
       by (Ok new) = same-readers w (change_happens w number (Ok new)) tt refl
       by (Err fault) = stays w (of_change fault) (change-silent fault)
 
-  looking : (found : Option Draft) (answer : Draft → Result Value TxFault)
-      → Tells w (on_draft w found (λ draft. (of_look (answer draft), w)))
+  looking : (found : Option Transaction) (answer : Transaction → Result Value TxFault)
+      → Tells w (on_transaction w found (λ draft. (of_look (answer draft), w)))
   looking None answer = stays w outputs.NoTx tt
   looking (Some draft) answer = stays w (of_look (answer draft)) (look-silent (answer draft))
 
-  committing : (number worker : ℕ) (found : Option Draft)
-      → Tells w (on_draft w found (λ draft. commit_happens w number worker draft (commit_answer w.primary worker draft)))
+  committing : (number worker : ℕ) (found : Option Transaction)
+      → Tells w (on_transaction w found (λ draft. commit_happens w number worker draft (commit_answer w.primary worker draft)))
   committing number worker None = stays w outputs.NoTx tt
   committing number worker (Some draft) = by (commit_answer w.primary worker draft)
     where
@@ -285,7 +287,7 @@ module _ (w : World) (h : Fresh w) where
       by (Ok ticket) = same-readers w (commit_happens w number worker draft (Ok ticket)) tt refl
       by (Err fault) = same-readers w (commit_happens w number worker draft (Err fault)) (commit-silent fault) refl
 
-  aborting : (number : ℕ) (found : Option Draft) → Tells w (on_draft w found (λ draft. abort_happens w number))
+  aborting : (number : ℕ) (found : Option Transaction) → Tells w (on_transaction w found (λ draft. abort_happens w number))
   aborting number None = stays w outputs.NoTx tt
   aborting number (Some draft) = same-readers w (abort_happens w number) tt refl
 
@@ -330,19 +332,19 @@ module _ (w : World) (h : Fresh w) where
   happens-tells : (event : Event) → Tells w (happens w event)
   happens-tells events.Begin = served (begun w) (same-readers w (begun w) tt refl)
   happens-tells (events.Insert transaction table row values) =
-      served _ (changing transaction (open_draft w.transactions transaction)
+      served _ (changing transaction (open_transaction w.transactions transaction)
       (λ draft. insert_answer (shape_of w.primary.schema) w.primary.durable draft table row.0 values))
   happens-tells (events.Set transaction table row column value) =
-      served _ (changing transaction (open_draft w.transactions transaction)
+      served _ (changing transaction (open_transaction w.transactions transaction)
       (λ draft. set_answer (shape_of w.primary.schema) w.primary.durable draft table row.0 column value))
   happens-tells (events.Delete transaction table row) =
-      served _ (changing transaction (open_draft w.transactions transaction)
+      served _ (changing transaction (open_transaction w.transactions transaction)
       (λ draft. delete_answer (shape_of w.primary.schema) w.primary.durable draft table row.0))
   happens-tells (events.Get transaction table row column) =
-      served _ (looking (open_draft w.transactions transaction)
+      served _ (looking (open_transaction w.transactions transaction)
       (λ draft. get_answer (shape_of w.primary.schema) w.primary.durable draft table row.0 column))
-  happens-tells (events.Commit transaction worker) = served _ (committing transaction worker (open_draft w.transactions transaction))
-  happens-tells (events.Abort transaction) = served _ (aborting transaction (open_draft w.transactions transaction))
+  happens-tells (events.Commit transaction worker) = served _ (committing transaction worker (open_transaction w.transactions transaction))
+  happens-tells (events.Abort transaction) = served _ (aborting transaction (open_transaction w.transactions transaction))
   happens-tells (events.Flush count) = served _ (flushing count w.primary.failed _ tt)
   happens-tells (events.Stop bytes) = served (stop_happens w bytes) (same-readers w (stop_happens w bytes) tt refl)
   happens-tells events.Start = starting w.stopped
@@ -353,7 +355,8 @@ module _ (w : World) (h : Fresh w) where
   happens-tells (events.Open replica plan) =
       at-member replica (slice_get w.members replica) _ refl
       (λ m here. unless-broken w h replica m here _
-      (opening-tells w h replica m here plan (nat_le WAITING_QUERIES_MAX (length m.waiting)) (checked (shape_of w.primary.schema) plan)))
+      (opening-tells w h replica m here plan (nat_le WAITING_QUERIES_MAX (length m.waiting))
+      (checked (shape_in (durable_tables w m.version)) plan)))
   happens-tells (events.Ask replica) =
       at-member replica (slice_get w.members replica) _ refl
       (λ m here. unless-broken w h replica m here _ (ask-tells w h replica m here m.batch refl))
@@ -370,12 +373,13 @@ module _ (w : World) (h : Fresh w) where
   happens-tells (events.Raw nodes.Primary bytes) = served _ (raw-handing nodes.Primary bytes (is_forged w.sent bytes) refl)
   happens-tells (events.Raw (nodes.Replica number) bytes) = raw-handing (nodes.Replica number) bytes (is_forged w.sent bytes) refl
 
-  cut-found : (i : ℕ) (found : Option Member) (output : Output) (new : World) → slice_get w.members i ≡ found → RunIsCut w found output new
+  cut-found : (i : ℕ) (found : Option Member) (output : Output) (new : World) → slice_get w.members i ≡ found
+      → RunIsInterrupted w found output new
       → Tells w (output, new)
   cut-found i None output new here cut = absurd cut
   cut-found i (Some m) output new here cut = cut-tells w h i m here output new cut
 
-  cut-event : (event : Event) (output : Output) (new : World) → RunIsCutAt w event output new → Tells w (output, new)
+  cut-event : (event : Event) (output : Output) (new : World) → RunIsInterruptedAt w event output new → Tells w (output, new)
   cut-event (events.Run replica) output new cut = cut-found replica (slice_get w.members replica) output new refl cut
   cut-event other output new cut = absurd cut
 
@@ -395,7 +399,7 @@ readers-started workers number (suc count) = ap (λ (l : List Reader). new_reade
 -- a run of a fresh world, seen as its users see it
 runs-tell : (schema : List (List ℕ × List Kind)) (old end : World) (todo : List Event) (done : List Output)
     → AllByRecursion HasBoot todo → Fresh old → old.primary.schema ≡ schema → Runs old todo done end
-    → RunsBy (λ old event output new. Goes schema old output new) (database_of old) todo done (database_of end)
+    → RunsBy (λ old event output new. IsDatabaseStep schema old output new) (database_of old) todo done (database_of end)
 runs-tell schema old end [] [] boots h same run = ap database_of run
 runs-tell schema old end [] (output ∷ done) boots h same run = absurd run
 runs-tell schema old end (event ∷ todo) [] boots h same run = absurd run
@@ -415,7 +419,7 @@ runs-tell schema old end (event ∷ todo) (output ∷ done) boots h same run =
 
 pub runs-of-database : RunsAreOfDatabase
 runs-of-database setup todo done end few possible run =
-    subst (λ (d : Database). RunsBy (λ old event output new. Goes setup.schema old output new) d todo done (database_of end))
+    subst (λ (d : Database). RunsBy (λ old event output new. IsDatabaseStep setup.schema old output new) d todo done (database_of end))
     (ap (λ (readers : List Reader). record { commits = []; readers = readers }) (readers-started setup.workers 0 setup.replicas))
     (runs-tell setup.schema (opening_world setup) end todo done (possible-boots setup.workers setup.replicas todo possible)
     (opening-fresh setup few) refl run)

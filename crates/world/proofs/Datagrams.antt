@@ -16,21 +16,21 @@ use Rattle.wire.specs.declared.faults.WireFault.{WireFault}
 use Rattle.wire.specs.declared.faults.WireFault.TheVariants.{Short, Magic, Version, Kind, Length, Body}
 use Rattle.update_log.specs.declared.frame.Frame.{Frame}
 use Rattle.update_log.specs.Frames.{IsSendable}
-use Rattle.wire.specs.Entries.{entries_filling}
+use Rattle.rows.specs.Reading.{entries_filling}
 use Rattle.wire.specs.Reading.{reading, body_at, counts_at}
 use Rattle.wire.specs.Spelling.{datagram_of, datagram_of_frame, spelling, frame_spelling, IsAsk, AreCounts}
-use Rattle.rows.proofs.EntryReading.{entry_at-again}
+use Rattle.rows.proofs.EntriesFilling.{spelled-found}
 use Rattle.wire.proofs.SpelledIsRead.{reading-again}
 
 -- a frame that is sent reads as itself
 pub frame-read : (frame : Frame) → IsSendable frame → reading (frame_spelling frame) ≡ Ok (datagram_of_frame frame)
-frame-read frame sendable = reading-again entry_at-again (datagram_of_frame frame) sendable
+frame-read frame sendable = reading-again spelled-found (datagram_of_frame frame) sendable
 
 -- a Head reads as itself
 pub head-read : (replica boot request version : ℕ) (counts : List ℕ) → IsAsk replica boot request → version < 2 ^ 64 → AreCounts counts
     → reading (spelling (datagrams.Head replica boot request version counts)) ≡ Ok (datagrams.Head replica boot request version counts)
 head-read replica boot request version counts ask below spelled =
-    reading-again entry_at-again (datagrams.Head replica boot request version counts) (ask, below, spelled)
+    reading-again spelled-found (datagrams.Head replica boot request version counts) (ask, below, spelled)
 
 byte-below : (k n : ℕ) → byte_at k n < 256
 byte-below zero n = omega arith
@@ -58,7 +58,7 @@ pub ask-read : (replica boot request : ℕ) → replica < REPLICAS_MAX → boot 
     → reading (spelling (datagrams.Ask replica boot request)) ≡ Ok (datagrams.Ask replica boot (request % 2 ^ 64))
 ask-read replica boot request replica_below boot_below =
     ap (λ (bytes : List ℕ). reading (datagram_of 2 ((replica ∷ []) ++ big_bytes 8 boot ++ bytes))) (sym (bytes-kept request))
-    ∙ reading-again entry_at-again (datagrams.Ask replica boot (request % 2 ^ 64))
+    ∙ reading-again spelled-found (datagrams.Ask replica boot (request % 2 ^ 64))
     (ask-kept replica boot request replica_below boot_below)
 
 -- ---- whatever the numbers

@@ -11,13 +11,13 @@ use Rattle.rows.specs.declared.kind.Kind.{Kind}
 use Rattle.rows.specs.declared.row_id.RowId.{RowId}
 use Rattle.rows.specs.declared.value.Value.{Value}
 use Rattle.rows.specs.Shape.{Shape, row_width}
-use Rattle.rows.specs.Entries.{table_of, row_of, sized, fitting}
-use Rattle.rows.specs.Tables.{is_row_at, changes_of}
+use Rattle.rows.specs.Entries.{sized, fitting}
+use Rattle.rows.specs.Tables.{is_row_at, apply_entries}
 use Rattle.rows.specs.Commits.{tables_after}
 use Rattle.rows.specs.Presence.{stands_for, is_there_after}
 use Rattle.rows.specs.Values.{bytes_of}
 use Rattle.rows.proofs.TableLaws.{shape-at, there-seen, is_there_after_fit-defined, defined_behind}
-use Rattle.mvcc.specs.Draft.{Draft}
+use Rattle.mvcc.specs.Transaction.{Transaction}
 use Rattle.mvcc.specs.Transactions.{match_table, sees, insert_answer, set_answer, delete_answer}
 use Rattle.world.proofs.Adding.{IsAdded, insert-added, set-added, delete-added}
 use Rattle.world.proofs.Placing.{column-matched, value-fits}
@@ -36,25 +36,25 @@ values-fit shape table row values h =
     sized-matched (slice_get shape table) found.0 (length (bytes_of values)) found.1 (length-values values found.0 found.2)
 
 -- a transaction that reads the same version, whose entries are defined there
-pub record IsDefined (shape : Shape) (commits : List Commit) (draft new : Draft) : Type 0 where
+pub record IsDefined (shape : Shape) (commits : List Commit) (draft new : Transaction) : Type 0 where
   pub reads : new.snapshot ≡ draft.snapshot
-  pub defined : is_ok (changes_of (tables_after shape commits draft.snapshot) new.entries) ≡ true
+  pub defined : is_ok (apply_entries (tables_after shape commits draft.snapshot) new.entries) ≡ true
 
-module _ (shape : Shape) (commits : List Commit) (draft new : Draft)
-    (defined : is_ok (changes_of (tables_after shape commits draft.snapshot) draft.entries) ≡ true) where
+module _ (shape : Shape) (commits : List Commit) (draft new : Transaction)
+    (defined : is_ok (apply_entries (tables_after shape commits draft.snapshot) draft.entries) ≡ true) where
   -- an entry that fits, and whose row stands as it needs it, is defined behind the others
   added-defined : (entry : Entry) → is_ok (fitting shape entry) ≡ true → IsAdded shape commits draft entry new
       → IsDefined shape commits draft new
   added-defined entry fits added =
       let tables = tables_after shape commits draft.snapshot in
-      let table = table_of entry in
-      let row = row_of entry in
+      let table = added.table in
+      let row = added.row in
       let was = is_row_at tables table row in
       let seen : is_there_after table row draft.entries was ≡ sees shape commits draft table row =
       sym (is_there_after_fit-defined shape tables draft.entries table row was (shape-at shape commits draft.snapshot) defined)
       ∙ sym (there-seen shape commits draft.snapshot draft.entries table row) in
-      let is : is_ok (changes_of tables (draft.entries ++ entry ∷ [])) ≡ true =
-      defined_behind shape commits draft.snapshot draft.entries entry defined
+      let is : is_ok (apply_entries tables (draft.entries ++ entry ∷ [])) ≡ true =
+      defined_behind shape commits draft.snapshot draft.entries entry table row added.of_row defined
       ∙ and_from (is_ok (fitting shape entry)) (stands_for entry (is_there_after table row draft.entries was)) fits
       (ap (stands_for entry) seen ∙ added.stands) in
       subst (IsDefined shape commits draft) (sym added.made) (record { reads = refl; defined = is })

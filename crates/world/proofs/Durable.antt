@@ -6,8 +6,8 @@ use Rattle.std.specs.Result.{is_ok}
 use Rattle.std.proofs.lemmas.List.{take-append-le, length-append}
 use Rattle.rows.specs.declared.commit.Commit.{Commit}
 use Rattle.rows.specs.Shape.{Shape}
-use Rattle.rows.specs.Tables.{Tables, Refusal, opening, changes_of, and_then}
-use Rattle.rows.specs.Commits.{IsCommit, IsLegal, commits_of, tables_after}
+use Rattle.rows.specs.Tables.{Tables, Refusal, opening, apply_entries, and_then}
+use Rattle.rows.specs.Commits.{IsCommit, IsLegal, apply_commits, tables_after}
 use Rattle.update_log.specs.declared.frame.Frame.{Frame}
 use Rattle.update_log.specs.Frames.{frames_of}
 use Rattle.update_log.specs.Streams.{stream_from, stream_of}
@@ -57,16 +57,17 @@ pub tables-stay : (shape : Shape) (commits more : List Commit) (version : ℕ) �
     → tables_after shape (commits ++ more) version ≡ tables_after shape commits version
 tables-stay shape commits more version h = rw take-append-le refl
 
-commits_of-append : (tables : Tables) (before commits : List Commit)
-    → commits_of tables (before ++ commits) ≡ and_then (λ after. commits_of after commits) (commits_of tables before)
-commits_of-append tables [] commits = refl
-commits_of-append tables (commit ∷ before) commits =
-    by (λ after. commits_of-append after before commits) (changes_of tables commit.entries)
+apply_commits-append : (tables : Tables) (before commits : List Commit)
+    → apply_commits tables (before ++ commits) ≡ and_then (λ after. apply_commits after commits) (apply_commits tables before)
+apply_commits-append tables [] commits = refl
+apply_commits-append tables (commit ∷ before) commits =
+    by (λ after. apply_commits-append after before commits) (apply_entries tables commit.entries)
   where
-    by : ((after : Tables) → commits_of after (before ++ commits) ≡ and_then (λ after. commits_of after commits) (commits_of after before))
+    by : ((after : Tables) → apply_commits after (before ++ commits) ≡ and_then (λ after. apply_commits after commits)
+        (apply_commits after before))
         → (first : Result Tables Refusal)
-        → and_then (λ after. commits_of after (before ++ commits)) first ≡ and_then (λ after. commits_of after commits)
-        (and_then (λ after. commits_of after before) first)
+        → and_then (λ after. apply_commits after (before ++ commits)) first ≡ and_then (λ after. apply_commits after commits)
+        (and_then (λ after. apply_commits after before) first)
     by rest (Ok after) = rest after
     by rest (Err refusal) = refl
 
@@ -79,6 +80,6 @@ pub legal-front : (shape : Shape) (workers : ℕ) (front back : List Commit) →
     → IsLegal shape workers front
 legal-front shape workers front back legal = record {
   each = All-left (IsCommit workers) front back legal.each;
-  defined = first-ok (λ after. commits_of after back) (commits_of (opening shape) front)
-      (ap is_ok (sym (commits_of-append (opening shape) front back)) ∙ legal.defined);
+  defined = first-ok (λ after. apply_commits after back) (apply_commits (opening shape) front)
+      (ap is_ok (sym (apply_commits-append (opening shape) front back)) ∙ legal.defined);
 }

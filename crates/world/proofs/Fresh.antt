@@ -12,11 +12,11 @@ use Rattle.wire.specs.declared.datagram.Datagram.{Datagram}
 use Rattle.wire.specs.declared.datagram.Datagram.TheVariants as datagrams
 use Rattle.wire.specs.declared.faults.WireFault.{WireFault}
 use Rattle.wire.specs.Reading.{reading}
-use Rattle.mvcc.specs.Draft.{Draft}
+use Rattle.mvcc.specs.Transaction.{Transaction}
 use Rattle.dispatcher.specs.State.{Fetched}
 use Rattle.primary.specs.Steps.{committed, flushed}
 use Rattle.script.specs.declared.setup.Setup.{Setup}
-use Rattle.world.specs.Steps.{World, Member, Batch, fresh, fresh_from, opening_world, with_member, stop_happens}
+use Rattle.world.specs.Steps.{World, Member, AskedBatch, fresh, fresh_from, opening_world, with_member, stop_happens}
 use Rattle.world.specs.Stops.{whole_in}
 use Rattle.world.specs.Inner.Boots.{IsInBoot, IsOfBoot}
 use Rattle.world.specs.Inner.Fresh.{IsFreshBatch, IsFreshMember, IsFreshHead, IsFreshReading, Fresh}
@@ -26,11 +26,11 @@ use Rattle.world.proofs.Lists.{get-set, get-append, All-get}
 -- ---- more commits
 
 -- a world with other open transactions
-pub Fresh-drafts : (w : World) (transactions : List (Option Draft)) → Fresh w → Fresh (record w { transactions = transactions })
-Fresh-drafts w transactions h = record { numbered = h.numbered; few = h.few; members_are = h.members_are; sent_is = h.sent_is }
+pub Fresh-transactions : (w : World) (transactions : List (Option Transaction)) → Fresh w → Fresh (record w { transactions = transactions })
+Fresh-transactions w transactions h = record { numbered = h.numbered; few = h.few; members_are = h.members_are; sent_is = h.sent_is }
 
 -- one more commit is pending, and a transaction is over
-pub Fresh-committed : (w : World) (worker : ℕ) (draft : Draft) (transactions : List (Option Draft)) → Fresh w
+pub Fresh-committed : (w : World) (worker : ℕ) (draft : Transaction) (transactions : List (Option Transaction)) → Fresh w
     → length w.primary.durable + length w.primary.pending + 1 < 2 ^ 64
     → Fresh (record w { primary = committed w.primary worker draft.entries; transactions = transactions })
 Fresh-committed w worker draft transactions h below = record {
@@ -122,7 +122,7 @@ pub record Follows (durable : List Commit) (old new : Member) : Type 0 where
   pub below : new.version ≤ length durable
   pub boots_are : new.boots ≡ old.boots
   pub boot_is : new.boot ≡ old.boot
-  pub batch_is : (batch : Batch) → new.batch ≡ Some batch → IsFreshBatch durable new.version batch
+  pub batch_is : (batch : AskedBatch) → new.batch ≡ Some batch → IsFreshBatch durable new.version batch
   pub asked : old.request ≤ new.request
   pub heads : (request version : ℕ) → IsFreshHead old request version → IsFreshHead new request version
 
@@ -146,7 +146,7 @@ alike durable number old new h number_is boots_are boot_is request_is batch_is v
 }
 
 -- a replica that goes to the version that was fetched for its batch
-pub moved : (durable : List Commit) (number : ℕ) (m : Member) (batch : Batch) (fetched : Fetched) → IsFreshMember durable number m
+pub moved : (durable : List Commit) (number : ℕ) (m : Member) (batch : AskedBatch) (fetched : Fetched) → IsFreshMember durable number m
     → m.batch ≡ Some batch → batch.fetched ≡ Some fetched → Follows durable m (record m { version = fetched.version })
 moved durable number m batch fetched h has is =
     let fresh = h.batch_is batch has in

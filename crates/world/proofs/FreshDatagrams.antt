@@ -24,8 +24,8 @@ use Rattle.script.specs.declared.output.Output.{Output}
 use Rattle.script.specs.declared.output.Output.TheVariants as outputs
 use Rattle.world.specs.Outputs.{of_answers, packets_of}
 use Rattle.world.specs.Theorem.{SaysRows}
-use Rattle.world.specs.Steps.{World, Member, Batch, send, push_happens, head_happens, datagram_happens, on_member, member_output}
-use Rattle.world.specs.Steps.{deliver_happens, shown, known_of, with_known, delivered, raw_happens, is_forged}
+use Rattle.world.specs.Steps.{World, Member, AskedBatch, send, push_happens, head_happens, datagram_happens, on_member, member_output}
+use Rattle.world.specs.Steps.{deliver_happens, shown, known_seqs, with_known, delivered, raw_happens, is_forged}
 use Rattle.world.proofs.Datagrams.{frame-reads, head-reads}
 use Rattle.world.specs.Inner.Boots.{IsOfBoot}
 use Rattle.world.specs.Inner.Fresh.{IsFreshBatch, IsFreshMember, IsFreshHead, IsFreshReading, Fresh}
@@ -129,7 +129,7 @@ fetched-takes durable i m version counts plans asked_at None is has above below 
     asked = omega arith;
     heads = λ request other head. record {
       asked = head.asked;
-      above = λ batch now same. subst (λ (b : Batch). b.asked_at ≤ other) (same_Some new batch now) (head.above old has same);
+      above = λ batch now same. subst (λ (b : AskedBatch). b.asked_at ≤ other) (same_Some new batch now) (head.above old has same);
     };
   };
   rows = λ commits old event. tt;
@@ -138,14 +138,15 @@ fetched-takes durable i m version counts plans asked_at None is has above below 
     came : Fetched
     came = record { version = version; counts = counts }
 
-    old : Batch
+    old : AskedBatch
     old = record { plans = plans; asked_at = asked_at; fetched = None }
 
-    new : Batch
+    new : AskedBatch
     new = record { plans = plans; asked_at = asked_at; fetched = Some came }
 
-head-takes : (durable : List Commit) (i : ℕ) (m : Member) (version : ℕ) (counts : List ℕ) (found : Option Batch) → IsFreshMember durable i m
-    → m.batch ≡ found → ((batch : Batch) → m.batch ≡ Some batch → batch.asked_at ≤ version)
+head-takes : (durable : List Commit) (i : ℕ) (m : Member) (version : ℕ) (counts : List ℕ) (found : Option AskedBatch)
+    → IsFreshMember durable i m
+    → m.batch ≡ found → ((batch : AskedBatch) → m.batch ≡ Some batch → batch.asked_at ≤ version)
     → version ≤ length durable → Takes durable m (head_happens m version counts found)
 head-takes durable i m version counts None is has above below = keeps durable i m outputs.Ignored is tt
 head-takes durable i m version counts (Some batch) is has above below =
@@ -171,7 +172,7 @@ pub datagram-takes : (durable : List Commit) (members : List Member) (i : ℕ) (
     → IsFreshReading durable members read → Takes durable m (datagram_happens m read)
 datagram-takes durable members i m here is (Err fault) told = keeps durable i m outputs.Ignored is tt
 datagram-takes durable members i m here is (Ok (datagrams.Frame worker seq commit last entries)) told =
-    frame-takes durable i m worker seq (is_known (known_of m.known worker) seq) (is_ahead (known_of m.known worker) seq) is
+    frame-takes durable i m worker seq (is_known (known_seqs m.known worker) seq) (is_ahead (known_seqs m.known worker) seq) is
 datagram-takes durable members i m here is (Ok (datagrams.Ask replica boot request)) told = keeps durable i m outputs.Ignored is tt
 datagram-takes durable members i m here is (Ok (datagrams.Head replica boot request version counts)) told =
     own-takes durable members i m replica boot request version counts here is told.0 told.1

@@ -6,6 +6,7 @@ use Rattle.std.specs.Option.{option_and_then, is_none}
 use Rattle.std.proofs.lemmas.Option.{none-some, same_Some, slice_get_within}
 use Rattle.rows.specs.declared.limits.TheConstants.{REPLICAS_MAX, WAITING_QUERIES_MAX}
 use Rattle.rows.specs.Shape.{shape_of}
+use Rattle.rows.specs.Tables.{shape_in}
 use Rattle.wire.specs.Reading.{reading}
 use Rattle.update_log.specs.Streams.{stream_of}
 use Rattle.plans.specs.declared.plan.Plan.{Plan}
@@ -20,15 +21,16 @@ use Rattle.script.specs.declared.event.Event.TheVariants as events
 use Rattle.script.specs.declared.event.Node.TheVariants as nodes
 use Rattle.script.specs.declared.output.Output.{Output}
 use Rattle.script.specs.declared.output.Output.TheVariants as outputs
-use Rattle.world.specs.Steps.{World, Member, Batch, open_draft, happens, with_member, send, on_member, open_happens, ask_happens, new_batch}
-use Rattle.world.specs.Steps.{ask_bytes, run_happens, fetched_happens, answer_happens, lacking, want_bytes, dump_at}
+use Rattle.world.specs.Steps.{World, Member, AskedBatch, open_transaction, happens, with_member, send, on_member, open_happens}
+use Rattle.world.specs.Steps.{ask_happens, new_batch, durable_tables}
+use Rattle.world.specs.Steps.{ask_bytes, run_happens, fetched_happens, answer_happens, first_lacked, want_bytes, dump_at}
 use Rattle.world.specs.Steps.{restarted, restart_happens, had_boot}
-use Rattle.world.specs.Allowed.{RunIsCut, RunIsCutAt, MayHappen, ready_member}
+use Rattle.world.specs.Allowed.{RunIsInterrupted, RunIsInterruptedAt, MayHappen, ready_member}
 use Rattle.world.proofs.Lists.{get-set_same}
 use Rattle.world.proofs.Datagrams.{ask-read, ask-kept, want-reads}
 use Rattle.world.specs.Inner.Fresh.{IsFreshBatch, IsFreshReading, Fresh, HasBoot}
 use Rattle.world.proofs.Restarts.{never-had, Fresh-restarted}
-use Rattle.world.proofs.Fresh.{Fresh-drafts, Fresh-sent, Follows, alike, moved, Fresh-member}
+use Rattle.world.proofs.Fresh.{Fresh-transactions, Fresh-sent, Follows, alike, moved, Fresh-member}
 use Rattle.world.proofs.Serving.{IsSilent, Serves, quiet, change-serves, look-serves, commit-serves, abort-serves, flush-serves}
 use Rattle.world.proofs.Serving.{stop-serves, start-serves, unless-serves}
 use Rattle.world.proofs.FreshDatagrams.{send-serves, push-serves, deliver-serves, raw-serves, show-serves}
@@ -39,10 +41,10 @@ open-serves : (w : World) (event : Event) (plan : Plan) (i : ℕ) (found : Optio
     → Serves w event (on_member w found
     (λ m. cond m.broken (outputs.Broken, w)
     (cond (nat_le WAITING_QUERIES_MAX (length m.waiting)) (outputs.BatchFull, w)
-    (open_happens w m plan (checked (shape_of w.primary.schema) plan)))))
+    (open_happens w m plan (checked (shape_in (durable_tables w m.version)) plan)))))
 open-serves w event plan i None h here = quiet w event (outputs.Ignored, w) h tt
 open-serves w event plan i (Some m) h here = by m.broken (nat_le WAITING_QUERIES_MAX (length m.waiting))
-    (checked (shape_of w.primary.schema) plan)
+    (checked (shape_in (durable_tables w m.version)) plan)
   where
     by : (a b : Bool) (check : Result (Unit {0}) PlanFault)
         → Serves w event (cond a (outputs.Broken, w) (cond b (outputs.BatchFull, w) (open_happens w m plan check)))
@@ -88,7 +90,7 @@ new-follows w m below = record {
   heads = λ request version head. let asked = head.asked in record { asked = omega arith; above = λ batch has same. absurd (omega arith) };
 }
   where
-    new : Batch
+    new : AskedBatch
     new = record { plans = m.waiting; asked_at = length w.primary.durable; fetched = None }
 
 again-serves : (w : World) (event : Event) (i : ℕ) (m : Member) (plans : List Plan) (asked_at : ℕ) (fetched : Option Fetched) → Fresh w
@@ -101,7 +103,7 @@ again-serves w event i m plans asked_at None h here =
     let asked = ap (λ (x : Member). x.request) same in
     (ap (λ (x : Member). x.boots) (sym same), omega arith)))
 
-asks : (w : World) (event : Event) (i : ℕ) (m : Member) (batch : Option Batch) → Fresh w → slice_get w.members i ≡ Some m
+asks : (w : World) (event : Event) (i : ℕ) (m : Member) (batch : Option AskedBatch) → Fresh w → slice_get w.members i ≡ Some m
     → Serves w event (ask_happens w m batch)
 asks w event i m (Some batch) h here = again-serves w event i m batch.plans batch.asked_at batch.fetched h here
 asks w event i m None h here = by (length m.waiting == 0)
@@ -140,17 +142,18 @@ done-follows w i m version below = record {
   heads = λ request other head. record { asked = head.asked; above = λ batch has same. absurd (none-some batch has) };
 }
 
-lacking-serves : (w : World) (i : ℕ) (m : Member) (plans : List Plan) (asked_at : ℕ) (fetched : Fetched) (missing : Option (ℕ × ℕ))
+lacking-serves : (w : World) (i : ℕ) (m : Member) (plans : List Plan) (asked_at : ℕ) (fetched : Fetched) (first_lacked : Option (ℕ × ℕ))
     → Fresh w → slice_get w.members i ≡ Some m
     → m.batch ≡ Some (record { plans = plans; asked_at = asked_at; fetched = Some fetched })
-    → Serves w (events.Run i) (answer_happens w m plans fetched missing)
-lacking-serves w i m plans asked_at fetched (Some missing) h here has =
-    quiet w (events.Run i) _ (Fresh-sent w (want_bytes m missing.0 missing.1 ∷ []) h (
-      want-reads (IsFreshReading w.primary.durable w.members) (λ fault. tt) (λ replica worker from. tt) m.number missing.0 missing.1,
+    → Serves w (events.Run i) (answer_happens w m plans fetched first_lacked)
+lacking-serves w i m plans asked_at fetched (Some first_lacked) h here has =
+    quiet w (events.Run i) _ (Fresh-sent w (want_bytes m first_lacked.0 first_lacked.1 ∷ []) h (
+      want-reads (IsFreshReading w.primary.durable w.members) (λ fault. tt)
+          (λ replica worker from. tt) m.number first_lacked.0 first_lacked.1,
       tt,
     )) tt
 lacking-serves w i m plans asked_at fetched None h here has =
-    let batch : Batch = record { plans = plans; asked_at = asked_at; fetched = Some fetched } in
+    let batch : AskedBatch = record { plans = plans; asked_at = asked_at; fetched = Some fetched } in
     let is = ((h.members_are i m here).batch_is batch has).fetched_is fetched refl in
     record {
       fresh = Fresh-member w i m _ h here (done-follows w i m fetched.version is.2);
@@ -163,9 +166,9 @@ fetched-serves : (w : World) (i : ℕ) (m : Member) (plans : List Plan) (asked_a
     → Serves w (events.Run i) (fetched_happens w m plans fetched)
 fetched-serves w i m plans asked_at None h here has = quiet w (events.Run i) (outputs.WaitingHead, w) h tt
 fetched-serves w i m plans asked_at (Some fetched) h here has =
-    lacking-serves w i m plans asked_at fetched (lacking m.known fetched.counts) h here has
+    lacking-serves w i m plans asked_at fetched (first_lacked m.known fetched.counts) h here has
 
-runs : (w : World) (i : ℕ) (m : Member) (batch : Option Batch) → Fresh w → slice_get w.members i ≡ Some m → m.batch ≡ batch
+runs : (w : World) (i : ℕ) (m : Member) (batch : Option AskedBatch) → Fresh w → slice_get w.members i ≡ Some m → m.batch ≡ batch
     → Serves w (events.Run i) (run_happens w m batch)
 runs w i m None h here has = quiet w (events.Run i) (outputs.NoBatch, w) h tt
 runs w i m (Some batch) h here has = fetched-serves w i m batch.plans batch.asked_at batch.fetched h here has
@@ -190,21 +193,21 @@ ready-fetched false lacks (Some other) fetched h = by (is_none (lacks other.coun
     by true h = h
     by false h = absurd (none-some fetched h)
 
-fetched-batch : (w : World) (i : ℕ) (m : Member) (fetched : Fetched) (batch : Option Batch) → Fresh w → slice_get w.members i ≡ Some m
-    → m.batch ≡ batch → option_and_then (λ (b : Batch). b.fetched) batch ≡ Some fetched
-    → (b : Batch) × (m.batch ≡ Some b) × (b.fetched ≡ Some fetched)
+fetched-batch : (w : World) (i : ℕ) (m : Member) (fetched : Fetched) (batch : Option AskedBatch) → Fresh w → slice_get w.members i ≡ Some m
+    → m.batch ≡ batch → option_and_then (λ (b : AskedBatch). b.fetched) batch ≡ Some fetched
+    → (b : AskedBatch) × (m.batch ≡ Some b) × (b.fetched ≡ Some fetched)
 fetched-batch w i m fetched None h here has is = absurd (none-some fetched is)
 fetched-batch w i m fetched (Some batch) h here has is = (batch, has, is)
 
 -- for its batch
 pub ready-batch : (w : World) (i : ℕ) (m : Member) (fetched : Fetched) → Fresh w → slice_get w.members i ≡ Some m
-    → ready_member m ≡ Some fetched → (b : Batch) × (m.batch ≡ Some b) × (b.fetched ≡ Some fetched)
+    → ready_member m ≡ Some fetched → (b : AskedBatch) × (m.batch ≡ Some b) × (b.fetched ≡ Some fetched)
 ready-batch w i m fetched h here is =
     fetched-batch w i m fetched m.batch h here refl
-    (ready-fetched m.broken (lacking m.known) (option_and_then (λ (b : Batch). b.fetched) m.batch) fetched is)
+    (ready-fetched m.broken (first_lacked m.known) (option_and_then (λ (b : AskedBatch). b.fetched) m.batch) fetched is)
 
 cut-serves : (w : World) (event : Event) (i : ℕ) (found : Option Member) (output : Output) (new : World) → Fresh w
-    → slice_get w.members i ≡ found → RunIsCut w found output new → Serves w event (output, new)
+    → slice_get w.members i ≡ found → RunIsInterrupted w found output new → Serves w event (output, new)
 cut-serves w event i None output new h here cut = absurd cut
 cut-serves w event i (Some m) output new h here cut = elim cut.2 [
   | inl memory ↦ is outputs.Memory (record m { version = cut.0.version }) memory.0 memory.1 tt
@@ -253,23 +256,23 @@ restart-serves w event i boot (Some m) h here below = by (had_boot m.boots boot)
 -- ---- any step
 
 happens-serves : (w : World) (event : Event) → HasBoot event → Fresh w → Serves w event (happens w event)
-happens-serves w events.Begin is h = unless-serves w _ _ h (quiet w events.Begin _ (Fresh-drafts w _ h) tt)
+happens-serves w events.Begin is h = unless-serves w _ _ h (quiet w events.Begin _ (Fresh-transactions w _ h) tt)
 happens-serves w (events.Insert transaction table row values) is h =
-    unless-serves w _ _ h (change-serves w _ transaction (open_draft w.transactions transaction)
+    unless-serves w _ _ h (change-serves w _ transaction (open_transaction w.transactions transaction)
     (λ draft. insert_answer (shape_of w.primary.schema) w.primary.durable draft table row.0 values) h)
 happens-serves w (events.Set transaction table row column value) is h =
-    unless-serves w _ _ h (change-serves w _ transaction (open_draft w.transactions transaction)
+    unless-serves w _ _ h (change-serves w _ transaction (open_transaction w.transactions transaction)
     (λ draft. set_answer (shape_of w.primary.schema) w.primary.durable draft table row.0 column value) h)
 happens-serves w (events.Delete transaction table row) is h =
-    unless-serves w _ _ h (change-serves w _ transaction (open_draft w.transactions transaction)
+    unless-serves w _ _ h (change-serves w _ transaction (open_transaction w.transactions transaction)
     (λ draft. delete_answer (shape_of w.primary.schema) w.primary.durable draft table row.0) h)
 happens-serves w (events.Get transaction table row column) is h =
-    unless-serves w _ _ h (look-serves w _ (open_draft w.transactions transaction)
+    unless-serves w _ _ h (look-serves w _ (open_transaction w.transactions transaction)
     (λ draft. get_answer (shape_of w.primary.schema) w.primary.durable draft table row.0 column) h)
 happens-serves w (events.Commit transaction worker) is h =
-    unless-serves w _ _ h (commit-serves w _ transaction worker (open_draft w.transactions transaction) h)
+    unless-serves w _ _ h (commit-serves w _ transaction worker (open_transaction w.transactions transaction) h)
 happens-serves w (events.Abort transaction) is h =
-    unless-serves w _ _ h (abort-serves w _ transaction (open_draft w.transactions transaction) h)
+    unless-serves w _ _ h (abort-serves w _ transaction (open_transaction w.transactions transaction) h)
 happens-serves w (events.Flush count) is h = unless-serves w _ _ h (flush-serves w _ count w.primary.failed h)
 happens-serves w (events.Stop bytes) is h = unless-serves w _ _ h (stop-serves w _ bytes h)
 happens-serves w events.Start is h = start-serves w _ w.stopped h
@@ -289,7 +292,7 @@ happens-serves w (events.Restart replica boot) is h = restart-serves w _ replica
 happens-serves w (events.Raw nodes.Primary bytes) is h = unless-serves w _ _ h (raw-serves w _ nodes.Primary bytes h)
 happens-serves w (events.Raw (nodes.Replica number) bytes) is h = raw-serves w _ (nodes.Replica number) bytes h
 
-cut-event : (w : World) (event : Event) (output : Output) (new : World) → Fresh w → RunIsCutAt w event output new
+cut-event : (w : World) (event : Event) (output : Output) (new : World) → Fresh w → RunIsInterruptedAt w event output new
     → Serves w event (output, new)
 cut-event w (events.Run replica) output new h cut =
     cut-serves w (events.Run replica) replica (slice_get w.members replica) output new h refl cut

@@ -17,7 +17,7 @@ pub mod Told
 pub mod Named
 pub mod Whole
 pub mod Defined
-pub mod Honest
+pub mod Undamaged
 pub mod Raw
 pub mod Fresh
 pub mod Serving

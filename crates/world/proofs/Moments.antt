@@ -16,7 +16,7 @@ use Rattle.world.specs.Allowed.{RunsBy, Passes}
 use Rattle.world.specs.Standing.{world_of, AreFed, TablesAgree}
 use Rattle.world.specs.Theorem.{IsCoreStep, OfEachRun, CoresStand, StandsStep}
 use Rattle.world.proofs.Durable.{tables-stay}
-use Rattle.world.proofs.Honest.{step-fine}
+use Rattle.world.proofs.Undamaged.{step-fine}
 use Rattle.world.proofs.Lists.{All-get}
 use Rattle.world.proofs.Reports.{run-grows, run-seen}
 use Rattle.world.proofs.Requested.{step-counts}

@@ -10,7 +10,7 @@ use Rattle.wire.specs.declared.datagram.Datagram.{Datagram}
 use Rattle.wire.specs.declared.datagram.Datagram.TheVariants as datagrams
 use Rattle.wire.specs.declared.faults.WireFault.{WireFault}
 use Rattle.wire.specs.Reading.{reading}
-use Rattle.mvcc.specs.Draft.{Draft}
+use Rattle.mvcc.specs.Transaction.{Transaction}
 use Rattle.dispatcher.specs.Feeding.{IsFedFrom, Tells}
 use Rattle.dispatcher.specs.State.{Replica}
 use Rattle.script.specs.declared.output.Output.{Output}
@@ -105,7 +105,7 @@ pub Sound-replica : (shape : Shape) (p : Parts) (i : ℕ) (old new : Replica) �
 Sound-replica shape p i old new sound at goes = record {
   setup_is = sound.setup_is;
   primary_is = sound.primary_is;
-  drafts_are = sound.drafts_are;
+  transactions_are = sound.transactions_are;
   boots_there = sound.boots_there ∙ sym (length-set p.replicas i new);
   asked_there = sound.asked_there ∙ sym (length-set p.replicas i new);
   few = let few = sound.few in omega (arith, length-set p.replicas i new);
@@ -143,7 +143,7 @@ pub Sound-noted : (shape : Shape) (p : Parts) (asked_at : List ℕ) → Sound sh
 Sound-noted shape p asked_at sound same = record {
   setup_is = sound.setup_is;
   primary_is = sound.primary_is;
-  drafts_are = sound.drafts_are;
+  transactions_are = sound.transactions_are;
   boots_there = sound.boots_there;
   asked_there = same ∙ sound.asked_there;
   few = sound.few;
@@ -160,7 +160,7 @@ pub Sound-sent : (shape : Shape) (p : Parts) (more : List (List ℕ)) → Sound 
 Sound-sent shape p more sound means = record {
   setup_is = sound.setup_is;
   primary_is = sound.primary_is;
-  drafts_are = sound.drafts_are;
+  transactions_are = sound.transactions_are;
   boots_there = sound.boots_there;
   asked_there = sound.asked_there;
   few = sound.few;
@@ -180,13 +180,13 @@ Sound-one shape p bytes sound means =
 
 -- ---- transactions
 
-pub Sound-drafts : (shape : Shape) (p : Parts) (transactions : List (Option Draft)) → Sound shape p
-    → ((i : ℕ) (draft : Draft) → slice_get transactions i ≡ Some (Some draft) → draft.snapshot ≤ length p.primary.durable)
+pub Sound-transactions : (shape : Shape) (p : Parts) (transactions : List (Option Transaction)) → Sound shape p
+    → ((i : ℕ) (draft : Transaction) → slice_get transactions i ≡ Some (Some draft) → draft.snapshot ≤ length p.primary.durable)
     → Sound shape (record p { transactions = transactions })
-Sound-drafts shape p transactions sound are = record {
+Sound-transactions shape p transactions sound are = record {
   setup_is = sound.setup_is;
   primary_is = sound.primary_is;
-  drafts_are = are;
+  transactions_are = are;
   boots_there = sound.boots_there;
   asked_there = sound.asked_there;
   few = sound.few;
@@ -206,7 +206,7 @@ Sound-pending shape p pending sound = record {
     workers_some = sound.primary_is.workers_some;
     workers_few = sound.primary_is.workers_few;
   };
-  drafts_are = sound.drafts_are;
+  transactions_are = sound.transactions_are;
   boots_there = sound.boots_there;
   asked_there = sound.asked_there;
   few = sound.few;
@@ -255,8 +255,8 @@ Sound-grown laws shape p more pending legal sound =
         workers_some = sound.primary_is.workers_some;
         workers_few = sound.primary_is.workers_few;
       };
-      drafts_are =
-          λ i draft here. let known = sound.drafts_are i draft here in
+      transactions_are =
+          λ i draft here. let known = sound.transactions_are i draft here in
           omega (arith, length-append durable more);
       boots_there = sound.boots_there;
       asked_there = sound.asked_there;
@@ -275,7 +275,7 @@ Sound-apart shape p failed stopped journal sound = record {
     workers_some = sound.primary_is.workers_some;
     workers_few = sound.primary_is.workers_few;
   };
-  drafts_are = sound.drafts_are;
+  transactions_are = sound.transactions_are;
   boots_there = sound.boots_there;
   asked_there = sound.asked_there;
   few = sound.few;

@@ -1,5 +1,5 @@
 -- Each replica has the names of the schema's tables, whatever the step.
-use Rattle.std.proofs.Common.{◌≡◌, Bool, true, false, cond, ℕ, zero, suc, ◌⊎◌, inl, inr, List, Option, None, Some, Result, Ok, Err, refl}
+use Rattle.std.proofs.Common.{◌≡◌, Bool, true, false, cond, ℕ, zero, suc, inl, inr, List, Option, None, Some, Result, Ok, Err, refl}
 use Rattle.std.proofs.Common.{sym, subst, ◌∙◌}
 use Rattle.std.specs.List.{slice_get, slice_set, AllByRecursion}
 use Rattle.rows.specs.declared.kind.Kind.{Kind}
@@ -11,7 +11,7 @@ use Rattle.dispatcher.specs.declared.outcome.Run.{Run}
 use Rattle.dispatcher.specs.declared.outcome.Run.TheVariants as runs
 use Rattle.dispatcher.specs.Feeding.{StepsKeepNames}
 use Rattle.dispatcher.specs.State.{Replica}
-use Rattle.dispatcher.specs.Steps.{started as replica_started, received, opened, asked}
+use Rattle.dispatcher.specs.Steps.{started_replica as replica_started, received, opened, asked}
 use Rattle.dispatcher.specs.TableText.{names_of}
 use Rattle.script.specs.declared.event.Event.{Event}
 use Rattle.script.specs.declared.event.Event.TheVariants as events
@@ -19,9 +19,10 @@ use Rattle.script.specs.declared.event.Node.TheVariants as nodes
 use Rattle.script.specs.declared.output.Output.{Output}
 use Rattle.script.specs.declared.output.Output.TheVariants as outputs
 use Rattle.world.specs.Parts.{Parts, replicas_from}
-use Rattle.world.specs.Inner.CoreSteps.{MayAnswer, MayStep, RunsBy, HappensBeside, come_by, to_replica, open_by, opening_query, ask_by}
+use Rattle.world.specs.Inner.CoreSteps.{MayAnswer, MayStep, ReplicaRunsBy, HappensBeside, come_by, to_replica, open_by, opening_query}
+use Rattle.world.specs.Inner.CoreSteps.{ask_by}
 use Rattle.world.specs.Inner.CoreSteps.{asking, run_output, raw_by, version_by, dump_by, restart_by, with_restarted}
-use Rattle.world.specs.Inner.Invariant.{AreNamed}
+use Rattle.world.specs.Inner.Invariant.{ReplicasAreNamed}
 use Rattle.world.specs.Standing.{boots_at}
 use Rattle.world.specs.Steps.{is_forged, had_boot}
 use Rattle.world.proofs.Slots.{all_at, all_set}
@@ -83,12 +84,17 @@ module _ (laws : StepsKeepNames) (names : List (List ℕ)) where
   run_named p i r runs.Broken after here same all = one_named p i r after here same all
   run_named p i r runs.Memory after here same all = one_named p i r after here same all
 
+  -- whatever a call answers
+  answer_named : (p : Parts) (here : Output × Parts) (output : Output) (new : Parts) → AllNamed p → AllNamed here.1
+      → MayAnswer p here output new → AllNamed new
+  answer_named p here output new all after (inl made) = subst (λ (x : Output × Parts). AllNamed x.1) made after
+  answer_named p here output new all after (inr memory) = subst AllNamed (sym memory.1) all
+
   ran_named : (p : Parts) (i : ℕ) (found : Option Replica) (output : Output) (new : Parts) → slice_get p.replicas i ≡ found → AllNamed p
-      → RunsBy p i found output new ⊎ ((output ≡ outputs.Memory) × (new ≡ p)) → AllNamed new
-  ran_named p i None output new here all (inl run) = absurd run
-  ran_named p i (Some r) output new here all (inl run) =
-      subst (λ (x : Output × Parts). AllNamed x.1) run.3 (run_named p i r run.0 run.1 here (laws.by_run r run.0 run.1 run.2) all)
-  ran_named p i found output new here all (inr memory) = subst AllNamed (sym memory.1) all
+      → ReplicaRunsBy p i found output new → AllNamed new
+  ran_named p i None output new here all run = absurd run
+  ran_named p i (Some r) output new here all run =
+      answer_named p _ output new all (run_named p i r run.0 run.1 here (laws.by_run r run.0 run.1 run.2) all) run.3
 
   -- a replica that starts again has the names of the schema
   restart_named : (p : Parts) (i boot : ℕ) (found : Option Replica) → names_of p.primary.schema ≡ names → AllNamed p
@@ -108,11 +114,6 @@ module _ (laws : StepsKeepNames) (names : List (List ℕ)) where
   dump_named : (p : Parts) (found : Option Replica) → AllNamed p → AllNamed (dump_by p found).1
   dump_named p None all = all
   dump_named p (Some r) all = all
-
-  answer_named : (p : Parts) (here : Output × Parts) (output : Output) (new : Parts) → AllNamed p → AllNamed here.1
-      → MayAnswer p here output new → AllNamed new
-  answer_named p here output new all after (inl made) = subst (λ (x : Output × Parts). AllNamed x.1) made after
-  answer_named p here output new all after (inr memory) = subst AllNamed (sym memory.1) all
 
   beside_named : (p : Parts) (event : Event) (output : Output) (new : Parts) → AllNamed p → HappensBeside p event output new → AllNamed new
   beside_named p event output new all may = subst (AllByRecursion Named) (sym may.replicas) all
@@ -152,7 +153,7 @@ module _ (laws : StepsKeepNames) (names : List (List ℕ)) where
 
 -- whatever the step, where it leaves the schema
 pub stays-named : (laws : StepsKeepNames) (p : Parts) (event : Event) (output : Output) (new : Parts)
-    → new.primary.schema ≡ p.primary.schema → AreNamed p → MayStep p event output new → AreNamed new
+    → new.primary.schema ≡ p.primary.schema → ReplicasAreNamed p → MayStep p event output new → ReplicasAreNamed new
 stays-named laws p event output new same named may =
     subst (λ (schema : List (List ℕ × List Kind)). AllByRecursion (λ (r : Replica). r.names ≡ names_of schema) new.replicas) (sym same)
     (step_named laws (names_of p.primary.schema) p event output new refl named may)

@@ -6,19 +6,19 @@ use Rattle.std.proofs.lemmas.Bool.{false≢true}
 use Rattle.rows.specs.declared.commit.Commit.{Commit}
 use Rattle.rows.specs.declared.kind.Kind.{Kind}
 use Rattle.rows.specs.Shape.{Shape, shape_of}
-use Rattle.mvcc.specs.Draft.{Draft}
+use Rattle.mvcc.specs.Transaction.{Transaction}
 use Rattle.journal.specs.Laws.{StopsAreRecovered, IsRecoveredOnce}
 use Rattle.journal.specs.Recovery.{IsJournaled, IsRecovered}
 use Rattle.journal.specs.Text.{header, journal_text, records_from}
-use Rattle.journal.specs.State.{State}
-use Rattle.primary.specs.State.{Primary, Core}
+use Rattle.primary.specs.State.{Primary}
 use Rattle.dispatcher.specs.State.{Replica}
 use Rattle.script.specs.declared.event.Event.TheVariants.{Stop, Start}
 use Rattle.script.specs.declared.output.Output.TheVariants as outputs
 use Rattle.script.specs.declared.setup.Setup.{Setup}
 use Rattle.world.specs.Inner.CoreSteps.{HappensBeside, MayStep}
 use Rattle.world.specs.declared.primary_node.PrimaryNode.{PrimaryNode}
-use Rattle.world.specs.Inner.Nodes.{primary_kept, primary_in, is_stopped, bytes_in}
+use Rattle.world.specs.Inner.Running.{Running as RunningOf}
+use Rattle.world.specs.Inner.Nodes.{primary_kept, primary_in, is_stopped, journal_bytes_in}
 use Rattle.world.specs.declared.primary_node.PrimaryNode.TheVariants.{Running}
 use Rattle.world.specs.Parts.{Parts, parts_started, replicas_from, zeros}
 use Rattle.world.specs.Standing.{world_of}
@@ -26,12 +26,12 @@ use Rattle.world.specs.Stops.{stopped_at, closed}
 use Rattle.world.proofs.Stops.{stop-recovered}
 
 -- the parts, by the primary's node
-abbrev pub parts_with : Setup → PrimaryNode → List (Option Draft) → List (List ℕ) → List Replica → List (List ℕ) → List ℕ → Parts
+abbrev pub parts_with : Setup → PrimaryNode → List (Option Transaction) → List (List ℕ) → List Replica → List (List ℕ) → List ℕ → Parts
 parts_with setup node transactions sent replicas boots asked_at = record {
   setup = setup;
   primary = primary_in setup node;
   stopped = is_stopped node;
-  journal = bytes_in node;
+  journal = journal_bytes_in node;
   transactions = transactions;
   sent = sent;
   replicas = replicas;
@@ -40,7 +40,7 @@ parts_with setup node transactions sent replicas boots asked_at = record {
 }
 
 -- what the parts are where the primary's node is known
-pub node_seen : (setup : Setup) (node known : PrimaryNode) (transactions : List (Option Draft)) (sent : List (List ℕ))
+pub node_seen : (setup : Setup) (node known : PrimaryNode) (transactions : List (Option Transaction)) (sent : List (List ℕ))
     (replicas : List Replica) (boots : List (List ℕ)) (asked_at : List ℕ) (old : Parts) → node ≡ known
     → parts_with setup node transactions sent replicas boots asked_at ≡ old
     → parts_with setup known transactions sent replicas boots asked_at ≡ old
@@ -54,7 +54,7 @@ nothing_kept workers shape bytes is =
     (inl (((header workers shape, refl), omega arith), refl, refl))
 
 -- the parts at the beginning, where the primary has started on an empty journal
-pub parts_made : (setup copy : Setup) (core : Core State) (transactions : List (Option Draft)) (sent : List (List ℕ))
+pub parts_made : (setup copy : Setup) (core : RunningOf) (transactions : List (Option Transaction)) (sent : List (List ℕ))
     (replicas : List Replica) (boots : List (List ℕ)) (asked_at : List ℕ) → copy ≡ setup
     → core.primary ≡ record { schema = setup.schema; workers = setup.workers; durable = []; pending = []; failed = false }
     → core.journal.bytes ≡ journal_text setup.workers (shape_of setup.schema) core.primary.durable → transactions ≡ [] → sent ≡ []
@@ -68,7 +68,7 @@ parts_made setup copy core transactions sent replicas boots asked_at same primar
     : (copy, core.primary, core.journal.bytes, transactions, sent, replicas, boots, asked_at)
     ≡ (setup, start.primary, start.journal, [], [], start.replicas, start.boots, start.asked_at)
     = cc (same, primary, bytes, none, unsent, made, first, noted) in
-    ap (λ (x : Setup × Primary × List ℕ × List (Option Draft) × List (List ℕ) × List Replica × List (List ℕ) × List ℕ). record {
+    ap (λ (x : Setup × Primary × List ℕ × List (Option Transaction) × List (List ℕ) × List Replica × List (List ℕ) × List ℕ). record {
       setup = x.0;
       primary = x.1;
       stopped = false;
@@ -81,17 +81,17 @@ parts_made setup copy core transactions sent replicas boots asked_at same primar
     }) all
 
 -- transactions that are given up one after the other
-pub closed_set : (transactions : List (Option Draft)) (i : ℕ) → i < length transactions
+pub closed_set : (transactions : List (Option Transaction)) (i : ℕ) → i < length transactions
     → slice_set (closed (take i transactions) ++ drop i transactions) i None
     ≡ closed (take (i + 1) transactions) ++ drop (i + 1) transactions
 closed_set [] i within = absurd (omega arith)
 closed_set (slot ∷ slots) zero within = refl
 closed_set (slot ∷ slots) (suc i) within =
     let next : suc (i + 1) ≡ suc i + 1 = omega arith in
-    ap (λ (l : List (Option Draft)). None ∷ l) (closed_set slots i (omega arith))
+    ap (λ (l : List (Option Transaction)). None ∷ l) (closed_set slots i (omega arith))
     ∙ ap (λ (n : ℕ). closed (take n (slot ∷ slots)) ++ drop n (slot ∷ slots)) next
 
-pub closed_length : (transactions : List (Option Draft)) → length (closed transactions) ≡ length transactions
+pub closed_length : (transactions : List (Option Transaction)) → length (closed transactions) ≡ length transactions
 closed_length [] = refl
 closed_length (slot ∷ slots) = ap suc (closed_length slots)
 
@@ -133,7 +133,7 @@ module _ (stops : StopsAreRecovered) (setup : Setup) (p : Primary) (bytes : ℕ)
 
 -- ---- stops and starts
 
-module _ (setup : Setup) (p : Primary) (journal : List ℕ) (transactions : List (Option Draft)) (sent : List (List ℕ))
+module _ (setup : Setup) (p : Primary) (journal : List ℕ) (transactions : List (Option Transaction)) (sent : List (List ℕ))
     (replicas : List Replica) (boots : List (List ℕ)) (asked_at : List ℕ) where
   abbrev running : Parts
   running = record {
@@ -148,7 +148,7 @@ module _ (setup : Setup) (p : Primary) (journal : List ℕ) (transactions : List
     asked_at = asked_at;
   }
 
-  abbrev stopped : List Commit → List ℕ → List (Option Draft) → Parts
+  abbrev stopped : List Commit → List ℕ → List (Option Transaction) → Parts
   stopped kept bytes slots = record {
     setup = setup;
     primary = primary_kept setup kept;
@@ -162,7 +162,8 @@ module _ (setup : Setup) (p : Primary) (journal : List ℕ) (transactions : List
   }
 
   -- the primary stops, and leaves the bytes that the stop names
-  pub stop_done : (old : Parts) (bytes count : ℕ) (content : List ℕ) (kept : List Commit) (left : List ℕ) (slots : List (Option Draft))
+  pub stop_done : (old : Parts) (bytes count : ℕ) (content : List ℕ) (kept : List Commit) (left : List ℕ)
+      (slots : List (Option Transaction))
       → running ≡ old → (setup.schema ≡ p.schema) × (setup.workers ≡ p.workers) → kept ≡ (stopped_at p bytes).durable
       → IsRecovered setup.workers (shape_of setup.schema) content kept count → left ≡ content
       → content ≡ journal ++ take bytes (records_from (length p.durable) p.pending) → slots ≡ closed transactions
@@ -176,7 +177,7 @@ module _ (setup : Setup) (p : Primary) (journal : List ℕ) (transactions : List
       let happened : (stopped_at p bytes, closed transactions) ≡ (primary_kept setup kept, slots) = cc (made, over) in
       subst (λ (x : Parts). MayStep x (Stop bytes) outputs.Stopped (stopped kept left slots)) seen (
         record {
-          happens = inl (ap (λ (x : Primary × List (Option Draft)).
+          happens = inl (ap (λ (x : Primary × List (Option Transaction)).
               (outputs.Stopped, record w { primary = x.0; stopped = true; transactions = x.1 })) happened);
           setup = refl;
           replicas = refl;
@@ -210,7 +211,7 @@ module _ (setup : Setup) (p : Primary) (journal : List ℕ) (transactions : List
       → HappensBeside old Start outputs.Memory (stopped kept back transactions)
   start_lacks old kept bytes back count seen found =
       subst (λ (x : Parts). HappensBeside x Start outputs.Memory (stopped kept back transactions)) seen (record {
-        happens = inr (inl (refl, refl));
+        happens = inr (inl (refl, refl, refl));
         setup = refl;
         replicas = refl;
         boots = refl;

@@ -7,8 +7,9 @@ use Rattle.std.proofs.lemmas.List.{length-set}
 use Rattle.std.proofs.lemmas.Option.{same_Some, slice_get_within}
 use Rattle.rows.specs.declared.commit.Commit.{Commit}
 use Rattle.rows.specs.declared.limits.TheConstants.{REPLICAS_MAX, WAITING_QUERIES_MAX}
-use Rattle.rows.specs.Shape.{Shape, shape_of}
-use Rattle.rows.specs.Tables.{shape_in}
+use Rattle.rows.specs.Shape.{Shape}
+use Rattle.rows.specs.Tables.{Tables, shape_in}
+use Rattle.rows.specs.Commits.{tables_after}
 use Rattle.wire.specs.declared.datagram.Datagram.TheVariants as datagrams
 use Rattle.wire.specs.Reading.{reading}
 use Rattle.wire.specs.Spelling.{spelling}
@@ -27,7 +28,7 @@ use Rattle.script.specs.declared.output.Output.{Output}
 use Rattle.script.specs.declared.output.Output.TheVariants as outputs
 use Rattle.world.specs.Parts.{Parts}
 use Rattle.world.specs.Inner.CoreSteps.{with_replica, with_sent, open_by, opening_query, ask_by, asking, sent_one}
-use Rattle.world.specs.Steps.{World, Member, open_happens, ask_happens, new_batch, send, ask_bytes, with_member, on_member}
+use Rattle.world.specs.Steps.{World, Member, open_happens, ask_happens, new_batch, send, ask_bytes, with_member, on_member, durable_tables}
 use Rattle.world.proofs.Lists.{set-same, get-set_same}
 use Rattle.world.specs.Inner.Boots.{IsOfBoot}
 use Rattle.world.specs.Inner.Sound.{Sound, IsFed, Means}
@@ -37,7 +38,7 @@ use Rattle.world.proofs.Datagrams.{ask-read, ask-kept}
 use Rattle.world.specs.Standing.{boots_at, world_of, member_of, batch_of, members_of}
 use Rattle.world.proofs.Worlds.{member_at, members-asked}
 use Rattle.world.proofs.Moves.{Goes, Follows, Sound-replica, Sound-noted, Sound-one}
-use Rattle.world.proofs.Replicas.{fed-shape, Follows-goes}
+use Rattle.world.proofs.Replicas.{Follows-goes}
 
 -- ---- opening a query
 
@@ -53,17 +54,17 @@ by_check r plan (Ok fits) = Ok (length r.waiting + 1, with_plan r plan)
 abbrev opened_by : Bool → Bool → Replica → Plan → Result (Unit {0}) PlanFault → Result (ℕ × Replica) OpenFault
 opened_by broken full r plan check = cond broken (Err opens.Broken) (cond full (Err opens.BatchFull) (by_check r plan check))
 
-opened-is : (r : Replica) (plan : Plan) (of : Shape) → (r.broken ≡ false → shape_in r.tables ≡ of)
-    → opened r plan ≡ opened_by r.broken (nat_le WAITING_QUERIES_MAX (length r.waiting)) r plan (checked of plan)
-opened-is r plan of same = by r.broken same
+opened-is : (r : Replica) (plan : Plan) (tables : Tables) → (r.broken ≡ false → r.tables ≡ tables)
+    → opened r plan ≡ opened_by r.broken (nat_le WAITING_QUERIES_MAX (length r.waiting)) r plan (checked (shape_in tables) plan)
+opened-is r plan tables same = by r.broken same
   where
     full : Bool
     full = nat_le WAITING_QUERIES_MAX (length r.waiting)
 
-    by : (broken : Bool) → (broken ≡ false → shape_in r.tables ≡ of)
-        → opened_by broken full r plan (checked (shape_in r.tables) plan) ≡ opened_by broken full r plan (checked of plan)
+    by : (broken : Bool) → (broken ≡ false → r.tables ≡ tables)
+        → opened_by broken full r plan (checked (shape_in r.tables) plan) ≡ opened_by broken full r plan (checked (shape_in tables) plan)
     by true same = refl
-    by false same = ap (λ (it : Shape). opened_by false full r plan (checked it plan)) (same refl)
+    by false same = ap (λ (it : Tables). opened_by false full r plan (checked (shape_in it) plan)) (same refl)
 
 plan-goes : (laws : FedLaws) (shape : Shape) (durable : List Commit) (r : Replica) (plan : Plan) → IsFedFrom shape durable r
     → opened r plan ≡ Ok (length r.waiting + 1, with_plan r plan) → Goes shape durable r (with_plan r plan)
@@ -84,12 +85,12 @@ pub query-opens : (laws : FedLaws) (shape : Shape) (p : Parts) (i : ℕ) (plan :
     → Follows shape
     (on_member (world_of p) (option_map (member_at p i) found) (λ m.
     cond m.broken (outputs.Broken, world_of p) (cond (nat_le WAITING_QUERIES_MAX (length m.waiting)) (outputs.BatchFull, world_of p)
-    (open_happens (world_of p) m plan (checked (shape_of p.primary.schema) plan)))))
+    (open_happens (world_of p) m plan (checked (shape_in (durable_tables (world_of p) m.version)) plan)))))
     (open_by p i plan found)
 query-opens laws shape p i plan None sound here = (refl, sound)
 query-opens laws shape p i plan (Some r) sound here =
     subst (λ (o : Result (ℕ × Replica) OpenFault). Follows shape there (opening_query p i o)) (sym is)
-    (by r.broken (nat_le WAITING_QUERIES_MAX (length r.waiting)) (checked (shape_of p.primary.schema) plan) is)
+    (by r.broken (nat_le WAITING_QUERIES_MAX (length r.waiting)) (checked (shape_in (durable_tables w r.version)) plan) is)
   where
     w : World
     w = world_of p
@@ -101,16 +102,17 @@ query-opens laws shape p i plan (Some r) sound here =
     there =
         cond r.broken (outputs.Broken, w)
         (cond (nat_le WAITING_QUERIES_MAX (length r.waiting)) (outputs.BatchFull, w)
-        (open_happens w m plan (checked (shape_of p.primary.schema) plan)))
+        (open_happens w m plan (checked (shape_in (durable_tables w r.version)) plan)))
 
     fed : IsFed shape p.primary.workers p.primary.durable (boots_at p.boots i) i r
     fed = sound.fed i r here
 
     is : opened r plan
-        ≡ opened_by r.broken (nat_le WAITING_QUERIES_MAX (length r.waiting)) r plan (checked (shape_of p.primary.schema) plan)
+        ≡ opened_by r.broken (nat_le WAITING_QUERIES_MAX (length r.waiting)) r plan (checked (shape_in (durable_tables w r.version)) plan)
     is =
-        opened-is r plan (shape_of p.primary.schema)
-        (λ whole. fed-shape shape p.primary.durable r fed.feeding whole ∙ sym sound.primary_is.shape_is)
+        opened-is r plan (durable_tables w r.version)
+        (λ whole. fed.feeding.tables_are whole
+        ∙ ap (λ (s : Shape). tables_after s p.primary.durable r.version) (sym sound.primary_is.shape_is))
 
     by : (a b : Bool) (check : Result (Unit {0}) PlanFault) → opened r plan ≡ opened_by a b r plan check
         → Follows shape (cond a (outputs.Broken, w) (cond b (outputs.BatchFull, w) (open_happens w m plan check)))

@@ -6,8 +6,6 @@ use Rattle.std.specs.Option.{option_map, is_none}
 use Rattle.std.proofs.lemmas.Bool.{false≢true, cond-false, and_parts, eqb-true}
 use Rattle.rows.specs.declared.commit.Commit.{Commit}
 use Rattle.rows.specs.Shape.{Shape}
-use Rattle.rows.specs.Tables.{Tables, shape_in}
-use Rattle.rows.proofs.TableLaws.{shape-at}
 use Rattle.wire.specs.declared.datagram.Datagram.{Datagram}
 use Rattle.wire.specs.declared.datagram.Datagram.TheVariants as datagrams
 use Rattle.wire.specs.declared.faults.WireFault.{WireFault}
@@ -30,7 +28,8 @@ use Rattle.script.specs.declared.output.Output.TheVariants as outputs
 use Rattle.world.specs.Inner.Naming.{of_got}
 use Rattle.world.specs.Parts.{Parts}
 use Rattle.world.specs.Inner.CoreSteps.{with_replica, got_by, to_replica}
-use Rattle.world.specs.Steps.{World, Member, frame_happens, head_happens, datagram_happens, member_output, on_member, known_of, with_known}
+use Rattle.world.specs.Steps.{World, Member, frame_happens, head_happens, datagram_happens, member_output, on_member, known_seqs}
+use Rattle.world.specs.Steps.{with_known}
 use Rattle.world.specs.Inner.Sound.{Sound, IsFed, Means, awaits}
 use Rattle.world.specs.Standing.{boots_at, world_of, member_of, batch_of, known_in}
 use Rattle.world.proofs.FedLaws.{FedLaws}
@@ -48,15 +47,10 @@ Comes had at r there here = (there ≡ answered had at here) × Moves r here.1
 Comes-same : (had : List ℕ) (at : ℕ) (r : Replica) (answer : Got) → Comes had at r (of_got answer, member_of had at r) (answer, r)
 Comes-same had at r answer = (refl, Moves-same r)
 
--- the tables of a replica that is whole and fed have the kinds that they were opened with
-pub fed-shape : (shape : Shape) (commits : List Commit) (r : Replica) → IsFedFrom shape commits r → r.broken ≡ false
-    → shape_in r.tables ≡ shape
-fed-shape shape commits r fed whole = ap (λ (tables : Tables). shape_in tables) (fed.tables_are whole) ∙ shape-at shape commits r.version
-
 -- ---- a frame
 
 -- the known seqs of a worker are those of its arrivals
-known-at : (arrivals : List Arrivals) (worker : ℕ) → known_of (known_in arrivals) worker ≡ (arrivals_of arrivals worker).known
+known-at : (arrivals : List Arrivals) (worker : ℕ) → known_seqs (known_in arrivals) worker ≡ (arrivals_of arrivals worker).known
 known-at [] worker = refl
 known-at (first ∷ arrivals) zero = refl
 known-at (first ∷ arrivals) (suc worker) = known-at arrivals worker

@@ -20,10 +20,10 @@ use Rattle.world.specs.Standing.{world_of}
 use Rattle.world.specs.Theorem.{SaysRows, IsFaultless, IsStep, IsCoreStep, OfEachRun, HasExactReports}
 use Rattle.world.specs.Theorem.{HasGrowingList, HasLegalList, HasNoFault, AllowedRunsAreExact}
 use Rattle.world.specs.Inner.Fresh.{Fresh, HasBoot}
-use Rattle.world.specs.Inner.Honest.{IsHonest}
+use Rattle.world.specs.Inner.Undamaged.{IsUndamaged}
 use Rattle.world.proofs.Fresh.{opening-fresh}
 use Rattle.world.proofs.Freshness.{step-serves, possible-boots}
-use Rattle.world.proofs.Honest.{step-fine, opening-honest}
+use Rattle.world.proofs.Undamaged.{step-fine, opening-undamaged}
 use Rattle.world.proofs.Worlds.{world-started}
 
 -- ---- one list
@@ -89,26 +89,26 @@ run-grows durable Step grows old end (event ∷ todo) (output ∷ done) run =
 
 -- ---- the world, whoever makes it
 
-runs-exact : (old end : World) (todo : List Event) (done : List Output) → AllByRecursion HasBoot todo → IsHonest old → Fresh old
+runs-exact : (old end : World) (todo : List Event) (done : List Output) → AllByRecursion HasBoot todo → IsUndamaged old → Fresh old
     → Runs old todo done end → RunsBy (IsStep end.primary.durable) old todo done end
-runs-exact old end [] [] boots honest fresh run = run
-runs-exact old end [] (output ∷ done) boots honest fresh run = absurd run
-runs-exact old end (event ∷ todo) [] boots honest fresh run = absurd run
-runs-exact old end (event ∷ todo) (output ∷ done) boots honest fresh run =
+runs-exact old end [] [] boots undamaged fresh run = run
+runs-exact old end [] (output ∷ done) boots undamaged fresh run = absurd run
+runs-exact old end (event ∷ todo) [] boots undamaged fresh run = absurd run
+runs-exact old end (event ∷ todo) (output ∷ done) boots undamaged fresh run =
     let fine = step-fine old event output run.0 run.1 in
     let serves = step-serves old event output run.0 boots.0 fresh run.1 in
     let step : IsStep old.primary.durable old event output run.0 =
-    record { happens = run.1; rows = serves.rows; durable = fine.grows; faultless = fine.output honest } in
+    record { happens = run.1; rows = serves.rows; durable = fine.grows; faultless = fine.output undamaged } in
     let begins = run-grows (λ (w : World). w.primary.durable) MayHappen
     (λ first e o second may. (step-fine first e o second may).grows) old end (event ∷ todo) (output ∷ done) run in (
       run.0,
       step-by end.primary.durable old event output run.0 begins step,
-      runs-exact run.0 end todo done boots.1 (fine.honest honest) serves.fresh run.2,
+      runs-exact run.0 end todo done boots.1 (fine.undamaged undamaged) serves.fresh run.2,
     )
 
 pub allowed-exact : AllowedRunsAreExact
 allowed-exact setup todo done end few possible run =
-    runs-exact (opening_world setup) end todo done (possible-boots setup.workers setup.replicas todo possible) (opening-honest setup)
+    runs-exact (opening_world setup) end todo done (possible-boots setup.workers setup.replicas todo possible) (opening-undamaged setup)
     (opening-fresh setup few) run
 
 -- ---- what follows of a run of the cores

@@ -4,13 +4,13 @@ use Rattle.std.proofs.Common.{drop, Option, None, Some, IfSome, Result, Ok, Err,
 use Rattle.std.specs.List.{slice_get, AllByRecursion}
 use Rattle.std.proofs.lemmas.List.{append-nil, length-append, length-set}
 use Rattle.rows.specs.declared.limits.TheConstants.{WAITING_QUERIES_MAX}
-use Rattle.rows.specs.Shape.{shape_of}
+use Rattle.rows.specs.Tables.{shape_in}
 use Rattle.wire.specs.declared.datagram.Datagram.{Datagram}
 use Rattle.wire.specs.declared.datagram.Datagram.TheVariants as datagrams
 use Rattle.wire.specs.declared.faults.WireFault.{WireFault}
 use Rattle.wire.specs.Reading.{reading}
 use Rattle.mvcc.specs.declared.faults.TxFault.{TxFault}
-use Rattle.mvcc.specs.Draft.{Draft}
+use Rattle.mvcc.specs.Transaction.{Transaction}
 use Rattle.primary.specs.declared.faults.CommitFault.{CommitFault}
 use Rattle.primary.specs.Steps.{commit_answer, flushed}
 use Rattle.primary.specs.Sending.{pushed, answers}
@@ -28,14 +28,14 @@ use Rattle.script.specs.declared.output.Output.TheVariants as outputs
 use Rattle.script.specs.declared.setup.Setup.{Setup}
 use Rattle.world.specs.Outputs.{packets_of}
 use Rattle.world.specs.Parts.{Parts}
-use Rattle.world.specs.Steps.{World, Member, Batch, fresh_from, opening_world, open_draft, happens, with_member, on_draft}
+use Rattle.world.specs.Steps.{World, Member, AskedBatch, fresh_from, opening_world, open_transaction, happens, with_member, on_transaction}
 use Rattle.world.specs.Steps.{change_happens, commit_happens, push_happens, head_happens, datagram_happens, on_member}
 use Rattle.world.specs.Steps.{deliver_happens, open_happens, ask_happens, new_batch, ask_bytes, run_happens}
-use Rattle.world.specs.Steps.{want_bytes, fetched_happens, answer_happens, lacking, known_of, unless_stopped, is_forged, delivered}
-use Rattle.world.specs.Steps.{restarted, restart_happens, had_boot}
-use Rattle.world.specs.Allowed.{RunIsCut, MayHappen}
+use Rattle.world.specs.Steps.{want_bytes, fetched_happens, answer_happens, first_lacked, known_seqs, unless_stopped, is_forged, delivered}
+use Rattle.world.specs.Steps.{restarted, restart_happens, had_boot, durable_tables}
+use Rattle.world.specs.Allowed.{RunIsInterrupted, MayHappen}
 use Rattle.world.specs.Standing.{world_of, members_of}
-use Rattle.world.specs.Inner.Invariant.{IsReady, IsRequested, IsKept}
+use Rattle.world.specs.Inner.Invariant.{IsReady, IsRequested, PartsAreKept}
 use Rattle.world.proofs.Slots.{all_at, all_set, all_weaker}
 
 pub record Counts (old : World) (answer : Output × World) : Type 0 where
@@ -91,16 +91,17 @@ module _ (w : World) where
 
   -- ---- transactions and commits
 
-  changing : (number : ℕ) (answer : Result Draft TxFault) → Counts w (change_happens w number answer)
+  changing : (number : ℕ) (answer : Result Transaction TxFault) → Counts w (change_happens w number answer)
   changing number (Ok draft) = counts_same _ _ (refl, refl) refl refl
   changing number (Err fault) = unchanged _
 
-  on_drafts : (found : Option Draft) (next : Draft → Output × World) → ((draft : Draft) → Counts w (next draft))
-      → Counts w (on_draft w found next)
-  on_drafts None next counts = unchanged _
-  on_drafts (Some draft) next counts = counts draft
+  on_transactions : (found : Option Transaction) (next : Transaction → Output × World) → ((draft : Transaction) → Counts w (next draft))
+      → Counts w (on_transaction w found next)
+  on_transactions None next counts = unchanged _
+  on_transactions (Some draft) next counts = counts draft
 
-  committing : (number worker : ℕ) (draft : Draft) (answer : Result ℕ CommitFault) → Counts w (commit_happens w number worker draft answer)
+  committing : (number worker : ℕ) (draft : Transaction) (answer : Result ℕ CommitFault)
+      → Counts w (commit_happens w number worker draft answer)
   committing number worker draft (Ok ticket) = counts_same _ _ (refl, refl) refl refl
   committing number worker draft (Err fault) = counts_same _ _ (refl, refl) refl refl
 
@@ -125,7 +126,7 @@ module _ (w : World) where
       by true = unchanged _
       by false = counts m here
 
-  head_stays : (m : Member) (version : ℕ) (counts : List ℕ) (batch : Option Batch)
+  head_stays : (m : Member) (version : ℕ) (counts : List ℕ) (batch : Option AskedBatch)
       → (head_happens m version counts batch).1.request ≡ m.request
   head_stays m version counts None = refl
   head_stays m version counts (Some batch) = by batch.fetched
@@ -142,8 +143,8 @@ module _ (w : World) where
   datagram_stays : (m : Member) (read : Result Datagram WireFault) → (datagram_happens m read).1.request ≡ m.request
   datagram_stays m (Err fault) = refl
   datagram_stays m (Ok (datagrams.Frame worker seq commit last entries)) =
-      either_way (is_known (known_of m.known worker) seq) _ _ _ refl
-      (either_way (is_ahead (known_of m.known worker) seq) _ _ _ refl refl)
+      either_way (is_known (known_seqs m.known worker) seq) _ _ _ refl
+      (either_way (is_ahead (known_seqs m.known worker) seq) _ _ _ refl refl)
   datagram_stays m (Ok (datagrams.Head replica boot request version counts)) =
       either_way ((replica == m.number) && (boot == m.boot) && (request == m.request)) _ _ _ (head_stays m version counts m.batch) refl
   datagram_stays m (Ok (datagrams.Ask replica boot request)) = refl
@@ -166,7 +167,7 @@ module _ (w : World) where
       by false (Err fault) = unchanged _
       by false (Ok fits) = counts_stays i m _ _ here refl
 
-  asking : (i : ℕ) (m : Member) (batch : Option Batch) → slice_get w.members i ≡ Some m → Counts w (ask_happens w m batch)
+  asking : (i : ℕ) (m : Member) (batch : Option AskedBatch) → slice_get w.members i ≡ Some m → Counts w (ask_happens w m batch)
   asking i m None here = by (length m.waiting == 0)
     where
       by : (empty : Bool) → Counts w (cond empty (outputs.Empty, w) (
@@ -181,22 +182,24 @@ module _ (w : World) where
       by None = counts_sent _ _ (ask_bytes m m.request ∷ []) (refl, refl) refl refl
       by (Some fetched) = unchanged _
 
-  run_lacking : (i : ℕ) (m : Member) (plans : List Plan) (fetched : Fetched) (missing : Option (ℕ × ℕ)) → slice_get w.members i ≡ Some m
-      → Counts w (answer_happens w m plans fetched missing)
-  run_lacking i m plans fetched (Some missing) here =
-      counts_sent _ _ (want_bytes m missing.0 missing.1 ∷ []) (refl, refl) refl refl
+  run_lacking : (i : ℕ) (m : Member) (plans : List Plan) (fetched : Fetched) (first_lacked : Option (ℕ × ℕ))
+      → slice_get w.members i ≡ Some m
+      → Counts w (answer_happens w m plans fetched first_lacked)
+  run_lacking i m plans fetched (Some first_lacked) here =
+      counts_sent _ _ (want_bytes m first_lacked.0 first_lacked.1 ∷ []) (refl, refl) refl refl
   run_lacking i m plans fetched None here = counts_stays i m _ _ here refl
 
   run_fetched : (i : ℕ) (m : Member) (plans : List Plan) (fetched : Option Fetched) → slice_get w.members i ≡ Some m
       → Counts w (fetched_happens w m plans fetched)
   run_fetched i m plans None here = unchanged _
-  run_fetched i m plans (Some fetched) here = run_lacking i m plans fetched (lacking m.known fetched.counts) here
+  run_fetched i m plans (Some fetched) here = run_lacking i m plans fetched (first_lacked m.known fetched.counts) here
 
-  running : (i : ℕ) (m : Member) (batch : Option Batch) → slice_get w.members i ≡ Some m → Counts w (run_happens w m batch)
+  running : (i : ℕ) (m : Member) (batch : Option AskedBatch) → slice_get w.members i ≡ Some m → Counts w (run_happens w m batch)
   running i m None here = unchanged _
   running i m (Some batch) here = run_fetched i m batch.plans batch.fetched here
 
-  cutting : (i : ℕ) (found : Option Member) (output : Output) (new : World) → slice_get w.members i ≡ found → RunIsCut w found output new
+  cutting : (i : ℕ) (found : Option Member) (output : Output) (new : World) → slice_get w.members i ≡ found
+      → RunIsInterrupted w found output new
       → Counts w (output, new)
   cutting i None output new here cut = absurd cut
   cutting i (Some m) output new here cut = elim cut.2 [
@@ -245,18 +248,18 @@ module _ (w : World) where
   happening : (event : Event) → Counts w (happens w event)
   happening events.Begin = serving _ (counts_same _ _ (refl, refl) refl refl)
   happening (events.Insert transaction table row values) =
-      serving _ (on_drafts (open_draft w.transactions transaction) _ (λ draft. changing transaction _))
+      serving _ (on_transactions (open_transaction w.transactions transaction) _ (λ draft. changing transaction _))
   happening (events.Set transaction table row column value) =
-      serving _ (on_drafts (open_draft w.transactions transaction) _ (λ draft. changing transaction _))
+      serving _ (on_transactions (open_transaction w.transactions transaction) _ (λ draft. changing transaction _))
   happening (events.Delete transaction table row) =
-      serving _ (on_drafts (open_draft w.transactions transaction) _ (λ draft. changing transaction _))
+      serving _ (on_transactions (open_transaction w.transactions transaction) _ (λ draft. changing transaction _))
   happening (events.Get transaction table row column) =
-      serving _ (on_drafts (open_draft w.transactions transaction) _ (λ draft. unchanged _))
+      serving _ (on_transactions (open_transaction w.transactions transaction) _ (λ draft. unchanged _))
   happening (events.Commit transaction worker) =
-      serving _ (on_drafts (open_draft w.transactions transaction) _
+      serving _ (on_transactions (open_transaction w.transactions transaction) _
       (λ draft. committing transaction worker draft (commit_answer w.primary worker draft)))
   happening (events.Abort transaction) =
-      serving _ (on_drafts (open_draft w.transactions transaction) _ (λ draft. counts_same _ _ (refl, refl) refl refl))
+      serving _ (on_transactions (open_transaction w.transactions transaction) _ (λ draft. counts_same _ _ (refl, refl) refl refl))
   happening (events.Flush count) = serving _ (flushing count w.primary.failed _ _)
   happening (events.Stop bytes) = serving _ (counts_same _ _ (refl, refl) refl refl)
   happening events.Start = starting w.stopped
@@ -266,7 +269,7 @@ module _ (w : World) where
   happening (events.Show index) = unchanged _
   happening (events.Open replica plan) =
       on_members replica (slice_get w.members replica) _ refl
-      (λ m here. opening replica m plan (checked (shape_of w.primary.schema) plan) here)
+      (λ m here. opening replica m plan (checked (shape_in (durable_tables w m.version)) plan) here)
   happening (events.Ask replica) = on_members replica (slice_get w.members replica) _ refl (λ m here. asking replica m m.batch here)
   happening (events.Run replica) = on_members replica (slice_get w.members replica) _ refl (λ m here. running replica m m.batch here)
   happening (events.Version replica) = telling (slice_get w.members replica)
@@ -310,8 +313,8 @@ requests-made [] boots asked_at count all = tt
 requests-made (r ∷ replicas) boots asked_at count all =
     (all.0, requests-made replicas (drop 1 boots) (drop 1 asked_at) count all.1)
 
-snapshots-known : (durable : ℕ) (transactions : List (Option Draft))
-    → ((i : ℕ) (draft : Draft) → slice_get transactions i ≡ Some (Some draft) → draft.snapshot ≤ durable)
+snapshots-known : (durable : ℕ) (transactions : List (Option Transaction))
+    → ((i : ℕ) (draft : Transaction) → slice_get transactions i ≡ Some (Some draft) → draft.snapshot ≤ durable)
     → AllByRecursion (λ slot. IfSome slot (λ draft. draft.snapshot ≤ durable)) transactions
 snapshots-known durable [] are = tt
 snapshots-known durable (None ∷ slots) are = (tt, snapshots-known durable slots (λ i draft here. are (suc i) draft here))
@@ -319,16 +322,16 @@ snapshots-known durable (Some draft ∷ slots) are =
     (are 0 draft refl, snapshots-known durable slots (λ i other here. are (suc i) other here))
 
 -- the parts of a world are ready for its calls
-pub kept-ready : (p : Parts) → IsKept p → IsReady p
+pub kept-ready : (p : Parts) → PartsAreKept p → IsReady p
 kept-ready p kept = record {
   setup_is = kept.sound.setup_is;
   workers_some = kept.sound.primary_is.workers_some;
   workers_few = kept.sound.primary_is.workers_few;
-  whole = kept.honest.whole;
+  whole = kept.undamaged.whole;
   kept = kept.journal;
   boots_there = kept.sound.boots_there;
   asked_there = kept.sound.asked_there;
   few = kept.sound.few;
-  snapshots = snapshots-known (length p.primary.durable) p.transactions kept.sound.drafts_are;
+  snapshots = snapshots-known (length p.primary.durable) p.transactions kept.sound.transactions_are;
   requests = requests-made p.replicas p.boots p.asked_at (length p.sent) kept.requested;
 }

@@ -1,13 +1,13 @@
 -- A replica that starts again in a boot that it never had leaves the parts of a world, and is in the world as its member is.
-use Rattle.std.proofs.Common.{◌≡◌, ℕ, zero, suc, ◌^◌, ◌<◌, ◌≤◌, Bool, true, false, cond, ◌==◌, List, [], ◌∷◌, ◌++◌, length, get_or, Some}
-use Rattle.std.proofs.Common.{Result, Ok, Err, OnOk, OnErr, refl, sym, ap, subst, ◌∙◌, inl, inr, arith}
+use Rattle.std.proofs.Common.{◌≡◌, ℕ, zero, suc, ◌^◌, ◌<◌, ◌≤◌, Bool, true, false, cond, ◌==◌, List, [], ◌∷◌, ◌++◌, length, get_or}
+use Rattle.std.proofs.Common.{Option, Some, Result, Ok, Err, OnOk, OnErr, refl, sym, ap, subst, ◌∙◌, inl, inr, arith}
 use Rattle.std.specs.List.{slice_get, slice_set, slice_index, Contains}
 use Rattle.std.specs.Result.{is_err}
 use Rattle.std.proofs.lemmas.Bool.{false≢true, eq-eqb}
 use Rattle.std.proofs.lemmas.List.{length-set}
 use Rattle.std.proofs.lemmas.List.Elements.{Contains-push, Contains-append_left}
 use Rattle.std.proofs.lemmas.List.Folds.{list_any_at}
-use Rattle.std.proofs.lemmas.Option.{none-some, same_Some, slice_get_within}
+use Rattle.std.proofs.lemmas.Option.{none-some, same_Some, slice_get_within, slice_get_cases}
 use Rattle.rows.specs.declared.commit.Commit.{Commit}
 use Rattle.rows.specs.declared.kind.Kind.{Kind}
 use Rattle.rows.specs.Shape.{Shape, shape_of}
@@ -17,7 +17,7 @@ use Rattle.wire.specs.declared.datagram.Datagram.TheVariants as datagrams
 use Rattle.wire.specs.declared.faults.WireFault.{WireFault}
 use Rattle.wire.specs.Reading.{reading}
 use Rattle.dispatcher.specs.State.{Replica}
-use Rattle.dispatcher.specs.Steps.{started as replica_started}
+use Rattle.dispatcher.specs.Steps.{started_replica as replica_started}
 use Rattle.script.specs.declared.event.Event.TheVariants.{Restart}
 use Rattle.script.specs.declared.output.Output.{Output}
 use Rattle.script.specs.declared.output.Output.TheVariants as outputs
@@ -32,6 +32,7 @@ use Rattle.world.proofs.Boots.{of-boot-grows, of-new-boot}
 use Rattle.world.proofs.FedLaws.{FedLaws}
 use Rattle.world.proofs.Lists.{get-set}
 use Rattle.world.proofs.Moves.{Follows}
+use Rattle.world.proofs.Moving.{TakesMemory}
 use Rattle.world.proofs.Slots.{set_same}
 use Rattle.world.proofs.Worlds.{member_at, members-booted, known-started}
 
@@ -166,7 +167,7 @@ Sound-restarted laws shape p i boot old sound at never below =
     record {
       setup_is = sound.setup_is;
       primary_is = sound.primary_is;
-      drafts_are = sound.drafts_are;
+      transactions_are = sound.transactions_are;
       boots_there = length-set p.boots i (boots_at p.boots i ++ boot ∷ []) ∙ sound.boots_there ∙ sym (length-set p.replicas i new);
       asked_there = sound.asked_there ∙ sym (length-set p.replicas i new);
       few = let few = sound.few in omega (arith, length-set p.replicas i new);
@@ -277,14 +278,28 @@ module _ (p old : Parts) (seen : p ≡ old) (number boot : ℕ) (below : boot < 
   abbrev placed : Replica → List ℕ → Parts
   placed new after = record p { replicas = slice_set p.replicas number new; boots = slice_set p.boots number after }
 
-  pub restart_refused : (after : List ℕ) → after ≡ had
+  -- a boot that it never had takes memory
+  pub restart_takes : number < length p.replicas → had_boot had boot ≡ false
+      → TakesMemory (restart_by old number boot (slice_get old.replicas number)).0
+  restart_takes there none =
+      subst (λ (x : Parts). TakesMemory (restart_by x number boot (slice_get x.replicas number)).0) seen
+      (elim (slice_get_cases p.replicas number).1 [
+        | inl found ↦ subst (λ (r : Option Replica). TakesMemory (restart_by p number boot r).0) (sym found.2)
+            (subst (λ (used : Bool). TakesMemory
+            (cond {A = Output × Parts} used (outputs.BootUsed, p) (outputs.Boot boot, with_restarted p number boot)).0)
+            (sym (ap (λ (l : List ℕ). had_boot l boot) (index-at p.boots number had at) ∙ none)) refl)
+        | inr past ↦ absurd (omega (arith, there, past.0))
+      ])
+
+  pub restart_refused : (after : List ℕ) → number < length p.replicas → had_boot had boot ≡ false → after ≡ had
       → MayStep old (Restart number boot) outputs.Memory (record p { boots = slice_set p.boots number after })
-  restart_refused after same = (
+  restart_refused after there none same = (
     below,
     inr (
       refl,
       ap (λ (boots : List (List ℕ)). record p { boots = boots })
           (ap (slice_set p.boots number) same ∙ set_same p.boots number had at) ∙ seen,
+      restart_takes there none,
     ),
   )
 

@@ -8,7 +8,7 @@ use Rattle.std.proofs.lemmas.Bool.{false≢true, true≢false}
 use Rattle.std.proofs.lemmas.Option.{none-some}
 use Rattle.rows.specs.Shape.{Shape, shape_of}
 use Rattle.rows.specs.Tables.{Tables, Refusal}
-use Rattle.rows.specs.Commits.{tables_after, commits_of}
+use Rattle.rows.specs.Commits.{tables_after, apply_commits}
 use Rattle.wire.specs.declared.datagram.Datagram.TheVariants as datagrams
 use Rattle.wire.specs.Reading.{reading}
 use Rattle.wire.specs.Spelling.{spelling}
@@ -22,19 +22,21 @@ use Rattle.dispatcher.specs.Feeding.{IsFedFrom}
 use Rattle.dispatcher.specs.State.{Replica, Batch as ReplicaBatch, Fetched}
 use Rattle.dispatcher.specs.Report.{report_of}
 use Rattle.dispatcher.specs.Steps.{at_fetched, broken_of, want_for, ready, ready_of, unless_lacking, CaughtUp, RunsOutOfMemory}
-use Rattle.dispatcher.specs.Steps.{Runs as ReplicaRuns, RunsAs, RunsWhole, RunsBatch, RunsFetched}
+use Rattle.dispatcher.specs.Steps.{RunsReplica as ReplicaRuns, RunsAs, RunsWhole, RunsBatch, RunsFetched}
 use Rattle.script.specs.declared.output.Output.{Output}
 use Rattle.script.specs.declared.output.Output.TheVariants as outputs
 use Rattle.world.specs.Parts.{Parts}
 use Rattle.world.specs.Inner.CoreSteps.{with_replica, with_sent, run_output}
-use Rattle.world.specs.Steps.{World, Member, Batch, run_happens, fetched_happens, answer_happens, wait_happens, want_bytes, with_member}
-use Rattle.world.specs.Steps.{lacking, lacking_from}
-use Rattle.world.specs.Allowed.{ready_member, RunIsCut}
+use Rattle.world.specs.Steps.{World, Member, AskedBatch, run_happens, fetched_happens, answer_happens, wait_happens, want_bytes}
+use Rattle.world.specs.Steps.{with_member}
+use Rattle.world.specs.Steps.{first_lacked, first_lacked_from}
+use Rattle.world.specs.Allowed.{ready_member, RunIsInterrupted}
 use Rattle.world.specs.Inner.Sound.{Sound, Means, awaits, awaits_by}
 use Rattle.world.specs.Standing.{boots_at, world_of, member_of, batch_of, known_in}
 use Rattle.world.proofs.Datagrams.{want-reads}
 use Rattle.world.proofs.FedLaws.{FedLaws}
 use Rattle.world.proofs.Lists.{set-same}
+use Rattle.world.proofs.Moving.{TakesMemory}
 use Rattle.world.proofs.Worlds.{member_at, member-changes}
 use Rattle.world.proofs.Moves.{Moves, Follows, Sound-replica, Sound-one, Follows-same}
 use Rattle.world.proofs.Replicas.{Follows-goes}
@@ -48,14 +50,14 @@ known-dropped (first ∷ arrivals) [] = refl
 known-dropped (first ∷ arrivals) (count ∷ counts) = ap (λ l. first.known ∷ l) (known-dropped arrivals counts)
 
 lacking-from : (worker : ℕ) (arrivals : List Arrivals) (counts : List ℕ)
-    → lacking_from worker (known_in arrivals) counts ≡ arrivals_lacking_from worker arrivals counts
+    → first_lacked_from worker (known_in arrivals) counts ≡ arrivals_lacking_from worker arrivals counts
 lacking-from worker [] counts = refl
 lacking-from worker (first ∷ arrivals) [] = refl
 lacking-from worker (first ∷ arrivals) (count ∷ counts) =
     ap (λ (rest : Option (ℕ × ℕ)). cond (nat_lt (first_missing first.known) count) (Some (worker, first_missing first.known)) rest)
     (lacking-from (worker + 1) arrivals counts)
 
-lacking-same : (arrivals : List Arrivals) (counts : List ℕ) → lacking (known_in arrivals) counts ≡ arrivals_lacking arrivals counts
+lacking-same : (arrivals : List Arrivals) (counts : List ℕ) → first_lacked (known_in arrivals) counts ≡ arrivals_lacking arrivals counts
 lacking-same arrivals counts = lacking-from 0 arrivals counts
 
 -- ---- what a run makes of a replica
@@ -172,15 +174,15 @@ module _ (laws : FedLaws) (shape : Shape) (p : Parts) (i : ℕ) (r : Replica) (s
           moves = finished-moves r fetched tables;
         }))
 
-    run-lacking : (plans : List Plan) (fetched : Fetched) (missing : Option (ℕ × ℕ)) (answer : Run) (after : Replica)
+    run-lacking : (plans : List Plan) (fetched : Fetched) (first_lacked : Option (ℕ × ℕ)) (answer : Run) (after : Replica)
         → r.broken ≡ false → r.batch ≡ Some (record { plans = plans; fetched = Some fetched })
-        → arrivals_lacking r.arrivals fetched.counts ≡ missing → RunsFetched r plans fetched missing answer after
+        → arrivals_lacking r.arrivals fetched.counts ≡ first_lacked → RunsFetched r plans fetched first_lacked answer after
         → ReplicaRuns r answer after
-        → Follows shape (answer_happens (world_of p) (member_at p i r) plans fetched missing)
+        → Follows shape (answer_happens (world_of p) (member_at p i r) plans fetched first_lacked)
         (run_output p i (answer, after))
-    run-lacking plans fetched (Some missing) answer after whole batch is told run =
-        run-same _ answer after (runs.Waiting missing.0 missing.1 (want_for r.number missing.0 missing.1)) told.1 told.0
-        (run-waits missing.0 missing.1)
+    run-lacking plans fetched (Some first_lacked) answer after whole batch is told run =
+        run-same _ answer after (runs.Waiting first_lacked.0 first_lacked.1 (want_for r.number first_lacked.0 first_lacked.1)) told.1 told.0
+        (run-waits first_lacked.0 first_lacked.1)
     run-lacking plans fetched None answer after whole batch is told run =
         run-finishes plans fetched answer after batch is_ready run
       where
@@ -226,25 +228,47 @@ module _ (laws : FedLaws) (shape : Shape) (p : Parts) (i : ℕ) (r : Replica) (s
 
 -- ---- a run that is cut short
 
-ready-same : (had : List ℕ) (at : ℕ) (r : Replica) → ready_member (member_of had at r) ≡ ready_of r
+pub ready-same : (had : List ℕ) (at : ℕ) (r : Replica) → ready_member (member_of had at r) ≡ ready_of r
 ready-same had at r = by r.broken r.batch
   where
     on : (held : Option Fetched)
-        → unless_lacking (lacking (known_in r.arrivals)) held ≡ unless_lacking (arrivals_lacking r.arrivals) held
+        → unless_lacking (first_lacked (known_in r.arrivals)) held ≡ unless_lacking (arrivals_lacking r.arrivals) held
     on None = refl
     on (Some held) =
         ap (λ (o : Option (ℕ × ℕ)). cond (is_none o) (Some held) None) (lacking-same r.arrivals held.counts)
 
     by : (broken : Bool) (batch : Option ReplicaBatch)
-        → ready broken (lacking (known_in r.arrivals)) (option_and_then (λ (b : Batch). b.fetched) (option_map (batch_of at) batch))
+        → ready broken (first_lacked (known_in r.arrivals))
+        (option_and_then (λ (b : AskedBatch). b.fetched) (option_map (batch_of at) batch))
         ≡ ready broken (arrivals_lacking r.arrivals) (option_and_then (λ (b : ReplicaBatch). b.fetched) batch)
     by true batch = refl
     by false None = refl
     by false (Some queries) = on queries.fetched
 
+-- a batch of which no frame is missing is answered by its report, which takes memory
+pub ready-takes : (w : World) (m : Member) (fetched : Fetched) → ready_member m ≡ Some fetched
+    → TakesMemory (cond m.broken (outputs.Broken, w) (run_happens w m m.batch)).0
+ready-takes w m fetched h = by m.broken m.batch h
+  where
+    answering : (plans : List Plan) (held : Fetched) (lacked : Option (ℕ × ℕ)) → TakesMemory (answer_happens w m plans held lacked).0
+    answering plans held None = refl
+    answering plans held (Some lacked) = refl
+
+    on : (plans : List Plan) (held : Option Fetched) → unless_lacking (first_lacked m.known) held ≡ Some fetched
+        → TakesMemory (fetched_happens w m plans held).0
+    on plans None h = absurd (none-some fetched h)
+    on plans (Some held) h = answering plans held (first_lacked m.known held.counts)
+
+    by : (broken : Bool) (batch : Option AskedBatch)
+        → ready broken (first_lacked m.known) (option_and_then (λ (b : AskedBatch). b.fetched) batch) ≡ Some fetched
+        → TakesMemory (cond broken (outputs.Broken, w) (run_happens w m batch)).0
+    by true batch h = absurd (none-some fetched h)
+    by false None h = absurd (none-some fetched h)
+    by false (Some queries) h = on queries.plans queries.fetched h
+
 -- what a cut run is in the world
 abbrev pub Cuts : World → Option Member → Output → World → Type 0
-Cuts w found output new = ((output ≡ outputs.Memory) × (new ≡ w)) ⊎ RunIsCut w found output new
+Cuts w found output new = ((output ≡ outputs.Memory) × (new ≡ w)) ⊎ RunIsInterrupted w found output new
 
 -- a cut run, and sound parts after it
 abbrev Ends : Shape → Parts → Member → Output × Parts → Type 0
@@ -253,7 +277,7 @@ Ends shape p m answer = Cuts (world_of p) (Some m) answer.0 (world_of answer.1) 
 -- the tables of a replica that has caught up
 caught-up : (old : Replica) (fetched : Fetched) (new : Replica) → CaughtUp old fetched new
     → (tables : Tables) × (new ≡ at_fetched old fetched tables)
-caught-up old fetched new caught = by (commits_of old.tables caught.commits) caught.applied
+caught-up old fetched new caught = by (apply_commits old.tables caught.commits) caught.applied
   where
     by : (made : Result Tables Refusal) → IsOkAnd made (λ tables. new ≡ at_fetched old fetched tables)
         → (tables : Tables) × (new ≡ at_fetched old fetched tables)

@@ -7,16 +7,16 @@ use Rattle.mvcc.specs.declared.faults.TxFault.{TxFault}
 use Rattle.mvcc.specs.declared.faults.TxFault.TheVariants as changes
 use Rattle.primary.specs.declared.faults.CommitFault.{CommitFault}
 use Rattle.primary.specs.declared.faults.CommitFault.TheVariants as faults
-use Rattle.mvcc.specs.Draft.{Draft}
+use Rattle.mvcc.specs.Transaction.{Transaction}
 use Rattle.primary.specs.Steps.{commit_answer, flushed}
 use Rattle.script.specs.declared.event.Event.{Event}
 use Rattle.script.specs.declared.output.Output.{Output}
 use Rattle.script.specs.declared.output.Output.TheVariants as outputs
 use Rattle.world.specs.Outputs.{of_change, of_look, of_commit}
 use Rattle.world.specs.Theorem.{SaysRows}
-use Rattle.world.specs.Steps.{World, on_draft, change_happens, commit_happens, abort_happens, stop_happens, unless_stopped}
+use Rattle.world.specs.Steps.{World, on_transaction, change_happens, commit_happens, abort_happens, stop_happens, unless_stopped}
 use Rattle.world.specs.Inner.Fresh.{Fresh}
-use Rattle.world.proofs.Fresh.{Fresh-drafts, Fresh-committed, Fresh-flushed, Fresh-stopped, Fresh-started}
+use Rattle.world.proofs.Fresh.{Fresh-transactions, Fresh-committed, Fresh-flushed, Fresh-stopped, Fresh-started}
 use Rattle.world.proofs.Committing.{commit-numbered}
 
 -- what a step is to be
@@ -51,29 +51,30 @@ change-silent changes.Unfit = tt
 change-silent changes.TooManyEntries = tt
 change-silent changes.Memory = tt
 
-pub change-serves : (w : World) (event : Event) (number : ℕ) (found : Option Draft) (answer : Draft → Result Draft TxFault) → Fresh w
-    → Serves w event (on_draft w found (λ draft. change_happens w number (answer draft)))
+pub change-serves : (w : World) (event : Event) (number : ℕ) (found : Option Transaction)
+    (answer : Transaction → Result Transaction TxFault) → Fresh w
+    → Serves w event (on_transaction w found (λ draft. change_happens w number (answer draft)))
 change-serves w event number None answer h = quiet w event (outputs.NoTx, w) h tt
 change-serves w event number (Some draft) answer h = by (answer draft)
   where
-    by : (made : Result Draft TxFault) → Serves w event (change_happens w number made)
-    by (Ok new) = quiet w event (outputs.Accepted, _) (Fresh-drafts w (slice_set w.transactions number (Some new)) h) tt
+    by : (made : Result Transaction TxFault) → Serves w event (change_happens w number made)
+    by (Ok new) = quiet w event (outputs.Accepted, _) (Fresh-transactions w (slice_set w.transactions number (Some new)) h) tt
     by (Err fault) = quiet w event (of_change fault, w) h (change-silent fault)
 
 pub look-silent : (answer : Result Value TxFault) → IsSilent (of_look answer)
 look-silent (Ok value) = tt
 look-silent (Err fault) = change-silent fault
 
-pub look-serves : (w : World) (event : Event) (found : Option Draft) (answer : Draft → Result Value TxFault) → Fresh w
-    → Serves w event (on_draft w found (λ draft. (of_look (answer draft), w)))
+pub look-serves : (w : World) (event : Event) (found : Option Transaction) (answer : Transaction → Result Value TxFault) → Fresh w
+    → Serves w event (on_transaction w found (λ draft. (of_look (answer draft), w)))
 look-serves w event None answer h = quiet w event (outputs.NoTx, w) h tt
 look-serves w event (Some draft) answer h = quiet w event (of_look (answer draft), w) h (look-silent (answer draft))
 
-pub abort-serves : (w : World) (event : Event) (number : ℕ) (found : Option Draft) → Fresh w
-    → Serves w event (on_draft w found (λ draft. abort_happens w number))
+pub abort-serves : (w : World) (event : Event) (number : ℕ) (found : Option Transaction) → Fresh w
+    → Serves w event (on_transaction w found (λ draft. abort_happens w number))
 abort-serves w event number None h = quiet w event (outputs.NoTx, w) h tt
 abort-serves w event number (Some draft) h =
-    quiet w event (outputs.Accepted, _) (Fresh-drafts w (slice_set w.transactions number None) h) tt
+    quiet w event (outputs.Accepted, _) (Fresh-transactions w (slice_set w.transactions number None) h) tt
 
 pub commit-silent : (fault : CommitFault) → IsSilent (of_commit fault)
 commit-silent (faults.Conflict number) = tt
@@ -83,8 +84,8 @@ commit-silent faults.NumbersUsedUp = tt
 commit-silent faults.Memory = tt
 commit-silent faults.Foreign = tt
 
-pub commit-serves : (w : World) (event : Event) (number worker : ℕ) (found : Option Draft) → Fresh w
-    → Serves w event (on_draft w found (λ draft. commit_happens w number worker draft (commit_answer w.primary worker draft)))
+pub commit-serves : (w : World) (event : Event) (number worker : ℕ) (found : Option Transaction) → Fresh w
+    → Serves w event (on_transaction w found (λ draft. commit_happens w number worker draft (commit_answer w.primary worker draft)))
 commit-serves w event number worker None h = quiet w event (outputs.NoTx, w) h tt
 commit-serves w event number worker (Some draft) h = by (commit_answer w.primary worker draft) refl
   where
@@ -93,7 +94,8 @@ commit-serves w event number worker (Some draft) h = by (commit_answer w.primary
     by (Ok ticket) e =
         quiet w event (outputs.Ticket ticket, _)
         (Fresh-committed w worker draft (slice_set w.transactions number None) h (commit-numbered w.primary worker draft ticket e)) tt
-    by (Err fault) e = quiet w event (of_commit fault, _) (Fresh-drafts w (slice_set w.transactions number None) h) (commit-silent fault)
+    by (Err fault) e =
+        quiet w event (of_commit fault, _) (Fresh-transactions w (slice_set w.transactions number None) h) (commit-silent fault)
 
 pub flush-serves : (w : World) (event : Event) (count : ℕ) (failed : Bool) → Fresh w
     → Serves w event (cond failed (outputs.Failed, w)

@@ -2,11 +2,11 @@
 use Rattle.std.proofs.Common.{◌≡◌, ℕ, zero, suc, ◌+◌, ◌-◌, ◌<◌, List, [], ◌∷◌, length, replicate, refl, ap, arith, add-one}
 use Rattle.rows.specs.declared.kind.Kind.{Kind}
 use Rattle.script.specs.declared.setup.Setup.{Setup}
-use Rattle.dispatcher.specs.Steps.{started}
+use Rattle.dispatcher.specs.Steps.{started_replica}
 use Rattle.world.specs.Parts.{replicas_from, zeros, parts_started}
 
 pub replicas_left : (schema : List (List ℕ × List Kind)) (workers number count : ℕ) → number < count
-    → replicas_from schema workers number (count - number) ≡ started schema workers number 1
+    → replicas_from schema workers number (count - number) ≡ started_replica schema workers number 1
     ∷ replicas_from schema workers (number + 1) (count - (number + 1))
 replicas_left schema workers number count more =
     let left : count - number ≡ suc (count - (number + 1)) = omega arith in

@@ -3,11 +3,12 @@ use Rattle.std.proofs.Common.{◌≡◌, ℕ, ◌≤◌, List, ◌++◌, length,
 use Rattle.rows.specs.declared.commit.Commit.{Commit}
 use Rattle.rows.specs.declared.value.Value.{Value}
 use Rattle.rows.specs.Shape.{Shape}
-use Rattle.mvcc.specs.Draft.{Draft}
+use Rattle.mvcc.specs.Transaction.{Transaction}
 use Rattle.mvcc.specs.Transactions.{insert_answer, set_answer, delete_answer, get_answer}
 use Rattle.world.proofs.Durable.{tables-stay}
 
-module _ (shape : Shape) (durable pending : List Commit) (draft : Draft) (table row : ℕ) (known : draft.snapshot ≤ length durable) where
+module _ (shape : Shape) (durable pending : List Commit) (draft : Transaction) (table row : ℕ)
+    (known : draft.snapshot ≤ length durable) where
   pub insert-told : (values : List Value)
       → insert_answer shape (durable ++ pending) draft table row values ≡ insert_answer shape durable draft table row values
   insert-told values = rw (tables-stay shape durable pending draft.snapshot known) refl

@@ -1,8 +1,8 @@
 -- Each step of sound parts is one of their world, and leaves the parts of one.
-use Rattle.std.proofs.Common.{◌≡◌, ℕ, zero, suc, ◌+◌, ◌^◌, ◌<◌, ◌≤◌, ◌⊎◌, Bool, true, false, cond, List, [], ◌∷◌, length, Option}
+use Rattle.std.proofs.Common.{◌≡◌, ℕ, zero, suc, ◌+◌, ◌^◌, ◌<◌, ◌≤◌, Bool, true, false, cond, List, [], ◌∷◌, length, Option}
 use Rattle.std.proofs.Common.{Some, None}
 use Rattle.std.proofs.Common.{replicate, Result, Ok, Err, refl, sym, ap, subst, ◌∙◌, inl, inr, arith}
-use Rattle.std.specs.List.{slice_get, AllByRecursion}
+use Rattle.std.specs.List.{slice_get, slice_index, AllByRecursion}
 use Rattle.std.specs.Option.{option_map}
 use Rattle.std.proofs.lemmas.Bool.{false≢true}
 use Rattle.std.proofs.lemmas.List.{length-replicate}
@@ -25,7 +25,7 @@ use Rattle.dispatcher.specs.declared.outcome.Run.{Run}
 use Rattle.dispatcher.specs.declared.outcome.Run.TheVariants as runs
 use Rattle.plans.specs.declared.plan.Plan.{Plan}
 use Rattle.dispatcher.specs.State.{Replica}
-use Rattle.dispatcher.specs.Steps.{started, opened, asked, dumped, MayRun}
+use Rattle.dispatcher.specs.Steps.{started_replica, opened, asked, dumped, RunsReplica, RunsOutOfMemory, MayRun}
 use Rattle.dispatcher.specs.TableText.{names_of, table_text}
 use Rattle.dispatcher.specs.Feeding.{IsFedFrom}
 use Rattle.mvcc.specs.Transactions.{insert_answer, set_answer, delete_answer, get_answer}
@@ -36,32 +36,34 @@ use Rattle.script.specs.declared.output.Output.{Output}
 use Rattle.script.specs.declared.output.Output.TheVariants as outputs
 use Rattle.script.specs.declared.setup.Setup.{Setup}
 use Rattle.world.specs.Parts.{Parts, parts_started, replicas_from, zeros}
-use Rattle.world.specs.Inner.CoreSteps.{HappensBeside, KeepsStopped, MayAnswer, MayStep, RunsBy, come_by, to_replica, open_by}
+use Rattle.world.specs.Inner.CoreSteps.{HappensBeside, KeepsStopped, MayAnswer, MayStep, ReplicaRunsBy, come_by, to_replica, open_by}
 use Rattle.world.specs.Inner.CoreSteps.{opening_query}
 use Rattle.world.specs.Inner.CoreSteps.{ask_by, asking, run_output, raw_by, version_by, dump_by, of_dumped, restart_by}
 use Rattle.world.specs.Inner.CoreSteps.{with_restarted}
 use Rattle.world.specs.Theorem.{IsStep}
-use Rattle.world.specs.Steps.{World, Member, open_draft, happens, unless_stopped, on_member, deliver_happens, run_happens}
+use Rattle.world.specs.Steps.{World, Member, open_transaction, happens, unless_stopped, on_member, deliver_happens, run_happens}
 use Rattle.world.specs.Steps.{raw_happens, is_forged, delivered, dump_at, restart_happens, had_boot}
-use Rattle.world.specs.Allowed.{MayHappen, RunIsCutAt}
-use Rattle.world.specs.Inner.Sound.{Sound, AreLists, IsFed}
+use Rattle.world.specs.Allowed.{MayHappen, RunIsInterruptedAt}
+use Rattle.world.specs.Inner.Sound.{Sound, PrimaryListsAreLegal, IsFed}
 use Rattle.world.specs.Standing.{boots_at, world_of, members_of, AreFed, JournalStands, JournalStandsAs, StopLeaves}
-use Rattle.world.specs.Inner.Honest.{IsHonest}
+use Rattle.world.specs.Inner.Undamaged.{IsUndamaged}
 use Rattle.world.specs.Inner.Fresh.{Fresh, HasBoot}
 use Rattle.world.proofs.Restarts.{restart-follows}
-use Rattle.world.specs.Inner.Invariant.{IsRequested, AreNamed, IsKept}
+use Rattle.world.specs.Inner.Invariant.{IsRequested, ReplicasAreNamed, PartsAreKept}
 use Rattle.world.proofs.Adding.{reads_same, insert-added, set-added, delete-added}
 use Rattle.world.proofs.FedLaws.{FedLaws}
 use Rattle.world.proofs.Worlds.{beside_of, member_at, members-get, world-started}
 use Rattle.world.proofs.Moves.{Follows, Sound-apart}
 use Rattle.world.proofs.Fresh.{opening-fresh}
 use Rattle.world.proofs.Freshness.{step-serves}
-use Rattle.world.proofs.Honest.{step-fine, opening-honest}
+use Rattle.world.proofs.Undamaged.{step-fine, opening-undamaged}
 use Rattle.world.proofs.Requested.{step-counts, opening-requested, as-many}
 use Rattle.world.proofs.Replicas.{bytes-come}
 use Rattle.world.proofs.Querying.{query-opens, version-asked}
-use Rattle.world.proofs.Running.{replica-runs, cut-ends, Cuts}
-use Rattle.world.proofs.Committing.{drafts-begun, change-sound, look-sound, abort-sound, commit-sound, flush-sound, stop-sound, start-sound}
+use Rattle.world.proofs.Moving.{TakesMemory, AsksByAnswer}
+use Rattle.world.proofs.Running.{replica-runs, ready-same, ready-takes, cut-ends, Cuts}
+use Rattle.world.proofs.Committing.{transactions-begun, change-sound, look-sound, abort-sound, commit-sound, flush-sound, stop-sound}
+use Rattle.world.proofs.Committing.{start-sound}
 use Rattle.world.proofs.Committing.{push-sound, deliver-sound, raw-means, raw-sound}
 use Rattle.world.proofs.Named.{started-named, stays-named}
 use Rattle.world.proofs.Slots.{all_at}
@@ -114,7 +116,7 @@ version-told : (shape : Shape) (p : Parts) (i : ℕ) (found : Option Replica) �
 version-told shape p i None sound = (refl, sound)
 version-told shape p i (Some r) sound = (refl, sound)
 
-tables-dumped : (laws : FedLaws) (shape : Shape) (p : Parts) (i : ℕ) (found : Option Replica) → Sound shape p → AreNamed p
+tables-dumped : (laws : FedLaws) (shape : Shape) (p : Parts) (i : ℕ) (found : Option Replica) → Sound shape p → ReplicasAreNamed p
     → slice_get p.replicas i ≡ found
     → Follows shape
     (on_member (world_of p) (option_map (member_at p i) found)
@@ -149,7 +151,7 @@ Happens shape p event output new = MayHappen (world_of p) event output (world_of
 
 -- what happens beside the replicas, where it leaves sound parts
 happens-beside : (shape : Shape) (p : Parts) (event : Event) (output : Output) (new : Parts) → Sound shape p
-    → (RunIsCutAt (world_of p) event output (world_of new) → ⊥) → HappensBeside p event output new
+    → (RunIsInterruptedAt (world_of p) event output (world_of new) → ⊥) → HappensBeside p event output new
     → Sound shape (beside_of (happens (world_of p) event).1 p)
     → Happens shape p event output new
 happens-beside shape p event output new sound uncut may after =
@@ -166,9 +168,9 @@ happens-beside shape p event output new sound uncut may after =
 
 -- an event of the primary: nothing happens while it is stopped
 happens-served : (shape : Shape) (p : Parts) (event : Event) (next : Output × World) (output : Output) (new : Parts) → Sound shape p
-    → (RunIsCutAt (world_of p) event output (world_of new) → ⊥) → (p.stopped ≡ false → AreLists p.primary)
+    → (RunIsInterruptedAt (world_of p) event output (world_of new) → ⊥) → (p.stopped ≡ false → PrimaryListsAreLegal p.primary)
     → HappensBeside p event output new → happens (world_of p) event ≡ unless_stopped (world_of p) next
-    → (AreLists p.primary → Sound shape (beside_of next.1 p))
+    → (PrimaryListsAreLegal p.primary → Sound shape (beside_of next.1 p))
     → Happens shape p event output new
 happens-served shape p event next output new sound uncut lists may is served =
     happens-beside shape p event output new sound uncut may
@@ -180,79 +182,104 @@ happens-served shape p event next output new sound uncut lists may is served =
 
 -- what a call on a replica does, where the world follows it
 happens-called : (shape : Shape) (p : Parts) (event : Event) (here : Output × Parts) (output : Output) (new : Parts) → Sound shape p
-    → Follows shape (happens (world_of p) event) here → MayAnswer p here output new → Happens shape p event output new
-happens-called shape p event here output new sound follows (inl made) =
+    → AsksByAnswer (world_of p) event → Follows shape (happens (world_of p) event) here → MayAnswer p here output new
+    → Happens shape p event output new
+happens-called shape p event here output new sound asks follows (inl made) =
     subst (λ (x : Output × Parts). Happens shape p event x.0 x.1) made (inl follows.0, follows.1)
-happens-called shape p event here output new sound follows (inr memory) =
-    (inr (inl (memory.0, ap world_of memory.1)), subst (Sound shape) (sym memory.1) sound)
+happens-called shape p event here output new sound asks follows (inr memory) = (
+  inr (inl (memory.0, ap world_of memory.1, asks _ (subst (λ (x : Output × World). TakesMemory x.0) (sym follows.0) memory.2))),
+  subst (Sound shape) (sym memory.1) sound,
+)
+
+-- a run that is out of memory in the replica answers nothing that is made with memory
+cut-takes : (p : Parts) (i : ℕ) (r : Replica) (answer : Run) (after : Replica) → RunsOutOfMemory r answer after
+    → TakesMemory (run_output p i (answer, after)).0 → ⊥
+cut-takes p i r answer after wants takes = elim wants.2 [
+  | inl memory ↦ false≢true (subst (λ (a : Run). TakesMemory (run_output p i (a, after)).0) memory.0 takes)
+  | inr broken ↦ false≢true (subst (λ (a : Run). TakesMemory (run_output p i (a, after)).0) broken.0 takes)
+]
+
+-- what a run does, memory aside
+run-told : (laws : FedLaws) (shape : Shape) (p : Parts) (i : ℕ) (r : Replica) (answer : Run) (after : Replica) → Sound shape p
+    → slice_get p.replicas i ≡ Some r → RunsReplica r answer after
+    → Follows shape (happens (world_of p) (events.Run i)) (run_output p i (answer, after))
+run-told laws shape p i r answer after sound here run =
+    found-member shape p i _ _
+    (subst (λ (found : Option Replica). Follows shape
+    (on_member (world_of p) (option_map (member_at p i) found)
+    (λ m. cond m.broken (outputs.Broken, world_of p) (run_happens (world_of p) m m.batch)))
+    (run_output p i (answer, after))) (sym here) (replica-runs laws shape p i r sound here answer after run))
 
 run-made : (laws : FedLaws) (shape : Shape) (p : Parts) (i : ℕ) (r : Replica) (answer : Run) (after : Replica) → Sound shape p
     → slice_get p.replicas i ≡ Some r → MayRun r answer after
     → Happens shape p (events.Run i) (run_output p i (answer, after)).0 (run_output p i (answer, after)).1
 run-made laws shape p i r answer after sound here (inl run) =
-    let follows : Follows shape (happens (world_of p) (events.Run i)) (run_output p i (answer, after)) =
-    found-member shape p i _ _
-    (subst (λ (found : Option Replica). Follows shape
-    (on_member (world_of p) (option_map (member_at p i) found)
-    (λ m. cond m.broken (outputs.Broken, world_of p) (run_happens (world_of p) m m.batch)))
-    (run_output p i (answer, after))) (sym here) (replica-runs laws shape p i r sound here answer after run)) in
+    let follows = run-told laws shape p i r answer after sound here run in
     (inl follows.0, follows.1)
 run-made laws shape p i r answer after sound here (inr wants) =
     let ends = cut-ends laws shape p i r sound here answer after wants in
     let new = run_output p i (answer, after) in
+    let w = world_of p in
     let there : option_map (member_at p i) (slice_get p.replicas i) ≡ Some (member_at p i r) =
     ap (option_map (member_at p i)) here in
     let at = members-get p.replicas p.boots p.asked_at i ∙ there in
     let same =
-    subst (λ (found : Option Member). Cuts (world_of p) found new.0 (world_of new.1)) (sym at) ends.0 in
-    (elim same [ inl memory ↦ inr (inl memory) | inr cut ↦ inr (inr cut) ], ends.1)
+    subst (λ (found : Option Member). Cuts w found new.0 (world_of new.1)) (sym at) ends.0 in
+    let takes =
+    subst (λ (found : Option Member). TakesMemory
+    (on_member w found (λ m. cond m.broken (outputs.Broken, w) (run_happens w m m.batch))).0) (sym at)
+    (ready-takes w (member_at p i r) wants.0 (ready-same (boots_at p.boots i) (slice_index p.asked_at i) r ∙ wants.1)) in
+    (elim same [ inl memory ↦ inr (inl (memory.0, memory.1, takes)) | inr cut ↦ inr (inr cut) ], ends.1)
 
 run-follows : (laws : FedLaws) (shape : Shape) (p : Parts) (i : ℕ) (found : Option Replica) (output : Output) (new : Parts) → Sound shape p
-    → slice_get p.replicas i ≡ found → RunsBy p i found output new ⊎ ((output ≡ outputs.Memory) × (new ≡ p))
-    → Happens shape p (events.Run i) output new
-run-follows laws shape p i None output new sound here (inl run) = absurd run
-run-follows laws shape p i (Some r) output new sound here (inl run) =
-    subst (λ (x : Output × Parts). Happens shape p (events.Run i) x.0 x.1) run.3
-    (run-made laws shape p i r run.0 run.1 sound here run.2)
-run-follows laws shape p i found output new sound here (inr memory) =
-    (inr (inl (memory.0, ap world_of memory.1)), subst (Sound shape) (sym memory.1) sound)
+    → slice_get p.replicas i ≡ found → ReplicaRunsBy p i found output new → Happens shape p (events.Run i) output new
+run-follows laws shape p i None output new sound here run = absurd run
+run-follows laws shape p i (Some r) output new sound here run = elim run.3 [
+  | inl made ↦ subst (λ (x : Output × Parts). Happens shape p (events.Run i) x.0 x.1) made
+      (run-made laws shape p i r run.0 run.1 sound here run.2)
+  | inr memory ↦ elim run.2 [
+    | inl ran ↦ happens-called shape p (events.Run i) (run_output p i (run.0, run.1)) output new sound (λ answer takes. takes)
+        (run-told laws shape p i r run.0 run.1 sound here ran) (inr memory)
+    | inr wants ↦ absurd (cut-takes p i r run.0 run.1 wants memory.2)
+  ]
+]
 
-module _ (laws : FedLaws) (shape : Shape) (p : Parts) (sound : Sound shape p) (named : AreNamed p)
-    (lists : p.stopped ≡ false → AreLists p.primary) where
+module _ (laws : FedLaws) (shape : Shape) (p : Parts) (sound : Sound shape p) (named : ReplicasAreNamed p)
+    (lists : p.stopped ≡ false → PrimaryListsAreLegal p.primary) where
   may-follow : (event : Event) (output : Output) (new : Parts) → MayStep p event output new → Happens shape p event output new
   may-follow events.Begin output new may =
-      happens-served shape p _ _ output new sound (λ cut. cut) lists may refl (λ lists. drafts-begun shape p sound)
+      happens-served shape p _ _ output new sound (λ cut. cut) lists may refl (λ lists. transactions-begun shape p sound)
   may-follow (events.Insert transaction table row values) output new may =
       happens-served shape p _ _ output new sound (λ cut. cut) lists may refl
       (λ lists. change-sound shape p transaction
       (λ draft. insert_answer (shape_of p.primary.schema) p.primary.durable draft table row.0 values)
-      (open_draft p.transactions transaction) sound
+      (open_transaction p.transactions transaction) sound
       (λ draft after h. reads_same _ _ draft _ after
       (insert-added (shape_of p.primary.schema) p.primary.durable draft table row.0 after values h).1) refl)
   may-follow (events.Set transaction table row column value) output new may =
       happens-served shape p _ _ output new sound (λ cut. cut) lists may refl
       (λ lists. change-sound shape p transaction
       (λ draft. set_answer (shape_of p.primary.schema) p.primary.durable draft table row.0 column value)
-      (open_draft p.transactions transaction) sound
+      (open_transaction p.transactions transaction) sound
       (λ draft after h. reads_same _ _ draft _ after
       (set-added (shape_of p.primary.schema) p.primary.durable draft table row.0 after column value h).1) refl)
   may-follow (events.Delete transaction table row) output new may =
       happens-served shape p _ _ output new sound (λ cut. cut) lists may refl
       (λ lists. change-sound shape p transaction
       (λ draft. delete_answer (shape_of p.primary.schema) p.primary.durable draft table row.0)
-      (open_draft p.transactions transaction) sound
+      (open_transaction p.transactions transaction) sound
       (λ draft after h. reads_same _ _ draft _ after
       (delete-added (shape_of p.primary.schema) p.primary.durable draft table row.0 after h).1) refl)
   may-follow (events.Get transaction table row column) output new may =
       happens-served shape p _ _ output new sound (λ cut. cut) lists may refl
       (λ lists. look-sound shape p (λ draft. get_answer (shape_of p.primary.schema) p.primary.durable draft table row.0 column)
-      (open_draft p.transactions transaction) sound)
+      (open_transaction p.transactions transaction) sound)
   may-follow (events.Commit transaction worker) output new may =
       happens-served shape p _ _ output new sound (λ cut. cut) lists may refl
-      (λ lists. commit-sound shape p transaction worker (open_draft p.transactions transaction) sound)
+      (λ lists. commit-sound shape p transaction worker (open_transaction p.transactions transaction) sound)
   may-follow (events.Abort transaction) output new may =
       happens-served shape p _ _ output new sound (λ cut. cut) lists may refl
-      (λ lists. abort-sound shape p transaction (open_draft p.transactions transaction) sound)
+      (λ lists. abort-sound shape p transaction (open_transaction p.transactions transaction) sound)
   may-follow (events.Flush count) output new may =
       happens-served shape p _ _ output new sound (λ cut. cut) lists may refl
       (λ lists. flush-sound laws shape p count p.primary.failed _ _ lists sound)
@@ -268,30 +295,36 @@ module _ (laws : FedLaws) (shape : Shape) (p : Parts) (sound : Sound shape p) (n
       (λ lists. deliver-sound shape p index (slice_get p.sent index) lists sound refl)
   may-follow (events.Deliver index (nodes.Replica number)) output new may =
       happens-called shape p (events.Deliver index (nodes.Replica number)) (come_by p number (slice_get p.sent index)) output new sound
+      (λ answer takes. takes)
       (bytes-delivered laws shape p index number (slice_get p.sent index) sound refl) may
   may-follow (events.Show index) output new may = happens-beside shape p _ output new sound (λ cut. cut) may sound
   may-follow (events.Open replica plan) output new may =
       happens-called shape p (events.Open replica plan) (open_by p replica plan (slice_get p.replicas replica)) output new sound
+      (λ answer takes. takes)
       (found-member shape p replica _ _ (query-opens laws shape p replica plan (slice_get p.replicas replica) sound refl)) may
   may-follow (events.Ask replica) output new may =
       happens-called shape p (events.Ask replica) (ask_by p replica (slice_get p.replicas replica)) output new sound
+      (λ answer takes. takes)
       (found-member shape p replica _ _ (version-asked laws shape p replica (slice_get p.replicas replica) sound refl)) may
   may-follow (events.Run replica) output new may =
       run-follows laws shape p replica (slice_get p.replicas replica) output new sound refl may
   may-follow (events.Version replica) output new may =
       happens-called shape p (events.Version replica) (version_by p (slice_get p.replicas replica)) output new sound
+      (λ answer takes. takes)
       (found-member shape p replica _ _ (version-told shape p replica (slice_get p.replicas replica) sound)) may
   may-follow (events.Dump replica) output new may =
       happens-called shape p (events.Dump replica) (dump_by p (slice_get p.replicas replica)) output new sound
+      (λ answer takes. takes)
       (found-member shape p replica _ _ (tables-dumped laws shape p replica (slice_get p.replicas replica) sound named refl)) may
   may-follow (events.Restart replica boot) output new may =
       happens-called shape p (events.Restart replica boot) (restart_by p replica boot (slice_get p.replicas replica)) output new sound
+      (λ answer takes. takes)
       (found-member shape p replica _ _ (restart-made laws shape p replica boot (slice_get p.replicas replica) sound refl may.0)) may.1
   may-follow (events.Raw nodes.Primary bytes) output new may =
       happens-served shape p _ _ output new sound (λ cut. cut) lists may refl (λ lists. raw-sound shape p bytes lists sound)
   may-follow (events.Raw (nodes.Replica number) bytes) output new may =
       happens-called shape p (events.Raw (nodes.Replica number) bytes) (raw_by p number bytes (slice_get p.replicas number)) output new
-      sound
+      sound (λ answer takes. takes)
       (raw-delivered laws shape p number bytes sound) may
 
 -- ---- the journal
@@ -377,11 +410,9 @@ run-leaves p number runs.Broken after = record { primary = refl; stopped = refl;
 run-leaves p number runs.Memory after = record { primary = refl; stopped = refl; journal = refl }
 
 runs-leave : (p : Parts) (number : ℕ) (found : Option Replica) (output : Output) (new : Parts)
-    → RunsBy p number found output new ⊎ ((output ≡ outputs.Memory) × (new ≡ p)) → Leaves p new
-runs-leave p number None output new (inl run) = absurd run
-runs-leave p number (Some r) output new (inl run) =
-    subst (λ (x : Output × Parts). Leaves p x.1) run.3 (run-leaves p number run.0 run.1)
-runs-leave p number found output new (inr memory) = subst (Leaves p) (sym memory.1) (leaves-same p)
+    → ReplicaRunsBy p number found output new → Leaves p new
+runs-leave p number None output new run = absurd run
+runs-leave p number (Some r) output new run = leaves-answer p _ output new (run-leaves p number run.0 run.1) run.3
 
 -- while the primary is stopped, its journal keeps what is durable, whatever the step
 stays-kept : (p : Parts) (event : Event) (output : Output) (new : Parts) → KeepsStopped p → MayStep p event output new → KeepsStopped new
@@ -438,7 +469,7 @@ journal-stands p keeps text whole = by p.stopped refl
 -- ---- the beginning
 
 started-fed : (laws : FedLaws) (schema : List (List ℕ × List Kind)) (workers number : ℕ)
-    → IsFed (shape_of schema) workers [] (1 ∷ []) number (started schema workers number 1)
+    → IsFed (shape_of schema) workers [] (1 ∷ []) number (started_replica schema workers number 1)
 started-fed laws schema workers number = record {
   feeding = laws.fresh schema [] workers number 1 (record { each = tt; defined = refl });
   workers_are = refl;
@@ -451,7 +482,7 @@ replicas-fed : (laws : FedLaws) (schema : List (List ℕ × List Kind)) (workers
     → IsFed (shape_of schema) workers [] (boots_at (replicate count (1 ∷ [])) i) (number + i) r
 replicas-fed laws schema workers number zero i r h = absurd (none-some r h)
 replicas-fed laws schema workers number (suc count) zero r h =
-    let same : started schema workers number 1 ≡ r = cc in
+    let same : started_replica schema workers number 1 ≡ r = cc in
     let index : number ≡ number + 0 = omega arith in
     subst (λ (n : ℕ). IsFed (shape_of schema) workers [] (1 ∷ []) n r) index
     (subst (IsFed (shape_of schema) workers [] (1 ∷ []) number) same (started-fed laws schema workers number))
@@ -477,7 +508,7 @@ parts-sound laws setup some workers few =
     record {
       setup_is = (refl, refl);
       primary_is = record { shape_is = refl; workers_some = some; workers_few = workers };
-      drafts_are = λ i draft here. absurd (none-some (Some draft) here);
+      transactions_are = λ i draft here. absurd (none-some (Some draft) here);
       boots_there = length-replicate {A = List ℕ} count (1 ∷ []) ∙ sym (length-replicas setup.schema setup.workers 0 count);
       asked_there = length-zeros count ∙ sym (length-replicas setup.schema setup.workers 0 count);
       few = omega (arith, length-replicas setup.schema setup.workers 0 count);
@@ -501,14 +532,14 @@ fed-sound p sound =
 -- ---- what every world keeps
 
 pub started-kept : (laws : FedLaws) (setup : Setup) → AreTables (shape_of setup.schema) → 0 < setup.workers → setup.workers ≤ WORKERS_MAX
-    → setup.replicas ≤ REPLICAS_MAX → IsKept (parts_started setup)
+    → setup.replicas ≤ REPLICAS_MAX → PartsAreKept (parts_started setup)
 started-kept laws setup tables some workers few = record {
   journal = λ stopped. absurd (false≢true stopped);
   tables = tables;
   named = started-named setup.schema setup.workers 0 setup.replicas;
   sound = parts-sound laws setup some workers few;
   requested = subst IsRequested (sym (world-started setup)) (opening-requested setup);
-  honest = subst IsHonest (sym (world-started setup)) (opening-honest setup);
+  undamaged = subst IsUndamaged (sym (world-started setup)) (opening-undamaged setup);
   fresh = subst Fresh (sym (world-started setup)) (opening-fresh setup few);
 }
 
@@ -526,10 +557,10 @@ pub record IsKeptStep (old : Parts) (event : Event) (output : Output) (new : Par
   pub schema : new.primary.schema ≡ old.primary.schema
   pub workers : new.primary.workers ≡ old.primary.workers
   pub replicas : length new.replicas ≡ length old.replicas
-  pub kept : IsKept new
+  pub kept : PartsAreKept new
 
-pub step-keeps : (laws : FedLaws) (old : Parts) (event : Event) (output : Output) (new : Parts) → IsKept old
-    → (old.stopped ≡ false → AreLists old.primary) → MayStep old event output new → IsKeptStep old event output new
+pub step-keeps : (laws : FedLaws) (old : Parts) (event : Event) (output : Output) (new : Parts) → PartsAreKept old
+    → (old.stopped ≡ false → PrimaryListsAreLegal old.primary) → MayStep old event output new → IsKeptStep old event output new
 step-keeps laws old event output new kept lists may =
     let shape = shape_of old.primary.schema in
     let first = may-follow laws shape old kept.sound kept.named lists event output new may in
@@ -538,12 +569,12 @@ step-keeps laws old event output new kept lists may =
     let fine = step-fine (world_of old) event output (world_of new) first.0 in
     let serves = step-serves (world_of old) event output (world_of new) (may-boot old event output new may) kept.fresh first.0 in
     let stays = step-counts (world_of old) event output (world_of new) first.0 in
-    let honest = fine.honest kept.honest in
+    let undamaged = fine.undamaged kept.undamaged in
     let journal = stays-kept old event output new kept.journal may in
     record {
-      step = record { happens = first.0; rows = serves.rows; durable = fine.grows; faultless = fine.output kept.honest };
+      step = record { happens = first.0; rows = serves.rows; durable = fine.grows; faultless = fine.output kept.undamaged };
       fed = fed-sound new sound;
-      journal = λ text. journal-stands new journal text honest.whole;
+      journal = λ text. journal-stands new journal text undamaged.whole;
       leaves = leaves-bytes old event output new may;
       schema = stays.schema;
       workers = stays.workers;
@@ -554,7 +585,7 @@ step-keeps laws old event output new kept lists may =
         named = stays-named laws.names old event output new stays.schema kept.named may;
         sound = sound;
         requested = stays.requested kept.requested;
-        honest = honest;
+        undamaged = undamaged;
         fresh = serves.fresh;
       };
     }

@@ -3,7 +3,7 @@ use Rattle.std.proofs.Common.{◌≡◌, ℕ, zero, suc, List, [], ◌∷◌, dr
 use Rattle.std.specs.List.{slice_get, slice_set, slice_index}
 use Rattle.std.specs.Option.{option_map}
 use Rattle.dispatcher.specs.State.{Replica}
-use Rattle.intake.specs.Steps.{started as none_came}
+use Rattle.intake.specs.Steps.{no_arrivals as none_came}
 use Rattle.rows.specs.declared.kind.Kind.{Kind}
 use Rattle.script.specs.declared.setup.Setup.{Setup}
 use Rattle.script.specs.declared.output.Output.{Output}

@@ -1,5 +1,6 @@
 -- Which outputs are allowed for a list of events, out of memory included.
-use Rattle.std.specs.Prelude.{◌≡◌, ◌<◌, List, [], ◌∷◌, true, Option, None, Some, slice_get, ◌⊎◌}
+use Rattle.std.specs.Prelude.{◌≡◌, ◌<◌, List, [], ◌∷◌, length, take, Bool, true, false, ◌&&◌, not, nat_lt, Option, None, Some, slice_get}
+use Rattle.std.specs.Prelude.{◌⊎◌}
 use Rattle.std.specs.Option.{option_and_then}
 use Rattle.dispatcher.specs.State.{Fetched}
 use Rattle.dispatcher.specs.Steps.{ready}
@@ -8,37 +9,65 @@ use Rattle.script.specs.declared.event.Event.TheVariants as events
 use Rattle.script.specs.declared.output.Output.{Output}
 use Rattle.script.specs.declared.output.Output.TheVariants as outputs
 use Rattle.script.specs.declared.setup.Setup.{Setup}
-use Rattle.world.specs.Steps.{World, Member, Batch, opening_world, happens, with_member, lacking}
+use Rattle.world.specs.Steps.{World, Member, AskedBatch, opening_world, happens, with_member, first_lacked}
 
 -- what was fetched for the batch of a replica of which no frame is missing
 abbrev pub ready_member : Member → Option Fetched
-ready_member m = ready m.broken (lacking m.known) (option_and_then (λ (batch : Batch). batch.fetched) m.batch)
+ready_member m = ready m.broken (first_lacked m.known) (option_and_then (λ (batch : AskedBatch). batch.fetched) m.batch)
 
 -- a run that is out of memory at a replica that has fetched a version and lacks no frame: it stands at the old version or
 -- at the fetched one and may run again; or it is broken, where there was a commit to apply
-abbrev pub RunIsCut : World → Option Member → Output → World → Type 0
-RunIsCut old None output new = ⊥
-RunIsCut old (Some m) output new =
+abbrev pub RunIsInterrupted : World → Option Member → Output → World → Type 0
+RunIsInterrupted old None output new = ⊥
+RunIsInterrupted old (Some m) output new =
     (fetched : Fetched) × (ready_member m ≡ Some fetched)
     × (((output ≡ outputs.Memory) × (new ≡ with_member old (record m { version = fetched.version })))
     ⊎ ((output ≡ outputs.Broken) × (new ≡ with_member old (record m { broken = true })) × (m.version < fetched.version)))
 
-abbrev pub RunIsCutAt : World → Event → Output → World → Type 0
-RunIsCutAt old (events.Run replica) output new = RunIsCut old (slice_get old.members replica) output new
-RunIsCutAt old other output new = ⊥
+abbrev pub RunIsInterruptedAt : World → Event → Output → World → Type 0
+RunIsInterruptedAt old (events.Run replica) output new = RunIsInterrupted old (slice_get old.members replica) output new
+RunIsInterruptedAt old other output new = ⊥
 
--- what an event may answer and leave: what happens; or `memory`, and nothing has changed; or a run is cut short
+-- whether an answer is made with memory
+abbrev pub takes_memory : Output → Bool
+takes_memory (outputs.Tx number snapshot) = true
+takes_memory outputs.Accepted = true
+takes_memory (outputs.Ticket number) = true
+takes_memory (outputs.Durable commits) = true
+takes_memory (outputs.Sent datagrams) = true
+takes_memory outputs.Stored = true
+takes_memory (outputs.Shown bytes) = true
+takes_memory (outputs.Opened count) = true
+takes_memory (outputs.Waiting worker seq want) = true
+takes_memory (outputs.Report text) = true
+takes_memory (outputs.Dump text) = true
+takes_memory (outputs.Boot boot) = true
+takes_memory other = false
+
+-- whether an event asks for memory where it would give this answer: an abort asks for none, a flush for some where there is a
+-- commit to flush, a stop where the primary runs, and any other event where its answer is made with memory
+abbrev pub asks_for_memory : World → Event → Output → Bool
+asks_for_memory w (events.Abort transaction) answer = false
+asks_for_memory w (events.Flush count) answer = takes_memory answer && nat_lt 0 (length (take count w.primary.pending))
+asks_for_memory w (events.Stop bytes) answer = not w.stopped
+asks_for_memory w other answer = takes_memory answer
+
+-- an event is out of memory: it asks for some, answers `memory`, and nothing has changed
+abbrev pub LacksMemory : World → Event → Output → World → Type 0
+LacksMemory old event output new =
+    (output ≡ outputs.Memory) × (new ≡ old) × (asks_for_memory old event (happens old event).0 ≡ true)
+
+-- what an event may answer and leave: what happens; or it is out of memory; or a run is interrupted
 abbrev pub MayHappen : World → Event → Output → World → Type 0
 MayHappen old event output new =
-    (happens old event ≡ (output, new)) ⊎ ((output ≡ outputs.Memory) × (new ≡ old)) ⊎ RunIsCutAt old event output new
+    (happens old event ≡ (output, new)) ⊎ LacksMemory old event output new ⊎ RunIsInterruptedAt old event output new
 
 -- a run: one step after the other, each from the state that the one before it left
 abbrev pub RunsBy : {State : Type 0} → (State → Event → Output → State → Type 0) → State → List Event → List Output → State → Type 0
 RunsBy Step old [] [] new = new ≡ old
 RunsBy {State} Step old (event ∷ events) (output ∷ outputs) new =
     (mid : State) × Step old event output mid × RunsBy Step mid events outputs new
-RunsBy Step old [] (output ∷ outputs) new = ⊥
-RunsBy Step old (event ∷ events) [] new = ⊥
+RunsBy Step old events outputs new = ⊥
 
 -- a state through which a run goes: the first one, or one that a step of it left
 abbrev pub Passes : {State : Type 0} (Step : State → Event → Output → State → Type 0) (old : State) (events : List Event)
@@ -46,8 +75,7 @@ abbrev pub Passes : {State : Type 0} (Step : State → Event → Output → Stat
 Passes Step old [] [] new run state = state ≡ old
 Passes Step old (event ∷ events) (output ∷ outputs) new run state =
     (state ≡ old) ⊎ Passes Step run.0 events outputs new run.2 state
-Passes Step old [] (output ∷ outputs) new run state = ⊥
-Passes Step old (event ∷ events) [] new run state = ⊥
+Passes Step old events outputs new run state = ⊥
 
 -- a run of the world
 abbrev pub Runs : World → List Event → List Output → World → Type 0

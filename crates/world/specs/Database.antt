@@ -86,5 +86,5 @@ Says schema old (outputs.Boot boot) new = Becomes (λ old new. new ≡ new_reade
 Says schema old other new = new ≡ old.readers
 
 -- one step, whatever the event: the commits that were there are a beginning of those that are
-abbrev pub Goes : List (List ℕ × List Kind) → Database → Output → Database → Type 0
-Goes schema old output new = IsBeginning old.commits new.commits × Says schema old output new.readers
+abbrev pub IsDatabaseStep : List (List ℕ × List Kind) → Database → Output → Database → Type 0
+IsDatabaseStep schema old output new = IsBeginning old.commits new.commits × Says schema old output new.readers

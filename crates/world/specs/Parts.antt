@@ -3,11 +3,11 @@ use Rattle.std.specs.Prelude.{ℕ, zero, suc, List, [], ◌∷◌, Option, Bool,
 use Rattle.rows.specs.declared.kind.Kind.{Kind}
 use Rattle.rows.specs.Shape.{shape_of}
 use Rattle.journal.specs.Text.{journal_text}
-use Rattle.mvcc.specs.Draft.{Draft}
+use Rattle.mvcc.specs.Transaction.{Transaction}
 use Rattle.primary.specs.State.{Primary}
-use Rattle.primary.specs.Steps.{started as primary_started}
+use Rattle.primary.specs.Steps.{started_primary as primary_started}
 use Rattle.dispatcher.specs.State.{Replica}
-use Rattle.dispatcher.specs.Steps.{started as replica_started}
+use Rattle.dispatcher.specs.Steps.{started_replica as replica_started}
 use Rattle.script.specs.declared.setup.Setup.{Setup}
 
 pub record Parts : Type 0 where
@@ -18,7 +18,7 @@ pub record Parts : Type 0 where
   -- the bytes that stand on the primary's journal
   pub journal : List ℕ
   -- the transactions in the order of their `begin`; none where one is no longer open
-  pub transactions : List (Option Draft)
+  pub transactions : List (Option Transaction)
   -- the bytes of every datagram that was ever sent, in order
   pub sent : List (List ℕ)
   pub replicas : List Replica

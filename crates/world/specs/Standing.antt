@@ -13,10 +13,10 @@ use Rattle.dispatcher.specs.Feeding.{IsFedFrom}
 use Rattle.script.specs.declared.event.Event.{Event}
 use Rattle.script.specs.declared.event.Event.TheVariants as events
 use Rattle.world.specs.Parts.{Parts}
-use Rattle.world.specs.Steps.{World, Member, Batch}
+use Rattle.world.specs.Steps.{World, Member, AskedBatch}
 
 -- a replica's batch, as the world has it
-abbrev pub batch_of : ℕ → ReplicaBatch → Batch
+abbrev pub batch_of : ℕ → ReplicaBatch → AskedBatch
 batch_of asked_at batch = record { plans = batch.plans; asked_at = asked_at; fetched = batch.fetched }
 
 -- the seqs that are known, by worker

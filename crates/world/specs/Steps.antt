@@ -9,18 +9,19 @@ use Rattle.std.specs.Str.{bytes_eq}
 use Rattle.rows.specs.Limits.{waiting_queries_max}
 use Rattle.rows.specs.Shape.{shape_of}
 use Rattle.rows.specs.Commits.{tables_after}
+use Rattle.rows.specs.Tables.{Tables, shape_in}
 use Rattle.wire.specs.declared.datagram.Datagram.{Datagram}
 use Rattle.wire.specs.declared.datagram.Datagram.TheVariants as datagrams
 use Rattle.wire.specs.declared.faults.WireFault.{WireFault}
 use Rattle.wire.specs.Spelling.{spelling}
 use Rattle.wire.specs.Reading.{reading}
 use Rattle.mvcc.specs.declared.faults.TxFault.{TxFault}
-use Rattle.mvcc.specs.Draft.{Draft}
+use Rattle.mvcc.specs.Transaction.{Transaction}
 use Rattle.mvcc.specs.Transactions.{insert_answer, set_answer, delete_answer, get_answer}
 use Rattle.intake.specs.Known.{is_known, with_seq, first_missing, is_ahead}
 use Rattle.primary.specs.declared.faults.CommitFault.{CommitFault}
 use Rattle.primary.specs.State.{Primary}
-use Rattle.primary.specs.Steps.{started, commit_answer, committed, flushed}
+use Rattle.primary.specs.Steps.{started_primary, commit_answer, committed, flushed}
 use Rattle.primary.specs.Sending.{pushed, answers}
 use Rattle.plans.specs.declared.plan.Plan.{Plan}
 use Rattle.plans.specs.declared.faults.PlanFault.{PlanFault}
@@ -39,7 +40,7 @@ use Rattle.world.specs.Outputs.{of_change, of_look, of_commit, of_answers, packe
 use Rattle.world.specs.Stops.{stopped_at, closed}
 
 -- a batch: its queries, how many commits were durable when it asked, and what was fetched for it
-pub record Batch : Type 0 where
+pub record AskedBatch : Type 0 where
   pub plans : List Plan
   pub asked_at : ℕ
   pub fetched : Option Fetched
@@ -58,7 +59,7 @@ pub record Member : Type 0 where
   pub version : ℕ
   -- the queries that wait for the next batch
   pub waiting : List Plan
-  pub batch : Option Batch
+  pub batch : Option AskedBatch
   pub broken : Bool
 
 pub record World : Type 0 where
@@ -66,7 +67,7 @@ pub record World : Type 0 where
   -- whether the primary is stopped; then nothing is pending, and no transaction is open
   pub stopped : Bool
   -- the transactions in the order of their `begin`; none where one is no longer open
-  pub transactions : List (Option Draft)
+  pub transactions : List (Option Transaction)
   -- the bytes of every datagram that was ever sent, in order; the network may deliver any of them, to any node, in any
   -- order and number
   pub sent : List (List ℕ)
@@ -101,7 +102,7 @@ fresh_from workers number (suc count) = fresh workers number ∷ fresh_from work
 -- the world at its beginning
 abbrev pub opening_world : Setup → World
 opening_world setup = record {
-  primary = started setup.schema setup.workers [];
+  primary = started_primary setup.schema setup.workers [];
   stopped = false;
   transactions = [];
   sent = [];
@@ -128,20 +129,20 @@ start_happens w = if w.stopped then (outputs.Durable (length w.primary.durable),
 -- ---- transactions, commits and flushes
 
 -- the open transaction of this number, where there is one
-abbrev pub open_draft : List (Option Draft) → ℕ → Option Draft
-open_draft transactions number = option_and_then (λ slot. slot) (slice_get transactions number)
+abbrev pub open_transaction : List (Option Transaction) → ℕ → Option Transaction
+open_transaction transactions number = option_and_then (λ slot. slot) (slice_get transactions number)
 
 -- a change that is taken stands in the transaction, and a refused one leaves it
-abbrev pub change_happens : World → ℕ → Result Draft TxFault → Output × World
+abbrev pub change_happens : World → ℕ → Result Transaction TxFault → Output × World
 change_happens w number (Ok draft) = (outputs.Accepted, record w { transactions = slice_set w.transactions number (Some draft) })
 change_happens w number (Err fault) = (of_change fault, w)
 
-abbrev pub on_draft : World → Option Draft → (Draft → Output × World) → Output × World
-on_draft w None next = (outputs.NoTx, w)
-on_draft w (Some draft) next = next draft
+abbrev pub on_transaction : World → Option Transaction → (Transaction → Output × World) → Output × World
+on_transaction w None next = (outputs.NoTx, w)
+on_transaction w (Some draft) next = next draft
 
 -- a transaction is open until its commit is answered, or it is given up
-abbrev pub commit_happens : World → ℕ → ℕ → Draft → Result ℕ CommitFault → Output × World
+abbrev pub commit_happens : World → ℕ → ℕ → Transaction → Result ℕ CommitFault → Output × World
 commit_happens w transaction worker draft (Ok number) = (
   outputs.Ticket number,
   record w {
@@ -175,22 +176,22 @@ abbrev pub with_member : World → Member → World
 with_member w member = record w { members = slice_set w.members member.number member }
 
 -- the known seqs of a worker; none where there is no worker of that number
-abbrev pub known_of : List (List ℕ) → ℕ → List ℕ
-known_of known worker = slice_index_or known worker []
+abbrev pub known_seqs : List (List ℕ) → ℕ → List ℕ
+known_seqs known worker = slice_index_or known worker []
 
 -- the known seqs with one more of a worker
 abbrev pub with_known : List (List ℕ) → ℕ → ℕ → List (List ℕ)
-with_known known worker seq = slice_set known worker (with_seq (known_of known worker) seq)
+with_known known worker seq = slice_set known worker (with_seq (known_seqs known worker) seq)
 
 -- a frame that comes to a replica. All that was sent is of the durable list, so its worker is there and its entries fit
 abbrev pub frame_happens : Member → ℕ → ℕ → Output × Member
 frame_happens m worker seq =
-    if is_known (known_of m.known worker) seq then (outputs.Repeat, m) else
-    if is_ahead (known_of m.known worker) seq then (outputs.Ahead, m) else
+    if is_known (known_seqs m.known worker) seq then (outputs.Repeat, m) else
+    if is_ahead (known_seqs m.known worker) seq then (outputs.Ahead, m) else
     (outputs.Stored, record m { known = with_known m.known worker seq })
 
 -- a Head of a replica's own number, boot and request: it is taken where the batch has none
-abbrev pub head_happens : Member → ℕ → List ℕ → Option Batch → Output × Member
+abbrev pub head_happens : Member → ℕ → List ℕ → Option AskedBatch → Output × Member
 head_happens m version counts None = (outputs.Ignored, m)
 head_happens m version counts (Some batch) = unless_fetched batch.fetched
   where
@@ -201,13 +202,11 @@ head_happens m version counts (Some batch) = unless_fetched batch.fetched
 
 -- a datagram that comes to a replica
 abbrev pub datagram_happens : Member → Result Datagram WireFault → Output × Member
-datagram_happens m (Err fault) = (outputs.Ignored, m)
 datagram_happens m (Ok (datagrams.Frame worker seq commit last entries)) = frame_happens m worker seq
 datagram_happens m (Ok (datagrams.Head replica boot request version counts)) =
     if (replica == m.number) && (boot == m.boot)
     && (request == m.request) then head_happens m version counts m.batch else (outputs.Ignored, m)
-datagram_happens m (Ok (datagrams.Ask replica boot request)) = (outputs.Ignored, m)
-datagram_happens m (Ok (datagrams.Want replica worker from)) = (outputs.Ignored, m)
+datagram_happens m other = (outputs.Ignored, m)
 
 abbrev pub on_member : World → Option Member → (Member → Output × World) → Output × World
 on_member w None next = (outputs.Ignored, w)
@@ -241,6 +240,10 @@ shown (Some bytes) = outputs.Shown bytes
 
 -- ---- batches
 
+-- the tables after exactly the first commits of the durable list, up to a version
+abbrev pub durable_tables : World → ℕ → Tables
+durable_tables w version = tables_after (shape_of w.primary.schema) w.primary.durable version
+
 abbrev pub open_happens : World → Member → Plan → Result (Unit {0}) PlanFault → Output × World
 open_happens w m plan (Err fault) = (outputs.BadPlan fault, w)
 open_happens w m plan (Ok fits) = (outputs.Opened (length m.waiting + 1), with_member w (record m { waiting = m.waiting ++ plan ∷ [] }))
@@ -257,7 +260,7 @@ new_batch w m = record m {
   batch = Some (record { plans = m.waiting; asked_at = length w.primary.durable; fetched = None });
 }
 
-abbrev pub ask_happens : World → Member → Option Batch → Output × World
+abbrev pub ask_happens : World → Member → Option AskedBatch → Output × World
 ask_happens w m None =
     if length m.waiting == 0 then (outputs.Empty, w) else send (with_member w (new_batch w m)) (ask_bytes m (m.request + 1))
 ask_happens w m (Some batch) = again batch.fetched
@@ -274,40 +277,39 @@ wait_happens w worker seq bytes =
     (outputs.Waiting worker seq (record { index = length w.sent; len = length bytes }), record w { sent = w.sent ++ bytes ∷ [] })
 
 -- of the workers from this number on, the least of whom a frame below its count is not known, with the first such seq
-abbrev pub lacking_from : ℕ → List (List ℕ) → List ℕ → Option (ℕ × ℕ)
-lacking_from worker [] counts = None
-lacking_from worker (known ∷ others) [] = None
-lacking_from worker (known ∷ others) (count ∷ counts) =
-    if nat_lt (first_missing known) count then Some (worker, first_missing known) else lacking_from (worker + 1) others counts
+abbrev pub first_lacked_from : ℕ → List (List ℕ) → List ℕ → Option (ℕ × ℕ)
+first_lacked_from worker (known ∷ others) (count ∷ counts) =
+    if nat_lt (first_missing known) count then Some (worker, first_missing known) else first_lacked_from (worker + 1) others counts
+first_lacked_from worker known counts = None
 
 -- the least worker of whom a frame below its count is not known, with the first such seq
-abbrev pub lacking : List (List ℕ) → List ℕ → Option (ℕ × ℕ)
-lacking known counts = lacking_from 0 known counts
+abbrev pub first_lacked : List (List ℕ) → List ℕ → Option (ℕ × ℕ)
+first_lacked known counts = first_lacked_from 0 known counts
 
 -- a batch of which a frame is missing waits for it, and asks for it; one of which no frame is missing is answered by its
 -- report: the plain answers on the rows after exactly the first commits of the durable list, up to the version that was
 -- fetched
 abbrev pub answer_happens : World → Member → List Plan → Fetched → Option (ℕ × ℕ) → Output × World
-answer_happens w m plans fetched (Some missing) = wait_happens w missing.0 missing.1 (want_bytes m missing.0 missing.1)
+answer_happens w m plans fetched (Some first_lacked) =
+    wait_happens w first_lacked.0 first_lacked.1 (want_bytes m first_lacked.0 first_lacked.1)
 answer_happens w m plans fetched None = (
-  outputs.Report (report_of (tables_after (shape_of w.primary.schema) w.primary.durable fetched.version) fetched.version plans),
+  outputs.Report (report_of (durable_tables w fetched.version) fetched.version plans),
   with_member w (record m { version = fetched.version; batch = None }),
 )
 
 abbrev pub fetched_happens : World → Member → List Plan → Option Fetched → Output × World
 fetched_happens w m plans None = (outputs.WaitingHead, w)
-fetched_happens w m plans (Some fetched) = answer_happens w m plans fetched (lacking m.known fetched.counts)
+fetched_happens w m plans (Some fetched) = answer_happens w m plans fetched (first_lacked m.known fetched.counts)
 
-abbrev pub run_happens : World → Member → Option Batch → Output × World
+abbrev pub run_happens : World → Member → Option AskedBatch → Output × World
 run_happens w m None = (outputs.NoBatch, w)
 run_happens w m (Some batch) = fetched_happens w m batch.plans batch.fetched
 
 -- ---- looks at a replica
 
--- the text of the tables after exactly the first commits of the durable list, up to a version
+-- the text of the tables at a version
 abbrev pub dump_at : World → ℕ → List ℕ
-dump_at w version =
-    table_text (names_of w.primary.schema) version (tables_after (shape_of w.primary.schema) w.primary.durable version)
+dump_at w version = table_text (names_of w.primary.schema) version (durable_tables w version)
 
 -- ---- restarts
 
@@ -325,22 +327,22 @@ happens w events.Begin = unless_stopped w (
   record w { transactions = w.transactions ++ Some (record { snapshot = length w.primary.durable; entries = [] }) ∷ [] },
 )
 happens w (events.Insert transaction table row values) =
-    unless_stopped w (on_draft w (open_draft w.transactions transaction)
+    unless_stopped w (on_transaction w (open_transaction w.transactions transaction)
     (λ draft. change_happens w transaction (insert_answer (shape_of w.primary.schema) w.primary.durable draft table row.0 values)))
 happens w (events.Set transaction table row column value) =
-    unless_stopped w (on_draft w (open_draft w.transactions transaction)
+    unless_stopped w (on_transaction w (open_transaction w.transactions transaction)
     (λ draft. change_happens w transaction (set_answer (shape_of w.primary.schema) w.primary.durable draft table row.0 column value)))
 happens w (events.Delete transaction table row) =
-    unless_stopped w (on_draft w (open_draft w.transactions transaction)
+    unless_stopped w (on_transaction w (open_transaction w.transactions transaction)
     (λ draft. change_happens w transaction (delete_answer (shape_of w.primary.schema) w.primary.durable draft table row.0)))
 happens w (events.Get transaction table row column) =
-    unless_stopped w (on_draft w (open_draft w.transactions transaction)
+    unless_stopped w (on_transaction w (open_transaction w.transactions transaction)
     (λ draft. (of_look (get_answer (shape_of w.primary.schema) w.primary.durable draft table row.0 column), w)))
 happens w (events.Commit transaction worker) =
-    unless_stopped w (on_draft w (open_draft w.transactions transaction)
+    unless_stopped w (on_transaction w (open_transaction w.transactions transaction)
     (λ draft. commit_happens w transaction worker draft (commit_answer w.primary worker draft)))
 happens w (events.Abort transaction) =
-    unless_stopped w (on_draft w (open_draft w.transactions transaction) (λ draft. abort_happens w transaction))
+    unless_stopped w (on_transaction w (open_transaction w.transactions transaction) (λ draft. abort_happens w transaction))
 happens w (events.Flush count) = unless_stopped w (flush_happens w count)
 happens w (events.Stop bytes) = unless_stopped w (stop_happens w bytes)
 happens w events.Start = start_happens w
@@ -352,7 +354,7 @@ happens w (events.Open replica plan) =
     on_member w (slice_get w.members replica) (λ m.
     if m.broken then (outputs.Broken, w) else
     if nat_le waiting_queries_max (length m.waiting) then (outputs.BatchFull, w) else
-    open_happens w m plan (checked (shape_of w.primary.schema) plan))
+    open_happens w m plan (checked (shape_in (durable_tables w m.version)) plan))
 happens w (events.Ask replica) =
     on_member w (slice_get w.members replica) (λ m. if m.broken then (outputs.Broken, w) else ask_happens w m m.batch)
 happens w (events.Run replica) =

@@ -6,7 +6,7 @@ use Rattle.rows.specs.declared.commit.Commit.{Commit}
 use Rattle.rows.specs.Shape.{Shape}
 use Rattle.journal.specs.Text.{record_of, records_from, journal_text}
 use Rattle.journal.specs.Recovery.{IsBeginning, IsJournaled, IsRecovered}
-use Rattle.mvcc.specs.Draft.{Draft}
+use Rattle.mvcc.specs.Transaction.{Transaction}
 use Rattle.primary.specs.State.{Primary}
 
 -- how many of these commits, which stand behind `before` others, have their whole records among so many bytes
@@ -27,7 +27,7 @@ stopped_at p bytes = record p {
 }
 
 -- every transaction is over; their numbers go on
-abbrev pub closed : List (Option Draft) → List (Option Draft)
+abbrev pub closed : List (Option Transaction) → List (Option Transaction)
 closed transactions = map (λ transaction. None) transactions
 
 -- ---- laws
@@ -48,4 +48,4 @@ StopKeepsDurable = (p : Primary) (bytes : ℕ) → IsBeginning p.durable (stoppe
 -- and no transaction open
 abbrev pub StopEndsTransactions : Type 0
 StopEndsTransactions =
-    (transactions : List (Option Draft)) (number : ℕ) → option_and_then (λ slot. slot) (slice_get (closed transactions) number) ≡ None
+    (transactions : List (Option Transaction)) (number : ℕ) → option_and_then (λ slot. slot) (slice_get (closed transactions) number) ≡ None

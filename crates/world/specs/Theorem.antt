@@ -19,9 +19,9 @@ use Rattle.script.specs.declared.output.Output.TheVariants as outputs
 use Rattle.script.specs.declared.output.Output.TheVariants.{Dump}
 use Rattle.script.specs.declared.setup.Setup.{Setup}
 use Rattle.world.specs.Parts.{Parts, parts_started}
-use Rattle.world.specs.Steps.{World, Member, Batch, opening_world}
+use Rattle.world.specs.Steps.{World, Member, AskedBatch, opening_world}
 use Rattle.world.specs.Allowed.{MayHappen, RunsBy, Passes, Runs}
-use Rattle.world.specs.Database.{Reader, Database, new_database, Goes}
+use Rattle.world.specs.Database.{Reader, Database, new_database, IsDatabaseStep}
 use Rattle.world.specs.Standing.{world_of, AreFed, TablesAgree, JournalStands, StopLeaves}
 
 -- ---- what a step keeps
@@ -29,7 +29,7 @@ use Rattle.world.specs.Standing.{world_of, AreFed, TablesAgree, JournalStands, S
 -- the report of a batch: for each of its queries, in order, the plain answer on the rows after exactly the commits of the
 -- list up to the version that was fetched for it; that version is at least what was durable when the batch asked, and at
 -- most what is durable now
-abbrev pub IsReportOf : List Commit → World → Batch → List ℕ → Type 0
+abbrev pub IsReportOf : List Commit → World → AskedBatch → List ℕ → Type 0
 IsReportOf commits w batch text =
     (fetched : Fetched) × (batch.fetched ≡ Some fetched)
     × (batch.asked_at ≤ fetched.version) × (fetched.version ≤ length w.primary.durable)
@@ -45,7 +45,7 @@ IsDumpOf commits w version text =
 -- replica that was looked at
 abbrev pub SaysRows : List Commit → World → Event → Output → Type 0
 SaysRows commits old event (outputs.Report text) =
-    (replica : ℕ) × (member : Member) × (batch : Batch)
+    (replica : ℕ) × (member : Member) × (batch : AskedBatch)
     × (event ≡ events.Run replica) × (slice_get old.members replica ≡ Some member) × (member.batch ≡ Some batch)
     × IsReportOf commits old batch text
 SaysRows commits old event (outputs.Dump text) =
@@ -152,7 +152,7 @@ AllowedRunsAreExact =
 -- ---- the database that users see
 
 -- a batch: its queries, how many commits were durable when they asked, and the version that was fetched for them
-abbrev pub seen_batch : Batch → List Plan × ℕ × Option ℕ
+abbrev pub seen_batch : AskedBatch → List Plan × ℕ × Option ℕ
 seen_batch batch = (batch.plans, batch.asked_at, option_map (λ (fetched : Fetched). fetched.version) batch.fetched)
 
 abbrev pub reader_of : Member → Reader
@@ -166,4 +166,5 @@ abbrev pub RunsAreOfDatabase : Type 0
 RunsAreOfDatabase =
     (setup : Setup) (events : List Event) (outputs : List Output) (end : World) → setup.replicas ≤ replicas_max
     → AllByRecursion (IsPossible setup.workers setup.replicas) events → Runs (opening_world setup) events outputs end
-    → RunsBy (λ old event output new. Goes setup.schema old output new) (new_database setup.replicas) events outputs (database_of end)
+    → RunsBy (λ old event output new. IsDatabaseStep setup.schema old output new) (new_database setup.replicas) events outputs
+    (database_of end)

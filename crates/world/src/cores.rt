@@ -7,7 +7,7 @@ ghost use Rattle.rows.specs.Shape.{shape_of};
 ghost use Rattle.journal.specs.Text.{journal_text};
 ghost use Rattle.world.specs.Parts.{Parts, parts_started};
 ghost use Rattle.world.specs.Inner.CoreSteps.{KeepsStopped};
-ghost use Rattle.world.specs.Inner.Sound.{AreLists};
+ghost use Rattle.world.specs.Inner.Sound.{PrimaryListsAreLegal};
 
 use crate::boot_list::BootList;
 use crate::primary_node::PrimaryNode;
@@ -39,7 +39,7 @@ pub struct Cores {
 
 impl Model for Cores {
     ghost use Rattle.world.specs.Parts.{Parts};
-    ghost use Rattle.world.specs.Inner.Nodes.{primary_in, is_stopped, bytes_in};
+    ghost use Rattle.world.specs.Inner.Nodes.{primary_in, is_stopped, journal_bytes_in};
 
     ghost Value = { Parts };
 
@@ -47,7 +47,7 @@ impl Model for Cores {
       setup = c.setup;
       primary = primary_in c.setup c.primary;
       stopped = is_stopped c.primary;
-      journal = bytes_in c.primary;
+      journal = journal_bytes_in c.primary;
       transactions = c.transactions.items;
       sent = c.sent.items;
       replicas = c.replicas.items;
@@ -104,7 +104,7 @@ impl Cores {
     /// What a primary that runs keeps of its commits, and of its journal where that has not failed.
     /// It does nothing: its contract is the law.
     pub fn keeps_core(&self)
-        ensures lists { self.now.stopped ≡ false → AreLists self.now.primary }
+        ensures lists { self.now.stopped ≡ false → PrimaryListsAreLegal self.now.primary }
         ensures text { self.now.stopped ≡ false → self.now.primary.failed ≡ false
             → self.now.journal ≡ journal_text self.now.primary.workers (shape_of self.now.primary.schema) self.now.primary.durable }
     {

@@ -23,6 +23,7 @@ mod faults;
 mod naming;
 mod primary_node;
 mod restarting;
+mod running_primary;
 mod script_running;
 mod simulator;
 mod stepping;

@@ -3,15 +3,15 @@
 ghost use Rattle.std.specs.Prelude.{◌≡◌, length};
 ghost use Rattle.world.specs.Inner.Nodes.{durable_in};
 
+use crate::running_primary::RunningPrimary;
 use journal::MemJournal;
-use primary::PrimaryCore;
 use rows::Commit;
 
 /// The primary's core. While it is stopped there is none: its journal stands, and beside it the
 /// commits that this keeps, which the world alone looks at.
 #[derive(Debug, Drop)]
 pub enum PrimaryNode {
-    Running(PrimaryCore<MemJournal>),
+    Running(RunningPrimary),
     Stopped {
         journal: MemJournal,
         kept: Vec<Commit>,

@@ -40,7 +40,7 @@ pub fn run_script<R: Read, W: Write>(
         × WasRead (R.remaining reader.old) (R.remaining reader.new) script
         × IsPrinted echo script text
         × Appends (W.contents writer.old) (W.contents writer.new) text) }
-    ensures cut { result ≡ Err RunFault.Write → (script text : List ℕ)
+    ensures interrupted { result ≡ Err RunFault.Write → (script text : List ℕ)
         × WasRead (R.remaining reader.old) (R.remaining reader.new) script
         × IsPrinted echo script text
         × IsPartlyWritten (W.contents writer.old) (W.contents writer.new) text }
@@ -87,7 +87,7 @@ fn write_run<W: Write>(
 ) -> Result<(), WriteFault>
     ensures written { OnOk result (Appends (W.contents writer.old) (W.contents writer.new)
         (run_text echo setup.now events.now outputs.now)) }
-    ensures cut { result ≡ Err WriteFault.Write → IsPartlyWritten (W.contents writer.old) (W.contents writer.new)
+    ensures interrupted { result ≡ Err WriteFault.Write → IsPartlyWritten (W.contents writer.old) (W.contents writer.new)
         (run_text echo setup.now events.now outputs.now) }
     ensures unwritten { result ≡ Err WriteFault.Memory → Keeps (W.contents writer.old) (W.contents writer.new) }
 {

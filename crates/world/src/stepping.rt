@@ -5,7 +5,7 @@ ghost use Rattle.std.specs.Prelude.{◌≡◌, ◌<◌, ◌≤◌, [], ◌++◌,
 ghost use Rattle.world.specs.Outputs.{sent_from, packets_of};
 ghost use Rattle.world.specs.Inner.Invariant.{IsReady};
 ghost use Rattle.script.specs.Events.{IsPossible, IsThere};
-ghost use Rattle.world.specs.Inner.CoreSteps.{HappensBeside, MayStep, MaySendAnswers, sent_one, with_sent};
+ghost use Rattle.world.specs.Inner.CoreSteps.{HappensBeside, MayStep, MaySendAnswers, sent_one, waiting_for, with_sent};
 ghost use Rattle.world.specs.Steps.{is_forged as are_forged};
 
 use crate::cores::Cores;
@@ -21,9 +21,6 @@ use wire::{Out, Packet, read};
 
 /// Bytes of an Ask.
 const ASK_LEN: usize = 23;
-
-/// Bytes of a Want.
-const WANT_LEN: usize = 16;
 
 impl Cores {
     /// Lets an event happen by the call that it is, and answers what it gave.
@@ -88,8 +85,8 @@ impl Cores {
         match primary.flush(count as usize) {
             Ok(durable) => Output::Durable(durable),
             Err(FlushFault::Failed) => Output::Failed,
-            Err(FlushFault::Journal) => unreachable!(),
             Err(FlushFault::Memory) => Output::Memory,
+            Err(FlushFault::Journal | FlushFault::Busy | FlushFault::NotLent) => unreachable!(),
         }
     }
 
@@ -229,6 +226,9 @@ impl Cores {
         requires { number < length self.old.replicas }
         ensures { MayStep self.old (Event.Open number plan.now) result self.new }
     {
+        if let Err(fault) = self.replicas[number as usize].may_open(plan) {
+            return open_output(fault);
+        }
         let Ok(plan) = copy_of(plan) else {
             return Output::Memory;
         };
@@ -244,6 +244,9 @@ impl Cores {
         requires there { number < length self.old.replicas }
         ensures { MayStep self.old (Event.Ask number) result self.new }
     {
+        if let Err(fault) = self.replicas[number as usize].may_ask() {
+            return ask_output(fault);
+        }
         let Ok(mut list) = Vec::with_capacity(self.alloc, 1) else {
             return Output::Memory;
         };
@@ -272,38 +275,43 @@ impl Cores {
         }
     }
 
-    /// Runs a batch. Room for the datagram that it may send is taken first, since the run cannot
-    /// be taken back.
+    /// Runs a batch. A run that waits has changed nothing at its replica, so room for its Want is
+    /// taken behind it.
     fn run(&mut self, number: u8) -> Output
         requires { number < length self.old.replicas }
         ensures { MayStep self.old (Event.Run number) result self.new }
     {
-        let Ok(room) = Vec::with_capacity(self.alloc, WANT_LEN) else {
-            return Output::Memory;
-        };
-        if self.sent.reserve(1).is_err() {
-            return Output::Memory;
-        }
         let replica = &mut self.replicas[number as usize];
         match replica.run() {
             Run::NoBatch => Output::NoBatch,
             Run::WaitingHead => Output::WaitingHead,
-            Run::Waiting { worker, seq, want } => {
-                let sent = Sent {
-                    index: self.sent.len() as u64,
-                    len: want.packet.bytes().len(),
-                };
-                self.sent.push_reserved(copied(room, want.packet.bytes()));
-                Output::Waiting {
-                    worker,
-                    seq,
-                    want: sent,
-                }
-            }
+            Run::Waiting { worker, seq, want } => self.wait(worker, seq, &want.packet),
             Run::Answered(report) => Output::Report(report),
             Run::Inconsistent => Output::Inconsistent,
             Run::Broken => Output::Broken,
             Run::Memory => Output::Memory,
+        }
+    }
+
+    /// Sends the Want of a run that waits; when out of memory nothing is sent.
+    fn wait(&mut self, worker: u8, seq: u64, want: &Packet) -> Output
+        ensures { ((result ≡ waiting_for self.old worker seq want.now) × (self.new ≡ with_sent self.old want.now))
+            ⊎ ((result ≡ Output.Memory) × (self.new ≡ self.old)) }
+    {
+        let sent = Sent {
+            index: self.sent.len() as u64,
+            len: want.bytes().len(),
+        };
+        let Ok(bytes) = Vec::from_slice(self.alloc, want.bytes()) else {
+            return Output::Memory;
+        };
+        match self.sent.push(ByteList::from_vec(bytes)) {
+            Ok(()) => Output::Waiting {
+                worker,
+                seq,
+                want: sent,
+            },
+            Err(_) => Output::Memory,
         }
     }
 

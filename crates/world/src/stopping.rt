@@ -13,6 +13,7 @@ ghost use Rattle.world.specs.Stops.{closed};
 
 use crate::cores::Cores;
 use crate::primary_node::PrimaryNode;
+use crate::running_primary::RunningPrimary;
 use journal::laws::stops_are_recovered;
 use journal::{JournalFault, MemJournal, recover};
 use mvcc::Transaction;
@@ -75,11 +76,7 @@ impl Cores {
 
 /// What stands after a stop: the bytes that the journal acknowledged, and so many of the pending
 /// commits' records behind them. Fails only when out of memory.
-fn bytes_left(
-    alloc: Global,
-    primary: &PrimaryCore<MemJournal>,
-    bytes: u64,
-) -> Result<Vec<u8>, AllocError>
+fn bytes_left(alloc: Global, primary: &RunningPrimary, bytes: u64) -> Result<Vec<u8>, AllocError>
     ensures { IfOk result (λ content. content.items ≡ primary.now.journal.bytes
         ++ take bytes (records_from (length primary.now.primary.durable) primary.now.primary.pending)) }
 {
@@ -130,7 +127,7 @@ pub fn start_on(
     journal: MemJournal,
     schema: &Schema,
     workers: u8,
-) -> Result<PrimaryCore<MemJournal>, MemJournal>
+) -> Result<RunningPrimary, MemJournal>
     requires some { 0 < workers }
     requires few { workers ≤ workers_max }
     requires kept { (commits : List CommitOf) × (bytes_kept : ℕ)
@@ -145,7 +142,7 @@ pub fn start_on(
 {
     stops_are_recovered();
     match PrimaryCore::start(alloc, journal, schema, workers) {
-        Ok(primary) => Ok(primary),
+        Ok(primary) => Ok(RunningPrimary::of(primary)),
         Err((back, StartFault::Memory)) => Err(back),
         Err((_, StartFault::Store(_))) => unreachable!(),
         Err((_, StartFault::Journal(_))) => unreachable!(),

@@ -5,7 +5,7 @@ ghost use Rattle.std.specs.Option.{option_map};
 ghost use Rattle.script.specs.declared.event.Event.{Event};
 ghost use Rattle.world.specs.Inner.Invariant.{IsReady};
 ghost use Rattle.world.specs.Inner.CoreSteps.{HappensBeside};
-ghost use Rattle.world.specs.Steps.{open_draft};
+ghost use Rattle.world.specs.Steps.{open_transaction};
 
 use crate::cores::Cores;
 use crate::naming::{change_output, commit_output, look_output};
@@ -135,7 +135,7 @@ impl Cores {
 
 /// The open transaction of that number, lent, where there is one.
 fn find_open(transactions: &[Option<Transaction>], number: u64) -> Option<&Transaction>
-    ensures { option_map (λ t. t.now) result ≡ open_draft transactions.now number }
+    ensures { option_map (λ t. t.now) result ≡ open_transaction transactions.now number }
 {
     match transactions.get(number as usize) {
         Some(Some(transaction)) => Some(transaction),
@@ -145,7 +145,7 @@ fn find_open(transactions: &[Option<Transaction>], number: u64) -> Option<&Trans
 
 /// Takes the open transaction of that number out of its slot, where there is one.
 fn take_open(transactions: &mut Vec<Option<Transaction>>, number: u64) -> Option<Transaction>
-    ensures taken { result ≡ open_draft transactions.old.items number }
+    ensures taken { result ≡ open_transaction transactions.old.items number }
     ensures left { transactions.new.items ≡ slice_set transactions.old.items number None }
     ensures within { IfSome result (λ _. number < vec_len transactions.new) }
 {

@@ -28,13 +28,13 @@ pub struct World {
 
 impl Model for World {
     ghost use Rattle.world.specs.Parts.{Parts};
-    ghost use Rattle.world.specs.Inner.Invariant.{IsKept};
+    ghost use Rattle.world.specs.Inner.Invariant.{PartsAreKept};
 
     ghost Value = { Parts };
 
     ghost view = { λ w. w.cores };
 
-    ghost invariant = { λ w. IsKept w.cores };
+    ghost invariant = { λ w. PartsAreKept w.cores };
 }
 
 impl World {
@@ -53,7 +53,8 @@ impl World {
     }
 
     /// Lets an event happen, and answers what it gave. The worker and the replica that it names
-    /// are there. Where it answers `memory`, the world is as it was, but for a run that was cut short.
+    /// are there. It answers `memory` only where the event asks for some, and the world is as it was
+    /// then, but for a run that was cut short.
     /// A stop leaves on the journal what that acknowledged, and behind it so many bytes of the
     /// pending commits' records.
     pub fn step(&mut self, event: &Event) -> Output

@@ -18,8 +18,8 @@ use Rattle.dispatcher.specs.TableText.{names_of}
 abbrev pub fetched_of : HeldFetched → Fetched
 fetched_of held = record { version = held.version; counts = held.counts }
 
-abbrev pub batch_of : HeldBatch → Batch
-batch_of held = record { plans = held.plans.items; fetched = option_map fetched_of held.fetched }
+abbrev pub batch_held : HeldBatch → Batch
+batch_held held = record { plans = held.plans.items; fetched = option_map fetched_of held.fetched }
 
 -- a replica on a store of these tables
 abbrev pub replica_of : {S Place Fault : Type 0} → (S → Tables) → Inside S Place Fault → Replica
@@ -34,7 +34,7 @@ replica_of tables a = record {
   tables = if a.broken then [] else tables a.store;
   version = a.version;
   waiting = a.waiting.items;
-  batch = option_map batch_of a.batch;
+  batch = option_map batch_held a.batch;
   broken = a.broken;
 }
 

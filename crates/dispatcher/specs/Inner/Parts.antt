@@ -1,7 +1,7 @@
 -- Only for proofs: what the parts of a replica's calls answer and leave.
 use Rattle.std.specs.Prelude.{◌≡◌, ◌<◌, List, true, Option, None, Some, Result, Ok, Err, IsErr, IsOkAnd, ◌⊎◌}
 use Rattle.rows.specs.declared.commit.Commit.{Commit}
-use Rattle.rows.specs.Commits.{commits_of}
+use Rattle.rows.specs.Commits.{apply_commits}
 use Rattle.store.specs.Faults.{have_entries}
 use Rattle.dispatcher.specs.declared.faults.CatchUpFault.{CatchUpFault}
 use Rattle.dispatcher.specs.declared.faults.CatchUpFault.TheVariants.{Inconsistent, Memory, Broken}
@@ -21,8 +21,8 @@ CatchesUp old fetched (Err Broken) new = (new ≡ broken_of old) × (old.version
 
 -- what applying commits answers and leaves; it merges none, so that it is not out of memory before the first change
 abbrev pub Applies : Replica → Fetched → List Commit → Result (Unit {0}) CatchUpFault → Replica → Type 0
-Applies old fetched commits (Ok done) new = IsOkAnd (commits_of old.tables commits) (λ tables. new ≡ at_fetched old fetched tables)
-Applies old fetched commits (Err Inconsistent) new = IsErr (commits_of old.tables commits) × (new ≡ broken_of old)
+Applies old fetched commits (Ok done) new = IsOkAnd (apply_commits old.tables commits) (λ tables. new ≡ at_fetched old fetched tables)
+Applies old fetched commits (Err Inconsistent) new = IsErr (apply_commits old.tables commits) × (new ≡ broken_of old)
 Applies old fetched commits (Err Memory) new = ⊥
 Applies old fetched commits (Err Broken) new = (new ≡ broken_of old) × (have_entries commits ≡ true)
 
@@ -32,5 +32,5 @@ answered_by r None = (runs.NoBatch, r)
 answered_by r (Some batch) = (runs.Answered (report_of r.tables r.version batch.plans), record r { batch = None })
 
 -- what answering the batch answers and leaves: out of memory nothing has changed
-abbrev pub MayAnswer : Replica → Run → Replica → Type 0
-MayAnswer old answer new = ((answer ≡ runs.Memory) × (new ≡ old)) ⊎ (answered_by old old.batch ≡ (answer, new))
+abbrev pub MayAnswerBatch : Replica → Run → Replica → Type 0
+MayAnswerBatch old answer new = ((answer ≡ runs.Memory) × (new ≡ old)) ⊎ (answered_by old old.batch ≡ (answer, new))

@@ -6,11 +6,6 @@ use Rattle.rows.specs.Tables.{Rows, Tables, rows_of}
 use Rattle.rows.specs.Text.{value_text}
 use Rattle.dispatcher.specs.TableText.{row_text}
 
--- the values at a place, where a row stands there
-abbrev pub or_none : Option (List Value) → List Value
-or_none None = []
-or_none (Some values) = values
-
 -- values, each behind a space
 abbrev pub columns_text : List Value → List ℕ
 columns_text values = flat_map (λ value. 32 ∷ value_text value) values

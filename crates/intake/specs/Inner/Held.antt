@@ -7,8 +7,8 @@ abbrev pub seqs_in : ℕ → List ℕ → List ℕ
 seqs_in missing above = range_with_len 0 missing ++ above
 
 -- no seq is below this one
-abbrev pub AreFrom : ℕ → List ℕ → Type 0
-AreFrom first seqs = AllByRecursion (λ seq. first ≤ seq) seqs
+abbrev pub AreAtLeast : ℕ → List ℕ → Type 0
+AreAtLeast first seqs = AllByRecursion (λ seq. first ≤ seq) seqs
 
 -- each seq is below this one
 abbrev pub AreBelow : ℕ → List ℕ → Type 0
@@ -16,7 +16,7 @@ AreBelow end seqs = AllByRecursion (λ seq. seq < end) seqs
 
 -- what holds of both: none of the seqs is the greatest number
 pub record IsHeld (missing : ℕ) (above : List ℕ) : Type 0 where
-  pub from : AreFrom (missing + 1) above
+  pub from : AreAtLeast (missing + 1) above
   pub below : AreBelow (2 ^ 64 - 1) above
 
 -- whether the first seq is this one

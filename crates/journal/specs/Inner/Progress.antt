@@ -2,35 +2,36 @@
 use Rattle.std.specs.Prelude.{◌≡◌, ℕ, ◌<◌, List, ◌++◌, Bool, true, false, Ok, IsOk}
 use Rattle.std.specs.List.{AllByRecursion}
 use Rattle.rows.specs.declared.commit.Commit.{Commit}
-use Rattle.rows.specs.Commits.{IsCommit, commits_of}
+use Rattle.rows.specs.Commits.{IsCommit, apply_commits}
 use Rattle.rows.specs.Shape.{Shape}
-use Rattle.rows.specs.Tables.{Tables, opening, changes_of}
-use Rattle.store.specs.State.{State}
+use Rattle.rows.specs.Tables.{Tables, opening, apply_entries}
+use Rattle.store.specs.State.{StoreState}
 use Rattle.journal.specs.declared.faults.JournalFault.{JournalFault}
 use Rattle.journal.specs.declared.faults.JournalFault.TheVariants.{OtherHeader, Damaged, OutOfOrder, Illegal, Memory}
 use Rattle.journal.specs.Recovery.{HasRecord, IsRecordAt, IsDamaged, IsOutOfOrder}
 use Rattle.journal.specs.Text.{record_of, journal_text}
 
 -- these commits were read, their text stands before the rest of the bytes, and they make the tables of the store
-pub record HasCome (workers : ℕ) (shape : Shape) (bytes : List ℕ) (commits : List Commit) (store : State) (rest : List ℕ) : Type 0 where
+pub record RecordsWereRead (workers : ℕ) (shape : Shape) (bytes : List ℕ) (commits : List Commit) (store : StoreState)
+    (rest : List ℕ) : Type 0 where
   pub text : bytes ≡ journal_text workers shape commits ++ rest
   pub each : AllByRecursion (IsCommit workers) commits
   pub records : AllByRecursion HasRecord commits
-  pub defined : commits_of (opening shape) commits ≡ Ok store.tables
+  pub defined : apply_commits (opening shape) commits ≡ Ok store.tables
   pub whole : store.whole ≡ true
 
 -- a commit whose worker is there and whose entries are defined on the tables
 abbrev pub IsDefinedOn : ℕ → Tables → Commit → Type 0
-IsDefinedOn workers tables commit = (commit.worker < workers) × IsOk (changes_of tables commit.entries)
+IsDefinedOn workers tables commit = (commit.worker < workers) × IsOk (apply_entries tables commit.entries)
 
 -- whether a commit is legal on the rows of a store, which then makes its changes
-abbrev pub IsAccepted : Bool → ℕ → State → State → Commit → Type 0
+abbrev pub IsAccepted : Bool → ℕ → StoreState → StoreState → Commit → Type 0
 IsAccepted true workers old new commit =
-    (commit.worker < workers) × (changes_of old.tables commit.entries ≡ Ok new.tables) × (new.whole ≡ true)
+    (commit.worker < workers) × (apply_entries old.tables commit.entries ≡ Ok new.tables) × (new.whole ≡ true)
 IsAccepted false workers old new commit = ¬ IsDefinedOn workers old.tables commit
 
 -- the next commit: its record stands before what is behind, and a store has made its changes
-pub record IsNext (workers number : ℕ) (old new : State) (rest : List ℕ) (commit : Commit) (behind : List ℕ) : Type 0 where
+pub record IsNextCommit (workers number : ℕ) (old new : StoreState) (rest : List ℕ) (commit : Commit) (behind : List ℕ) : Type 0 where
   pub front : rest ≡ record_of number commit ++ behind
   pub held : HasRecord commit
   pub accepted : IsAccepted true workers old new commit

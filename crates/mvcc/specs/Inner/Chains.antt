@@ -7,8 +7,8 @@ use Rattle.rows.specs.declared.commit.Commit.{Commit}
 use Rattle.rows.specs.declared.entry.Entry.{Entry}
 use Rattle.rows.specs.Shape.{Shape}
 use Rattle.rows.specs.Tables.{opening}
-use Rattle.rows.specs.Commits.{commits_of, is_of}
-use Rattle.rows.specs.Inner.Keys.{is_key_of}
+use Rattle.rows.specs.Commits.{apply_commits, is_of}
+use Rattle.mvcc.specs.Inner.Keys.{is_key_of}
 use Rattle.mvcc.specs.declared.link.Link.{Link}
 use Rattle.mvcc.specs.Newest.{writes}
 use Rattle.mvcc.specs.Inner.RowBytes.{bytes_after_one, bytes_after}
@@ -53,13 +53,13 @@ abbrev pub bytes_at : ℕ → List Link → Option (List ℕ)
 bytes_at version links = bytes_from version None links
 
 -- the chain without its last link, where that is of this number
-abbrev pub cut_at : ℕ → List Link → List Link
-cut_at number links = if newest_in links == number then take (length links - 1) links else links
+abbrev pub taken_back_at : ℕ → List Link → List Link
+taken_back_at number links = if newest_in links == number then take (length links - 1) links else links
 
 -- the chain with what an entry of the commit of this number makes of the last bytes
 abbrev pub linked : ℕ → Entry → List Link → List Link
 linked number entry links =
-    cut_at number links ++ record { version = number; bytes = bytes_after_one entry (latest_in links) } ∷ []
+    taken_back_at number links ++ record { version = number; bytes = bytes_after_one entry (latest_in links) } ∷ []
 
 -- the chains of rows, by table and row
 abbrev pub Chains : Type 0
@@ -79,11 +79,11 @@ abbrev pub Turns : Entry → (List Link → List Link) → Chains → Chains →
 Turns entry change before after = (table row : ℕ)
     → links_at after table row ≡ (if is_of table row entry then change (links_at before table row) else links_at before table row)
 
--- the chain of a row, cut once for each of these entries that is of it
-abbrev pub cut_all : ℕ → ℕ → ℕ → List Entry → List Link → List Link
-cut_all number table row [] links = links
-cut_all number table row (entry ∷ entries) links =
-    cut_all number table row entries (if is_of table row entry then cut_at number links else links)
+-- the chain of a row, taken back once for each of these entries that is of it
+abbrev pub all_taken_back : ℕ → ℕ → ℕ → List Entry → List Link → List Link
+all_taken_back number table row [] links = links
+all_taken_back number table row (entry ∷ entries) links =
+    all_taken_back number table row entries (if is_of table row entry then taken_back_at number links else links)
 
 -- the commits, and one more of these entries
 abbrev pub and_entries : List Commit → List Entry → List Commit
@@ -93,12 +93,12 @@ and_entries commits entries = commits ++ record { worker = 0; entries = entries 
 abbrev pub AreChains : List Commit → Chains → Type 0
 AreChains commits chains = (table row : ℕ) → links_at chains table row ≡ chain_of table row commits
 
--- chains that are those of the commits once the rows of these entries are cut at the next number; others are already
-pub record AreChainsCut (commits : List Commit) (entries : List Entry) (chains : Chains) : Type 0 where
-  pub cut : (table row : ℕ) → cut_at (length commits + 1) (links_at chains table row) ≡ chain_of table row commits
+-- chains that are those of the commits once the rows of these entries are taken back at the next number; others are already
+pub record AreChainsTakenBack (commits : List Commit) (entries : List Entry) (chains : Chains) : Type 0 where
+  pub back : (table row : ℕ) → taken_back_at (length commits + 1) (links_at chains table row) ≡ chain_of table row commits
   pub whole : (table row : ℕ) → list_any (is_of table row) entries ≡ false → links_at chains table row ≡ chain_of table row commits
 
 -- commits whose entries are defined where they stand, with the chains of their rows
 pub record AreVersions (shape : Shape) (commits : List Commit) (chains : Chains) : Type 0 where
-  pub legal : is_ok (commits_of (opening shape) commits) ≡ true
+  pub legal : is_ok (apply_commits (opening shape) commits) ≡ true
   pub kept : AreChains commits chains

@@ -8,12 +8,12 @@ use Rattle.update_log.specs.declared.frame.Frame.{Frame}
 use Rattle.ordering.specs.Merging.{HoldCommit, AreHeld}
 
 -- whether the first of the frames bears that number
-abbrev pub begins_with : ℕ → List Frame → Bool
-begins_with number [] = false
-begins_with number (frame ∷ frames) = frame.commit == number
+abbrev pub is_first_numbered : ℕ → List Frame → Bool
+is_first_numbered number [] = false
+is_first_numbered number (frame ∷ frames) = frame.commit == number
 
 -- these frames hold these entries of the commit of that number, and more are to come
-pub record IsBegun (number : ℕ) (entries : List Entry) (frames : List Frame) : Type 0 where
+pub record IsCommitBegun (number : ℕ) (entries : List Entry) (frames : List Frame) : Type 0 where
   pub numbered : AllByRecursion (λ frame. frame.commit ≡ number) frames
   pub unmarked : AllByRecursion (λ frame. frame.last ≡ false) frames
   pub joined : flat_map (λ frame. frame.entries) frames ≡ entries
@@ -24,7 +24,7 @@ abbrev pub HoldNone : ℕ → List Frame → Type 0
 HoldNone number frames = (entries : List Entry) (own rest : List Frame) → frames ≡ own ++ rest → HoldCommit number entries own → ⊥
 
 -- from the frames that are left, one more commit was taken: it is the next of every list of commits that they hold
-pub record IsStep (before : ℕ) (left : ℕ → List Frame) (commit : Commit) (after : ℕ → List Frame) : Type 0 where
+pub record IsCommitTaken (before : ℕ) (left : ℕ → List Frame) (commit : Commit) (after : ℕ → List Frame) : Type 0 where
   pub onto : (more : List Commit) → AreHeld (before + 1) more after → AreHeld before (commit ∷ more) left
   pub only : (other : Commit) (more : List Commit) → AreHeld before (other ∷ more) left → (other ≡ commit) × AreHeld (before + 1) more after
 
@@ -33,7 +33,7 @@ abbrev pub IsStuck : ℕ → (ℕ → List Frame) → Type 0
 IsStuck before left = (other : Commit) (more : List Commit) → AreHeld before (other ∷ more) left → ⊥
 
 -- so many commits have been taken: with what the frames that are left hold, they are what all frames hold
-pub record HasCome (frames : ℕ → List Frame) (from before : ℕ) (commits : List Commit) (left : ℕ → List Frame) : Type 0 where
+pub record WasTaken (frames : ℕ → List Frame) (from before : ℕ) (commits : List Commit) (left : ℕ → List Frame) : Type 0 where
   pub counted : from + length commits ≡ before
   pub onto : (more : List Commit) → AreHeld before more left → AreHeld from (commits ++ more) frames
   pub only : (all : List Commit) → AreHeld from all frames → length commits ≤ length all

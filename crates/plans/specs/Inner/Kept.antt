@@ -99,8 +99,8 @@ abbrev pub opening_groups : Plan → GroupList
 opening_groups plan = opening_of plan.groups (map (aggregate_of []) plan.aggregates)
 
 -- the aggregates of a group, once a row is added to those that are kept
-abbrev pub with_row : JoinedRow → Plan → GroupList → List Value → Option (List Field)
-with_row row plan groups group = at (group_of plan.groups row)
+abbrev pub with_joined_row : JoinedRow → Plan → GroupList → List Value → Option (List Field)
+with_joined_row row plan groups group = at (group_of plan.groups row)
   where
     at : List Value → Option (List Field)
     at key =
@@ -117,7 +117,7 @@ kept_at plan rows group =
     else None
 
 -- these are the groups of the rows, and their numbers those of so many rows
-pub record IsKept (plan : Plan) (rows : List JoinedRow) (count : ℕ) (groups : GroupList) : Type 0 where
+pub record GroupsAreKept (plan : Plan) (rows : List JoinedRow) (count : ℕ) (groups : GroupList) : Type 0 where
   pub found : (group : List Value) → lookup (is_at (group_cmp group)) groups ≡ kept_at plan rows group
   pub within : AreWithin count groups
 
@@ -127,4 +127,4 @@ rows_before tables plan i = rows_among tables plan (take i (rows_of tables plan.
 
 -- what is kept before an index of the plan's table
 abbrev pub IsKeptBefore : Tables → Plan → ℕ → GroupList → Type 0
-IsKeptBefore tables plan i groups = IsKept plan (rows_before tables plan i) i groups
+IsKeptBefore tables plan i groups = GroupsAreKept plan (rows_before tables plan i) i groups

@@ -1,6 +1,6 @@
 -- What every primary keeps of its parts: each commit is one that a record and frames hold, the frames are those of the
--- commits, and the journal is written and can count a fault.
-use Rattle.std.specs.Prelude.{◌≡◌, ℕ, ◌<◌, ◌≤◌, List, length, Bool, false}
+-- commits, and the journal can count a fault.
+use Rattle.std.specs.Prelude.{◌≡◌, ℕ, ◌<◌, ◌≤◌, List, [], length, true, false, is_some}
 use Rattle.std.specs.List.{AllByRecursion}
 use Rattle.rows.specs.Commits.{IsCommit}
 use Rattle.rows.specs.Limits.{workers_max}
@@ -9,8 +9,9 @@ use Rattle.update_log.specs.declared.frame.Frame.{Frame}
 use Rattle.update_log.specs.Streams.{AreStreamsOf}
 use Rattle.journal.specs.Recovery.{HasRecord}
 use Rattle.journal.specs.Storing.{faults_max}
-use Rattle.primary.specs.Journaling.{IsWritten, AreNumbered}
-use Rattle.primary.specs.State.{Core}
+use Rattle.primary.specs.Journaling.{AreNumbered}
+use Rattle.primary.specs.State.{Core, faults_in}
+use Rattle.primary.specs.Lending.{Lent}
 
 pub record AreLists (versions : History) (streams : List (List Frame)) (durable workers : ℕ) : Type 0 where
   pub some_workers : 0 < workers
@@ -21,7 +22,13 @@ pub record AreLists (versions : History) (streams : List (List Frame)) (durable 
   pub records : AllByRecursion HasRecord versions.commits
   pub framed : AreStreamsOf streams versions.commits
 
--- until it fails, a journal can count one fault more, so that it may be appended to
-pub record KeepsJournal {J : Type 0} (is_honest : J → Bool) (standing : J → List ℕ) (fault_count : J → ℕ) (core : Core J) : Type 0 where
-  pub written : IsWritten is_honest standing core
-  pub countable : core.primary.failed ≡ false → fault_count core.journal < faults_max
+-- until it fails, a journal that is there can count one fault more, so that it may be appended to; where it failed it is there
+pub record KeepsJournal {J : Type 0} (fault_count : J → ℕ) (core : Core J) : Type 0 where
+  pub countable : core.primary.failed ≡ false → faults_in fault_count core.journal < faults_max
+  pub there : core.primary.failed ≡ true → is_some core.journal ≡ true
+
+-- a flush that has begun can be written: there is room for what it offers, and one fault more can be counted
+pub record CanBeWritten {J : Type 0} (room fault_count : J → ℕ) (lent : Lent J) : Type 0 where
+  pub countable : fault_count lent.journal < faults_max
+  pub fits : 0 < lent.count → length lent.records ≤ room lent.journal
+  pub nothing : lent.count ≡ 0 → lent.records ≡ []

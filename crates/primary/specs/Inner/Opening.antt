@@ -4,7 +4,7 @@ use Rattle.journal.specs.Storing.{IsPartlyAppended, IsPartlyCut}
 use Rattle.primary.specs.declared.faults.StartFault.{StartFault}
 use Rattle.primary.specs.declared.faults.StartFault.TheVariants as starts
 
--- the journal could not be read, cut or written, or it is out of memory: no word of its bytes
+-- the journal could not be read, truncated or written, or it is out of memory: no word of its bytes
 abbrev pub IsOfStore : {F : Type 0} → StartFault F → Type 0
 IsOfStore (starts.Store fault) = Unit {0}
 IsOfStore (starts.Journal fault) = ⊥
@@ -15,7 +15,7 @@ abbrev pub settled : List ℕ → List ℕ → ℕ → List ℕ
 settled header bytes bytes_kept =
     if nat_lt (length bytes) (length header) then bytes ++ drop (length bytes) header else take bytes_kept bytes
 
--- some beginning of what was missing was added, or not all was cut away
+-- some beginning of what was missing was added, or not all was truncated
 abbrev pub IsPartlySettled : List ℕ → List ℕ → ℕ → List ℕ → Type 0
 IsPartlySettled header bytes bytes_kept new =
     ((length bytes < length header) × IsPartlyAppended bytes (drop (length bytes) header) new)

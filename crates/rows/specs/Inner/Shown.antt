@@ -6,5 +6,5 @@ use Rattle.std.specs.declared.alloc.Global.{Global}
 use Rattle.rows.specs.declared.kind.Kind.{Kind}
 
 -- a table that is kept under its name
-abbrev pub shown : String Global × List Kind → List ℕ × List Kind
-shown table = (string_bytes table.0, table.1)
+abbrev pub kept_table : String Global × List Kind → List ℕ × List Kind
+kept_table table = (string_bytes table.0, table.1)

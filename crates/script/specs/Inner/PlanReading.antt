@@ -113,14 +113,14 @@ query_of (word ∷ name ∷ words) = if bytes_eq word (codes "query") && is_name
 query_of other = None
 
 -- a join's column and the name of its table
-abbrev pub joined : Option ℕ → List ℕ → List (List ℕ) → List (List ℕ) → Option (ℕ × List ℕ) × List (List ℕ)
-joined None name words all = (None, all)
-joined (Some column) name words all = (Some (column, name), words)
+abbrev pub join_read : Option ℕ → List ℕ → List (List ℕ) → List (List ℕ) → Option (ℕ × List ℕ) × List (List ℕ)
+join_read None name words all = (None, all)
+join_read (Some column) name words all = (Some (column, name), words)
 
 -- the join, where there is one
 unfoldable pub join_of : List (List ℕ) → Option (ℕ × List ℕ) × List (List ℕ)
 join_of (word ∷ column ∷ name ∷ words) =
-    if bytes_eq word (codes "join") && is_name name then joined (below_of (2 ^ 8) column) name words (word ∷ column ∷ name ∷ words)
+    if bytes_eq word (codes "join") && is_name name then join_read (below_of (2 ^ 8) column) name words (word ∷ column ∷ name ∷ words)
     else (None, word ∷ column ∷ name ∷ words)
 join_of other = (None, other)
 

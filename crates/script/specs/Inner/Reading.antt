@@ -9,7 +9,7 @@ use Rattle.rows.specs.declared.row_id.RowId.{RowId}
 use Rattle.plans.specs.declared.plan.Plan.{Plan}
 use Rattle.script.specs.declared.faults.Reason.{Reason}
 use Rattle.script.specs.declared.faults.Reason.TheVariants.{BadSetting, UnknownEvent, BadWords}
-use Rattle.script.specs.Inner.WordReading.{number_of, below_of, value_of, values_of, hex_of, table_of, both, two, made}
+use Rattle.script.specs.Inner.WordReading.{number_of, below_of, value_of, values_in_words, hex_of, table_of, both, two, made}
 use Rattle.script.specs.Inner.PlanReading.{plan_of}
 use Rattle.script.specs.declared.event.Event.{Event}
 use Rattle.script.specs.declared.event.Event.TheVariants.{Begin, Insert, Set, Delete, Get, Commit, Abort, Flush, Push, Deliver, Show, Open}
@@ -26,10 +26,10 @@ node_of replicas word =
     if slice_index word 0 == 114 then made Replica (below_of replicas (drop 1 word)) else None
 
 -- an event, once its parts are there, on a table
-abbrev pub placed : {A : Type 0} → Option A → Result ℕ Reason → (A → ℕ → Event) → Result Event Reason
-placed None table make = Err BadWords
-placed (Some parts) (Err reason) make = Err reason
-placed (Some parts) (Ok table) make = Ok (make parts table)
+abbrev pub on_table : {A : Type 0} → Option A → Result ℕ Reason → (A → ℕ → Event) → Result Event Reason
+on_table None table make = Err BadWords
+on_table (Some parts) (Err reason) make = Err reason
+on_table (Some parts) (Ok table) make = Ok (make parts table)
 
 -- so many words and no others
 unfoldable pub one_of : List (List ℕ) → Option (List ℕ)
@@ -58,9 +58,9 @@ three_and_more (a ∷ b ∷ c ∷ d ∷ more) = Some (a, b, c, d ∷ more)
 three_and_more other = None
 
 -- what words give, where there are as many as wanted
-abbrev pub given : {A B : Type 0} → Option A → (A → Option B) → Option B
-given None read = None
-given (Some words) read = read words
+abbrev pub given_as_wanted : {A B : Type 0} → Option A → (A → Option B) → Option B
+given_as_wanted None read = None
+given_as_wanted (Some words) read = read words
 
 abbrev pub given_or_bad : {A B : Type 0} → Option A → (A → Result B Reason) → Result B Reason
 given_or_bad None read = Err BadWords
@@ -72,16 +72,16 @@ begin_of [] = Some Begin
 begin_of (word ∷ words) = None
 
 unfoldable pub commit_of : ℕ → List (List ℕ) → Option Event
-commit_of workers words = given (two_of words) (λ it. both (number_of it.0) (below_of workers it.1) Commit)
+commit_of workers words = given_as_wanted (two_of words) (λ it. both (number_of it.0) (below_of workers it.1) Commit)
 
 unfoldable pub abort_of : List (List ℕ) → Option Event
-abort_of words = given (one_of words) (λ it. made Abort (number_of it))
+abort_of words = given_as_wanted (one_of words) (λ it. made Abort (number_of it))
 
 unfoldable pub flush_of : List (List ℕ) → Option Event
-flush_of words = given (one_of words) (λ it. made Flush (below_of (2 ^ 32) it))
+flush_of words = given_as_wanted (one_of words) (λ it. made Flush (below_of (2 ^ 32) it))
 
 unfoldable pub stop_of : List (List ℕ) → Option Event
-stop_of words = given (one_of words) (λ it. made Stop (number_of it))
+stop_of words = given_as_wanted (one_of words) (λ it. made Stop (number_of it))
 
 unfoldable pub start_of : List (List ℕ) → Option Event
 start_of [] = Some Start
@@ -89,16 +89,16 @@ start_of (word ∷ words) = None
 
 -- a number below a limit, and another one
 unfoldable pub pair_of : ℕ → List (List ℕ) → Option (ℕ × ℕ)
-pair_of limit words = given (two_of words) (λ it. two (below_of limit it.0) (number_of it.1))
+pair_of limit words = given_as_wanted (two_of words) (λ it. two (below_of limit it.0) (number_of it.1))
 
 unfoldable pub deliver_of : ℕ → List (List ℕ) → Option Event
-deliver_of replicas words = given (two_of words) (λ it. both (number_of it.0) (node_of replicas it.1) Deliver)
+deliver_of replicas words = given_as_wanted (two_of words) (λ it. both (number_of it.0) (node_of replicas it.1) Deliver)
 
 unfoldable pub show_of : List (List ℕ) → Option Event
-show_of words = given (one_of words) (λ it. made Show (number_of it))
+show_of words = given_as_wanted (one_of words) (λ it. made Show (number_of it))
 
 unfoldable pub replica_of : ℕ → List (List ℕ) → Option ℕ
-replica_of replicas words = given (one_of words) (λ it. below_of replicas it)
+replica_of replicas words = given_as_wanted (one_of words) (λ it. below_of replicas it)
 
 abbrev pub row_id : ℕ → RowId
 row_id id = record { 0 = id }
@@ -109,34 +109,34 @@ row_of transaction row = two (number_of transaction) (made row_id (number_of row
 
 unfoldable pub insert_of : List (List ℕ × List Kind) → List (List ℕ) → Result Event Reason
 insert_of schema words =
-    given_or_bad (three_and_more words) (λ it. placed (two (row_of it.0 it.2) (values_of it.3)) (table_of schema it.1)
+    given_or_bad (three_and_more words) (λ it. on_table (two (row_of it.0 it.2) (values_in_words it.3)) (table_of schema it.1)
     (λ parts table. Insert parts.0.0 table parts.0.1 parts.1))
 
 unfoldable pub set_of : List (List ℕ × List Kind) → List (List ℕ) → Result Event Reason
 set_of schema words =
-    given_or_bad (five_of words) (λ it. placed (two (row_of it.0 it.2) (two (below_of (2 ^ 8) it.3) (value_of it.4)))
+    given_or_bad (five_of words) (λ it. on_table (two (row_of it.0 it.2) (two (below_of (2 ^ 8) it.3) (value_of it.4)))
     (table_of schema it.1) (λ parts table. Set parts.0.0 table parts.0.1 parts.1.0 parts.1.1))
 
 unfoldable pub delete_of : List (List ℕ × List Kind) → List (List ℕ) → Result Event Reason
 delete_of schema words =
-    given_or_bad (three_of words) (λ it. placed (row_of it.0 it.2) (table_of schema it.1) (λ at table. Delete at.0 table at.1))
+    given_or_bad (three_of words) (λ it. on_table (row_of it.0 it.2) (table_of schema it.1) (λ at table. Delete at.0 table at.1))
 
 unfoldable pub get_of : List (List ℕ × List Kind) → List (List ℕ) → Result Event Reason
 get_of schema words =
-    given_or_bad (four_of words) (λ it. placed (two (row_of it.0 it.2) (below_of (2 ^ 8) it.3)) (table_of schema it.1)
+    given_or_bad (four_of words) (λ it. on_table (two (row_of it.0 it.2) (below_of (2 ^ 8) it.3)) (table_of schema it.1)
     (λ parts table. Get parts.0.0 table parts.0.1 parts.1))
 
-abbrev pub opened : Option ℕ → Result Plan Reason → Result Event Reason
-opened None plan = Err BadWords
-opened (Some number) (Err reason) = Err reason
-opened (Some number) (Ok plan) = Ok (Open number plan)
+abbrev pub open_event : Option ℕ → Result Plan Reason → Result Event Reason
+open_event None plan = Err BadWords
+open_event (Some number) (Err reason) = Err reason
+open_event (Some number) (Ok plan) = Ok (Open number plan)
 
 unfoldable pub open_of : List (List ℕ × List Kind) → ℕ → List (List ℕ) → Result Event Reason
-open_of schema replicas (replica ∷ plan) = opened (below_of replicas replica) (plan_of schema plan)
+open_of schema replicas (replica ∷ plan) = open_event (below_of replicas replica) (plan_of schema plan)
 open_of schema replicas [] = Err BadWords
 
 unfoldable pub raw_of : ℕ → List (List ℕ) → Option Event
-raw_of replicas words = given (two_of words) (λ it. both (node_of replicas it.0) (hex_of it.1) Raw)
+raw_of replicas words = given_as_wanted (two_of words) (λ it. both (node_of replicas it.0) (hex_of it.1) Raw)
 
 abbrev pub or_bad_words : Option Event → Result Event Reason
 or_bad_words None = Err BadWords

@@ -64,23 +64,23 @@ unfoldable pub byte_of : ℕ → ℕ → Option ℕ
 byte_of high low = both (digit_of high) (digit_of low) (λ first second. first * 16 + second)
 
 -- the bytes of pairs of digits
-abbrev pub bytes_of : List ℕ → Option (List ℕ)
-bytes_of [] = Some []
-bytes_of (high ∷ []) = None
-bytes_of (high ∷ low ∷ digits) = both (byte_of high low) (bytes_of digits) (λ byte bytes. byte ∷ bytes)
+abbrev pub bytes_of_digits : List ℕ → Option (List ℕ)
+bytes_of_digits [] = Some []
+bytes_of_digits (high ∷ []) = None
+bytes_of_digits (high ∷ low ∷ digits) = both (byte_of high low) (bytes_of_digits digits) (λ byte bytes. byte ∷ bytes)
 
 -- the bytes that a word is by itself: `-`, or pairs of digits
 unfoldable pub hex_of : List ℕ → Option (List ℕ)
 hex_of [] = None
-hex_of (first ∷ rest) = if bytes_eq (first ∷ rest) (codes "-") then Some [] else bytes_of (first ∷ rest)
+hex_of (first ∷ rest) = if bytes_eq (first ∷ rest) (codes "-") then Some [] else bytes_of_digits (first ∷ rest)
 
 -- 1 to 64 bytes
-abbrev pub sized : Option (List ℕ) → Option (List ℕ)
-sized None = None
-sized (Some bytes) = if nat_lt 0 (length bytes) && nat_le (length bytes) octets_max then Some bytes else None
+abbrev pub of_octets_size : Option (List ℕ) → Option (List ℕ)
+of_octets_size None = None
+of_octets_size (Some bytes) = if nat_lt 0 (length bytes) && nat_le (length bytes) octets_max then Some bytes else None
 
 unfoldable pub octets_of : List ℕ → Option (List ℕ)
-octets_of digits = sized (bytes_of digits)
+octets_of digits = of_octets_size (bytes_of_digits digits)
 
 abbrev pub made : {A B : Type 0} → (A → B) → Option A → Option B
 made make None = None
@@ -91,9 +91,9 @@ unfoldable pub value_of : List ℕ → Option Value
 value_of word = if slice_index word 0 == 120 then made Octets (octets_of (drop 1 word)) else made Int (int_of word)
 
 -- the values that words are
-abbrev pub values_of : List (List ℕ) → Option (List Value)
-values_of [] = Some []
-values_of (word ∷ words) = both (value_of word) (values_of words) (λ value values. value ∷ values)
+abbrev pub values_in_words : List (List ℕ) → Option (List Value)
+values_in_words [] = Some []
+values_in_words (word ∷ words) = both (value_of word) (values_in_words words) (λ value values. value ∷ values)
 
 -- the number of a table, by the word that names it
 abbrev pub or_no_table : Option ℕ → Result ℕ Reason

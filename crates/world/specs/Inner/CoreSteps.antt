@@ -11,7 +11,7 @@ use Rattle.dispatcher.specs.declared.outcome.Got.{Got}
 use Rattle.dispatcher.specs.declared.outcome.Run.{Run}
 use Rattle.dispatcher.specs.declared.outcome.Run.TheVariants as runs
 use Rattle.dispatcher.specs.State.{Replica, Batch as ReplicaBatch}
-use Rattle.dispatcher.specs.Steps.{started as replica_started, opened, asked, received, dumped, MayRun}
+use Rattle.dispatcher.specs.Steps.{started_replica as replica_started, opened, asked, received, dumped, MayRun}
 use Rattle.script.specs.declared.event.Event.{Event}
 use Rattle.script.specs.declared.event.Event.TheVariants as events
 use Rattle.script.specs.declared.event.Node.TheVariants as nodes
@@ -20,7 +20,7 @@ use Rattle.script.specs.declared.output.Output.TheVariants as outputs
 use Rattle.world.specs.Outputs.{of_answers, packets_of}
 use Rattle.world.specs.Inner.Naming.{of_open, of_ask, of_got, of_dump}
 use Rattle.world.specs.Parts.{Parts}
-use Rattle.world.specs.Allowed.{MayHappen}
+use Rattle.world.specs.Allowed.{MayHappen, takes_memory}
 use Rattle.world.specs.Standing.{boots_at, world_of, JournalKeeps, StopLeaves}
 use Rattle.world.specs.Steps.{is_forged, had_boot}
 
@@ -107,12 +107,16 @@ restart_by p number boot None = (outputs.Ignored, p)
 restart_by p number boot (Some replica) =
     if had_boot (boots_at p.boots number) boot then (outputs.BootUsed, p) else (outputs.Boot boot, with_restarted p number boot)
 
+-- what a run answers that waits for a frame, by the bytes of its Want
+abbrev pub waiting_for : Parts → ℕ → ℕ → List ℕ → Output
+waiting_for p worker seq bytes = outputs.Waiting worker seq (record { index = length p.sent; len = length bytes })
+
 -- a run that waits for a frame sends its Want
 abbrev pub run_output : Parts → ℕ → Run × Replica → Output × Parts
 run_output p number (runs.NoBatch, replica) = (outputs.NoBatch, with_replica p number replica)
 run_output p number (runs.WaitingHead, replica) = (outputs.WaitingHead, with_replica p number replica)
 run_output p number (runs.Waiting worker seq want, replica) = (
-  outputs.Waiting worker seq (record { index = length p.sent; len = length want.packet }),
+  waiting_for p worker seq want.packet,
   with_sent (with_replica p number replica) want.packet,
 )
 run_output p number (runs.Answered report, replica) = (outputs.Report report, with_replica p number replica)
@@ -120,18 +124,11 @@ run_output p number (runs.Inconsistent, replica) = (outputs.Inconsistent, with_r
 run_output p number (runs.Broken, replica) = (outputs.Broken, with_replica p number replica)
 run_output p number (runs.Memory, replica) = (outputs.Memory, with_replica p number replica)
 
--- what running the batch of a replica answers and leaves; one that is out of memory may have applied what it fetched, or may
--- be broken
-abbrev pub RunsBy : Parts → ℕ → Option Replica → Output → Parts → Type 0
-RunsBy old number None output new = ⊥
-RunsBy old number (Some replica) output new =
-    (answer : Run) × (after : Replica) × MayRun replica answer after × (run_output old number (answer, after) ≡ (output, new))
-
 -- what sending the primary's answers tells and leaves: out of memory nothing is sent
 abbrev pub MaySendAnswers : Parts → List Out → Output → Parts → Type 0
 MaySendAnswers old outs output new =
     ((output ≡ of_answers (length old.sent) outs) × (new ≡ record old { sent = old.sent ++ packets_of outs }))
-    ⊎ ((output ≡ outputs.Memory) × (new ≡ old))
+    ⊎ ((output ≡ outputs.Memory) × (new ≡ old) × (0 < length outs))
 
 -- bytes that are handed to a replica, unless they are forged
 abbrev pub raw_by : Parts → ℕ → List ℕ → Option Replica → Output × Parts
@@ -153,17 +150,23 @@ dump_by p (Some replica) = (of_dumped (dumped replica), p)
 
 -- ---- any event
 
--- what a call answers and leaves, or `memory`, and nothing has changed
+-- what a call answers and leaves; or `memory` in place of an answer that is made with some, and nothing has changed
 abbrev pub MayAnswer : Parts → Output × Parts → Output → Parts → Type 0
-MayAnswer old answer output new = (answer ≡ (output, new)) ⊎ ((output ≡ outputs.Memory) × (new ≡ old))
+MayAnswer old answer output new = (answer ≡ (output, new)) ⊎ ((output ≡ outputs.Memory) × (new ≡ old) × (takes_memory answer.0 ≡ true))
+
+-- what running the batch of a replica answers and leaves; one that is out of memory may have applied what it fetched, or may
+-- be broken
+abbrev pub ReplicaRunsBy : Parts → ℕ → Option Replica → Output → Parts → Type 0
+ReplicaRunsBy old number None output new = ⊥
+ReplicaRunsBy old number (Some replica) output new =
+    (answer : Run) × (after : Replica) × MayRun replica answer after × MayAnswer old (run_output old number (answer, after)) output new
 
 abbrev pub MayStep : Parts → Event → Output → Parts → Type 0
 MayStep old (events.Deliver index (nodes.Replica number)) output new =
     MayAnswer old (come_by old number (slice_get old.sent index)) output new
 MayStep old (events.Open replica plan) output new = MayAnswer old (open_by old replica plan (slice_get old.replicas replica)) output new
 MayStep old (events.Ask replica) output new = MayAnswer old (ask_by old replica (slice_get old.replicas replica)) output new
-MayStep old (events.Run replica) output new =
-    RunsBy old replica (slice_get old.replicas replica) output new ⊎ ((output ≡ outputs.Memory) × (new ≡ old))
+MayStep old (events.Run replica) output new = ReplicaRunsBy old replica (slice_get old.replicas replica) output new
 MayStep old (events.Version replica) output new = MayAnswer old (version_by old (slice_get old.replicas replica)) output new
 MayStep old (events.Dump replica) output new = MayAnswer old (dump_by old (slice_get old.replicas replica)) output new
 MayStep old (events.Restart number boot) output new =

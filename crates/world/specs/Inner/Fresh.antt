@@ -11,12 +11,12 @@ use Rattle.wire.specs.Spelling.{IsAsk}
 use Rattle.dispatcher.specs.State.{Fetched}
 use Rattle.script.specs.declared.event.Event.{Event}
 use Rattle.script.specs.declared.event.Event.TheVariants as events
-use Rattle.world.specs.Steps.{World, Member, Batch}
+use Rattle.world.specs.Steps.{World, Member, AskedBatch}
 use Rattle.world.specs.Inner.Boots.{IsInBoot, IsOfBoot}
 
 -- a batch, against the version that its replica stands at: it asked at a version that is durable, and the replica is no newer
 -- than that until another is fetched; what was fetched for it is no older than either, and durable
-pub record IsFreshBatch (durable : List Commit) (version : ℕ) (batch : Batch) : Type 0 where
+pub record IsFreshBatch (durable : List Commit) (version : ℕ) (batch : AskedBatch) : Type 0 where
   pub asked : batch.asked_at ≤ length durable
   pub waits : batch.fetched ≡ None → version ≤ batch.asked_at
   pub fetched_is : (fetched : Fetched) → batch.fetched ≡ Some fetched
@@ -27,13 +27,13 @@ pub record IsFreshMember (durable : List Commit) (number : ℕ) (m : Member) : T
   pub number_is : m.number ≡ number
   pub below : m.version ≤ length durable
   pub boot_is : IsInBoot m.boots m.boot
-  pub batch_is : (batch : Batch) → m.batch ≡ Some batch → IsFreshBatch durable m.version batch
+  pub batch_is : (batch : AskedBatch) → m.batch ≡ Some batch → IsFreshBatch durable m.version batch
 
 -- a Head of this request and version, against the replica that it goes to in its own boot: the request was made, and where it
 -- is the newest one the version is at least what was durable when the batch asked
 pub record IsFreshHead (m : Member) (request version : ℕ) : Type 0 where
   pub asked : request ≤ m.request
-  pub above : (batch : Batch) → m.batch ≡ Some batch → request ≡ m.request → batch.asked_at ≤ version
+  pub above : (batch : AskedBatch) → m.batch ≡ Some batch → request ≡ m.request → batch.asked_at ≤ version
 
 -- what is known of bytes that were sent, by what they read as
 abbrev pub IsFreshReading : List Commit → List Member → Result Datagram WireFault → Type 0

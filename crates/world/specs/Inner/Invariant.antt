@@ -10,7 +10,7 @@ use Rattle.world.specs.Steps.{World, Member}
 use Rattle.world.specs.Standing.{world_of}
 use Rattle.world.specs.Inner.CoreSteps.{KeepsStopped}
 use Rattle.world.specs.Inner.Sound.{Sound}
-use Rattle.world.specs.Inner.Honest.{IsHonest}
+use Rattle.world.specs.Inner.Undamaged.{IsUndamaged}
 use Rattle.world.specs.Inner.Fresh.{Fresh}
 
 -- what the program needs of its parts to call the cores: each open transaction reads a durable version, and each
@@ -32,16 +32,16 @@ abbrev pub IsRequested : World → Type 0
 IsRequested w = AllByRecursion (λ (m : Member). m.request ≤ length w.sent) w.members
 
 -- each replica has the names of the schema's tables
-abbrev pub AreNamed : Parts → Type 0
-AreNamed p = AllByRecursion (λ (r : Replica). r.names ≡ names_of p.primary.schema) p.replicas
+abbrev pub ReplicasAreNamed : Parts → Type 0
+ReplicasAreNamed p = AllByRecursion (λ (r : Replica). r.names ≡ names_of p.primary.schema) p.replicas
 
 -- the parts of every world: its journal keeps what is durable, its tables are in their limits and have their names, the cores
 -- are sound, each request was sent, nothing is damaged, and what was fetched is no older than its batch
-pub record IsKept (p : Parts) : Type 0 where
+pub record PartsAreKept (p : Parts) : Type 0 where
   pub journal : KeepsStopped p
   pub tables : AreTables (shape_of p.primary.schema)
-  pub named : AreNamed p
+  pub named : ReplicasAreNamed p
   pub sound : Sound (shape_of p.primary.schema) p
   pub requested : IsRequested (world_of p)
-  pub honest : IsHonest (world_of p)
+  pub undamaged : IsUndamaged (world_of p)
   pub fresh : Fresh (world_of p)

@@ -24,6 +24,6 @@ is_stopped (nodes.Running core) = false
 is_stopped (nodes.Stopped journal kept) = true
 
 -- the bytes that stand on the journal
-abbrev pub bytes_in : PrimaryNode → List ℕ
-bytes_in (nodes.Running core) = core.journal.bytes
-bytes_in (nodes.Stopped journal kept) = journal.bytes
+abbrev pub journal_bytes_in : PrimaryNode → List ℕ
+journal_bytes_in (nodes.Running core) = core.journal.bytes
+journal_bytes_in (nodes.Stopped journal kept) = journal.bytes

@@ -14,7 +14,7 @@ use Rattle.update_log.specs.Frames.{IsSendable}
 use Rattle.update_log.specs.Streams.{stream_of}
 use Rattle.journal.specs.Recovery.{IsJournaled}
 use Rattle.primary.specs.Journaling.{AreNumbered}
-use Rattle.mvcc.specs.Draft.{Draft}
+use Rattle.mvcc.specs.Transaction.{Transaction}
 use Rattle.primary.specs.State.{Primary}
 use Rattle.dispatcher.specs.Feeding.{IsFedFrom, Tells}
 use Rattle.dispatcher.specs.State.{Replica, Batch as ReplicaBatch}
@@ -23,7 +23,7 @@ use Rattle.world.specs.Standing.{boots_at}
 use Rattle.world.specs.Inner.Boots.{IsInBoot, IsOfBoot}
 
 -- what the lists of a primary that runs are: legal, and such that all that is sent of them has a spelling
-pub record AreLists (p : Primary) : Type 0 where
+pub record PrimaryListsAreLegal (p : Primary) : Type 0 where
   pub all : IsJournaled p.workers (shape_of p.schema) (p.durable ++ p.pending)
   pub numbered : AreNumbered (p.durable ++ p.pending)
   pub sendable : (worker : ℕ) → AllByRecursion IsSendable (stream_of p.durable worker)
@@ -73,7 +73,8 @@ pub record Means (workers : ℕ) (durable : List Commit) (boots : List (List ℕ
 pub record Sound (shape : Shape) (p : Parts) : Type 0 where
   pub setup_is : (p.setup.schema ≡ p.primary.schema) × (p.setup.workers ≡ p.primary.workers)
   pub primary_is : IsSoundPrimary shape p.primary
-  pub drafts_are : (i : ℕ) (draft : Draft) → slice_get p.transactions i ≡ Some (Some draft) → draft.snapshot ≤ length p.primary.durable
+  pub transactions_are : (i : ℕ) (draft : Transaction) → slice_get p.transactions i ≡ Some (Some draft)
+      → draft.snapshot ≤ length p.primary.durable
   pub boots_there : length p.boots ≡ length p.replicas
   pub asked_there : length p.asked_at ≡ length p.replicas
   pub few : length p.replicas ≤ REPLICAS_MAX

@@ -1,5 +1,5 @@
 -- The laws, for all arrivals.
-use Rattle.intake.proofs.Missing.{first-least, lacking-least, none-complete}
+use Rattle.intake.proofs.Missing.{first-least, lacking-least}
 use Rattle.intake.proofs.laws.first_missing_is_least.Goals as goal
 
 pub returns-clause-first : goal.returns-clause-first
@@ -7,6 +7,3 @@ returns-clause-first c = first-least
 
 pub returns-clause-lacking : goal.returns-clause-lacking
 returns-clause-lacking c = lacking-least
-
-pub returns-clause-none : goal.returns-clause-none
-returns-clause-none c = none-complete

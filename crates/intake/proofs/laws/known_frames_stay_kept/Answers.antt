@@ -1,6 +1,6 @@
 -- The laws, for all arrivals.
 use Rattle.intake.proofs.Staying.{frames-workers, drops-workers, frames-known, drops-known, frames-kept, drops-kept}
-use Rattle.intake.proofs.Staying.{none-lacking, lacking-worker}
+use Rattle.intake.proofs.Missing.{none-complete, lacking-worker}
 use Rattle.intake.proofs.laws.known_frames_stay_kept.Goals as goal
 
 pub returns-clause-frames_leave : goal.returns-clause-frames_leave
@@ -22,7 +22,7 @@ pub returns-clause-drops_kept : goal.returns-clause-drops_kept
 returns-clause-drops_kept c = drops-kept
 
 pub returns-clause-complete : goal.returns-clause-complete
-returns-clause-complete c = none-lacking
+returns-clause-complete c = none-complete
 
 pub returns-clause-lacking : goal.returns-clause-lacking
 returns-clause-lacking c = lacking-worker

@@ -2,7 +2,7 @@
 use Rattle.std.proofs.Common.{◌≡◌, ◌+◌, ◌-◌, ◌<◌, ◌^◌, ◌∷◌, [], ◌++◌, ℕ, length, is_ok, not, true, subst, sym, ap, ◌∙◌, arith}
 use Rattle.std.proofs.lemmas.Bool.{cond-true}
 use Rattle.rows.specs.Shape.{shape_of}
-use Rattle.journal.specs.Inner.Progress.{IsNext, IsStop}
+use Rattle.journal.specs.Inner.Progress.{IsNextCommit, IsStop}
 use Rattle.journal.proofs.Recovering.{recovered, refused, has_come-more}
 use Rattle.journal.proofs.recovery.recover_records.Goals as goal
 
@@ -27,7 +27,7 @@ loop-alloc-preserved c =
     let pushed : c.push.new.self.items ≡ commits.items ++ commit ∷ [] = c.push.ensures.items ∙ cond-true _ _ _ ok in
     rw pushed (has_come-more c.args.workers (shape_of c.args.schema.now) c.args.bytes.now commits.items c.loop-alloc.store
     c.next_commit.new.store c.loop-alloc.rest.now commit c.in-Ok-next_commit.behind.now c.loop-alloc.invariant
-    (subst (λ (n : ℕ). IsNext c.args.workers n c.loop-alloc.store c.next_commit.new.store c.loop-alloc.rest.now commit
+    (subst (λ (n : ℕ). IsNextCommit c.args.workers n c.loop-alloc.store c.next_commit.new.store c.loop-alloc.rest.now commit
     c.in-Ok-next_commit.behind.now) number c.in-Ok-next_commit.ensures.ok))
 
 pub returns : goal.returns

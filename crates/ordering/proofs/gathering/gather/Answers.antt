@@ -4,7 +4,7 @@ use Rattle.std.proofs.lemmas.Bool.{cases_lt, eqb-true, eqb-false}
 use Rattle.rows.specs.Limits.{commit_entries_max}
 use Rattle.intake.specs.Kept.{frames_between}
 use Rattle.ordering.specs.Merging.{HoldCommit}
-use Rattle.ordering.specs.Inner.Progress.{HoldNone, IsBegun}
+use Rattle.ordering.specs.Inner.Progress.{HoldNone, IsCommitBegun}
 use Rattle.ordering.proofs.Beginning.{begun-end, begun-more, none-empty, none-end, none-many, none-nothing, none-other, when-ok}
 use Rattle.ordering.proofs.Between.{between-here, between-more, between-none}
 use Rattle.ordering.proofs.gathering.gather.Goals as goal
@@ -78,7 +78,7 @@ loop-seq-preserved c =
     let now_is : now ≡ c.loop-seq.entries ++ frame.entries = added ∙ ap (λ more. c.loop-seq.entries ++ more) c.as_slice.ensures in
     let few : length c.loop-seq.entries + length frame.entries ≤ commit_entries_max =
     omega (arith, c.len.ensures, c.len-in-loop-seq.ensures, c.if-len.false, c.loop-seq.invariant.few) in
-    subst (IsBegun c.args.number now) (sym (between-more all c.args.worker c.args.first seq frame from c.kept_frame-frame.ensures))
+    subst (IsCommitBegun c.args.number now) (sym (between-more all c.args.worker c.args.first seq frame from c.kept_frame-frame.ensures))
     (begun-more c.args.number c.loop-seq.entries now (frames_between all c.args.worker c.args.first seq) frame c.loop-seq.invariant
     c.if-frame-number.false c.if-frame.false now_is few)
 

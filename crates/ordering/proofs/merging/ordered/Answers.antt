@@ -3,7 +3,7 @@ use Rattle.std.proofs.Common.{◌≡◌, ◌+◌, ◌++◌, ◌∷◌, [], ℕ, 
 use Rattle.std.specs.Prelude.{slice_index}
 use Rattle.std.proofs.lemmas.Bool.{cond-true}
 use Rattle.rows.specs.declared.commit.Commit.{Commit}
-use Rattle.ordering.specs.Inner.Progress.{HasCome}
+use Rattle.ordering.specs.Inner.Progress.{WasTaken}
 use Rattle.ordering.specs.Merging.{frames_in}
 use Rattle.ordering.proofs.Between.{between-none, between-some}
 use Rattle.ordering.proofs.Coming.{come-end, come-left, come-more, come-none, come-stuck}
@@ -19,9 +19,9 @@ loop-before-init c =
       kept = λ worker seq from upto.
           c.requires.kept worker seq (omega (arith, ap (λ (seqs : List ℕ). slice_index seqs worker) same)) upto;
       come =
-          subst (λ (at : List ℕ). HasCome (frames_in all low c.args.high.now) c.args.from c.args.from c.new-commits.result.items
+          subst (λ (at : List ℕ). WasTaken (frames_in all low c.args.high.now) c.args.from c.args.from c.new-commits.result.items
           (frames_in all at c.args.high.now)) same
-          (subst (λ (commits : List Commit). HasCome (frames_in all low c.args.high.now) c.args.from c.args.from commits
+          (subst (λ (commits : List Commit). WasTaken (frames_in all low c.args.high.now) c.args.from c.args.from commits
           (frames_in all low c.args.high.now)) (sym c.new-commits.ensures.items)
           (come-none (frames_in all low c.args.high.now) c.args.from));
     }
@@ -44,7 +44,7 @@ loop-before-preserved c =
       counted = omega (arith, c.next_commit.auto.at, c.loop-before.invariant.counted);
       kept = c.in-Ok-next_commit.ensures.kept;
       come =
-          subst (λ (cs : List Commit). HasCome (frames_in all c.args.low.now c.args.high.now) c.args.from (c.loop-before.before + 1) cs
+          subst (λ (cs : List Commit). WasTaken (frames_in all c.args.low.now c.args.high.now) c.args.from (c.loop-before.before + 1) cs
           (frames_in all c.next_commit.new.at c.args.high.now)) (sym pushed)
           (come-more (frames_in all c.args.low.now c.args.high.now) (frames_in all c.loop-before.at c.args.high.now)
           (frames_in all c.next_commit.new.at c.args.high.now) c.args.from c.loop-before.before commits commit
@@ -58,7 +58,7 @@ returns-then-is_used_up-clause-ok c =
     let high = c.args.high.now in
     let end : c.loop-before.before ≡ c.args.to = omega (arith, c.requires.versions) in
     come-end (frames_in all c.args.low.now high) (frames_in all at high) c.args.from c.args.to c.loop-before.commits.items
-    (subst (λ (n : ℕ). HasCome (frames_in all c.args.low.now high) c.args.from n c.loop-before.commits.items (frames_in all at high))
+    (subst (λ (n : ℕ). WasTaken (frames_in all c.args.low.now high) c.args.from n c.loop-before.commits.items (frames_in all at high))
     end c.loop-before.invariant.come)
     (λ worker.
     between-none all worker (slice_index at worker) (slice_index high worker) (c.is_used_up.ensures.none c.if-is_used_up.true worker))
@@ -72,7 +72,7 @@ returns-clause-inconsistent c = λ inconsistent.
     let left = c.is_used_up.ensures.some c.if-is_used_up.false in
     let worker : ℕ = left.0 in
     come-left (frames_in all c.args.low.now high) (frames_in all at high) c.args.from c.args.to c.loop-before.commits.items
-    (subst (λ (n : ℕ). HasCome (frames_in all c.args.low.now high) c.args.from n c.loop-before.commits.items (frames_in all at high))
+    (subst (λ (n : ℕ). WasTaken (frames_in all c.args.low.now high) c.args.from n c.loop-before.commits.items (frames_in all at high))
     end c.loop-before.invariant.come) worker
     (between-some all worker (slice_index at worker) (slice_index high worker) left.1
     (c.loop-before.invariant.kept worker (slice_index at worker) (omega arith) left.1))

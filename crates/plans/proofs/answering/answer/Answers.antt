@@ -3,12 +3,12 @@ use Rattle.std.proofs.Common.{[], sym, ap, ◌∙◌, subst, arith, length, ◌�
 use Rattle.std.proofs.lemmas.Result.{IfOk-weaker}
 use Rattle.rows.specs.Tables.{rows_of}
 use Rattle.plans.specs.Answers.{answer_lines, plain_answer}
-use Rattle.plans.specs.Inner.Kept.{IsKept, rows_before}
+use Rattle.plans.specs.Inner.Kept.{GroupsAreKept, rows_before}
 use Rattle.plans.proofs.Keeping.{opening-kept, kept-lines, before-all}
 use Rattle.plans.proofs.answering.answer.Goals as goal
 
 pub loop-i-init : goal.loop-i-init
-loop-i-init g c = subst (IsKept c.args.plan.now [] 0) (sym c.in_ok-groups.ensures) (opening-kept c.args.plan.now)
+loop-i-init g c = subst (GroupsAreKept c.args.plan.now [] 0) (sym c.in_ok-groups.ensures) (opening-kept c.args.plan.now)
 
 pub returns : goal.returns
 returns g c =

@@ -1,10 +1,10 @@
 -- What was read so far, and what the words that are left give, is what all words give.
 use Rattle.std.proofs.Common.{◌≡◌, ◌-◌}
-use Rattle.script.specs.Inner.PlanParts.{shown}
+use Rattle.script.specs.Inner.PlanParts.{lent_lists}
 use Rattle.script.specs.Inner.PlanReading.{many, aggregate_first, aggregates_of}
 use Rattle.script.proofs.PlanSeries.{onto}
 use Rattle.script.proofs.plan_reading.read_aggregates.Given as goal
 
 abbrev pub invariant-loop : goal.invariant-loop
 invariant-loop l =
-    aggregates_of (shown l.words) ≡ onto l.aggregates.items (many aggregate_first (l.end - l.counter) (shown l.left))
+    aggregates_of (lent_lists l.words) ≡ onto l.aggregates.items (many aggregate_first (l.end - l.counter) (lent_lists l.left))

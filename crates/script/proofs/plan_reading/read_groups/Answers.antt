@@ -2,7 +2,7 @@
 use Rattle.std.proofs.Common.{◌∙◌, ◌-◌, ◌+◌, List, ◌∷◌, ◌++◌, [], length, sym, ap, arith}
 use Rattle.std.proofs.lemmas.List.{length-map}
 use Rattle.plans.specs.declared.column.Column.{Column}
-use Rattle.script.specs.Inner.PlanParts.{shown}
+use Rattle.script.specs.Inner.PlanParts.{lent_lists}
 use Rattle.script.specs.Inner.PlanReading.{by_first, column_first, groups_of}
 use Rattle.script.proofs.PlanSeries.{series-none, series-begun, many-step, many-stopped, many-done}
 use Rattle.script.proofs.plan_reading.read_groups.Goals as goal
@@ -10,32 +10,32 @@ use Rattle.script.proofs.plan_reading.read_groups.Goals as goal
 pub returns-in_default : goal.returns-in_default
 unfolding groups_of
 returns-in_default c =
-    series-none (by_first (shown c.args.words.now)) column_first (shown c.args.words.now) c.in_default.ensures
-    ∙ ap (λ (items : List Column). (items, shown c.args.words.now)) (sym c.new-groups.ensures.items)
+    series-none (by_first (lent_lists c.args.words.now)) column_first (lent_lists c.args.words.now) c.in_default.ensures
+    ∙ ap (λ (items : List Column). (items, lent_lists c.args.words.now)) (sym c.new-groups.ensures.items)
 
 pub loop-init : goal.loop-init
 unfolding groups_of
 loop-init c =
-    series-begun (by_first (shown c.args.words.now)) column_first (shown c.args.words.now)
-    (shown c.in-Some.behind_first.now) c.in-Some.first _ (length c.in-Some.behind_first.now - 0) c.in-Some.ensures
+    series-begun (by_first (lent_lists c.args.words.now)) column_first (lent_lists c.args.words.now)
+    (lent_lists c.in-Some.behind_first.now) c.in-Some.first _ (length c.in-Some.behind_first.now - 0) c.in-Some.ensures
     (c.in_ok-push.ensures.items ∙ ap (λ (items : List Column). items ++ c.in-Some.first ∷ []) c.new-groups.ensures.items)
     (omega (arith, length-map c.in-Some.behind_first.now (λ word. word.now)))
 
 pub loop-preserved : goal.loop-preserved
 loop-preserved c =
     c.loop.invariant
-    ∙ many-step column_first (shown c.loop.left.now) (shown c.in-Some-column_first.behind.now)
+    ∙ many-step column_first (lent_lists c.loop.left.now) (lent_lists c.in-Some-column_first.behind.now)
     c.in-Some-column_first.column c.loop.groups.items _ (length c.in-Some.behind_first.now - c.loop.counter)
     (length c.in-Some.behind_first.now - (c.loop.counter + 1)) c.in-Some-column_first.ensures c.in_ok-push-2.ensures.items (omega arith)
 
 pub returns-in_default-column_first : goal.returns-in_default-column_first
 returns-in_default-column_first c =
     c.loop.invariant
-    ∙ many-stopped column_first (shown c.loop.left.now) c.loop.groups.items
+    ∙ many-stopped column_first (lent_lists c.loop.left.now) c.loop.groups.items
     (length c.in-Some.behind_first.now - c.loop.counter) c.in_default-column_first.ensures
 
 pub returns : goal.returns
 returns c =
     c.loop.invariant
-    ∙ many-done column_first (shown c.loop.left.now) c.loop.groups.items
+    ∙ many-done column_first (lent_lists c.loop.left.now) c.loop.groups.items
     (length c.in-Some.behind_first.now - c.loop.counter) (omega arith)

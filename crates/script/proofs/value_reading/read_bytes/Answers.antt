@@ -3,7 +3,7 @@ use Rattle.std.proofs.Common.{rules, arith, ◌≡◌, ℕ, ◌*◌, ◌+◌, �
 use Rattle.std.proofs.Common.{Some, refl, sym, ap, ◌∙◌, subst}
 use Rattle.std.proofs.lemmas.Bool.{eqb-true}
 use Rattle.std.specs.Str.{bytes_eq}
-use Rattle.script.specs.Inner.WordReading.{bytes_of}
+use Rattle.script.specs.Inner.WordReading.{bytes_of_digits}
 use Rattle.script.proofs.Hex.{onto, onto-none, hex-dash, hex-more, hex-stop, hex-pairs, hex-odd, hex-made}
 use Rattle.script.proofs.value_reading.read_bytes.Goals as goal
 use Rattle.script.proofs.value_reading.read_bytes.Goals.{then-is_empty-via-then-is_empty}
@@ -31,7 +31,7 @@ returns-then-is_empty-clause-err c =
 pub loop-index-init : goal.loop-index-init
 loop-index-init c =
     let word = c.args.word.now in
-    sym (onto-none (bytes_of word)) ∙ ap (λ (front : List ℕ). onto front (bytes_of word)) (sym c.new-bytes.ensures.items)
+    sym (onto-none (bytes_of_digits word)) ∙ ap (λ (front : List ℕ). onto front (bytes_of_digits word)) (sym c.new-bytes.ensures.items)
 
 pub returns-in-None-clause-err : goal.returns-in-None-clause-err
 returns-in-None-clause-err c =
@@ -50,7 +50,7 @@ loop-index-preserved c =
     let longer : c.push.new.self.items ≡ front ++ byte ∷ [] = search rules in
     c.loop-index.invariant
     ∙ (hex-more word front index byte (omega arith) (sym c.in-Some.ensures)
-    ∙ ap (λ (bytes : List ℕ). onto bytes (bytes_of (drop (2 * (index + 1)) word))) (sym longer))
+    ∙ ap (λ (bytes : List ℕ). onto bytes (bytes_of_digits (drop (2 * (index + 1)) word))) (sym longer))
 
 pub returns-clause-ok : goal.returns-clause-ok
 returns-clause-ok c =
@@ -61,5 +61,5 @@ returns-clause-ok c =
     let other : bytes_eq word (codes "-") ≡ false = ap (bytes_eq word) (sym c.as_slice.ensures) ∙ sym c.eq.ensures ∙ c.if-eq.false in
     let some : (length word == 0) ≡ false = sym c.is_empty.ensures ∙ c.if-is_empty.false in
     let same : index ≡ len = omega arith in
-    let P : ℕ → Type 0 = λ k. bytes_of word ≡ onto front (bytes_of (drop (2 * k) word)) in
+    let P : ℕ → Type 0 = λ k. bytes_of_digits word ≡ onto front (bytes_of_digits (drop (2 * k) word)) in
     hex-pairs word some other ∙ hex-made word front len (omega arith) (subst P same c.loop-index.invariant)

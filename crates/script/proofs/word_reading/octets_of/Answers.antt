@@ -1,7 +1,7 @@
 -- The bytes are those of the digits: two digits make a byte, as long as there are any.
 use Rattle.std.proofs.Common.{◌≡◌, ◌∙◌, ℕ, ◌*◌, ◌/◌, length, take, drop, subst, sym, None, refl, arith}
 use Rattle.std.proofs.Math.ListN.{length-set}
-use Rattle.script.specs.Inner.WordReading.{bytes_of, octets_of}
+use Rattle.script.specs.Inner.WordReading.{bytes_of_digits, octets_of}
 use Rattle.script.proofs.Hex.{onto, onto-none, hex-step, hex-stop, octets-none, octets-broken, octets-made}
 use Rattle.script.proofs.word_reading.octets_of.Goals as goal
 use Rattle.script.proofs.word_reading.octets_of.Goals.{then-digits-ne0-via-then-digits-ne0}
@@ -17,7 +17,7 @@ returns-then-digits-ne0 c =
     ]))
 
 pub loop-index-init : goal.loop-index-init
-loop-index-init c = record { room = refl; made = sym (onto-none (bytes_of c.args.digits.now)) }
+loop-index-init c = record { room = refl; made = sym (onto-none (bytes_of_digits c.args.digits.now)) }
 
 pub returns-in_err-bytes : goal.returns-in_err-bytes
 returns-in_err-bytes c =
@@ -43,7 +43,7 @@ returns c =
     let index = c.loop-index.index in
     let len = length digits / 2 in
     let same : index ≡ len = omega arith in
-    let P : ℕ → Type 0 = λ k. bytes_of digits ≡ onto (take k bytes) (bytes_of (drop (2 * k) digits)) in
+    let P : ℕ → Type 0 = λ k. bytes_of_digits digits ≡ onto (take k bytes) (bytes_of_digits (drop (2 * k) digits)) in
     c.from_slice.ensures
     ∙ octets-made digits bytes len (omega arith) (omega arith) (omega arith) c.loop-index.invariant.room
     (subst P same c.loop-index.invariant.made)

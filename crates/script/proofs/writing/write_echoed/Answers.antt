@@ -36,8 +36,8 @@ module _ (schema : List (List ℕ × List Kind)) where
       ap (λ (rest : List Output). echoed_text schema (drop index events) rest) (drop_all index outputs past)
       ∙ no-outputs (drop index events)
 
-pub returns-in_err-write_piece-clause-cut : goal.returns-in_err-write_piece-clause-cut
-returns-in_err-write_piece-clause-cut g c =
+pub returns-in_err-write_piece-clause-interrupted : goal.returns-in_err-write_piece-clause-interrupted
+returns-in_err-write_piece-clause-interrupted g c =
     let old = g.W.Write.contents c.args.writer.now in
     let mid = g.W.Write.contents c.loop-index.writer in
     let new = g.W.Write.contents c.write_piece.new.writer in
@@ -58,7 +58,7 @@ returns-in_err-write_piece-clause-cut g c =
     (line_cut old mid new (echoed_text schema events outputs) gathered (echoed_one schema event output)
     (echoed_text schema (drop (index + 1) events) (drop (index + 1) outputs)) c.push_echoed.new.text.items
     (subst (λ (l : List ℕ). IsWrittenBut old mid (echoed_text schema events outputs) (gathered ++ l)) lines c.loop-index.invariant)
-    c.in_ok-push_echoed.ensures c.in_err-write_piece.ensures.cut)
+    c.in_ok-push_echoed.ensures c.in_err-write_piece.ensures.interrupted)
 
 pub loop-index-preserved : goal.loop-index-preserved
 loop-index-preserved g c =
@@ -102,8 +102,8 @@ returns-clause-written g c =
     (none_left schema events outputs index past) c.loop-index.invariant))
     (rw c.as_slice.ensures.value at c.write_bytes.ensures.written)
 
-pub returns-clause-cut : goal.returns-clause-cut
-returns-clause-cut g c =
+pub returns-clause-interrupted : goal.returns-clause-interrupted
+returns-clause-interrupted g c =
     let old = g.W.Write.contents c.args.writer.now in
     let mid = g.W.Write.contents c.loop-index.writer in
     let new = g.W.Write.contents c.write_bytes.new.writer in
@@ -118,4 +118,4 @@ returns-clause-cut g c =
     (end_cut old mid new (echoed_text schema events outputs) gathered
     (subst (λ (l : List ℕ). IsWrittenBut old mid (echoed_text schema events outputs) (gathered ++ l))
     (none_left schema events outputs index past) c.loop-index.invariant))
-    (rw c.as_slice.ensures.value at c.write_bytes.ensures.cut)
+    (rw c.as_slice.ensures.value at c.write_bytes.ensures.interrupted)

@@ -14,8 +14,8 @@ next_lines outputs index output within at = rw (drop_more outputs index output w
 none_left : (outputs : List Output) (index : ℕ) → length outputs ≤ index → outputs_text (drop index outputs) ≡ []
 none_left outputs index past = ap outputs_text (drop_all index outputs past)
 
-pub returns-in_err-write_piece-clause-cut : goal.returns-in_err-write_piece-clause-cut
-returns-in_err-write_piece-clause-cut g c =
+pub returns-in_err-write_piece-clause-interrupted : goal.returns-in_err-write_piece-clause-interrupted
+returns-in_err-write_piece-clause-interrupted g c =
     let old = g.W.Write.contents c.args.writer.now in
     let mid = g.W.Write.contents c.loop-output.writer in
     let new = g.W.Write.contents c.write_piece.new.writer in
@@ -28,7 +28,7 @@ returns-in_err-write_piece-clause-cut g c =
     (line_cut old mid new (outputs_text outputs) gathered (output_text output) (outputs_text (drop (index + 1) outputs))
     c.push_output.new.text.items
     (subst (λ (l : List ℕ). IsWrittenBut old mid (outputs_text outputs) (gathered ++ l)) lines c.loop-output.invariant)
-    c.in_ok-push_output.ensures c.in_err-write_piece.ensures.cut)
+    c.in_ok-push_output.ensures c.in_err-write_piece.ensures.interrupted)
 
 pub loop-output-preserved : goal.loop-output-preserved
 loop-output-preserved g c =
@@ -45,8 +45,8 @@ loop-output-preserved g c =
     (subst (λ (l : List ℕ). IsWrittenBut old mid (outputs_text outputs) (gathered ++ l)) lines c.loop-output.invariant)
     c.in_ok-push_output.ensures c.in_ok-write_piece.ensures.written
 
-pub returns-clause-cut : goal.returns-clause-cut
-returns-clause-cut g c =
+pub returns-clause-interrupted : goal.returns-clause-interrupted
+returns-clause-interrupted g c =
     let old = g.W.Write.contents c.args.writer.now in
     let mid = g.W.Write.contents c.loop-output.writer in
     let new = g.W.Write.contents c.write_bytes.new.writer in
@@ -56,4 +56,4 @@ returns-clause-cut g c =
     then_err c.write_bytes.result
     (end_cut old mid new (outputs_text outputs) gathered
     (subst (λ (l : List ℕ). IsWrittenBut old mid (outputs_text outputs) (gathered ++ l)) none c.loop-output.invariant))
-    (rw c.as_slice.ensures.value at c.write_bytes.ensures.cut)
+    (rw c.as_slice.ensures.value at c.write_bytes.ensures.interrupted)

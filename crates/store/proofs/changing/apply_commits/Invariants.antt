@@ -1,11 +1,10 @@
--- What the commits from the index on make of the tables so far is what all make of the first tables.
+-- What the commits from the index on make of the tables so far is what all make of the first tables, whose kinds stay.
 use Rattle.std.proofs.Common.{◌≡◌, drop}
-use Rattle.rows.specs.Shape.{shape_of}
-use Rattle.rows.specs.Commits.{commits_of}
-use Rattle.store.specs.State.{tables_of}
+use Rattle.rows.specs.Tables.{shape_in}
+use Rattle.rows.specs.Commits.{apply_commits}
 use Rattle.store.proofs.changing.apply_commits.Given as goal
 
 abbrev pub invariant-loop-commit : goal.invariant-loop-commit
 invariant-loop-commit l =
-    commits_of (tables_of (shape_of l.schema) l.tables) (drop l.commit-index l.commits)
-    ≡ commits_of (tables_of (shape_of l.schema) l.initial.tables) l.commits
+    (apply_commits l.tables (drop l.commit-index l.commits) ≡ apply_commits l.initial.tables l.commits)
+    × (shape_in l.tables ≡ shape_in l.initial.tables)

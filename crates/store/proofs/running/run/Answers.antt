@@ -1,7 +1,7 @@
 -- One more entry was made.
 use Rattle.std.proofs.Common.{[], ◌∷◌, ◌++◌, take, sym, ◌∙◌, ap}
 use Rattle.std.proofs.lemmas.List.{take_more}
-use Rattle.store.proofs.Runs.{changes_of-push}
+use Rattle.store.proofs.Runs.{apply_entries-push}
 use Rattle.store.proofs.running.run.Goals as goal
 
 pub loop-i-preserved : goal.loop-i-preserved
@@ -13,7 +13,7 @@ loop-i-preserved g c =
     take_more c.args.entries.now c.loop-i.i entry c.loop-i-test.true
     ∙ ap (λ e. take c.loop-i.i c.args.entries.now ++ e ∷ []) (sym c.index-entries-i.is) in
     record {
-      before = rw entries (changes_of-push old _ _ (take c.loop-i.i c.args.entries.now) entry so_far.before c.in-Ok.ensures.ok);
+      before = rw entries (apply_entries-push old _ _ (take c.loop-i.i c.args.entries.now) entry so_far.before c.in-Ok.ensures.ok);
       first = λ broken. let whole = so_far.whole ∙ broken in let was = c.in-Ok.ensures.only_whole in cc;
       whole = c.in-Ok.ensures.whole ∙ so_far.whole;
       kinds = c.in-Ok.ensures.kinds ∙ so_far.kinds;

@@ -21,8 +21,8 @@ returns-in-Ok-flush-clause-printed g c =
     } in
     (script, text, given, printed, search rules)
 
-pub returns-in-Ok-write_run-clause-cut : goal.returns-in-Ok-write_run-clause-cut
-returns-in-Ok-write_run-clause-cut g c = λ same.
+pub returns-in-Ok-write_run-clause-interrupted : goal.returns-in-Ok-write_run-clause-interrupted
+returns-in-Ok-write_run-clause-interrupted g c = λ same.
     let script = c.read_to_end.new.buf.items in
     let setup = c.in-Ok.read.0 in
     let events = c.in-Ok.read.1.items in
@@ -39,8 +39,8 @@ returns-in-Ok-write_run-clause-cut g c = λ same.
     } in
     (script, text, given, printed, ([], (text, sym (append-nil text), search rules)))
 
-pub returns-in-Err-Write-clause-cut : goal.returns-in-Err-Write-clause-cut
-returns-in-Err-Write-clause-cut g c = λ same.
+pub returns-in-Err-Write-clause-interrupted : goal.returns-in-Err-Write-clause-interrupted
+returns-in-Err-Write-clause-interrupted g c = λ same.
     let script = c.read_to_end.new.buf.items in
     let setup = c.in-Ok.read.0 in
     let events = c.in-Ok.read.1.items in

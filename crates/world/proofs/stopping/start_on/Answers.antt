@@ -2,7 +2,7 @@
 use Rattle.std.proofs.Common.{List, refl, ap, ◌∙◌}
 use Rattle.rows.specs.declared.commit.Commit.{Commit}
 use Rattle.rows.specs.Shape.{shape_of}
-use Rattle.primary.specs.Steps.{started}
+use Rattle.primary.specs.Steps.{started_primary}
 use Rattle.world.proofs.stopping.start_on.Goals as goal
 
 pub unreachable-requires-in-Err-default-Journal : goal.unreachable-requires-in-Err-default-Journal
@@ -19,4 +19,4 @@ returns-in-Ok-clause-ok c commits bytes_kept found =
     let same =
     (c.stops_are_recovered.ensures.once c.args.workers (shape_of c.args.schema.now) c.args.journal.bytes durable commits kept.0 bytes_kept
     kept.1 found).0 in
-    c.in-Ok.ensures.ok ∙ ap (λ (l : List Commit). started c.args.schema.now c.args.workers l) same
+    rw c.of.ensures (c.in-Ok.ensures.ok ∙ ap (λ (l : List Commit). started_primary c.args.schema.now c.args.workers l) same)

@@ -1,4 +1,4 @@
--- Each step of a world that is honest and fresh leaves one.
+-- Each step of a world that is undamaged and fresh leaves one.
 use Rattle.world.proofs.Reports.{allowed-exact}
 use Rattle.world.proofs.theorem.allowed_runs_are_exact.Goals as goal
 

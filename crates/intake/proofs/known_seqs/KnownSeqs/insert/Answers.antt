@@ -1,7 +1,7 @@
 -- The seq that comes is the first missing one, and those behind it are passed; or it is put among those above.
 use Rattle.std.proofs.Common.{ℕ, List, ◌+◌, ◌-◌, ◌^◌, ◌<◌, ◌≤◌, sym, ap, subst, ◌∙◌, arith}
 use Rattle.intake.specs.Known.{is_known, with_seq}
-use Rattle.intake.specs.Inner.Held.{seqs_in, AreFrom, AreBelow}
+use Rattle.intake.specs.Inner.Held.{seqs_in, AreAtLeast, AreBelow}
 use Rattle.intake.proofs.Holding.{held-insert, held-insert_missing, all-insert, unknown-past}
 use Rattle.intake.proofs.known_seqs.KnownSeqs.insert.Goals as goal
 
@@ -22,7 +22,7 @@ invariant_of-self-2 c =
     let past = unknown-past missing above seq (ap (λ (known : List ℕ). is_known known seq) c.self.view_is ∙ c.requires.unknown) in
     record {
       from =
-          subst (AreFrom (missing + 1)) (sym c.in_ok-insert.ensures.keys)
+          subst (AreAtLeast (missing + 1)) (sym c.in_ok-insert.ensures.keys)
           (all-insert (λ key. missing + 1 ≤ key) above seq c.self.invariant.from (omega (arith, past, c.if-seq-self.false)));
       below =
           subst (AreBelow (2 ^ 64 - 1)) (sym c.in_ok-insert.ensures.keys)

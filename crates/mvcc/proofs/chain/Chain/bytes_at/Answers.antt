@@ -20,5 +20,5 @@ returns c =
     let before =
     ap (bytes_at c.args.version) (sym same) ∙ c.end_of-end.ensures.before ∙ ap (λ xs. latest_in (take c.end_of-end.result xs)) same in
     let within : c.end_of-end.result ≤ length links = subst (λ xs. c.end_of-end.result ≤ length xs) same c.end_of-end.ensures.within in
-    rw (← c.self.view_is) (c.as_ref.ensures.value
+    rw (← c.self.view_is) (c.lend.ensures
     ∙ sym (before ∙ latest-before links c.end_of-end.result c.index.result.now None c.if-end-eq0.false within c.index.ensures))

@@ -10,4 +10,4 @@ returns-in-Some c =
     let last =
     latest-last links c.in-Some.link.now None
     (ap (λ xs. slice_get xs (length xs - 1)) (sym c.deref.ensures.value) ∙ sym c.in-Some.ensures.value) in
-    rw (← c.self.view_is) (c.as_ref.ensures.value ∙ sym last)
+    rw (← c.self.view_is) (c.lend.ensures ∙ sym last)

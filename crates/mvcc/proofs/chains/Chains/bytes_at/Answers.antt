@@ -1,7 +1,7 @@
 -- The chain that was found is the row's.
 use Rattle.std.proofs.Common.{sym, ap, subst, ◌∙◌}
 use Rattle.std.specs.List.Sorted.{IsNonDecreasingBy}
-use Rattle.rows.proofs.Keys.{lookup-key}
+use Rattle.mvcc.proofs.Keys.{lookup-key}
 use Rattle.mvcc.specs.declared.link.Link.{Link}
 use Rattle.mvcc.specs.Inner.Chains.{links_found, links_at}
 use Rattle.mvcc.proofs.chains.Chains.bytes_at.Goals as goal

@@ -4,7 +4,7 @@ use Rattle.std.specs.Map.{set_value}
 use Rattle.std.specs.BTreeMap.{is_at}
 use Rattle.std.proofs.lemmas.Map.Steps.{set_value_same}
 use Rattle.std.proofs.lemmas.Result.{on_ok_weaker, on_err_weaker}
-use Rattle.rows.proofs.Keys.{key_cmp}
+use Rattle.mvcc.proofs.Keys.{key_cmp}
 use Rattle.mvcc.specs.Inner.Chains.{linked, Turns}
 use Rattle.mvcc.proofs.Links.{links-set, links-new}
 use Rattle.mvcc.proofs.chains.Chains.link.Goals as goal
@@ -16,12 +16,12 @@ returns-in-Some-clause-ok c =
     on_ok_weaker c.link.result
     (λ made. rw (← c.self.view_is)
     (subst (Turns c.args.entry.now more before) (sym (c.get_mut.follows.holds c.link.new.self).0)
-    (links-set before c.args.entry.now more c.table.result c.row.result.0
-    c.in-Some.chain.now c.link.new.self c.table.ensures c.row.ensures (sym c.in-Some.ensures.value) made))) c.link.ensures.ok
+    (links-set before c.args.entry.now more c.table.result c.row_of.result.0
+    c.in-Some.chain.now c.link.new.self c.table.ensures c.row_of.ensures (sym c.in-Some.ensures.value) made))) c.link.ensures.ok
 
 pub returns-in-Some-clause-err : goal.returns-in-Some-clause-err
 returns-in-Some-clause-err c =
-    let test = is_at (key_cmp (c.table.result, c.row.result.0)) in
+    let test = is_at (key_cmp (c.table.result, c.row_of.result.0)) in
     let before = c.self.inside.chains.entries in
     on_err_weaker c.link.result
     (λ same. (c.get_mut.follows.holds c.link.new.self).0 ∙ ap (set_value test before) same
@@ -31,6 +31,6 @@ pub returns-clause-ok : goal.returns-clause-ok
 returns-clause-ok c =
     rw (← c.self.view_is)
     (links-new c.self.inside.chains.entries c.insert.new.self.entries c.args.entry.now (linked c.args.number c.args.entry.now)
-    c.table.result c.row.result.0 c.link-2.new.self c.table.ensures c.row.ensures (sym c.in_default.ensures.value)
+    c.table.result c.row_of.result.0 c.link-2.new.self c.table.ensures c.row_of.ensures (sym c.in_default.ensures.value)
     (c.in_ok-link.ensures.ok ∙ ap (linked c.args.number c.args.entry.now) c.new-chain.ensures)
     (rw c.get_mut.follows.holds-at-none at c.in_ok-insert.ensures.updates.0))

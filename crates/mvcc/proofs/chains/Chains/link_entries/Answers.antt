@@ -1,7 +1,7 @@
--- Each entry links one more, and a refusal leaves what can be cut.
+-- Each entry links one more, and a refusal leaves what can be taken back.
 use Rattle.std.proofs.Common.{sym, subst}
-use Rattle.mvcc.specs.Inner.Chains.{AreChainsCut}
-use Rattle.mvcc.proofs.Keeping.{kept-begun, kept-linked, cut-part, on_err}
+use Rattle.mvcc.specs.Inner.Chains.{AreChainsTakenBack}
+use Rattle.mvcc.proofs.Keeping.{kept-begun, kept-linked, taken_back-part, on_err}
 use Rattle.mvcc.proofs.chains.Chains.link_entries.Goals as goal
 
 pub loop-entry-init : goal.loop-entry-init
@@ -9,8 +9,8 @@ loop-entry-init c = kept-begun c.args.commits.now c.args.self.now c.requires
 
 pub returns-in_err-link-clause-err : goal.returns-in_err-link-clause-err
 returns-in_err-link-clause-err c =
-    let left = cut-part c.args.commits.now c.loop-entry.self c.args.entries.now c.loop-entry.entry-index c.loop-entry.invariant in
-    on_err c.from_residual.result (subst (AreChainsCut c.args.commits.now c.args.entries.now) (sym c.in_err-link.ensures.err) left)
+    let left = taken_back-part c.args.commits.now c.loop-entry.self c.args.entries.now c.loop-entry.entry-index c.loop-entry.invariant in
+    on_err c.from_residual.result (subst (AreChainsTakenBack c.args.commits.now c.args.entries.now) (sym c.in_err-link.ensures.err) left)
 
 pub loop-entry-preserved : goal.loop-entry-preserved
 loop-entry-preserved c =

@@ -1,5 +1,5 @@
 -- The row has its new indices, and any other row those that it had.
-use Rattle.rows.proofs.Keys.{lookup-put}
+use Rattle.mvcc.proofs.Keys.{lookup-put}
 use Rattle.mvcc.proofs.OwnRows.{indices-put}
 use Rattle.mvcc.proofs.own_rows.OwnRows.put.Goals as goal
 

@@ -2,7 +2,8 @@
 use Rattle.std.proofs.Common.{◌≡◌, ◌≤◌, ℕ, true, length, subst, sym, ap, ◌∙◌, arith}
 use Rattle.std.proofs.lemmas.List.{take_all}
 use Rattle.rows.specs.Shape.{shape_of}
-use Rattle.rows.specs.Entries.{table_of, row_of}
+use Rattle.rows.specs.Entries.{table_of}
+use Rattle.mvcc.specs.Inner.Keys.{row_of}
 use Rattle.rows.specs.Commits.{last_touching}
 use Rattle.rows.proofs.TableLaws.{still_defined}
 use Rattle.mvcc.specs.History.{History, defined_at}
@@ -21,8 +22,8 @@ loop-entry-preserved c =
     let next =
     last_touching-next c.args.entries.now commits c.loop-entry.entry-index c.entry-item.result c.loop-entry-test.true c.entry-item.is in
     let newest : c.newest-newest.result ≡ newest_of (table_of entry) (row_of entry) commits =
-    c.newest-newest.ensures ∙ ap (λ t. newest_of t c.row.result.0 commits) c.table.ensures
-    ∙ ap (λ r. newest_of (table_of entry) r commits) c.row.ensures in
+    c.newest-newest.ensures ∙ ap (λ t. newest_of t c.row_of.result.0 commits) c.table.ensures
+    ∙ ap (λ r. newest_of (table_of entry) r commits) c.row_of.ensures in
     elim c.if-last-newest.branch [ then-last-newest w ↦ omega arith | else-last-newest w ↦ omega arith ]
 
 pub returns-clause-stay_defined : goal.returns-clause-stay_defined

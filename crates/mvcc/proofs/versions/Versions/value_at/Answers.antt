@@ -1,7 +1,6 @@
 -- The value of the column in the bytes of the row's chain at the version is that of the row there.
-use Rattle.std.proofs.Common.{length, slice_get, sym, ap, ◌∙◌, arith}
+use Rattle.std.proofs.Common.{sym, ◌∙◌, arith}
 use Rattle.rows.specs.Shape.{shape_of}
-use Rattle.rows.specs.Values.{values_of}
 use Rattle.mvcc.proofs.Keeping.{sorted-at, value-unknown, value-absent, value-there, wide-there}
 use Rattle.mvcc.proofs.versions.Versions.value_at.Goals as goal
 
@@ -30,13 +29,12 @@ value_in_row-requires-clause-wide c =
     let wide =
     wide-there (shape_of inside.schema) inside.commits.items inside.chains c.args.version c.args.table c.args.row.0 c.args.column
     c.self.invariant c.in_ok-kinds.kinds.now c.in_ok-bytes.bytes.now c.in_ok-kinds.ensures.value c.in_ok-bytes.ensures in
-    omega (arith, wide, ap length c.as_slice.ensures)
+    omega (arith, wide)
 
 pub returns : goal.returns
 returns c =
     let inside = c.self.inside in
     let kinds = c.in_ok-kinds.kinds.now in
     rw (← c.self.view_is) (c.value_in_row.ensures
-    ∙ ap (λ bytes. slice_get (values_of kinds bytes) c.args.column) c.as_slice.ensures
     ∙ sym (value-there (shape_of inside.schema) inside.commits.items inside.chains c.args.version c.args.table c.args.row.0
     c.args.column c.self.invariant kinds c.in_ok-bytes.bytes.now c.in_ok-kinds.ensures.value c.in_ok-bytes.ensures))

@@ -22,4 +22,4 @@ invariant_of-self-2 c =
     let put : c.insert-2.new.self.items ≡ insert c.reserve.new.self.items c.index_of-index.result c.args.row = search rules in
     let ids : c.insert-2.new.self.items ≡ keys_of c.insert.new.self.entries =
     rw (c.in_ok-insert.ensures.entries, put, c.index_of-index.ensures, kept) (sym made) in
-    record { ids = ids; rise = rw ids c.in_ok-insert.ensures.ordered }
+    record { columns = c.self.invariant.columns; ids = ids; rise = rw ids c.in_ok-insert.ensures.ordered }

@@ -6,7 +6,7 @@ use Rattle.std.specs.Map.{lookup, keys_of}
 use Rattle.std.proofs.lemmas.Map.Entries.{length-keys_of}
 use Rattle.std.specs.BTreeMap.{is_at}
 use Rattle.std.specs.Ordering.{nat_cmp}
-use Rattle.rows.specs.Tables.{is_present}
+use Rattle.rows.specs.Tables.{Rows, Table, is_present}
 use Rattle.store.proofs.Ids.{below, below-present, keys_of-remove_entry}
 use Rattle.store.proofs.Rows.{remove_entry-only}
 use Rattle.store.proofs.table_map.TableMap.remove.Goals as goal
@@ -14,12 +14,14 @@ use Rattle.store.proofs.table_map.TableMap.remove.Goals as goal
 pub returns-then-is_none-clause-rows : goal.returns-then-is_none-clause-rows
 returns-then-is_none-clause-rows c =
     let left = ap (lookup (is_at (nat_cmp c.args.row))) (sym c.remove.ensures.entries) ∙ c.remove.ensures.updates.1 in
-    rw (c.remove.ensures.entries, ← c.self.view_is) (remove_entry-only c.self.inside.rows.entries c.args.row left)
+    let with : Rows → Table = λ rows. record { kinds = c.self.inside.kinds; rows = rows } in
+    rw (c.remove.ensures.entries, ← c.self.view_is) (ap with (remove_entry-only c.self.inside.rows.entries c.args.row left))
 
 pub returns-clause-rows : goal.returns-clause-rows
 returns-clause-rows c =
     let left = ap (lookup (is_at (nat_cmp c.args.row))) (sym c.remove.ensures.entries) ∙ c.remove.ensures.updates.1 in
-    rw (c.remove.ensures.entries, ← c.self.view_is) (remove_entry-only c.self.inside.rows.entries c.args.row left)
+    let with : Rows → Table = λ rows. record { kinds = c.self.inside.kinds; rows = rows } in
+    rw (c.remove.ensures.entries, ← c.self.view_is) (ap with (remove_entry-only c.self.inside.rows.entries c.args.row left))
 
 pub invariant_of-self-2 : goal.invariant_of-self-2
 invariant_of-self-2 c =
@@ -33,4 +35,4 @@ invariant_of-self-2 c =
     let taken : c.remove-2.new.self.items ≡ remove c.self.inside.ids.items c.index_of-index.result = search rules in
     let ids : c.remove-2.new.self.items ≡ keys_of c.remove.new.self.entries =
     rw (c.remove.ensures.entries, taken, index, c.self.invariant.ids) (sym (keys_of-remove_entry rows c.args.row rise there)) in
-    record { ids = ids; rise = rw ids c.remove.ensures.ordered }
+    record { columns = c.self.invariant.columns; ids = ids; rise = rw ids c.remove.ensures.ordered }

@@ -2,7 +2,7 @@
 use Rattle.std.proofs.Common.{◌≡◌, ◌<◌, ◌+◌, ◌++◌, ◌∷◌, [], List, length, refl, sym, ap, subst, ◌∙◌, arith}
 use Rattle.std.specs.Prelude.{slice_set}
 use Rattle.update_log.specs.declared.frame.Frame.{Frame}
-use Rattle.update_log.specs.State.{State, Next}
+use Rattle.update_log.specs.State.{StreamsState, Next}
 use Rattle.update_log.specs.Streams.{AreStreamsOf, extended}
 use Rattle.update_log.proofs.Joining.{streams-extended}
 use Rattle.update_log.proofs.Keeping.{frames_in, frames-length, frames-set, stream-read}
@@ -18,14 +18,14 @@ returns-clause-added c =
     frames-set all worker c.add.new.self
     ∙ ap (slice_set (frames_in all) worker)
     (c.add.ensures ∙ ap (λ (stream : List Frame). stream ++ more) (sym (stream-read all worker was there c.index_mut-stream.ensures.value)))
-    ∙ ap (λ (state : State). extended state.streams (record { worker = worker; frames = more })) c.self.view_is
+    ∙ ap (λ (state : StreamsState). extended state.streams (record { worker = worker; frames = more })) c.self.view_is
     ∙ ap (extended c.args.self.now.streams) c.next.view_is
 
 pub returns-clause-commits : goal.returns-clause-commits
 returns-clause-commits c commits commit are is =
     let streams = c.args.self.now.streams in
     let counted : length streams ≡ length c.self.inside.workers.items =
-    sym (ap (λ (state : State). length state.streams) c.self.view_is) ∙ frames-length c.self.inside.workers.items in
+    sym (ap (λ (state : StreamsState). length state.streams) c.self.view_is) ∙ frames-length c.self.inside.workers.items in
     let ours : commit.worker ≡ c.next.inside.worker = sym (ap (λ (next : Next). next.worker) (c.next.view_is ∙ is)) in
     let there : commit.worker < length streams = omega (arith, counted, ours, c.self.invariant, c.next.invariant.0) in
     subst (λ (now : List (List Frame)). AreStreamsOf now (commits ++ commit ∷ []))

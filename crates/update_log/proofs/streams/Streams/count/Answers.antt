@@ -2,7 +2,7 @@
 use Rattle.std.proofs.Common.{◌≡◌, ◌<◌, ◌≤◌, take, drop, List, length, sym, ap, subst, ◌+◌, ◌∙◌, arith}
 use Rattle.std.proofs.lemmas.Bool.{ltb-true, ltb-false}
 use Rattle.update_log.specs.declared.frame.Frame.{Frame}
-use Rattle.update_log.specs.State.{State}
+use Rattle.update_log.specs.State.{StreamsState}
 use Rattle.update_log.specs.Inner.Kept.{Kept}
 use Rattle.update_log.specs.Inner.Splitting.{IsSplitAt}
 use Rattle.update_log.specs.Streams.{stream_at, stream_from, stream_of}
@@ -17,7 +17,7 @@ returns-in-None c commits are =
     let beyond = ltb-false worker (length c.as_slice.result.now) (sym c.in-None.ensures.lookup.0) in
     let past : length lists ≤ worker = omega (arith, beyond, ap length c.as_slice.ensures.value) in
     count-none commits worker c.args.version
-    (sym (stream-past lists worker past) ∙ ap (λ (state : State). stream_at state.streams worker) c.self.view_is ∙ are.each worker)
+    (sym (stream-past lists worker past) ∙ ap (λ (state : StreamsState). stream_at state.streams worker) c.self.view_is ∙ are.each worker)
 
 pub returns-in-Some : goal.returns-in-Some
 returns-in-Some c commits are =
@@ -28,7 +28,7 @@ returns-in-Some c commits are =
     let same : c.in-Some.stream.now.frames ≡ stream_of commits worker =
     sym (stream-read kept worker c.in-Some.stream.now there c.in-Some.ensures.lookup.1)
     ∙ ap (λ (all : List Kept). stream_at (frames_in all) worker) c.as_slice.ensures.value
-    ∙ ap (λ (state : State). stream_at state.streams worker) c.self.view_is
+    ∙ ap (λ (state : StreamsState). stream_at state.streams worker) c.self.view_is
     ∙ are.each worker in
     let front = stream_of (take version commits) worker in
     let back = stream_from worker (0 + version) (0 + length front) (drop version commits) in

@@ -2,7 +2,7 @@
 use Rattle.std.proofs.Common.{◌<◌, ◌≤◌, ℕ, List, length, sym, ap, subst, ◌∙◌, arith}
 use Rattle.rows.specs.declared.commit.Commit.{Commit}
 use Rattle.update_log.specs.declared.frame.Frame.{Frame}
-use Rattle.update_log.specs.State.{State, Next}
+use Rattle.update_log.specs.State.{StreamsState, Next}
 use Rattle.update_log.specs.Frames.{frames_of}
 use Rattle.update_log.specs.Streams.{stream_at}
 use Rattle.update_log.proofs.Keeping.{frames-stay, room-set, stream-read}
@@ -12,13 +12,13 @@ pub returns-in_err-frames-clause-same : goal.returns-in_err-frames-clause-same
 returns-in_err-frames-clause-same c =
     frames-stay c.self.inside.workers.items c.args.worker c.index_mut-stream.result.now c.reserve.new.self
     c.index_mut-stream.ensures.value c.reserve.ensures.same
-    ∙ ap (λ (state : State). state.streams) c.self.view_is
+    ∙ ap (λ (state : StreamsState). state.streams) c.self.view_is
 
 pub returns-clause-same : goal.returns-clause-same
 returns-clause-same c =
     frames-stay c.self.inside.workers.items c.args.worker c.index_mut-stream.result.now c.reserve.new.self
     c.index_mut-stream.ensures.value c.reserve.ensures.same
-    ∙ ap (λ (state : State). state.streams) c.self.view_is
+    ∙ ap (λ (state : StreamsState). state.streams) c.self.view_is
 
 pub returns-clause-frames : goal.returns-clause-frames
 returns-clause-frames c =

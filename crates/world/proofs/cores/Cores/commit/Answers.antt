@@ -1,7 +1,7 @@
 -- The transaction is taken out of its slot, and put back when out of memory.
 use Rattle.std.proofs.Common.{refl, sym, ◌∙◌}
 use Rattle.world.specs.declared.primary_node.PrimaryNode.TheVariants.{Running}
-use Rattle.world.proofs.Moving.{beside_memory, commit_nothing, put_back_same}
+use Rattle.world.proofs.Moving.{commit_nothing, commit_lacks}
 use Rattle.world.proofs.Nodes.{node_seen}
 use Rattle.world.proofs.cores.Cores.commit.Goals as goal
 
@@ -23,7 +23,6 @@ returns-in-Err-default-Memory c =
     let refused = c.in-Err-default-Memory.ensures.refused in
     let journal = c.in-Err-default-Memory.ensures.journal in
     let left = rw (c.take_open.ensures.left) at c.put_back.ensures in
-    let same =
-    put_back_same _ _ seen refl c.args.number c.in-Some.transaction c.in-Err-default-Memory.transaction _
-    (sym c.take_open.ensures.taken ∙ c.in-Some.is) left refused.0 in
-    rw (refused.1, journal) (beside_memory _ _ _ _ refl same)
+    let fault = rw c.in-Err-default-Memory.field-0-1-is at refused.2 in
+    rw (refused.1, journal) (commit_lacks _ _ seen refl c.args.number c.args.worker c.in-Some.transaction
+    c.in-Err-default-Memory.transaction _ (sym c.take_open.ensures.taken ∙ c.in-Some.is) left refused.0 fault)

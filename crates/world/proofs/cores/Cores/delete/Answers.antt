@@ -1,7 +1,7 @@
 -- The transaction is taken out of its slot, changed or not, and put back.
 use Rattle.std.proofs.Common.{◌≤◌, length, refl, sym, ◌∙◌, arith, length-append}
 use Rattle.rows.specs.Shape.{shape_of}
-use Rattle.mvcc.specs.Draft.{Draft}
+use Rattle.mvcc.specs.Transaction.{Transaction}
 use Rattle.mvcc.specs.Transactions.{delete_answer}
 use Rattle.script.specs.declared.event.Event.TheVariants.{Delete}
 use Rattle.world.specs.declared.primary_node.PrimaryNode.TheVariants.{Running}
@@ -31,7 +31,7 @@ delete-deleted-requires c =
     let primary = c.in-Running.primary.primary in
     let snapshots = rw (← seen) at c.requires.snapshots in
     let within =
-    slot_at (λ (draft : Draft). draft.snapshot ≤ length primary.durable) inside.transactions.items c.args.number
+    slot_at (λ (draft : Transaction). draft.snapshot ≤ length primary.durable) inside.transactions.items c.args.number
     c.in-Some.transaction (sym c.take_open.ensures.taken ∙ c.in-Some.is) snapshots in
     rw c.versions.ensures (omega (arith, length-append primary.durable primary.pending))
 
@@ -43,17 +43,17 @@ returns c =
     inside.boots.items inside.asked_at.items c.args.self.now c.in-Running.is c.self.view_is in
     let primary = c.in-Running.primary.primary in
     let event = Delete c.args.number c.args.table c.args.row in
-    let change = λ (draft : Draft). delete_answer (shape_of primary.schema) primary.durable draft c.args.table c.args.row.0 in
+    let change = λ (draft : Transaction). delete_answer (shape_of primary.schema) primary.durable draft c.args.table c.args.row.0 in
     let draft = c.in-Some.transaction in
     let after = c.delete-deleted.new.self in
     let there = sym c.take_open.ensures.taken ∙ c.in-Some.is in
     let left = rw (c.take_open.ensures.left) at c.put_back.ensures in
     let snapshots = rw (← seen) at c.requires.snapshots in
     let within : draft.snapshot ≤ length primary.durable =
-    slot_at (λ (draft : Draft). draft.snapshot ≤ length primary.durable) inside.transactions.items c.args.number
+    slot_at (λ (draft : Transaction). draft.snapshot ≤ length primary.durable) inside.transactions.items c.args.number
     draft there snapshots in
     let told = sym (delete-told (shape_of primary.schema) primary.durable primary.pending draft c.args.table c.args.row.0 within) in
     rw (c.in-Running.is, c.change_output.ensures) (answered _ _ seen refl c.args.number event change refl draft after _ _
-    c.delete-deleted.result there left told
+    c.delete-deleted.result (λ answer takes. takes) there left told
     (rw (c.versions.ensures) at c.delete-deleted.ensures.ok)
     (rw (c.versions.ensures) at c.delete-deleted.ensures.refused))

@@ -1,7 +1,7 @@
 -- The transaction reads a durable version, and looks at it.
 use Rattle.std.proofs.Common.{◌≤◌, length, refl, sym, arith, length-append}
 use Rattle.rows.specs.Shape.{shape_of}
-use Rattle.mvcc.specs.Draft.{Draft}
+use Rattle.mvcc.specs.Transaction.{Transaction}
 use Rattle.mvcc.specs.Transactions.{get_answer}
 use Rattle.script.specs.declared.event.Event.TheVariants.{Get}
 use Rattle.world.specs.declared.primary_node.PrimaryNode.TheVariants.{Running}
@@ -32,7 +32,7 @@ get-requires c =
     let there = rw (c.as_slice.ensures.value, c.in-Some.is) at c.find_open.ensures in
     let snapshots = rw (← seen) at c.requires.snapshots in
     let within =
-    slot_at (λ (draft : Draft). draft.snapshot ≤ length primary.durable) inside.transactions.items c.args.number
+    slot_at (λ (draft : Transaction). draft.snapshot ≤ length primary.durable) inside.transactions.items c.args.number
     c.in-Some.transaction.now (sym there) snapshots in
     rw c.versions.ensures (omega (arith, length-append primary.durable primary.pending))
 
@@ -47,7 +47,7 @@ returns-in-Some c =
     let there = rw (c.as_slice.ensures.value, c.in-Some.is) at c.find_open.ensures in
     let snapshots = rw (← seen) at c.requires.snapshots in
     let within =
-    slot_at (λ (draft : Draft). draft.snapshot ≤ length primary.durable) inside.transactions.items c.args.number
+    slot_at (λ (draft : Transaction). draft.snapshot ≤ length primary.durable) inside.transactions.items c.args.number
     draft (sym there) snapshots in
     let told = sym (get-told (shape_of primary.schema) primary.durable primary.pending draft c.args.table c.args.row.0 within
     c.args.column) in

@@ -12,7 +12,10 @@ returns-then-is_err c =
     let as_many = rw (← c.self.view_is) at c.requires.ready.boots_there in
     let within : c.args.number < length boots = omega (arith, as_many, there) in
     let at = slice_get_read boots _ c.args.number c.index_mut.result.now refl within c.index_mut.ensures.value in
-    restart_refused _ _ c.self.view_is c.args.number c.args.boot (omega arith) c.index_mut.result.now at c.push.new.self
+    let looked = slice_get_read boots _ c.args.number c.index.result.now refl within c.index.ensures in
+    let same = same_Some c.index.result.now c.index_mut.result.now (sym looked ∙ at) in
+    let none = sym (ap (λ boots. had_boot boots c.args.boot) same) ∙ sym c.has.ensures ∙ c.if-has.false in
+    restart_refused _ _ c.self.view_is c.args.number c.args.boot (omega arith) c.index_mut.result.now at c.push.new.self there none
     (on-err c.push.result _ c.push.ensures.err (sym c.is_err.ensures.value ∙ c.if-is_err.true))
 
 pub returns : goal.returns

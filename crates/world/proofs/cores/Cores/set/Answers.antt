@@ -1,7 +1,7 @@
 -- The transaction is taken out of its slot, changed or not, and put back.
 use Rattle.std.proofs.Common.{◌≤◌, length, refl, sym, ◌∙◌, arith, length-append}
 use Rattle.rows.specs.Shape.{shape_of}
-use Rattle.mvcc.specs.Draft.{Draft}
+use Rattle.mvcc.specs.Transaction.{Transaction}
 use Rattle.mvcc.specs.Transactions.{set_answer}
 use Rattle.script.specs.declared.event.Event.TheVariants.{Set}
 use Rattle.world.specs.declared.primary_node.PrimaryNode.TheVariants.{Running}
@@ -31,7 +31,7 @@ set-set-requires c =
     let primary = c.in-Running.primary.primary in
     let snapshots = rw (← seen) at c.requires.snapshots in
     let within =
-    slot_at (λ (draft : Draft). draft.snapshot ≤ length primary.durable) inside.transactions.items c.args.number
+    slot_at (λ (draft : Transaction). draft.snapshot ≤ length primary.durable) inside.transactions.items c.args.number
     c.in-Some.transaction (sym c.take_open.ensures.taken ∙ c.in-Some.is) snapshots in
     rw c.versions.ensures (omega (arith, length-append primary.durable primary.pending))
 
@@ -43,7 +43,7 @@ returns c =
     inside.boots.items inside.asked_at.items c.args.self.now c.in-Running.is c.self.view_is in
     let primary = c.in-Running.primary.primary in
     let event = Set c.args.number c.args.table c.args.row c.args.column c.args.value in
-    let change = λ (draft : Draft). set_answer
+    let change = λ (draft : Transaction). set_answer
     (shape_of primary.schema) primary.durable draft c.args.table c.args.row.0 c.args.column c.args.value in
     let draft = c.in-Some.transaction in
     let after = c.set-set.new.self in
@@ -51,11 +51,11 @@ returns c =
     let left = rw (c.take_open.ensures.left) at c.put_back.ensures in
     let snapshots = rw (← seen) at c.requires.snapshots in
     let within : draft.snapshot ≤ length primary.durable =
-    slot_at (λ (draft : Draft). draft.snapshot ≤ length primary.durable) inside.transactions.items c.args.number
+    slot_at (λ (draft : Transaction). draft.snapshot ≤ length primary.durable) inside.transactions.items c.args.number
     draft there snapshots in
     let told = sym (set-told (shape_of primary.schema) primary.durable primary.pending draft c.args.table c.args.row.0 within c.args.column
     c.args.value) in
     rw (c.in-Running.is, c.change_output.ensures) (answered _ _ seen refl c.args.number event change refl draft after _ _
-    c.set-set.result there left told
+    c.set-set.result (λ answer takes. takes) there left told
     (rw (c.versions.ensures) at c.set-set.ensures.ok)
     (rw (c.versions.ensures) at c.set-set.ensures.refused))

@@ -1,5 +1,5 @@
 -- What is kept of the bytes that stand is what is durable then.
-use Rattle.std.proofs.Common.{◌≡◌, length, refl, ap, ◌∙◌, arith}
+use Rattle.std.proofs.Common.{◌≡◌, length, ap, ◌∙◌, arith}
 use Rattle.std.proofs.lemmas.List.{with_items_is}
 use Rattle.world.specs.declared.primary_node.PrimaryNode.TheVariants.{Running}
 use Rattle.world.proofs.Nodes.{node_seen, closed_length, left_recovered, left_kept, stop_done}
@@ -14,7 +14,7 @@ commits_kept-requires c =
     let core = c.in-Running.primary in
     let set = rw (← seen) at c.requires.setup_is in
     let whole = rw (← seen) at c.requires.whole in
-    let text = c.keeps_legal.ensures.written refl whole in
+    let text = c.keeps_legal.ensures.written whole in
     rw c.as_slice.ensures.value (left_recovered c.stops_are_recovered.ensures.stops inside.setup core.primary c.args.bytes
     core.journal.bytes c.in-Ok.content.items set c.keeps_legal.ensures.all text c.in-Ok.ensures)
 
@@ -27,7 +27,7 @@ returns c =
     let core = c.in-Running.primary in
     let set = rw (← seen) at c.requires.setup_is in
     let whole = rw (← seen) at c.requires.whole in
-    let text = c.keeps_legal.ensures.written refl whole in
+    let text = c.keeps_legal.ensures.written whole in
     let found = rw c.as_slice.ensures.value at c.in-Ok-commits_kept.ensures in
     let content = c.in-Ok.content.items in
     let kept = c.in-Ok-commits_kept.kept.items in

@@ -1,0 +1,44 @@
+-- The words that the program is called with, and what they ask for.
+use Rattle.std.specs.Prelude.{ℕ, List, [], ◌∷◌, Bool, codes, ◌&&◌, ◌||◌, if◌then◌else◌}
+use Rattle.std.specs.Str.{bytes_eq}
+use Rattle.world.specs.declared.script_running.Echo.TheVariants as echoes
+use Rattle.batchdb.specs.declared.words.Asked.{Asked}
+use Rattle.batchdb.specs.declared.words.Asked.TheVariants.{Simulator, Help, Version, Other}
+
+-- whether a word asks for the help, wherever it stands
+abbrev pub is_help : List ℕ → Bool
+is_help word = bytes_eq word (codes "--help") || bytes_eq word (codes "-h")
+
+-- what one word asks for, behind the program's own name
+abbrev pub asked_by_one : List ℕ → Asked
+asked_by_one word =
+    if bytes_eq word (codes "sim") then Simulator echoes.No else
+    if bytes_eq word (codes "help") || is_help word then Help else
+    if bytes_eq word (codes "--version") || bytes_eq word (codes "-V") then Version else Other
+
+-- what a word behind `sim` asks for; `--` ends the words
+abbrev pub asked_of_sim : List ℕ → Asked
+asked_of_sim word =
+    if bytes_eq word (codes "--echo") then Simulator echoes.Events else
+    if bytes_eq word (codes "--") then Simulator echoes.No else
+    if is_help word then Help else Other
+
+-- what two words ask for
+abbrev pub asked_by_two : List ℕ → List ℕ → Asked
+asked_by_two word next =
+    if bytes_eq word (codes "sim") then asked_of_sim next else
+    if bytes_eq word (codes "help") && bytes_eq next (codes "sim") then Help else Other
+
+-- what three words ask for
+abbrev pub asked_by_three : List ℕ → List ℕ → List ℕ → Asked
+asked_by_three word next last =
+    if bytes_eq word (codes "sim") && bytes_eq next (codes "--echo") && bytes_eq last (codes "--") then Simulator echoes.Events else Other
+
+-- what words ask for, the first of which is the program's own name
+abbrev pub asked_for : List (List ℕ) → Asked
+asked_for [] = Other
+asked_for (name ∷ []) = Other
+asked_for (name ∷ word ∷ []) = asked_by_one word
+asked_for (name ∷ word ∷ next ∷ []) = asked_by_two word next
+asked_for (name ∷ word ∷ next ∷ last ∷ []) = asked_by_three word next last
+asked_for (name ∷ word ∷ next ∷ last ∷ more ∷ words) = Other

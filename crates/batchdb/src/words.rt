@@ -1,0 +1,92 @@
+//! What the program's words ask for.
+
+ghost use Rattle.std.specs.Prelude.{◌≡◌, map};
+ghost use Rattle.batchdb.specs.Words.{asked_for, asked_by_one, asked_by_two, asked_by_three, asked_of_sim, is_help};
+
+use world::Echo;
+
+/// What words ask for.
+#[derive(Clone, Copy)]
+pub enum Asked {
+    /// To run a script.
+    Simulator(Echo),
+    /// To print the help.
+    Help,
+    /// To print the version.
+    Version,
+    /// Nothing that the program knows.
+    Other,
+}
+
+/// What these words ask for, the first of which is the program's own name.
+pub fn asked_for(words: &[&str]) -> Asked
+    ensures { result ≡ asked_for (map (λ word. word.now) words.now) }
+{
+    match words {
+        [_, word] => asked_by_one(word),
+        [_, word, next] => asked_by_two(word, next),
+        [_, word, next, last] => asked_by_three(word, next, last),
+        _ => Asked::Other,
+    }
+}
+
+/// What one word asks for.
+fn asked_by_one(word: &str) -> Asked
+    ensures { result ≡ asked_by_one word.now }
+{
+    if word == "sim" {
+        Asked::Simulator(Echo::No)
+    } else if word == "help" || is_help(word) {
+        Asked::Help
+    } else if word == "--version" || word == "-V" {
+        Asked::Version
+    } else {
+        Asked::Other
+    }
+}
+
+/// What two words ask for.
+fn asked_by_two(word: &str, next: &str) -> Asked
+    ensures { result ≡ asked_by_two word.now next.now }
+{
+    if word == "sim" {
+        asked_of_sim(next)
+    } else if word == "help" && next == "sim" {
+        Asked::Help
+    } else {
+        Asked::Other
+    }
+}
+
+/// What three words ask for.
+fn asked_by_three(word: &str, next: &str, last: &str) -> Asked
+    ensures { result ≡ asked_by_three word.now next.now last.now }
+{
+    if word == "sim" && next == "--echo" && last == "--" {
+        Asked::Simulator(Echo::Events)
+    } else {
+        Asked::Other
+    }
+}
+
+/// What a word behind `sim` asks for; `--` ends the words.
+fn asked_of_sim(word: &str) -> Asked
+    ensures { result ≡ asked_of_sim word.now }
+{
+    if word == "--echo" {
+        Asked::Simulator(Echo::Events)
+    } else if word == "--" {
+        Asked::Simulator(Echo::No)
+    } else if is_help(word) {
+        Asked::Help
+    } else {
+        Asked::Other
+    }
+}
+
+/// Whether a word asks for the help, wherever it stands.
+fn is_help(word: &str) -> bool
+    ensures { result ≡ is_help word.now }
+{
+    word == "--help" || word == "-h"
+}

@@ -1,0 +1,4 @@
+pub mod Beginnings
+pub mod Cells
+pub mod Stamps
+pub mod Keeping

@@ -1,0 +1,94 @@
+-- Of which row an entry is; what a map of rows finds, and what it finds once one row's entry was replaced.
+use Rattle.std.proofs.Common.{◌≡◌, ℕ, Bool, true, false, cond, ◌&&◌, ◌==◌, List, [], ◌∷◌, Some, refl, sym, ap, ◌∙◌, arith}
+use Rattle.std.specs.Map.{lookup, set_value}
+use Rattle.std.specs.BTreeMap.{is_at}
+use Rattle.std.specs.Ordering.{nat_cmp, ordering_then}
+use Rattle.std.specs.declared.cmp.Ordering.{Ordering}
+use Rattle.std.proofs.lemmas.Bool.{and_from, and_parts, eq-eqb, eqb-true}
+use Rattle.std.proofs.lemmas.Bool.Decides.{nat_tests}
+use Rattle.rows.specs.declared.entry.Entry.{Entry}
+use Rattle.rows.specs.declared.entry.Entry.TheVariants.{Insert, Patch, Delete}
+use Rattle.rows.specs.Entries.{table_of}
+use Rattle.rows.specs.Commits.{is_of, overlaps}
+use Rattle.mvcc.specs.Inner.Keys.{is_key_of, row_of}
+
+-- the row that an entry is of
+pub is_of-is : (t r : ℕ) (entry : Entry) → is_of t r entry ≡ ((table_of entry == t) && (row_of entry == r))
+is_of-is t r (Insert table row bytes) = refl
+is_of-is t r (Patch table row offset bytes) = refl
+is_of-is t r (Delete table row) = refl
+
+pub of-parts : (t r : ℕ) (entry : Entry) → is_of t r entry ≡ true → (table_of entry ≡ t) × (row_of entry ≡ r)
+of-parts t r entry e =
+    let parts = and_parts (table_of entry == t) (row_of entry == r) (sym (is_of-is t r entry) ∙ e) in
+    (eqb-true (table_of entry) t parts.0, eqb-true (row_of entry) r parts.1)
+
+pub of-own : (entry : Entry) → is_of (table_of entry) (row_of entry) entry ≡ true
+of-own entry =
+    is_of-is (table_of entry) (row_of entry) entry
+    ∙ and_from _ _ (eq-eqb (table_of entry) (table_of entry) refl) (eq-eqb (row_of entry) (row_of entry) refl)
+
+pub overlaps-is : (entry other : Entry) → overlaps entry other ≡ is_of (table_of entry) (row_of entry) other
+overlaps-is (Insert table row bytes) other = refl
+overlaps-is (Patch table row offset bytes) other = refl
+overlaps-is (Delete table row) other = refl
+
+-- how a map compares its keys
+abbrev pub key_cmp : ℕ × ℕ → ℕ × ℕ → Ordering
+key_cmp x y = ordering_then (nat_cmp x.0 y.0) (nat_cmp x.1 y.1)
+
+-- two tests that answer alike find the same
+lookup-alike : {K X : Type 0} (f g : K → Bool) (es : List (K × X)) → ((k : K) → f k ≡ g k) → lookup f es ≡ lookup g es
+lookup-alike f g [] h = refl
+lookup-alike f g (e ∷ es) h = ap (λ b. cond b (Some e.1) (lookup f es)) (h e.0) ∙ ap (cond (g e.0) (Some e.1)) (lookup-alike f g es h)
+
+is_key-cmp : (table row : ℕ) (key : ℕ × ℕ) → is_at (key_cmp (table, row)) key ≡ is_key_of table row key
+is_key-cmp table row key = grind (arith, nat_tests)
+
+same_key : (table row t r : ℕ) → is_at (key_cmp (table, row)) (t, r) ≡ ((table == t) && (row == r))
+same_key table row t r = grind (arith, nat_tests)
+
+-- what the map finds
+pub lookup-key : {X : Type 0} (es : List ((ℕ × ℕ) × X)) (table row : ℕ)
+    → lookup (is_at (key_cmp (table, row))) es ≡ lookup (is_key_of table row) es
+lookup-key es table row = lookup-alike (is_at (key_cmp (table, row))) (is_key_of table row) es (λ key. is_key-cmp table row key)
+
+-- what it finds once the entry of a row that is there was changed
+set-key : {X : Type 0} (es : List ((ℕ × ℕ) × X)) (table row t r : ℕ) (x was : X)
+    → lookup (is_at (key_cmp (table, row))) es ≡ Some was
+    → lookup (is_at (key_cmp (t, r))) (set_value (is_at (key_cmp (table, row))) es x) ≡ cond (is_at (key_cmp (table, row)) (t, r)) (Some x)
+    (lookup (is_at (key_cmp (t, r))) es)
+set-key [] table row t r x was h = cc
+set-key (e ∷ es) table row t r x was h = by (is_at (key_cmp (table, row)) e.0) refl (set-key es table row t r x was) h
+  where
+    by : (here : Bool) → is_at (key_cmp (table, row)) e.0 ≡ here
+        → (lookup (is_at (key_cmp (table, row))) es ≡ Some was
+        → lookup (is_at (key_cmp (t, r))) (set_value (is_at (key_cmp (table, row))) es x) ≡ cond (is_at (key_cmp (table, row)) (t, r))
+        (Some x) (lookup (is_at (key_cmp (t, r))) es))
+        → cond here (Some e.1) (lookup (is_at (key_cmp (table, row))) es) ≡ Some was
+        → lookup (is_at (key_cmp (t, r))) (cond here ((e.0, x) ∷ es) (e ∷ set_value (is_at (key_cmp (table, row))) es x))
+        ≡ cond (is_at (key_cmp (table, row)) (t, r)) (Some x) (cond (is_at (key_cmp (t, r)) e.0) (Some e.1)
+        (lookup (is_at (key_cmp (t, r))) es))
+    by true f next h = grind (arith, nat_tests)
+    by false f next h = let rest = next h in grind (arith, nat_tests)
+
+pub lookup-set : {X : Type 0} (es : List ((ℕ × ℕ) × X)) (table row : ℕ) (x was : X)
+    → lookup (is_at (key_cmp (table, row))) es ≡ Some was
+    → (t r : ℕ) → lookup (is_key_of t r) (set_value (is_at (key_cmp (table, row))) es x) ≡ cond ((table == t) && (row == r)) (Some x)
+    (lookup (is_key_of t r) es)
+lookup-set es table row x was h t r =
+    sym (lookup-key (set_value (is_at (key_cmp (table, row))) es x) t r)
+    ∙ set-key es table row t r x was h
+    ∙ ap (λ here. cond here (Some x) (lookup (is_at (key_cmp (t, r))) es)) (same_key table row t r)
+    ∙ ap (cond ((table == t) && (row == r)) (Some x)) (lookup-key es t r)
+
+-- what it finds of a row, and of any other, once one row's entry was put into it
+pub lookup-put : {X : Type 0} (es after : List ((ℕ × ℕ) × X)) (table row : ℕ) (x : X)
+    → ((key : ℕ × ℕ) → lookup (is_at (key_cmp key)) after ≡ cond (is_at (key_cmp (table, row)) key) (Some x)
+    (lookup (is_at (key_cmp key)) es))
+    → (t r : ℕ) → lookup (is_key_of t r) after ≡ cond ((table == t) && (row == r)) (Some x) (lookup (is_key_of t r) es)
+lookup-put es after table row x h t r =
+    sym (lookup-key after t r)
+    ∙ h (t, r)
+    ∙ ap (λ here. cond here (Some x) (lookup (is_at (key_cmp (t, r))) es)) (same_key table row t r)
+    ∙ ap (cond ((table == t) && (row == r)) (Some x)) (lookup-key es t r)

@@ -1,0 +1,7 @@
+-- A transaction before its commit: the version that it reads, and its entries in the order of its calls.
+use Rattle.std.specs.Prelude.{ℕ, List}
+use Rattle.rows.specs.declared.entry.Entry.{Entry}
+
+pub record Transaction : Type 0 where
+  pub snapshot : ℕ
+  pub entries : List Entry

@@ -1,0 +1,51 @@
+//! Which rows are there after entries.
+
+ghost use Rattle.std.specs.Prelude.{◌≡◌, ℕ, [], ◌==◌, ◌&&◌, Some, OnOk, if◌then◌else◌};
+ghost use Rattle.mvcc.specs.Inner.RowsTold.{told_of};
+
+use rows::RowId;
+use std::alloc::{AllocError, Global};
+use std::collections::BTreeMap;
+use std::marker::Model;
+
+/// Of the rows that entries wrote, whether each is there after them. Contracts see the list of
+/// rows, by table and identifier.
+#[derive(Debug, Drop)]
+pub struct RowsTold {
+    rows: BTreeMap<(u8, u64), bool>,
+}
+
+impl Model for RowsTold {
+    ghost use Rattle.mvcc.specs.Inner.RowsTold.{Told};
+
+    ghost Value = { Told };
+
+    ghost view = { λ t. t.rows.entries };
+}
+
+impl RowsTold {
+    /// No row. Takes no memory.
+    pub fn new(alloc: Global) -> RowsTold
+        ensures { result ≡ [] }
+    {
+        RowsTold {
+            rows: BTreeMap::new(alloc),
+        }
+    }
+
+    /// Whether the row is there; `None` where nothing is told of it.
+    pub fn of(&self, table: u8, row: RowId) -> Option<bool>
+        ensures { result ≡ told_of self.now table row.0 }
+    {
+        self.rows.get(&(table, row.0)).copied()
+    }
+
+    /// Tells whether the row is there. Fails only when out of memory.
+    pub fn tell(&mut self, table: u8, row: RowId, there: bool) -> Result<(), AllocError>
+        ensures { OnOk result ((t r : ℕ)
+            → told_of self.new t r ≡ (if (table == t) && (row.0 == r) then Some there else told_of self.old t r)) }
+    {
+        self.rows.insert((table, row.0), there)?;
+        Ok(())
+    }
+}

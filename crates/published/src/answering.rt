@@ -1,0 +1,89 @@
+//! What a transaction answers on versions that may be older than its snapshot.
+
+ghost use Rattle.std.specs.Prelude.{◌≡◌, ◌≤◌, length};
+ghost use Rattle.rows.specs.Shape.{shape_of};
+ghost use Rattle.mvcc.specs.Transactions.{get_answer, insert_answer, set_answer, delete_answer};
+ghost use Rattle.published.specs.Answers.{IsAnswer, IsChange};
+
+use crate::faults::LineFault;
+use mvcc::{Transaction, Versions};
+use rows::{RowId, Value};
+
+/// The value of a column of a row, as the transaction sees it.
+pub fn value_of(
+    versions: &Versions,
+    transaction: &Transaction,
+    table: u8,
+    row: RowId,
+    column: usize,
+) -> Result<Value, LineFault>
+    ensures { IsAnswer transaction.now.snapshot (length versions.now.commits)
+        (get_answer (shape_of versions.now.schema) versions.now.commits transaction.now table row.0 column) result }
+{
+    if transaction.snapshot() > versions.len() {
+        return Err(LineFault::Ahead);
+    }
+    transaction
+        .get(versions, table, row, column)
+        .map_err(LineFault::Tx)
+}
+
+/// Puts a new row into a table.
+pub fn insert_into(
+    versions: &Versions,
+    transaction: &mut Transaction,
+    table: u8,
+    row: RowId,
+    values: &[Value],
+) -> Result<(), LineFault>
+    ensures { IsChange (length versions.now.commits)
+        (insert_answer (shape_of versions.now.schema) versions.now.commits transaction.old table row.0 values.now)
+        transaction.old transaction.new result }
+{
+    if transaction.snapshot() > versions.len() {
+        return Err(LineFault::Ahead);
+    }
+    transaction
+        .insert(versions, table, row, values)
+        .map_err(LineFault::Tx)
+}
+
+/// Gives one column of a row another value.
+pub fn set_in(
+    versions: &Versions,
+    transaction: &mut Transaction,
+    table: u8,
+    row: RowId,
+    column: usize,
+    value: Value,
+) -> Result<(), LineFault>
+    ensures { IsChange (length versions.now.commits)
+        (set_answer (shape_of versions.now.schema) versions.now.commits transaction.old table row.0 column value)
+        transaction.old transaction.new result }
+{
+    if transaction.snapshot() > versions.len() {
+        return Err(LineFault::Ahead);
+    }
+    transaction
+        .set(versions, table, row, column, value)
+        .map_err(LineFault::Tx)
+}
+
+/// Takes a row out of a table.
+pub fn delete_from(
+    versions: &Versions,
+    transaction: &mut Transaction,
+    table: u8,
+    row: RowId,
+) -> Result<(), LineFault>
+    ensures { IsChange (length versions.now.commits)
+        (delete_answer (shape_of versions.now.schema) versions.now.commits transaction.old table row.0)
+        transaction.old transaction.new result }
+{
+    if transaction.snapshot() > versions.len() {
+        return Err(LineFault::Ahead);
+    }
+    transaction
+        .delete(versions, table, row)
+        .map_err(LineFault::Tx)
+}

@@ -1,0 +1,140 @@
+//! Who publishes: two copies of what readers see, and the commits that one of them lacks.
+
+ghost use Rattle.std.specs.Prelude.{◌≡◌, ◌<◌, ◌^◌, [], ◌∷◌, ◌++◌, length, drop, IfOk, MatchBool, MatchResult};
+ghost use Rattle.rows.specs.Shape.{shape_of};
+ghost use Rattle.journal.specs.Recovery.{IsJournaled};
+ghost use Rattle.history.specs.Told.{told};
+ghost use Rattle.published.specs.Publishing.{IsOfLine};
+ghost use Rattle.published.specs.Inner.Queue.{IsShown, with_steps};
+
+use crate::line::{Line, Published, Sees};
+use crate::shown::{Shown, Step};
+use core::mem::replace_with;
+use history::SeenHistory;
+use left_right::reader::Reader;
+use left_right::writer::Writer;
+use mvcc::Versions;
+use rows::Schema;
+use std::alloc::{AllocError, Global};
+use std::marker::Model;
+use std::sync::Wait;
+
+/// The publisher of a line. It keeps the handle with which it waits for readers, also when it is
+/// dropped.
+///
+/// Contracts see the list that is published, and the one that will be with the next `publish`.
+pub struct Publisher<L: Line, R: Wait + Drop> {
+    writer: Writer<Shown, Step, (), Published<L>>,
+    rt: R,
+}
+
+impl<L: Line, R: Wait + Drop> Model for Publisher<L, R> {
+    ghost use Rattle.std.specs.Prelude.{drop};
+    ghost use Rattle.published.specs.Publishing.{IsOfLine, Lists};
+    ghost use Rattle.published.specs.Inner.Queue.{with_steps};
+
+    ghost Value = { Lists };
+
+    ghost view = { λ p. record {
+      shown = p.writer.desk.shown.value.versions.commits;
+      queued = (with_steps p.writer.desk.shown.value (drop p.writer.behind p.writer.log.items)).versions.commits;
+    } };
+
+    ghost invariant = { λ p. IsOfLine L.book L.schema L.workers p.writer.desk.shown.value
+        × IsOfLine L.book L.schema L.workers (with_steps p.writer.desk.shown.value (drop p.writer.behind p.writer.log.items)) };
+}
+
+impl<L: Line, R: Wait + Drop> Drop for Publisher<L, R> {
+    fn drop(self) {
+        let Publisher { writer, rt } = self;
+        writer.take(&rt);
+    }
+}
+
+impl<L: Line, R: Wait + Drop> Publisher<L, R> {
+    /// A publisher that has published no commit, with room for so many readers. `seen` is of a history
+    /// without commits. Fails only when out of memory.
+    pub fn new(
+        alloc: Global,
+        rt: R,
+        schema: &Schema,
+        seen: &SeenHistory,
+        readers: usize,
+    ) -> Result<Publisher<L, R>, AllocError>
+        requires schema { schema.now ≡ L.schema }
+        requires book { seen.now.book ≡ L.book }
+        requires empty { (told seen.now.log ≡ []) × (0 < length seen.now.log) }
+        requires readers { (0 < readers) × (readers < 2 ^ 32) }
+        ensures { IfOk result (λ p. (p.shown ≡ []) × (p.queued ≡ [])) }
+    {
+        journal::laws::beginnings_are_journaled();
+        let first = Shown {
+            versions: Versions::new(alloc, schema)?,
+            seen: seen.again(),
+        };
+        let second = Shown {
+            versions: Versions::new(alloc, schema)?,
+            seen: seen.again(),
+        };
+        Ok(Publisher {
+            writer: Writer::new(alloc, first, second, readers)?,
+            rt,
+        })
+    }
+
+    /// A reader of what is published. Fails if every reader that there is room for is in use, or out of
+    /// memory.
+    pub fn reader(&self) -> Result<Reader<Shown, (), Published<L>>, AllocError> {
+        self.writer.factory().reader()
+    }
+
+    /// Adds the next commit to what will be published. If it is out of memory, the step comes back.
+    pub fn push(&mut self, step: Step) -> Result<(), Step>
+        requires book { step.seen.book ≡ L.book }
+        requires history { told step.seen.log ≡ self.old.queued ++ step.commit ∷ [] }
+        requires some { 0 < length step.seen.log }
+        requires legal { IsJournaled L.workers (shape_of L.schema) (self.old.queued ++ step.commit ∷ []) }
+        ensures shown { self.new.shown ≡ self.old.shown }
+        ensures queued { MatchResult result (λ _. self.new.queued ≡ self.old.queued ++ step.commit ∷ [])
+            (λ back. (back ≡ step) × (self.new.queued ≡ self.old.queued)) }
+    {
+        self.writer.append(step)
+    }
+
+    /// Publishes all that was added, and answers whether there was memory for it. It waits for readers
+    /// that entered before the publication before this one, and have not left.
+    pub fn publish(&mut self) -> bool
+        ensures queued { self.new.queued ≡ self.old.queued }
+        ensures shown { MatchBool result (self.new.shown ≡ self.new.queued) (self.new.shown ≡ self.old.shown) }
+    {
+        replace_with(
+            &mut self.writer,
+            &self.rt,
+            |writer: Writer<Shown, Step, (), Published<L>>, rt: &R| -> (
+                Writer<Shown, Step, (), Published<L>>,
+                bool,
+            )
+                requires { IsOfLine L.book L.schema L.workers
+                    (with_steps writer.desk.shown.value (drop writer.behind writer.log.items)) }
+                ensures { IsShown (with_steps writer.desk.shown.value (drop writer.behind writer.log.items)) writer.desk.shown.value
+                    (with_steps result.0.desk.shown.value (drop result.0.behind result.0.log.items))
+                    result.0.desk.shown.value result.1 }
+            { show::<L, R>(rt, writer) },
+        )
+    }
+}
+
+/// Publishes all that was added, and answers whether there was memory for it.
+fn show<L: Line, R: Wait + Drop>(
+    rt: &R,
+    writer: Writer<Shown, Step, (), Published<L>>,
+) -> (Writer<Shown, Step, (), Published<L>>, bool)
+    requires { IsOfLine L.book L.schema L.workers (with_steps writer.desk.shown.value (drop writer.behind writer.log.items)) }
+    ensures { IsShown (with_steps writer.desk.shown.value (drop writer.behind writer.log.items)) writer.desk.shown.value
+        (with_steps result.0.desk.shown.value (drop result.0.behind result.0.log.items)) result.0.desk.shown.value result.1 }
+{
+    match writer.publish_as::<Sees<L>, R>(rt) {
+        (writer, Ok(())) => (writer, true),
+        (writer, Err(_)) => (writer, false),
+    }
+}

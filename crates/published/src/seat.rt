@@ -1,0 +1,251 @@
+//! A seat: a reader of its own, and the list of commits that it has seen.
+
+ghost use Rattle.std.specs.Prelude.{◌≡◌, [], length, IfOk, IfErr, IfSome, MatchBool};
+ghost use mathlib.Core.List.{IsPrefix};
+ghost use Rattle.journal.specs.Recovery.{IsJournaled};
+ghost use Rattle.rows.specs.Shape.{shape_of};
+ghost use Rattle.mvcc.specs.Transactions.{get_answer, insert_answer, set_answer, delete_answer};
+ghost use Rattle.published.specs.declared.faults.LineFault.TheVariants.{Unread};
+ghost use Rattle.published.specs.Answers.{IsAnswer, IsChange};
+ghost use Rattle.published.specs.Publishing.{IsOfLine};
+
+use crate::answering::{delete_from, insert_into, set_in, value_of};
+use crate::faults::LineFault;
+use crate::line::{Line, Published, Sees};
+use crate::shown::Shown;
+use history::Front;
+use left_right::reader::{Reader, Reading};
+use mvcc::Transaction;
+use rows::{RowId, Value};
+use std::alloc::Global;
+use std::marker::Model;
+
+/// A seat of a line. One thread at a time uses it, and none of its calls waits or takes a lock.
+///
+/// Contracts see the list of commits that it has seen: one that a journal may be of, which only grows.
+#[derive(Drop)]
+pub struct Seat<L: Line> {
+    reader: Option<Reader<Shown, (), Published<L>>>,
+    front: Front<L>,
+}
+
+impl<L: Line> Model for Seat<L> {
+    ghost use Rattle.std.specs.Prelude.{List};
+    ghost use Rattle.rows.specs.Shape.{shape_of};
+    ghost use Rattle.rows.specs.declared.commit.Commit.{Commit};
+    ghost use Rattle.journal.specs.Recovery.{IsJournaled};
+
+    ghost Value = { List Commit };
+
+    ghost view = { λ s. s.front };
+
+    ghost invariant = { λ s. IsJournaled L.workers (shape_of L.schema) s.front };
+}
+
+impl<L: Line> Seat<L> {
+    /// A seat with this reader, which has seen this list.
+    pub fn new(reader: Reader<Shown, (), Published<L>>, front: Front<L>) -> Seat<L>
+        requires { IsJournaled L.workers (shape_of L.schema) front }
+        ensures { result ≡ front }
+    {
+        Seat {
+            reader: Some(reader),
+            front,
+        }
+    }
+
+    /// The list that it has seen, lent.
+    pub fn front(&self) -> &Front<L>
+        ensures list { result.now ≡ self.now }
+        ensures legal { IsJournaled L.workers (shape_of L.schema) self.now }
+    {
+        &self.front
+    }
+
+    /// Takes another list that was seen of the line, which begins with its own.
+    pub fn learn(&mut self, front: Front<L>)
+        requires begins { IsPrefix self.old front }
+        requires legal { IsJournaled L.workers (shape_of L.schema) front }
+        ensures { self.new ≡ front }
+    {
+        self.front = front;
+    }
+
+    /// Begins a transaction. Its snapshot is the newest version that is published, or a newer one that
+    /// the seat has seen. Takes no memory.
+    ///
+    /// Fails with `Unread` if what is published cannot be entered.
+    pub fn begin(&mut self, alloc: Global) -> Result<Transaction, LineFault>
+        ensures legal { IsJournaled L.workers (shape_of L.schema) self.new }
+        ensures later { IsPrefix self.old self.new }
+        ensures begun { IfOk result (λ t. t ≡ record { snapshot = length self.new; entries = [] }) }
+        ensures refused { IfErr result (λ fault. fault ≡ Unread) }
+    {
+        let Some(reading) = self.enter() else {
+            return Err(LineFault::Unread);
+        };
+        self.follow(&reading);
+        self.reader = Some(reading.leave());
+        Ok(Transaction::begin(alloc, self.front.len()))
+    }
+
+    /// The value of a column of a row, as the transaction sees it. Takes no memory.
+    ///
+    /// Fails with the first of these: `Unread`, what is published cannot be entered, or is shorter than
+    /// what the seat has seen; `Ahead`, the transaction's snapshot is above the seat's list; `Tx`, the
+    /// transaction's own refusal.
+    pub fn value(
+        &mut self,
+        transaction: &Transaction,
+        table: u8,
+        row: RowId,
+        column: usize,
+    ) -> Result<Value, LineFault>
+        ensures legal { IsJournaled L.workers (shape_of L.schema) self.new }
+        ensures later { IsPrefix self.old self.new }
+        ensures answer { IsAnswer transaction.now.snapshot (length self.new)
+            (get_answer (shape_of L.schema) self.new transaction.now table row.0 column) result }
+    {
+        let Some(reading) = self.read() else {
+            return Err(LineFault::Unread);
+        };
+        let answer = value_of(&reading.get().versions, transaction, table, row, column);
+        self.reader = Some(reading.leave());
+        answer
+    }
+
+    /// Puts a new row into a table of the transaction.
+    ///
+    /// Fails as `value` does, and also where the transaction is out of memory. The transaction is then
+    /// as it was.
+    pub fn insert(
+        &mut self,
+        transaction: &mut Transaction,
+        table: u8,
+        row: RowId,
+        values: &[Value],
+    ) -> Result<(), LineFault>
+        ensures legal { IsJournaled L.workers (shape_of L.schema) self.new }
+        ensures later { IsPrefix self.old self.new }
+        ensures answer { IsChange (length self.new)
+            (insert_answer (shape_of L.schema) self.new transaction.old table row.0 values.now)
+            transaction.old transaction.new result }
+    {
+        let Some(reading) = self.read() else {
+            return Err(LineFault::Unread);
+        };
+        let answer = insert_into(&reading.get().versions, transaction, table, row, values);
+        self.reader = Some(reading.leave());
+        answer
+    }
+
+    /// Gives one column of a row another value in the transaction.
+    ///
+    /// Fails as `value` does, and also where the transaction is out of memory. The transaction is then
+    /// as it was.
+    pub fn set(
+        &mut self,
+        transaction: &mut Transaction,
+        table: u8,
+        row: RowId,
+        column: usize,
+        value: Value,
+    ) -> Result<(), LineFault>
+        ensures legal { IsJournaled L.workers (shape_of L.schema) self.new }
+        ensures later { IsPrefix self.old self.new }
+        ensures answer { IsChange (length self.new)
+            (set_answer (shape_of L.schema) self.new transaction.old table row.0 column value)
+            transaction.old transaction.new result }
+    {
+        let Some(reading) = self.read() else {
+            return Err(LineFault::Unread);
+        };
+        let answer = set_in(
+            &reading.get().versions,
+            transaction,
+            table,
+            row,
+            column,
+            value,
+        );
+        self.reader = Some(reading.leave());
+        answer
+    }
+
+    /// Takes a row out of a table of the transaction.
+    ///
+    /// Fails as `value` does, and also where the transaction is out of memory. The transaction is then
+    /// as it was.
+    pub fn delete(
+        &mut self,
+        transaction: &mut Transaction,
+        table: u8,
+        row: RowId,
+    ) -> Result<(), LineFault>
+        ensures legal { IsJournaled L.workers (shape_of L.schema) self.new }
+        ensures later { IsPrefix self.old self.new }
+        ensures answer { IsChange (length self.new)
+            (delete_answer (shape_of L.schema) self.new transaction.old table row.0)
+            transaction.old transaction.new result }
+    {
+        let Some(reading) = self.read() else {
+            return Err(LineFault::Unread);
+        };
+        let answer = delete_from(&reading.get().versions, transaction, table, row);
+        self.reader = Some(reading.leave());
+        answer
+    }
+
+    /// Both seats take the longer of their lists. Takes no memory.
+    pub fn meet(&mut self, other: &mut Seat<L>)
+        ensures one { self.new ≡ other.new }
+        ensures mine { IsPrefix self.old self.new }
+        ensures theirs { IsPrefix other.old other.new }
+        ensures legal { IsJournaled L.workers (shape_of L.schema) self.new }
+    {
+        self.front.meet(&mut other.front);
+    }
+
+    /// Enters what is published; `None` if it cannot be entered.
+    fn enter(&mut self) -> Option<Reading<Shown, (), Published<L>>>
+        ensures legal { IsJournaled L.workers (shape_of L.schema) self.new }
+        ensures same { self.new ≡ self.old }
+        ensures seen { IfSome result (λ r. IsOfLine L.book L.schema L.workers r.part.value) }
+    {
+        match self.reader.take()?.enter_as::<Sees<L>>() {
+            Ok(reading) => Some(reading),
+            Err(reader) => {
+                self.reader = Some(reader);
+                None
+            }
+        }
+    }
+
+    /// Takes the list that was entered, if the seat has not seen a longer one; answers whether it did.
+    fn follow(&mut self, reading: &Reading<Shown, (), Published<L>>) -> bool
+        requires { IsOfLine L.book L.schema L.workers reading.now.part.value }
+        ensures legal { IsJournaled L.workers (shape_of L.schema) self.new }
+        ensures taken { MatchBool result (self.new ≡ reading.now.part.value.versions.commits) (self.new ≡ self.old) }
+        ensures later { IsPrefix self.old self.new }
+    {
+        let shown = reading.get();
+        let front = Front::of(&shown.seen, shown.versions.len());
+        self.front.follow(front)
+    }
+
+    /// Enters what is published, and takes its list. `None` if it cannot be entered, or is shorter than
+    /// what the seat has seen: no row meets that, since what a seat has seen was published before.
+    fn read(&mut self) -> Option<Reading<Shown, (), Published<L>>>
+        ensures legal { IsJournaled L.workers (shape_of L.schema) self.new }
+        ensures later { IsPrefix self.old self.new }
+        ensures seen { IfSome result (λ r. IsOfLine L.book L.schema L.workers r.part.value
+            × (self.new ≡ r.part.value.versions.commits)) }
+    {
+        let reading = self.enter()?;
+        if !self.follow(&reading) {
+            self.reader = Some(reading.leave());
+            return None;
+        }
+        Some(reading)
+    }
+}

@@ -1,0 +1,13 @@
+-- Those that are left to read answer as all the entries do.
+use Rattle.std.proofs.Common.{◌≡◌, ◌-◌, [], Some, is_ok}
+use Rattle.std.specs.List.{list_all}
+use Rattle.std.specs.Option.{option_map, unwrap_or}
+use Rattle.rows.specs.Entries.{fitting}
+use Rattle.rows.specs.Shape.{shape_of}
+use Rattle.rows.specs.Reading.{entries_filling}
+use Rattle.rows.proofs.filling.entries_fit.Given as goal
+
+abbrev pub invariant-loop : goal.invariant-loop
+invariant-loop l =
+    Some (list_all (λ entry. is_ok (fitting (shape_of l.schema) entry)) (unwrap_or (entries_filling l.count l.bytes) []))
+    ≡ option_map (list_all (λ entry. is_ok (fitting (shape_of l.schema) entry))) (entries_filling (l.count - l.counter) l.rest)

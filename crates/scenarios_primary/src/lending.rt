@@ -1,0 +1,96 @@
+//! A journal that is lent out while it is written: what a primary answers meanwhile, and how the flush
+//! ends.
+
+ghost use Rattle.std.specs.Prelude.{◌≡◌};
+
+use crate::primary_steps::{Change, Line, Step, other_step_of, start};
+use journal::MemJournal;
+use primary::{CommitFault, FlushFault, PrimaryCore};
+use scenarios_common::worker_datagrams::{ASK, FRAME, HEAD_OF_NOTHING};
+use std::alloc::Global;
+use std::test::Fail;
+
+/// Two commits are pending when a flush of the first one begins.
+const BEFORE: [Line; 2] = [
+    (Step::Commit(0, 0, &[Change::Insert(7)], Ok(1)), 0, 1),
+    (Step::Commit(0, 0, &[Change::Insert(8)], Ok(2)), 0, 2),
+];
+
+/// While it is written: a commit is numbered after both, one of the same row conflicts, and what the
+/// flush offers is not durable yet; no other flush begins.
+const MEANWHILE: [Line; 6] = [
+    (Step::Commit(1, 0, &[Change::Insert(9)], Ok(3)), 0, 3),
+    (
+        Step::Commit(0, 0, &[Change::Insert(7)], Err(CommitFault::Conflict(1))),
+        0,
+        3,
+    ),
+    (
+        Step::Commit(0, 1, &[Change::Set(7)], Err(CommitFault::Foreign)),
+        0,
+        3,
+    ),
+    (Step::FlushRefused(1, FlushFault::Busy), 0, 3),
+    (Step::Push(0, 0, None), 0, 3),
+    (Step::Receive(&ASK, Some(&HEAD_OF_NOTHING)), 0, 3),
+];
+
+/// Once it has ended, the commit that was offered is durable, and no other; the next flush takes the
+/// rest.
+const AFTER: [Line; 3] = [
+    (Step::Push(0, 0, Some(&FRAME)), 1, 2),
+    (Step::Push(0, 1, None), 1, 2),
+    (Step::Flush(usize::MAX, 3), 3, 0),
+];
+
+/// Whether a flush of one commit begins, is written and ends as it should around those steps.
+fn is_lent(alloc: Global, primary: &mut PrimaryCore<MemJournal>) -> Result<bool, Fail>
+    requires { primary.old.primary.workers ≡ 2 }
+{
+    let Ok(work) = primary.begin_flush(1) else {
+        return Err("the flush did not begin".into());
+    };
+    let other = other_step_of(alloc, 2, primary, &MEANWHILE);
+    let was_lent = primary.lent();
+    let ended = primary.end_flush(work.write());
+    Ok(other?.is_none() && was_lent && ended == Ok(1) && !primary.lent())
+}
+
+/// The same between the steps before and after it.
+fn is_lent_between(alloc: Global) -> Result<bool, Fail> {
+    let mut primary = start(alloc, 2)?;
+    let before = other_step_of(alloc, 2, &mut primary, &BEFORE)?;
+    let lent = is_lent(alloc, &mut primary)?;
+    if primary.workers() != 2 {
+        return Err("no such number of workers".into());
+    }
+    let after = other_step_of(alloc, 2, &mut primary, &AFTER)?;
+    Ok(before.is_none() && lent && after.is_none())
+}
+
+#[test]
+fn a_primary_commits_while_its_journal_is_written(rt: HostRuntime) -> Result<(), Fail> {
+    assert!(rt; is_lent_between(rt.alloc())?);
+    Ok(())
+}
+
+/// Whether a flush that one primary began is refused by another one, which has its journal.
+fn is_not_lent(one: &mut PrimaryCore<MemJournal>, other: &mut PrimaryCore<MemJournal>) -> bool {
+    match one.begin_flush(0) {
+        Ok(work) => other.end_flush(work.write()) == Err(FlushFault::NotLent) && one.lent(),
+        Err(_) => false,
+    }
+}
+
+/// The same of primaries without commits.
+fn is_not_lent_elsewhere(alloc: Global) -> Result<bool, Fail> {
+    let mut one = start(alloc, 1)?;
+    let mut other = start(alloc, 1)?;
+    Ok(is_not_lent(&mut one, &mut other) && !other.lent())
+}
+
+#[test]
+fn a_flush_does_not_end_where_it_did_not_begin(rt: HostRuntime) -> Result<(), Fail> {
+    assert!(rt; is_not_lent_elsewhere(rt.alloc())?);
+    Ok(())
+}
