@@ -1,10 +1,8 @@
 -- What holds of each element, of lists that are joined or split.
-use Rattle.std.proofs.Common.{◌≡◌, ℕ, zero, suc, ◌<◌, List, [], ◌∷◌, ◌++◌, length, get_or, drop, ltb, Option, None, Some, is_some}
+use Rattle.std.proofs.Common.{◌≡◌, ℕ, zero, suc, ◌<◌, List, [], ◌∷◌, ◌++◌, length, get_or, drop, Some}
 use Rattle.std.proofs.Common.{Result, Ok, Err, IfOk, OnOk, OnErr, subst, sym, arith}
-use Rattle.std.specs.Prelude.{IfSome}
-use Rattle.std.specs.Borrow.{Bor}
+use Rattle.std.specs.Prelude.{slice_get}
 use Rattle.std.specs.List.{flat_map, AllByRecursion}
-use Rattle.std.proofs.lemmas.Bool.{ltb-true}
 
 pub all-append : {X : Type 0} (P : X → Type 0) (xs ys : List X) → AllByRecursion P xs → AllByRecursion P ys → AllByRecursion P (xs ++ ys)
 all-append P [] ys h k = k
@@ -35,11 +33,11 @@ all-joined P [] h = tt
 all-joined P (part ∷ parts) h =
     (all-front P part (flat_map (λ part. part) parts) h, all-joined P parts (all-back P part (flat_map (λ part. part) parts) h))
 
--- an element that is found and lent
-pub all-lent : {X : Type 0} (P : X → Type 0) (xs : List X) (i : ℕ) (found : Option (Bor X)) → AllByRecursion P xs
-    → is_some found ≡ ltb i (length xs) → IfSome found (λ x. x.now ≡ get_or xs i x.now) → IfSome found (λ x. P x.now)
-all-lent P xs i None h there read = tt
-all-lent P xs i (Some x) h there read = subst P (sym read) (all-get_or P xs i x.now (ltb-true i (length xs) (sym there)) h)
+-- an element that is found
+pub all-found : {X : Type 0} (P : X → Type 0) (xs : List X) (i : ℕ) (x : X) → AllByRecursion P xs → Some x ≡ slice_get xs i → P x
+all-found P [] i x h found = absurd cc
+all-found P (first ∷ xs) zero x h found = let same : first ≡ x = cc in subst P same h.0
+all-found P (first ∷ xs) (suc i) x h found = all-found P xs i x h.1 found
 
 -- what an Ok value has, and what follows of it
 pub ok-then : {T E : Type 0} (P Q : T → Type 0) (result : Result T E) → ((value : T) → P value → Q value) → IfOk result P → IfOk result Q

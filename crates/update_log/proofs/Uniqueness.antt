@@ -157,6 +157,14 @@ full-from (entry ∷ rest) part =
     one true full h = h (part ++ entry ∷ [])
     one false full h = (full-before rest part entry [] (full refl), h (entry ∷ []))
 
+pub joined-parts : (entries : List Entry) → joined (parts_of entries) ≡ entries
+joined-parts [] = refl
+joined-parts (entry ∷ entries) = joined-from entries (entry ∷ [])
+
+pub some-parts : (entries : List Entry) → AllByRecursion (λ part. 0 < length part) (parts_of entries)
+some-parts [] = tt
+some-parts (entry ∷ entries) = some-from entries (entry ∷ []) (omega arith)
+
 pub entries-are_cut : (entries : List Entry) → AllByRecursion HasSpelling entries → AreParts entries (parts_of entries)
 entries-are_cut [] spelled = record { all = refl; some = tt; within = tt; full = tt }
 entries-are_cut (entry ∷ entries) spelled = record {

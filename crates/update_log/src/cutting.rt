@@ -2,11 +2,14 @@
 
 ghost use Rattle.std.specs.Prelude.{◌≡◌, ◌+◌, ◌^◌, ◌<◌, ◌≤◌, length, map, take, IfOk};
 ghost use Rattle.std.specs.List.{AllByRecursion};
+ghost use Rattle.rows.specs.Limits.{commit_entries_max};
 ghost use Rattle.rows.specs.Spelling.{HasSpelling};
 ghost use Rattle.update_log.specs.Parts.{AreParts, frame_len, parts_of};
 ghost use Rattle.update_log.specs.Frames.{IsCuttable, IsSendable, frames_of};
+ghost use Rattle.update_log.specs.Inner.Spans.{spans_of};
 
 use crate::frame::Frame;
+use crate::span::Span;
 use rows::limits::DATAGRAM_MAX;
 use rows::{Commit, Entry, EntryList, entry_len};
 use std::alloc::{AllocError, Global};
@@ -53,7 +56,7 @@ pub fn part_count(entries: &[Entry]) -> usize
 }
 
 /// The frames of a worker's commit of these entries, as `cut` says.
-pub fn cut_entries(
+fn cut_entries(
     alloc: Global,
     worker: u8,
     entries: &[Entry],
@@ -82,6 +85,30 @@ pub fn cut_entries(
         rest = behind;
     }
     Ok(frames)
+}
+
+/// Where the entries of each frame of a commit of these entries stand, by the commit's number. Fails
+/// only where it is out of memory.
+pub fn cut_spans(alloc: Global, entries: &[Entry], number: u64) -> Result<Vec<Span>, AllocError>
+    requires spelled { AllByRecursion HasSpelling entries.now }
+    requires few { length entries.now ≤ commit_entries_max }
+    ensures { IfOk result (λ spans. spans.items ≡ spans_of entries.now number) }
+{
+    let mut spans = Vec::new(alloc);
+    let mut start = 0;
+    let mut rest = entries;
+    while !rest.is_empty() {
+        let len = part_len(rest);
+        let end = start + len as u32;
+        spans.push(Span {
+            commit: number,
+            start,
+            end,
+        })?;
+        start = end;
+        rest = rest.split_at(len).1;
+    }
+    Ok(spans)
 }
 
 /// How many of the entries, from the first on, one frame holds.

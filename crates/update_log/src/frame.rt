@@ -1,3 +1,6 @@
+ghost use Rattle.std.specs.Prelude.{◌≡◌};
+
+use crate::frame_ref::FrameRef;
 use rows::EntryList;
 
 /// Entries of one commit on their way to the replicas: a link of its worker's stream.
@@ -13,4 +16,19 @@ pub struct Frame {
     pub last: bool,
     /// Its entries, at least one.
     pub entries: EntryList,
+}
+
+impl Frame {
+    /// The frame, lent. Takes no memory.
+    pub fn lent(&self) -> FrameRef<'_>
+        ensures { result ≡ self.now }
+    {
+        FrameRef {
+            worker: self.worker,
+            seq: self.seq,
+            commit: self.commit,
+            last: self.last,
+            entries: self.entries.as_slice(),
+        }
+    }
 }

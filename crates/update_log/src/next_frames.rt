@@ -1,26 +1,25 @@
-use crate::frame::Frame;
+use crate::span::Span;
 use std::marker::Model;
 
-/// The frames of a commit on their way into its worker's stream: `Streams::reserve` makes them and
-/// the room for them, and `Streams::add` puts them there.
+/// The frames of a commit on their way into its worker's stream: `Streams::reserve` finds where
+/// their entries stand in the commit and makes the room for them, and `Streams::add` puts them
+/// there.
 ///
-/// Contracts see the worker and the frames.
+/// Contracts see the worker and where the frames' entries stand.
 #[derive(Debug, Drop)]
 pub struct NextFrames {
     pub(crate) worker: u8,
-    pub(crate) frames: Vec<Frame>,
+    pub(crate) spans: Vec<Span>,
 }
 
 impl Model for NextFrames {
     ghost use Rattle.std.specs.Prelude.{◌<◌};
-    ghost use Rattle.std.specs.List.{AllByRecursion};
     ghost use Rattle.rows.specs.Limits.{workers_max};
-    ghost use Rattle.update_log.specs.Frames.{IsSendable};
     ghost use Rattle.update_log.specs.State.{Next};
 
     ghost Value = { Next };
 
-    ghost view = { λ n. record { worker = n.worker; frames = n.frames.items } };
+    ghost view = { λ n. record { worker = n.worker; spans = n.spans.items } };
 
-    ghost invariant = { λ n. (n.worker < workers_max) × AllByRecursion IsSendable n.frames.items };
+    ghost invariant = { λ n. n.worker < workers_max };
 }

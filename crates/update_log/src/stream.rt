@@ -1,117 +1,113 @@
 //! The stream of one worker.
 
-ghost use Rattle.std.specs.Prelude.{◌≡◌, ◌+◌, ◌≤◌, ◌++◌, [], List, length, vec_len, vec_capacity, slice_get, IfOk, IfSome};
+ghost use Rattle.std.specs.Prelude.{◌≡◌, ◌+◌, ◌≤◌, ◌++◌, [], List, length, vec_len, vec_capacity, slice_get, IfOk};
 ghost use Rattle.std.specs.List.{AllByRecursion};
 ghost use Rattle.std.specs.Option.{option_map};
-ghost use Rattle.update_log.specs.declared.frame.Frame.{Frame as FrameOf};
-ghost use Rattle.update_log.specs.Frames.{IsCuttable, IsSendable, frames_of};
+ghost use Rattle.rows.specs.Limits.{commit_entries_max};
+ghost use Rattle.rows.specs.Spelling.{HasSpelling};
+ghost use Rattle.update_log.specs.declared.span.Span.{Span as SpanOf};
+ghost use Rattle.update_log.specs.Inner.Spans.{spans_of};
 ghost use Rattle.update_log.specs.Inner.Splitting.{IsSplitAt};
 
-use crate::cutting::cut_entries;
-use crate::frame::Frame;
+use crate::cutting::cut_spans;
+use crate::span::Span;
 use rows::Entry;
 use std::alloc::{AllocError, Global};
 use std::marker::Model;
 
-/// The frames of one worker's commits, in order: the frame at an index has it as its seq.
+/// Where the entries of one worker's frames stand, in order: what stands at an index is of the
+/// frame that has it as its seq.
 ///
-/// Contracts see the list of the frames, and how many more it can take without memory.
+/// Contracts see the list of the spans, and how many more it can take without memory.
 #[derive(Debug, Drop)]
 pub struct Stream {
-    frames: Vec<Frame>,
+    spans: Vec<Span>,
 }
 
 impl Model for Stream {
     ghost use Rattle.std.specs.Prelude.{◌-◌, vec_len, vec_capacity};
-    ghost use Rattle.std.specs.List.{AllByRecursion};
-    ghost use Rattle.update_log.specs.Frames.{IsSendable};
     ghost use Rattle.update_log.specs.Inner.Kept.{Kept};
 
     ghost Value = { Kept };
 
-    ghost view = { λ s. record { frames = s.frames.items; room = vec_capacity s.frames - vec_len s.frames } };
-
-    ghost invariant = { λ s. AllByRecursion IsSendable s.frames.items };
+    ghost view = { λ s. record { spans = s.spans.items; room = vec_capacity s.spans - vec_len s.spans } };
 }
 
 impl Stream {
     /// The stream without frames. Takes no memory.
     pub fn new(alloc: Global) -> Stream
-        ensures { result.frames ≡ [] }
+        ensures { result.spans ≡ [] }
     {
         Stream {
-            frames: Vec::new(alloc),
+            spans: Vec::new(alloc),
         }
     }
 
     /// How many frames there are.
     pub fn len(&self) -> u64
-        ensures { result ≡ length self.now.frames }
+        ensures { result ≡ length self.now.spans }
     {
-        self.frames.len() as u64
+        self.spans.len() as u64
     }
 
-    /// The frame of that seq, where the stream has it. Takes no memory.
-    pub fn frame(&self, seq: u64) -> Option<&Frame>
-        ensures found { option_map (λ frame. frame.now) result ≡ slice_get self.now.frames seq }
-        ensures sendable { IfSome result (λ frame. IsSendable frame.now) }
+    /// Where the entries of the frame of that seq stand, where the stream has it. Takes no memory.
+    pub fn span(&self, seq: u64) -> Option<&Span>
+        ensures { option_map (λ span. span.now) result ≡ slice_get self.now.spans seq }
     {
-        self.frames.as_slice().get(seq as usize)
+        self.spans.as_slice().get(seq as usize)
     }
 
     /// How many frames are of commits up to that version, where these stand before all others.
     /// Found by halving; takes no memory.
     pub fn count(&self, version: u64) -> u64
-        ensures { (front back : List FrameOf) → IsSplitAt version self.now.frames front back → result ≡ length front }
+        ensures { (front back : List SpanOf) → IsSplitAt version self.now.spans front back → result ≡ length front }
     {
-        count_upto(self.frames.as_slice(), version) as u64
+        count_upto(self.spans.as_slice(), version) as u64
     }
 
-    /// The frames of a worker's commit of these entries, of this number, which the stream then has
-    /// room for. Fails only where it is out of memory. No frame is added.
+    /// Where the entries of each frame of a commit of these entries stand, by the commit's number;
+    /// the stream then has room for these frames. Fails only where it is out of memory. No frame is
+    /// added.
     pub fn reserve(
         &mut self,
         alloc: Global,
-        worker: u8,
         entries: &[Entry],
         number: u64,
-    ) -> Result<Vec<Frame>, AllocError>
-        requires { IsCuttable (record { worker = worker; entries = entries.now }) number (length self.old.frames) }
-        ensures frames { IfOk result (λ frames. frames.items
-            ≡ frames_of (record { worker = worker; entries = entries.now }) number (length self.old.frames)) }
-        ensures sendable { IfOk result (λ frames. AllByRecursion IsSendable frames.items) }
-        ensures room { IfOk result (λ frames. length frames.items ≤ self.new.room) }
-        ensures same { self.new.frames ≡ self.old.frames }
+    ) -> Result<Vec<Span>, AllocError>
+        requires spelled { AllByRecursion HasSpelling entries.now }
+        requires few { length entries.now ≤ commit_entries_max }
+        ensures spans { IfOk result (λ spans. spans.items ≡ spans_of entries.now number) }
+        ensures room { IfOk result (λ spans. length spans.items ≤ self.new.room) }
+        ensures same { self.new.spans ≡ self.old.spans }
     {
-        let frames = cut_entries(alloc, worker, entries, number, self.len())?;
-        self.frames.reserve(frames.len())?;
-        Ok(frames)
+        let spans = cut_spans(alloc, entries, number)?;
+        self.spans.reserve(spans.len())?;
+        Ok(spans)
     }
 
     /// Adds frames that there is room for. Takes no memory.
-    pub fn add(&mut self, more: Vec<Frame>)
-        requires sendable { AllByRecursion IsSendable more.items }
-        requires room { length more.items ≤ self.old.room }
-        ensures { self.new.frames ≡ self.old.frames ++ more.items }
+    pub fn add(&mut self, more: Vec<Span>)
+        requires { length more.items ≤ self.old.room }
+        ensures { self.new.spans ≡ self.old.spans ++ more.items }
     {
-        append(&mut self.frames, more);
+        append(&mut self.spans, more);
     }
 }
 
 /// How many of the frames are of commits up to that version, where these stand before all others.
-fn count_upto(frames: &[Frame], version: u64) -> usize
-    ensures { (front back : List FrameOf) → IsSplitAt version frames.now front back → result ≡ length front }
+fn count_upto(spans: &[Span], version: u64) -> usize
+    ensures { (front back : List SpanOf) → IsSplitAt version spans.now front back → result ≡ length front }
 {
-    frames.partition_point(|frame| frame.commit <= version)
+    spans.partition_point(|span| span.commit <= version)
 }
 
-/// Moves more frames behind these, which have room for them.
-fn append(frames: &mut Vec<Frame>, more: Vec<Frame>)
-    requires { vec_len frames.old + vec_len more ≤ vec_capacity frames.old }
-    ensures { frames.new.items ≡ frames.old.items ++ more.items }
+/// Moves more spans behind these, which have room for them.
+fn append(spans: &mut Vec<Span>, more: Vec<Span>)
+    requires { vec_len spans.old + vec_len more ≤ vec_capacity spans.old }
+    ensures { spans.new.items ≡ spans.old.items ++ more.items }
 {
     let mut more = more;
-    match frames.append(&mut more) {
+    match spans.append(&mut more) {
         Ok(()) => {}
         Err(_) => unreachable!(),
     }

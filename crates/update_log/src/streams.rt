@@ -1,21 +1,25 @@
 //! The streams of all workers.
 
-ghost use Rattle.std.specs.Prelude.{◌≡◌, ◌+◌, ◌∷◌, [], ◌++◌, List, length, slice_get, IfOk, IfSome, OnOk, OnErr};
+ghost use Rattle.std.specs.Prelude.{◌≡◌, ◌+◌, ◌^◌, ◌<◌, ◌≤◌, ◌∷◌, [], ◌++◌, List, length, slice_get, IfOk, IfSome, OnOk, OnErr};
 ghost use Rattle.std.specs.Option.{option_map};
 ghost use Rattle.rows.specs.declared.commit.Commit.{Commit as CommitOf};
+ghost use Rattle.rows.specs.Limits.{commit_entries_max};
 ghost use Rattle.update_log.specs.Frames.{IsCuttable, IsSendable};
 ghost use Rattle.update_log.specs.Streams.{AreStreamsOf, HasRoom, stream_at, stream_of, frame_count, next_frames, extended};
+ghost use Rattle.update_log.specs.Inner.Spans.{IsSpanIn, frame_at};
 
-use crate::frame::Frame;
+use crate::frame_ref::FrameRef;
 use crate::next_frames::NextFrames;
+use crate::span::Span;
 use crate::stream::Stream;
 use rows::limits::WORKERS_MAX;
 use rows::{Commit, Entry};
 use std::alloc::{AllocError, Global};
 use std::marker::Model;
 
-/// The streams of a list of commits: of each worker the frames of its commits. Entries are kept
-/// once, in their frames.
+/// The streams of a list of commits: of each worker the frames of its commits. The entries stay
+/// with the commits, which the caller keeps and hands to `frame`; of each frame it is kept where
+/// they stand there, in 16 bytes.
 ///
 /// Contracts see the streams by worker, and how many more frames each can take without memory; of
 /// which list of commits they are is a relation (`AreStreamsOf`) that `new` begins and `extend`
@@ -34,7 +38,7 @@ impl Model for Streams {
     ghost Value = { StreamsState };
 
     ghost view = { λ s. record {
-      streams = map (λ kept. kept.frames) s.workers.items;
+      streams = map (λ kept. kept.spans) s.workers.items;
       rooms = map (λ kept. kept.room) s.workers.items;
     } };
 
@@ -53,12 +57,12 @@ impl Streams {
         Ok(Streams { alloc, workers })
     }
 
-    /// Adds the next commit, by its number: its frames go to the end of its worker's stream. It
-    /// costs the commit's own entries, which are copied. Fails only where it is out of memory, and
-    /// then no stream has changed.
+    /// Adds the next commit, by its number: its frames go to the end of its worker's stream. No entry
+    /// is copied. Fails only where it is out of memory, and then no stream has changed.
     pub fn extend(&mut self, commit: &Commit, number: u64) -> Result<(), AllocError>
-        requires { IsCuttable commit.now number (length (stream_at self.old.streams commit.now.worker)) }
-        ensures ok { OnOk result (self.new.streams ≡ extended self.old.streams (next_frames self.old.streams commit.now number)) }
+        requires cuttable { IsCuttable commit.now number (length (stream_at self.old.streams commit.now.worker)) }
+        requires few { length commit.now.entries ≤ commit_entries_max }
+        ensures ok { OnOk result (self.new.streams ≡ extended self.old.streams (next_frames commit.now number)) }
         ensures commits { OnOk result ((commits : List CommitOf) → AreStreamsOf self.old.streams commits → number ≡ length commits + 1
             → AreStreamsOf self.new.streams (commits ++ commit.now ∷ [])) }
         ensures err { OnErr result (self.new.streams ≡ self.old.streams) }
@@ -69,26 +73,27 @@ impl Streams {
     }
 
     /// Takes all the memory that adding the next commit needs, the worker's commit of these entries,
-    /// by its number: its frames are made, and room for them in its worker's stream. `add` then puts
-    /// them there, so that a caller can take other memory in between and needs to take nothing back
-    /// where there is none. It costs the entries, which are copied once. Fails only where it is out of
-    /// memory. No stream changes.
+    /// by its number: its frames are found, and room for them made in its worker's stream. `add` then
+    /// puts them there, so that a caller can take other memory in between and needs to take nothing
+    /// back where there is none. No entry is copied. Fails only where it is out of memory. No stream
+    /// changes.
     pub fn reserve(
         &mut self,
         worker: u8,
         entries: &[Entry],
         number: u64,
     ) -> Result<NextFrames, AllocError>
-        requires { IsCuttable (record { worker = worker; entries = entries.now }) number (length (stream_at self.old.streams worker)) }
-        ensures frames { IfOk result
-            (λ next. next ≡ next_frames self.new.streams (record { worker = worker; entries = entries.now }) number) }
+        requires cuttable { IsCuttable (record { worker = worker; entries = entries.now }) number
+            (length (stream_at self.old.streams worker)) }
+        requires few { length entries.now ≤ commit_entries_max }
+        ensures frames { IfOk result (λ next. next ≡ next_frames (record { worker = worker; entries = entries.now }) number) }
         ensures room { IfOk result (λ next. HasRoom self.new next) }
         ensures same { self.new.streams ≡ self.old.streams }
     {
         let alloc = self.alloc;
         let stream = &mut self.workers[worker as usize];
-        let frames = stream.reserve(alloc, worker, entries, number)?;
-        Ok(NextFrames { worker, frames })
+        let spans = stream.reserve(alloc, entries, number)?;
+        Ok(NextFrames { worker, spans })
     }
 
     /// Adds the frames of a commit, for which there is room, to the end of its worker's stream: those
@@ -97,11 +102,12 @@ impl Streams {
         requires { HasRoom self.old next }
         ensures added { self.new.streams ≡ extended self.old.streams next }
         ensures commits { (commits : List CommitOf) (commit : CommitOf) → AreStreamsOf self.old.streams commits
-            → next ≡ next_frames self.old.streams commit (length commits + 1)
+            → IsCuttable commit (length commits + 1) (length (stream_at self.old.streams commit.worker))
+            → length commits + 1 < 2 ^ 64 → next ≡ next_frames commit (length commits + 1)
             → AreStreamsOf self.new.streams (commits ++ commit ∷ []) }
     {
         let stream = &mut self.workers[next.worker as usize];
-        stream.add(next.frames);
+        stream.add(next.spans);
     }
 
     /// The seq that the worker's next frame gets, which is how many frames its stream has; 0 where
@@ -126,16 +132,42 @@ impl Streams {
         }
     }
 
-    /// The frame of that seq of the worker's stream, where the stream has it; `None` also where
-    /// there is no such worker. Takes no memory.
-    pub fn frame(&self, worker: u8, seq: u64) -> Option<&Frame>
-        ensures found { (commits : List CommitOf) → AreStreamsOf self.now.streams commits
-            → option_map (λ frame. frame.now) result ≡ slice_get (stream_of commits worker) seq }
-        ensures sendable { IfSome result (λ frame. IsSendable frame.now) }
+    /// The frame of that seq of the worker's stream, lent by the commits that these are the streams
+    /// of, where the stream has it; `None` also where there is no such worker. Takes no memory.
+    pub fn frame<'a>(&self, commits: &'a [Commit], worker: u8, seq: u64) -> Option<FrameRef<'a>>
+        requires { AreStreamsOf self.now.streams commits.now }
+        ensures found { result ≡ slice_get (stream_of commits.now worker) seq }
+        ensures sendable { IfSome result IsSendable }
+    {
+        match self.span(worker, seq) {
+            None => None,
+            Some(span) => Some(lent(commits, worker, seq, span)),
+        }
+    }
+
+    /// Where the entries of the frame of that seq of the worker's stream stand, where the stream has
+    /// it.
+    fn span(&self, worker: u8, seq: u64) -> Option<&Span>
+        ensures { option_map (λ span. span.now) result ≡ slice_get (stream_at self.now.streams worker) seq }
     {
         match self.workers.as_slice().get(worker as usize) {
             None => None,
-            Some(stream) => stream.frame(seq),
+            Some(stream) => stream.span(seq),
         }
+    }
+}
+
+/// The frame of that worker and seq whose entries stand there, lent by its commit.
+fn lent<'a>(commits: &'a [Commit], worker: u8, seq: u64, span: &Span) -> FrameRef<'a>
+    requires { IsSpanIn commits.now span.now }
+    ensures { result ≡ frame_at commits.now worker seq span.now }
+{
+    let entries = commits[span.commit as usize - 1].entries.as_slice();
+    FrameRef {
+        worker,
+        seq,
+        commit: span.commit,
+        last: span.end as usize == entries.len(),
+        entries: &entries[span.start as usize..span.end as usize],
     }
 }
