@@ -91,7 +91,7 @@ HasDatagramSpelling (Ask replica boot request) = IsAsk replica boot request
 HasDatagramSpelling (Head replica boot request version counts) = IsAsk replica boot request × (version < 2 ^ 64) × AreCounts counts
 HasDatagramSpelling (Want replica worker from) = (replica < replicas_max) × (worker < workers_max) × (from < 2 ^ 64)
 
--- an owned frame as a datagram
+-- a frame of a stream as a datagram
 abbrev pub datagram_of_frame : frames.Frame → Datagram
 datagram_of_frame frame = Frame frame.worker frame.seq frame.commit frame.last frame.entries
 

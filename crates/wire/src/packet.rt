@@ -10,7 +10,7 @@ use crate::writing::{write, write_frame};
 use rows::laws;
 use rows::limits::DATAGRAM_MAX;
 use std::marker::Model;
-use update_log::Frame;
+use update_log::FrameRef;
 
 /// The bytes of a datagram, at most 1200, kept inline.
 #[derive(Debug, Drop)]
@@ -46,7 +46,7 @@ impl Packet {
     }
 
     /// The spelling of a frame. Takes no memory.
-    pub fn of_frame(frame: &Frame) -> Packet
+    pub fn of_frame(frame: &FrameRef<'_>) -> Packet
         requires { FrameHasSpelling frame.now }
         ensures spelled { result ≡ frame_spelling frame.now }
         ensures reads_back { reading result ≡ Ok (datagram_of_frame frame.now) }

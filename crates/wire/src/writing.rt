@@ -16,7 +16,7 @@ use crate::reading::{DATAGRAM_MAGIC, DATAGRAM_VERSION};
 use byteorder::{BigEndian, ByteOrder};
 use rows::limits::DATAGRAM_MAX;
 use rows::{Entry, entry_len, write_entry};
-use update_log::Frame;
+use update_log::FrameRef;
 
 /// Bytes of a frame before its entries.
 const FRAME_FRONT_LEN: usize = 26;
@@ -80,7 +80,7 @@ pub fn write(datagram: &Datagram<'_>, buffer: &mut [u8]) -> Result<usize, TooSma
 /// Writes the spelling of a frame to the front of the buffer, and answers its length; the bytes
 /// behind it stay. `TooSmall` exactly where the buffer is shorter than the spelling, and then the
 /// buffer is unchanged. Takes no memory.
-pub fn write_frame(frame: &Frame, buffer: &mut [u8]) -> Result<usize, TooSmall>
+pub fn write_frame(frame: &FrameRef<'_>, buffer: &mut [u8]) -> Result<usize, TooSmall>
     requires { FrameHasSpelling frame.now }
     ensures ok { IfOk result (λ len. (len ≡ length (frame_spelling frame.now))
         × (buffer.new ≡ frame_spelling frame.now ++ drop len buffer.old)) }
@@ -92,7 +92,7 @@ pub fn write_frame(frame: &Frame, buffer: &mut [u8]) -> Result<usize, TooSmall>
         frame.seq,
         frame.commit,
         frame.last,
-        frame.entries.as_slice(),
+        frame.entries,
         buffer,
     )
 }
