@@ -1,14 +1,15 @@
 //! Laws of the format.
 
-ghost use Rattle.wire.specs.Laws.{SpellingsAreOneToOne, IsPrefixFree};
+ghost use Rattle.wire.specs.Laws.{SpellingsAreOneToOne, IsPrefixFree, SpelledAreRead};
 
 use rows::laws;
 
-/// Datagrams that have spellings and share one are equal, and no spelling is a proper beginning
-/// of another. It does nothing: its contract is the law.
+/// Datagrams that have spellings and share one are equal, no spelling is a proper beginning of another,
+/// and each is read as the datagram that it is of. It does nothing: its contract is the law.
 pub fn one_spelling()
     ensures one_to_one { SpellingsAreOneToOne }
     ensures prefix_free { IsPrefixFree }
+    ensures read { SpelledAreRead }
 {
     laws::entries_are_read_as_spelled();
 }
