@@ -8,7 +8,7 @@ use Rattle.rows.specs.Commits.{IsCommit}
 use Rattle.rows.specs.Limits.{commit_entries_max}
 use Rattle.rows.specs.Spelling.{HasSpelling}
 use Rattle.mvcc.specs.History.{History}
-use Rattle.update_log.specs.declared.frame.Frame.{Frame}
+use Rattle.update_log.specs.declared.span.Span.{Span}
 use Rattle.update_log.specs.Parts.{parts_of}
 use Rattle.update_log.specs.Streams.{AreStreamsOf, stream_at}
 use Rattle.primary.proofs.Elements.{all-append}
@@ -16,7 +16,7 @@ use Rattle.journal.specs.Recovery.{HasRecord}
 use Rattle.primary.specs.Inner.Invariant.{AreLists}
 use Rattle.primary.proofs.Streams.{numbered-push}
 
-pub lists-push : (versions now : History) (streams new : List (List Frame)) (durable workers worker : ℕ) (entries : List Entry)
+pub lists-push : (versions now : History) (streams new : List (List Span)) (durable workers worker : ℕ) (entries : List Entry)
     → AreLists versions streams durable workers → worker < workers → 0 < length entries → length entries ≤ commit_entries_max
     → AllByRecursion HasSpelling entries → length versions.commits + 1 < 2 ^ 64
     → length (stream_at streams worker) + length (parts_of entries) < 2 ^ 64
@@ -34,14 +34,14 @@ lists-push versions now streams new durable workers worker entries kept there so
       numbered =
           rw commits
           (numbered-push versions.commits commit kept.numbered numbered
-          (omega (arith, frames, ap (λ (stream : List Frame). length stream) (kept.framed.each worker))));
+          (omega (arith, frames, kept.framed.counted worker)));
       each = rw commits (all-append (IsCommit workers) versions.commits (commit ∷ []) kept.each (one, tt));
       records = rw commits (all-append HasRecord versions.commits (commit ∷ []) kept.records (held, tt));
       framed = framed;
     }
 
 -- lists that are as they were
-pub lists-stay : (versions now : History) (streams new : List (List Frame)) (durable workers : ℕ)
+pub lists-stay : (versions now : History) (streams new : List (List Span)) (durable workers : ℕ)
     → AreLists versions streams durable workers
     → now ≡ versions → AreStreamsOf new now.commits → AreLists now new durable workers
 lists-stay versions now streams new durable workers kept is framed = record {

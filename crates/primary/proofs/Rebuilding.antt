@@ -8,13 +8,13 @@ use Rattle.std.proofs.Math.ListN.{drop_of_length-le}
 use Rattle.rows.specs.declared.commit.Commit.{Commit}
 use Rattle.rows.specs.declared.kind.Kind.{Kind}
 use Rattle.rows.specs.Commits.{IsCommit, apply_commits, tables_after}
-use Rattle.rows.specs.Limits.{workers_max}
+use Rattle.rows.specs.Limits.{commit_entries_max, workers_max}
 use Rattle.rows.specs.Shape.{Shape, shape_of}
 use Rattle.rows.specs.Tables.{Tables, Refusal, opening, apply_entries}
 use Rattle.rows.proofs.Presence.{and_then-parts}
 use Rattle.rows.proofs.TableLaws.{apply_commits-split}
 use Rattle.mvcc.specs.History.{History, defined_at}
-use Rattle.update_log.specs.declared.frame.Frame.{Frame}
+use Rattle.update_log.specs.declared.span.Span.{Span}
 use Rattle.update_log.specs.Frames.{IsCuttable}
 use Rattle.update_log.specs.Streams.{AreStreamsOf, stream_at}
 use Rattle.primary.proofs.Elements.{all-get_or}
@@ -54,26 +54,23 @@ defined-next versions schema workers commits i commit h e journaled same taken =
     ∙ tables-front shape commits i in
     ap (λ tables. is_ok (apply_entries tables commit.entries)) here ∙ ap is_ok parts.1
 
--- and its frames can be sent
-pub cuttable-next : (workers : ℕ) (shape : Shape) (commits : List Commit) (i : ℕ) (commit : Commit) (streams : List (List Frame))
+-- and it can be cut into frames, each of which has a seq
+pub cuttable-next : (workers : ℕ) (shape : Shape) (commits : List Commit) (i : ℕ) (commit : Commit) (streams : List (List Span))
     (number : ℕ) → i < length commits → commit ≡ get_or commits i commit → workers ≤ workers_max → IsJournaled workers shape commits
     → AreNumbered commits → AreStreamsOf streams (take i commits) → 0 < number
-    → IsCuttable commit number (length (stream_at streams commit.worker))
+    → IsCuttable commit number (length (stream_at streams commit.worker)) × (length commit.entries ≤ commit_entries_max)
 cuttable-next workers shape commits i commit streams number h e few journaled numbered are some =
     let own : IsCommit workers commit = subst (IsCommit workers) (sym e) (all-get_or
     (IsCommit workers) commits i commit h journaled.legal.each) in
-    let record_held : HasRecord commit = subst HasRecord (sym e) (all-get_or HasRecord commits i commit h journaled.records) in
-    record {
-      worker_below = omega (arith, own.worker);
-      numbered = some;
-      spelled = record_held.spelled;
-      seqs_below =
-          omega (
-            arith,
-            next-below commits i commit h e numbered,
-            ap (λ (stream : List Frame). length stream) (are.each commit.worker),
-          );
-    }
+    let record_held : HasRecord commit = subst HasRecord (sym e) (all-get_or HasRecord commits i commit h journaled.records) in (
+      record {
+        worker_below = omega (arith, own.worker);
+        numbered = some;
+        spelled = record_held.spelled;
+        seqs_below = omega (arith, next-below commits i commit h e numbered, are.counted commit.worker);
+      },
+      own.few,
+    )
 
 -- the primary of versions that are all durable
 pub started-is : (versions : History) (schema : List (List ℕ × List Kind)) (durable workers : ℕ) (commits : List Commit)

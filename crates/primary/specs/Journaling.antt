@@ -1,5 +1,5 @@
 -- What stands on the journal of a primary, and what is left where a flush or a start is refused.
-use Rattle.std.specs.Prelude.{◌≡◌, ℕ, ◌+◌, ◌<◌, ◌^◌, List, length, take, Bool, true, false, Option, None, is_some, Result, Ok, Err}
+use Rattle.std.specs.Prelude.{◌≡◌, ℕ, ◌+◌, ◌<◌, ◌^◌, List, length, take, Bool, true, false, Option, None, is_some, Result, Err}
 use Rattle.std.specs.Prelude.{MatchResult}
 use Rattle.rows.specs.declared.commit.Commit.{Commit}
 use Rattle.rows.specs.Shape.{Shape, shape_of}

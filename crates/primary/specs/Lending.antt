@@ -1,5 +1,5 @@
 -- The journal while it is lent out for a write: a flush that has begun, what its write leaves, and how it ends.
-use Rattle.std.specs.Prelude.{◌≡◌, ℕ, ◌+◌, List, ◌++◌, length, take, Bool, true, false, Option, None, Some, Result, Ok, Err}
+use Rattle.std.specs.Prelude.{◌≡◌, ℕ, ◌+◌, List, ◌++◌, length, take, Bool, true, false, Some, Result, Ok, Err}
 use Rattle.std.specs.Prelude.{is_some, if◌then◌else◌}
 use Rattle.rows.specs.declared.commit.Commit.{Commit}
 use Rattle.rows.specs.Shape.{shape_of}

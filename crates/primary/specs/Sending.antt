@@ -1,11 +1,11 @@
 -- What a primary sends: the frames of its durable list, some of them to a Want, and one Head to an Ask.
-use Rattle.std.specs.Prelude.{ℕ, zero, suc, List, [], ◌∷◌, ◌++◌, length, map, take, drop, Option, Result, Ok, Err, slice_get}
+use Rattle.std.specs.Prelude.{ℕ, zero, suc, List, [], ◌∷◌, ◌++◌, length, map, take, drop, Option, Result, Ok, slice_get}
 use Rattle.std.specs.Option.{option_map}
 use Rattle.rows.specs.declared.commit.Commit.{Commit}
 use Rattle.update_log.specs.declared.frame.Frame as frames
 use Rattle.update_log.specs.Streams.{stream_of, frame_count}
 use Rattle.wire.specs.declared.datagram.Datagram.{Datagram}
-use Rattle.wire.specs.declared.datagram.Datagram.TheVariants.{Frame, Ask, Head, Want}
+use Rattle.wire.specs.declared.datagram.Datagram.TheVariants.{Ask, Head, Want}
 use Rattle.wire.specs.declared.faults.WireFault.{WireFault}
 use Rattle.wire.specs.declared.out.Out.{Out}
 use Rattle.wire.specs.declared.out.To.TheVariants.{Replica}

@@ -1,8 +1,8 @@
-//! Keeping commits: in their versions, and cut into frames.
+//! Keeping commits: in their versions, and in the streams of their frames.
 
 ghost use Rattle.std.specs.Prelude.{◌≡◌, ◌+◌, ◌^◌, ◌<◌, ◌≤◌, ◌∷◌, [], ◌++◌, length, true, IfOk, OnOk, OnErr};
 ghost use Rattle.std.specs.List.{AllByRecursion};
-ghost use Rattle.rows.specs.Limits.{workers_max};
+ghost use Rattle.rows.specs.Limits.{commit_entries_max, workers_max};
 ghost use Rattle.rows.specs.Shape.{shape_of};
 ghost use Rattle.rows.specs.Spelling.{HasSpelling};
 ghost use Rattle.mvcc.specs.History.{defined_at};
@@ -57,6 +57,7 @@ pub fn keep(
 ) -> Result<(), AllocError>
     requires defined { defined_at versions.old (length versions.old.commits) entries.now ≡ true }
     requires spelled { AllByRecursion HasSpelling entries.now }
+    requires few { length entries.now ≤ commit_entries_max }
     requires numbered { length versions.old.commits + 1 < 2 ^ 64 }
     requires framed { AreStreamsOf streams.old.streams versions.old.commits }
     requires there { worker < workers_max }

@@ -30,8 +30,8 @@ use wire::{Datagram, Out, Packet, To, read};
 /// A primary but for its journal: the durable list of commits, the pending list, and whether the
 /// journal has failed.
 ///
-/// The commits stand once in their versions and once, cut into frames, in the streams of their
-/// workers; both have the pending ones too, behind the durable ones.
+/// The commits stand in their versions; the streams have for each frame where its entries stand
+/// there. Both have the pending ones too, behind the durable ones.
 #[derive(Debug, Drop)]
 pub struct Lists {
     alloc: Global,
@@ -204,7 +204,8 @@ impl Lists {
     pub fn push(&self, worker: u8, seq: u64) -> Option<Packet>
         ensures { result ≡ pushed self.now worker seq }
     {
-        frame_packet(&self.streams, self.durable as u64, worker, seq)
+        let durable = self.durable as u64;
+        frame_packet(&self.streams, self.versions.commits(), durable, worker, seq)
     }
 
     /// What is sent for bytes that came, as `PrimaryCore::on_bytes` says.
@@ -231,8 +232,17 @@ impl Lists {
                     from,
                 },
             ) => {
+                let commits = self.versions.commits();
                 let durable = self.durable as u64;
-                wanted_outs(self.alloc, &self.streams, durable, replica, worker, from)
+                wanted_outs(
+                    self.alloc,
+                    &self.streams,
+                    commits,
+                    durable,
+                    replica,
+                    worker,
+                    from,
+                )
             }
             Ok(Datagram::Frame { .. } | Datagram::Head { .. }) | Err(_) => {
                 Ok(Vec::new(self.alloc))

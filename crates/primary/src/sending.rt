@@ -2,12 +2,13 @@
 
 ghost use Rattle.std.specs.Prelude.{◌≡◌, ◌<◌, ◌≤◌, List, length, map, slice_get, take, drop, IfOk, OnErr};
 ghost use Rattle.std.specs.Option.{option_map};
-ghost use Rattle.rows.specs.declared.commit.Commit.{Commit};
+ghost use Rattle.rows.specs.declared.commit.Commit.{Commit as CommitOf};
 ghost use Rattle.rows.specs.Limits.{workers_max};
 ghost use Rattle.update_log.specs.Streams.{AreStreamsOf, stream_of};
 ghost use Rattle.wire.specs.Spelling.{frame_spelling};
 ghost use Rattle.primary.specs.Sending.{counts_of, frame_to, want_frames_max};
 
+use rows::Commit;
 use std::alloc::{AllocError, Global};
 use update_log::Streams;
 use wire::{Counts, Out, Packet, To};
@@ -15,44 +16,52 @@ use wire::{Counts, Out, Packet, To};
 /// Frames that answer one Want, at most.
 const WANT_FRAMES_MAX: u64 = 16;
 
-/// The packet of that `seq` of a worker's stream of the first `durable` commits, where the stream
-/// has it. Takes no memory.
-pub fn frame_packet(streams: &Streams, durable: u64, worker: u8, seq: u64) -> Option<Packet>
-    ensures { (commits : List Commit) → AreStreamsOf streams.now.streams commits
-        → result ≡ option_map frame_spelling (slice_get (stream_of (take durable commits) worker) seq) }
+/// The packet of that `seq` of a worker's stream of the first `durable` of the commits, where the
+/// stream has it. Takes no memory.
+pub fn frame_packet(
+    streams: &Streams,
+    commits: &[Commit],
+    durable: u64,
+    worker: u8,
+    seq: u64,
+) -> Option<Packet>
+    requires { AreStreamsOf streams.now.streams commits.now }
+    ensures { result ≡ option_map frame_spelling (slice_get (stream_of (take durable commits.now) worker) seq) }
 {
     if seq >= streams.count(worker, durable) {
         return None;
     }
-    let frame = streams.frame(worker, seq)?;
-    Some(Packet::of_frame(frame))
+    let frame = streams.frame(commits, worker, seq)?;
+    Some(Packet::of_frame(&frame))
 }
 
 /// The frames of a worker from that seq on, at most 16, each on its way to the replica: those of
-/// the first `durable` commits. Fails only where it is out of memory, and only where there is one.
+/// the first `durable` of the commits. Fails only where it is out of memory, and only where there is
+/// one.
 pub fn wanted_outs(
     alloc: Global,
     streams: &Streams,
+    commits: &[Commit],
     durable: u64,
     replica: u8,
     worker: u8,
     from: u64,
 ) -> Result<Vec<Out>, AllocError>
-    ensures ok { (commits : List Commit) → AreStreamsOf streams.now.streams commits
-        → IfOk result (λ outs. outs.items
-        ≡ map (frame_to replica) (take want_frames_max (drop from (stream_of (take durable commits) worker)))) }
-    ensures err { (commits : List Commit) → AreStreamsOf streams.now.streams commits
-        → OnErr result (0 < length (map (frame_to replica) (take want_frames_max (drop from (stream_of (take durable commits) worker))))) }
+    requires { AreStreamsOf streams.now.streams commits.now }
+    ensures ok { IfOk result (λ outs. outs.items
+        ≡ map (frame_to replica) (take want_frames_max (drop from (stream_of (take durable commits.now) worker)))) }
+    ensures err { OnErr result
+        (0 < length (map (frame_to replica) (take want_frames_max (drop from (stream_of (take durable commits.now) worker))))) }
 {
     let mut outs = Vec::new(alloc);
     let end = streams
         .count(worker, durable)
         .min(from.saturating_add(WANT_FRAMES_MAX));
     for seq in from..end {
-        if let Some(frame) = streams.frame(worker, seq) {
+        if let Some(frame) = streams.frame(commits, worker, seq) {
             outs.push(Out {
                 to: To::Replica(replica),
-                packet: Packet::of_frame(frame),
+                packet: Packet::of_frame(&frame),
             })?;
         }
     }
@@ -62,7 +71,7 @@ pub fn wanted_outs(
 /// How many frames of the first `version` commits each of this many workers has.
 pub fn counts(streams: &Streams, version: u64, workers: u8) -> Counts
     requires { workers ≤ workers_max }
-    ensures { (commits : List Commit) → AreStreamsOf streams.now.streams commits → result ≡ counts_of commits version workers }
+    ensures { (commits : List CommitOf) → AreStreamsOf streams.now.streams commits → result ≡ counts_of commits version workers }
 {
     let mut counts = Counts::new();
     for worker in 0..workers {

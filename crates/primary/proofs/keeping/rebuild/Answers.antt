@@ -10,9 +10,11 @@ use Rattle.primary.proofs.keeping.rebuild.Goals as goal
 pub extend-requires : goal.extend-requires
 extend-requires c =
     let so_far = c.loop-commit.invariant in
+    let cuttable =
     cuttable-next c.args.workers (shape_of c.args.schema.now) c.args.commits.now c.loop-commit.commit-index c.commit-item.result
     c.loop-commit.streams.streams (c.len-number.result + 1) c.loop-commit-test.true c.commit-item.is c.requires.few c.requires.journaled
-    c.requires.numbered so_far.framed (omega arith)
+    c.requires.numbered so_far.framed (omega arith) in
+    record { cuttable = cuttable.0; few = cuttable.1 }
 
 pub absorb-requires : goal.absorb-requires
 absorb-requires c =

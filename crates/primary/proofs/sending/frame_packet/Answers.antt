@@ -6,13 +6,15 @@ use Rattle.primary.proofs.Wanting.{frame-there, frame-some}
 use Rattle.primary.proofs.sending.frame_packet.Goals as goal
 
 pub returns-in_err-frame : goal.returns-in_err-frame
-returns-in_err-frame c commits are =
-    absurd (frame-some commits c.args.durable c.args.worker c.args.seq (omega (arith, c.if-seq-count.false, c.count.ensures commits are))
-    (c.in_err-frame.ensures.found commits are))
+returns-in_err-frame c =
+    let commits = c.args.commits.now in
+    absurd (frame-some commits c.args.durable c.args.worker c.args.seq (omega (arith, c.if-seq-count.false, c.count.ensures commits c.requires))
+    c.in_err-frame.ensures.found)
 
 pub returns : goal.returns
-returns c commits are =
+returns c =
+    let commits = c.args.commits.now in
     ap Some c.of_frame.ensures.spelled
     ∙ ap (option_map frame_spelling)
-    (frame-there commits c.args.durable c.args.worker c.args.seq (Some c.in_ok-frame.frame.now)
-    (omega (arith, c.if-seq-count.false, c.count.ensures commits are)) (c.in_ok-frame.ensures.found commits are))
+    (frame-there commits c.args.durable c.args.worker c.args.seq (Some c.in_ok-frame.frame)
+    (omega (arith, c.if-seq-count.false, c.count.ensures commits c.requires)) c.in_ok-frame.ensures.found)
