@@ -1,9 +1,11 @@
 //! Commits that are cut into frames, and the streams of several workers.
 
-ghost use Rattle.std.specs.Prelude.{◌≡◌, ◌<◌, IfOk, OnOk};
+ghost use Rattle.std.specs.Prelude.{◌≡◌, ◌+◌, ◌^◌, ◌<◌, ◌≤◌, false, length, IfOk, OnOk};
 ghost use Rattle.std.specs.List.{AllByRecursion};
-ghost use Rattle.rows.specs.Limits.{workers_max};
+ghost use Rattle.rows.specs.Limits.{commit_entries_max, workers_max};
 ghost use Rattle.rows.specs.Spelling.{HasSpelling};
+ghost use Rattle.update_log.specs.Parts.{parts_of};
+ghost use Rattle.update_log.specs.Streams.{AreStreamsOf, stream_at};
 
 use rows::{Commit, Entry, EntryList, RowId, Schema, Value, fits, row_bytes};
 use scenarios_common::wanted::NUMBERS;
@@ -114,56 +116,86 @@ fn a_commit_is_cut_into_full_frames(rt: HostRuntime) -> Result<(), Fail> {
     Ok(())
 }
 
-/// Adds the next commit.
-fn extend(streams: &mut Streams, commit: &Commit, number: u64) -> Result<(), Fail>
-    requires worker { commit.now.worker < workers_max }
-    requires spelled { AllByRecursion HasSpelling commit.now.entries }
-    requires numbered { 0 < number }
+/// Whether each frame of the next commit gets a seq; a commit of more entries than there may be is
+/// an error.
+fn are_counted(streams: &Streams, commit: &Commit) -> Result<(), Fail>
+    ensures few { OnOk result (length commit.now.entries ≤ commit_entries_max) }
+    ensures seqs { OnOk result
+        (length (stream_at streams.now.streams commit.now.worker) + length (parts_of commit.now.entries) < 2 ^ 64) }
 {
     one_cut();
+    if commit.entries.len() > 4096 {
+        return Err("too many entries".into());
+    }
     if u64::MAX - streams.next_seq(commit.worker) < commit.entries.len() as u64 {
         return Err("too many frames".into());
     }
-    Ok(streams.extend(commit, number)?)
+    Ok(())
+}
+
+/// Adds the next commit to the streams of commits, and to these.
+fn extend(streams: &mut Streams, commits: &mut Vec<Commit>, commit: Commit) -> Result<(), Fail>
+    requires worker { commit.worker < workers_max }
+    requires spelled { AllByRecursion HasSpelling commit.entries }
+    requires framed { AreStreamsOf streams.old.streams commits.old.items }
+    ensures { OnOk result (AreStreamsOf streams.new.streams commits.new.items) }
+{
+    are_counted(streams, &commit)?;
+    streams.extend(&commit, commits.len() as u64 + 1)?;
+    commits.push(commit)?;
+    Ok(())
 }
 
 /// Adds the next commit in two steps; in between no stream has changed.
-fn reserve_and_add(streams: &mut Streams, commit: &Commit, number: u64) -> Result<(), Fail>
-    requires worker { commit.now.worker < workers_max }
-    requires spelled { AllByRecursion HasSpelling commit.now.entries }
-    requires numbered { 0 < number }
+fn reserve_and_add(
+    streams: &mut Streams,
+    commits: &mut Vec<Commit>,
+    commit: Commit,
+) -> Result<(), Fail>
+    requires worker { commit.worker < workers_max }
+    requires spelled { AllByRecursion HasSpelling commit.entries }
+    requires framed { AreStreamsOf streams.old.streams commits.old.items }
+    ensures { OnOk result (AreStreamsOf streams.new.streams commits.new.items) }
 {
-    one_cut();
+    are_counted(streams, &commit)?;
     let before = streams.next_seq(commit.worker);
-    if u64::MAX - before < commit.entries.len() as u64 {
-        return Err("too many frames".into());
-    }
+    let number = commits.len() as u64 + 1;
     let next = streams.reserve(commit.worker, commit.entries.as_slice(), number)?;
     if streams.next_seq(commit.worker) != before {
         return Err("a stream has changed".into());
     }
     streams.add(next);
+    commits.push(commit)?;
     Ok(())
 }
 
 /// The commits of three workers: how many accounts each puts in, and how many it then takes out.
 const COMMITS: [(u8, u64, u64); 5] = [(0, 42, 0), (1, 38, 11), (0, 1, 0), (0, 4096, 0), (15, 1, 1)];
 
-/// The streams of these commits. Every other commit is added in two steps.
-fn streams_of(alloc: Global) -> Result<Streams, Fail> {
+/// Commits, and their streams.
+#[derive(Drop)]
+struct Framed {
+    commits: Vec<Commit>,
+    streams: Streams,
+}
+
+/// These commits, and their streams. Every other commit is added in two steps.
+fn streams_of(alloc: Global) -> Result<Framed, Fail>
+    ensures { IfOk result (λ framed. AreStreamsOf framed.streams.streams framed.commits.items) }
+{
     let mut streams = Streams::new(alloc)?;
+    let mut commits = Vec::new(alloc);
     for (index, (worker, inserts, deletes)) in COMMITS.iter().enumerate() {
         let entries = entries_of(alloc, *inserts, *deletes)?;
         let worker = (*worker).min(15);
         let commit = Commit { worker, entries };
-        let number = index as u64 + 1;
         if index % 2 == 0 {
-            extend(&mut streams, &commit, number)?;
+            extend(&mut streams, &mut commits, commit)?;
         } else {
-            reserve_and_add(&mut streams, &commit, number)?;
+            reserve_and_add(&mut streams, &mut commits, commit)?;
         }
     }
-    Ok(streams)
+    Ok(Framed { commits, streams })
 }
 
 /// A frame as it is sent: how many bytes, how many entries, its commit, and whether it is the last.
@@ -189,24 +221,28 @@ const FRAMES: [(u8, u64, Option<Sent>); 15] = [
 ];
 
 /// The frame of that worker and seq as it is sent.
-fn sent(streams: &Streams, worker: u8, seq: u64) -> Result<Option<Sent>, Fail> {
-    let Some(frame) = streams.frame(worker, seq) else {
+fn sent(streams: &Streams, commits: &[Commit], worker: u8, seq: u64) -> Result<Option<Sent>, Fail>
+    requires { AreStreamsOf streams.now.streams commits.now }
+{
+    let Some(frame) = streams.frame(commits, worker, seq) else {
         return Ok(None);
     };
     if frame.worker != worker || frame.seq != seq {
         return Err("another frame".into());
     }
     let mut buffer = [0; 1200];
-    let Ok(len) = write_frame(frame, &mut buffer) else {
+    let Ok(len) = write_frame(&frame, &mut buffer) else {
         return Err("a frame of more than 1200 bytes".into());
     };
     Ok(Some((len, frame.entries.len(), frame.commit, frame.last)))
 }
 
 /// The index of the first frame that is found otherwise.
-fn other_frame(streams: &Streams) -> Result<Option<usize>, Fail> {
+fn other_frame(streams: &Streams, commits: &[Commit]) -> Result<Option<usize>, Fail>
+    requires { AreStreamsOf streams.now.streams commits.now }
+{
     for (index, (worker, seq, expected)) in FRAMES.iter().enumerate() {
-        if sent(streams, *worker, *seq)? != *expected {
+        if sent(streams, commits, *worker, *seq)? != *expected {
             return Ok(Some(index));
         }
     }
@@ -235,9 +271,12 @@ fn other_count(streams: &Streams) -> Option<usize> {
 
 #[test]
 fn streams_have_the_frames_of_their_commits(rt: HostRuntime) -> Result<(), Fail> {
-    let streams = streams_of(rt.alloc())?;
-    assert_eq!(rt; other_frame(&streams)?, None);
-    assert_eq!(rt; other_count(&streams), None);
+    let framed = streams_of(rt.alloc())?;
+    assert_eq!(rt;
+        other_frame(&framed.streams, framed.commits.as_slice())?,
+        None
+    );
+    assert_eq!(rt; other_count(&framed.streams), None);
     Ok(())
 }
 
@@ -245,11 +284,9 @@ fn streams_have_the_frames_of_their_commits(rt: HostRuntime) -> Result<(), Fail>
 fn is_extended(streams: &mut Streams, commit: &Commit) -> Result<bool, Fail>
     requires worker { commit.now.worker < workers_max }
     requires spelled { AllByRecursion HasSpelling commit.now.entries }
+    ensures { IfOk result (λ extended. extended ≡ false → streams.new.streams ≡ streams.old.streams) }
 {
-    one_cut();
-    if u64::MAX - streams.next_seq(commit.worker) < commit.entries.len() as u64 {
-        return Err("too many frames".into());
-    }
+    are_counted(streams, commit)?;
     Ok(streams.extend(commit, 1).is_ok())
 }
 
@@ -262,8 +299,8 @@ fn streams_without_memory_stay(rt: HostRuntime) -> Result<(), Fail> {
     let commit = Commit { worker: 0, entries };
     if !is_extended(&mut streams, &commit)? {
         assert_eq!(rt; (streams.next_seq(0), streams.count(0, 1)), (0, 0));
-        assert!(rt; streams.frame(0, 0).is_none());
-        extend(&mut streams, &commit, 1)?;
+        assert!(rt; streams.frame(&[], 0, 0).is_none());
+        assert!(rt; is_extended(&mut streams, &commit)?);
     }
     assert_eq!(rt; (streams.next_seq(0), streams.count(0, 1)), (2, 2));
     Ok(())

@@ -167,12 +167,13 @@ fn is_frame_written(frame: &Frame, bytes: &[u8]) -> bool
     if bytes.len() == 0 || bytes.len() > 99 {
         return false;
     }
+    let lent = frame.lent();
     let mut room = [0xee; 99];
     let (small, _) = room.split_at_mut(bytes.len() - 1);
-    if write_frame(frame, small) != Err(TooSmall) || !is_empty(&room) {
+    if write_frame(&lent, small) != Err(TooSmall) || !is_empty(&room) {
         return false;
     }
-    let written = write_frame(frame, &mut room);
+    let written = write_frame(&lent, &mut room);
     let (front, rest) = room.split_at(bytes.len());
     written == Ok(bytes.len()) && front == bytes && is_empty(rest)
 }
@@ -287,7 +288,7 @@ fn are_written() -> bool {
 /// its commit is cut.
 fn is_packet(alloc: Global, bytes: &[u8]) -> Result<bool, Fail> {
     let frame = frame_in(alloc, bytes)?;
-    if Packet::of_frame(&frame).bytes() != bytes {
+    if Packet::of_frame(&frame.lent()).bytes() != bytes {
         return Ok(false);
     }
     let Frame { entries, .. } = frame;
@@ -305,7 +306,7 @@ fn is_cut_into(alloc: Global, commit: &Commit, bytes: &[u8]) -> Result<bool, Fai
     }
     let frames = cut(alloc, commit, 1, 0)?;
     match frames.as_slice() {
-        [frame] => Ok(Packet::of_frame(frame).bytes() == bytes),
+        [frame] => Ok(Packet::of_frame(&frame.lent()).bytes() == bytes),
         _ => Ok(false),
     }
 }
