@@ -10,7 +10,6 @@ use Rattle.update_log.specs.declared.frame.Frame.{Frame}
 use Rattle.update_log.specs.Parts.{joined, has_room, parts_from, parts_of}
 use Rattle.update_log.specs.Frames.{frames_from, frames_of}
 use Rattle.update_log.specs.Streams.{frame_count, stream_from, stream_of}
-use Rattle.update_log.proofs.Splitting.{stream-is_split}
 use Rattle.ordering.specs.Merging.{AreMarked, HoldCommit, HoldCommits, HoldIfOwn, IsMerge}
 use Rattle.ordering.specs.Cutting.{commits_between, frames_cut}
 
@@ -102,6 +101,41 @@ middle whole front piece back low high is low_is high_is =
     ∙ ap (take (high - low)) (drop_at front (piece ++ back) low low_is)
     ∙ take_at piece back (high - low) (sym count)
 
+-- the stream of the first commits, and that of the others behind it
+stream-split : (worker before first v : ℕ) (commits : List Commit)
+    → stream_from worker before first commits ≡ stream_from worker before first (take v commits)
+    ++ stream_from worker (before + v) (first + length (stream_from worker before first (take v commits))) (drop v commits)
+stream-split worker before first zero commits =
+    let none : before ≡ before + 0 = omega arith in
+    let seq : first ≡ first + 0 = omega arith in
+    ap (λ (n : ℕ). stream_from worker n first commits) none ∙ ap (λ (n : ℕ). stream_from worker (before + 0) n commits) seq
+stream-split worker before first (suc v) [] = refl
+stream-split worker before first (suc v) (commit ∷ commits) =
+    one (commit.worker == worker) (λ next. stream-split worker (before + 1) next v commits)
+  where
+    later : before + 1 + v ≡ before + suc v
+    later = omega arith
+
+    one : (ours : Bool)
+        → ((next : ℕ) → stream_from worker (before + 1) next commits ≡ stream_from worker (before + 1) next (take v commits)
+        ++ stream_from worker (before + 1 + v) (next + length (stream_from worker (before + 1) next (take v commits))) (drop v commits))
+        → cond ours (frames_of commit (before + 1) first) []
+        ++ stream_from worker (before + 1) (first + length (cond ours (frames_of commit (before + 1) first) [])) commits
+        ≡ (cond ours (frames_of commit (before + 1) first) []
+        ++ stream_from worker (before + 1) (first + length (cond ours (frames_of commit (before + 1) first) [])) (take v commits))
+        ++ stream_from worker (before + suc v) (first + length (cond ours (frames_of commit (before + 1) first) []
+        ++ stream_from worker (before + 1) (first + length (cond ours (frames_of commit (before + 1) first) [])) (take v commits)))
+        (drop v commits)
+    one ours rest =
+        let frames : List Frame = cond ours (frames_of commit (before + 1) first) [] in
+        let next = first + length frames in
+        let front = stream_from worker (before + 1) next (take v commits) in
+        let seq : next + length front ≡ first + length (frames ++ front) = omega (arith, length-append frames front) in
+        ap (λ (more : List Frame). frames ++ more) (rest next)
+        ∙ sym (append_assoc frames front (stream_from worker (before + 1 + v) (next + length front) (drop v commits)))
+        ∙ ap (λ (n : ℕ). (frames ++ front) ++ stream_from worker n (next + length front) (drop v commits)) later
+        ∙ ap (λ (n : ℕ). (frames ++ front) ++ stream_from worker (before + suc v) n (drop v commits)) seq
+
 -- a worker's frames of the commits between two versions, as they were cut
 between : (commits : List Commit) (from to worker : ℕ) → from ≤ to
     → frames_cut commits from to worker
@@ -115,12 +149,12 @@ between commits from to worker upto =
     let second : drop from (take to commits) ≡ commits_between commits from to =
     ap (λ (n : ℕ). drop from (take n commits)) count ∙ drop-take from (to - from) commits in
     let both : stream_of (take to commits) worker ≡ front ++ piece =
-    (stream-is_split (take to commits) worker from).whole
+    stream-split worker 0 0 from (take to commits)
     ∙ ap (λ (cs : List Commit). stream_of cs worker
     ++ stream_from worker (0 + from) (0 + length (stream_of cs worker)) (drop from (take to commits))) first
     ∙ ap (λ (cs : List Commit). front ++ stream_from worker (0 + from) (0 + length front) cs) second in
     let whole : stream_of commits worker ≡ (front ++ piece) ++ back =
-    (stream-is_split commits worker to).whole ∙ ap (λ (fs : List Frame). fs ++ back) both in
+    stream-split worker 0 0 to commits ∙ ap (λ (fs : List Frame). fs ++ back) both in
     let before : 0 + from ≡ from = omega arith in
     let seq : 0 + length front ≡ length front = omega arith in
     middle (stream_of commits worker) front piece back (frame_count commits worker from) (frame_count commits worker to) whole refl
