@@ -183,7 +183,8 @@ stream-framed-from all worker before first (commit ∷ commits) same =
         (later (first + length (frames_of commit (before + 1) first)))
 
 -- the frames of a stream's spans are the stream
-pub stream-framed : (commits : List Commit) (worker : ℕ) → frames_at commits worker 0 (stream_spans commits worker) ≡ stream_of commits worker
+pub stream-framed : (commits : List Commit) (worker : ℕ)
+    → frames_at commits worker 0 (stream_spans commits worker) ≡ stream_of commits worker
 stream-framed commits worker =
     stream-framed-from commits worker 0 0 commits
     (λ i. let same : 0 + i ≡ i = omega arith in ap (slice_get commits) same)

@@ -8,7 +8,8 @@ use Rattle.primary.proofs.sending.frame_packet.Goals as goal
 pub returns-in_err-frame : goal.returns-in_err-frame
 returns-in_err-frame c =
     let commits = c.args.commits.now in
-    absurd (frame-some commits c.args.durable c.args.worker c.args.seq (omega (arith, c.if-seq-count.false, c.count.ensures commits c.requires))
+    absurd (frame-some commits c.args.durable c.args.worker c.args.seq
+    (omega (arith, c.if-seq-count.false, c.count.ensures commits c.requires))
     c.in_err-frame.ensures.found)
 
 pub returns : goal.returns

@@ -1,0 +1,14 @@
+-- What is sent is of the durable list, which the seat has seen.
+use Rattle.std.proofs.Common.{ap, sym, ◌∙◌}
+use Rattle.desk.proofs.Sent.{answers_of, if_ok}
+use Rattle.desk.proofs.desk.Desk.on_bytes.Goals as goal
+
+pub returns-clause-ok : goal.returns-clause-ok
+returns-clause-ok g c =
+    let inv = c.self.invariant in
+    let all = c.if-not-catch_up.ensures.all.0 in
+    let durable = ap (λ d. d.core.primary.durable) c.self.view_is ∙ sym all in
+    let sent =
+    answers_of c.self.inside.core.primary g.L.Line.schema g.L.Line.workers c.catch_up.new.seat.list c.args.bytes.now
+    (inv.0.of_workers ∙ inv.2) durable in
+    if_ok _ _ c.on_bytes.result (λ outs is. (all, is ∙ sent)) c.on_bytes.ensures.ok

@@ -1,0 +1,57 @@
+-- What a seat is answered, by the list of commits that it has seen.
+use Rattle.std.specs.Prelude.{◌≡◌, ℕ, ◌-◌, ◌<◌, ◌≤◌, List, [], length, true, Option, None, Some, slice_get, nat_lt, ◌==◌, if◌then◌else◌}
+use Rattle.rows.specs.declared.commit.Commit.{Commit}
+use Rattle.rows.specs.declared.kind.Kind.{Kind}
+use Rattle.mvcc.specs.History.{defined_at}
+use Rattle.mvcc.specs.Transaction.{Transaction}
+use Rattle.primary.specs.State.{Primary}
+use Rattle.primary.specs.Steps.{started_primary}
+use Rattle.primary.specs.declared.faults.CommitFault.{CommitFault}
+use Rattle.primary.specs.declared.faults.CommitFault.TheVariants.{ReadOnly, Foreign, Conflict}
+use Rattle.primary.specs.declared.ticket.Ticket.{Ticket}
+use Rattle.desk.specs.declared.answers.Flushed.{Flushed}
+use Rattle.desk.specs.declared.answers.Flushed.TheVariants.{Published, Unpublished}
+use Rattle.desk.specs.declared.answers.Settled.{Settled}
+use Rattle.desk.specs.declared.answers.Settled.TheVariants as settles
+
+-- why a transaction is not committed: only one without entries is read only; a conflict is with a commit after its snapshot;
+-- one whose snapshot is within the seat's list, and whose entries are defined there, is not foreign
+abbrev pub IsCommitRefusal : List (List ℕ × List Kind) → List Commit → Transaction → CommitFault → Type 0
+IsCommitRefusal schema list draft ReadOnly = draft.entries ≡ []
+IsCommitRefusal schema list draft (Conflict number) = draft.snapshot < number
+IsCommitRefusal schema list draft Foreign =
+    draft.snapshot ≤ length list → ¬ (defined_at (record { schema = schema; commits = list }) draft.snapshot draft.entries ≡ true)
+IsCommitRefusal schema list draft other = Unit {0}
+
+-- how many of the first so many pending commits a flush moves that was to make as many commits durable as `target`: none, if they are
+abbrev pub left_to_flush : Primary → ℕ → ℕ → ℕ
+left_to_flush p target count = if nat_lt (length p.durable) target then count else 0
+
+-- what a flush answers: at least what the seat had seen is durable, and it has seen all that is published
+abbrev pub IsFlushed : List Commit → List Commit → Flushed → Type 0
+IsFlushed old new (Published durable) = (length old ≤ durable) × (durable ≤ length new)
+IsFlushed old new (Unpublished durable) = length old ≤ durable
+
+-- and by the durable list: it tells how many commits are durable, and after all was published the seat has seen them
+abbrev pub TellsDurable : List Commit → List Commit → Flushed → Type 0
+TellsDurable durable seen (Published number) = (number ≡ length durable) × (seen ≡ durable)
+TellsDurable durable seen (Unpublished number) = number ≡ length durable
+
+-- the commit of that number, counted from 1
+abbrev pub commit_at : List Commit → ℕ → Option Commit
+commit_at commits number = if number == 0 then None else slice_get commits (number - 1)
+
+-- the ticket's commit stands at its number
+abbrev pub Stands : List Commit → Ticket → Type 0
+Stands list ticket = commit_at list ticket.number ≡ Some (record { worker = ticket.worker; entries = ticket.entries })
+
+-- what has become of a ticket's commit, by the seat's list
+abbrev pub IsSettled : List Commit → Ticket → Settled → Type 0
+IsSettled list ticket (settles.Settled number) = (number ≡ ticket.number) × Stands list ticket
+IsSettled list ticket settles.Lost = (ticket.number ≤ length list) × ¬ Stands list ticket
+IsSettled list ticket settles.NotYet = length list < ticket.number
+IsSettled list ticket settles.Unpublished = length list < ticket.number
+
+-- a primary of which just this list is durable, and nothing pending: what is sent of a list is what it sends
+abbrev pub primary_of : List (List ℕ × List Kind) → ℕ → List Commit → Primary
+primary_of schema workers list = started_primary schema workers list

@@ -1,0 +1,3 @@
+-- What only helps proofs; no public clause rests on it.
+pub mod Told
+pub mod Noted

@@ -1,0 +1,4 @@
+pub mod State
+pub mod Keeping
+pub mod Answers
+pub mod Inner

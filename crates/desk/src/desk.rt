@@ -1,0 +1,373 @@
+//! The desk.
+
+ghost use Rattle.std.specs.Prelude.{◌≡◌, ◌⊎◌, ◌+◌, ◌-◌, ◌<◌, ◌≤◌, ◌^◌, [], ◌∷◌, ◌++◌, length, map, sum, take};
+ghost use Rattle.std.specs.Prelude.{Ok, Err, None, true, is_some, IfOk, IfErr, IfSome, OnOk, OnErr, MatchBool, MatchOption, MatchResult};
+ghost use mathlib.Core.List.{IsPrefix};
+ghost use Rattle.rows.specs.Shape.{shape_of};
+ghost use Rattle.journal.specs.Recovery.{IsJournaled};
+ghost use Rattle.primary.specs.Journaling.{IsUnchanged, IsFlushRefusal};
+ghost use Rattle.primary.specs.Lending.{IsLentBy, EndsWritten, ended, end_answer};
+ghost use Rattle.primary.specs.Sending.{pushed, answers};
+ghost use Rattle.primary.specs.Steps.{commit_answer, committed};
+ghost use Rattle.desk.specs.Answers.{IsCommitRefusal, IsFlushed, TellsDurable, IsSettled, Stands, left_to_flush, primary_of};
+ghost use Rattle.desk.specs.Keeping.{IsKept, commit_count};
+ghost use Rattle.desk.specs.State.{IsNew};
+
+use crate::answers::{Flushed, Settled};
+use crate::origin::Origin;
+use crate::parts::{Parts, merged, open_parts};
+use crate::roster::Roster;
+use crate::seat::Seat;
+use crate::telling::Telling;
+use history::Opened;
+use journal::JournalStore;
+use mvcc::Transaction;
+use primary::{CommitFault, Done, FlushFault, PrimaryCore, Ticket, Work};
+use std::alloc::{AllocError, Global};
+use std::marker::Model;
+use std::sync::Wait;
+use std::sync::ledger::{Blank, Share};
+use wire::{Out, Packet};
+
+/// What lies under the lock of a line.
+///
+/// Contracts see the primary's core, what of the durable list is told and published, the seat of each
+/// commit since the line was made, the last number of each seat, the sum of all shares, and how many
+/// seats are not given out; what holds of them whenever the lock is taken is `IsKept`.
+#[derive(Drop)]
+pub struct Desk<L: Origin, J: JournalStore, R: Wait + Drop> {
+    core: PrimaryCore<J>,
+    telling: Telling<L, R>,
+    roster: Roster<L>,
+    free: Vec<Seat<L>>,
+    count: usize,
+    rest: Share<L>,
+}
+
+impl<L: Origin, J: JournalStore, R: Wait + Drop> Model for Desk<L, J, R> {
+    ghost use Rattle.std.specs.Prelude.{◌≡◌, length};
+    ghost use Rattle.std.specs.List.{AllByRecursion};
+    ghost use Rattle.desk.specs.State.{OnDesk, IsNew};
+    ghost use Rattle.desk.specs.Keeping.{IsKept};
+
+    ghost Value = { OnDesk J };
+
+    ghost view = { λ d. record {
+      core = d.core;
+      told = d.telling.all;
+      shown = d.telling.shown;
+      seats = d.roster.seats;
+      lasts = d.roster.lasts;
+      total = d.roster.total;
+      free = length d.free.items;
+    } };
+
+    ghost invariant = { λ d. IsKept L.first L.seats (record {
+      core = d.core;
+      told = d.telling.all;
+      shown = d.telling.shown;
+      seats = d.roster.seats;
+      lasts = d.roster.lasts;
+      total = d.roster.total;
+      free = length d.free.items;
+    })
+        × (L.first.schema ≡ L.schema) × (L.first.workers ≡ L.workers)
+        × (d.count ≡ L.seats) × (d.rest.parts ≡ 0) × (d.rest.amount ≡ 0)
+        × AllByRecursion (IsNew L.first) d.free.items };
+}
+
+impl<L: Origin, J: JournalStore, R: Wait + Drop> Desk<L, J, R> {
+    /// A desk for this primary, with so many seats; what is durable is told and published. It hands the
+    /// primary back if it is out of memory.
+    pub fn new(
+        alloc: Global,
+        rt: R,
+        core: PrimaryCore<J>,
+        opened: Opened,
+        blank: Blank,
+        seats: u8,
+    ) -> Result<Desk<L, J, R>, PrimaryCore<J>>
+        requires book { opened.seen.book ≡ L.book }
+        requires schema { core.primary.schema ≡ L.schema }
+        requires workers { core.primary.workers ≡ L.workers }
+        requires first { core.primary ≡ L.first }
+        requires name { blank.name ≡ L.name }
+        requires parts { blank.parts ≡ L.parts }
+        requires seats { (blank.parts ≡ seats) × (seats ≡ L.seats) }
+        requires some { 0 < seats }
+        ensures ok { IfOk result (λ desk. (desk.core ≡ core) × (desk.told ≡ core.primary.durable) × (desk.shown ≡ core.primary.durable)
+            × (desk.free ≡ seats) × (desk.seats ≡ [])) }
+        ensures err { IfErr result (λ back. back ≡ core) }
+    {
+        let (book, rest) = blank.open::<L>();
+        let Some(parts) = open_parts::<L, J, R>(alloc, rt, &core, opened, book, rest, seats) else {
+            return Err(core);
+        };
+        let Parts {
+            telling,
+            roster,
+            free,
+            rest,
+        } = parts;
+        Ok(Desk {
+            core,
+            telling,
+            roster,
+            free,
+            count: seats as usize,
+            rest,
+        })
+    }
+
+    /// What holds whenever the lock is taken. It does nothing: its contract is the law.
+    pub fn keeps(&self)
+        ensures { IsKept L.first L.seats self.now }
+    {
+        // A look at a field brings the invariant to the proof.
+        let _ = &self.core;
+    }
+
+    /// A seat that is not given out yet; `None` if all are. It has seen what was durable when the line
+    /// was made. Takes no memory.
+    pub fn seat(&mut self) -> Option<Seat<L>>
+        ensures { MatchOption result ((self.old.free ≡ 0) × (self.new ≡ self.old))
+            (λ seat. IsNew L.first seat × (self.old.free ≡ self.new.free + 1) × (self.new ≡ record self.old { free = self.new.free })) }
+    {
+        self.free.pop()
+    }
+
+    /// Publishes what is durable; answers whether there was memory for it.
+    fn publish(&mut self) -> bool
+        ensures same { self.new ≡ record self.old { told = self.new.told; shown = self.new.shown } }
+        ensures later { IsPrefix self.old.told self.new.told }
+        ensures durable { IsPrefix self.new.told self.new.core.primary.durable }
+        ensures all { MatchBool result
+            ((self.new.told ≡ self.new.core.primary.durable) × (self.new.shown ≡ self.new.core.primary.durable)) (Unit {0}) }
+    {
+        let Desk { core, telling, .. } = self;
+        core.keeps_legal();
+        let commits = core.versions().commits();
+        let durable = commits.split_at(core.durable() as usize).0;
+        telling.publish(durable)
+    }
+
+    /// Publishes what is durable, and has the seat see it; answers whether there was memory for it.
+    fn catch_up(&mut self, seat: &mut Seat<L>) -> bool
+        ensures same { self.new ≡ record self.old { told = self.new.told; shown = self.new.shown } }
+        ensures seat { seat.new ≡ record seat.old { list = seat.new.list } }
+        ensures later { IsPrefix seat.old.list seat.new.list }
+        ensures durable { IsPrefix seat.new.list self.new.core.primary.durable }
+        ensures all { MatchBool result ((seat.new.list ≡ self.new.core.primary.durable) × (self.new.shown ≡ self.new.core.primary.durable))
+            (seat.new.list ≡ seat.old.list) }
+    {
+        self.telling.confirm(&seat.reading);
+        if !self.publish() {
+            return false;
+        }
+        self.telling.teach(&mut seat.reading);
+        true
+    }
+
+    /// Commits a transaction for a worker, as the core does; the commit carries the seat's number, and
+    /// the seat's share grows by it. Room to note it is taken first.
+    ///
+    /// Fails as the core does, or with `Memory`, hands the transaction back, and nothing has changed.
+    pub fn commit(
+        &mut self,
+        seat: &mut Seat<L>,
+        transaction: Transaction,
+        worker: u8,
+    ) -> Result<Ticket, (Transaction, CommitFault)>
+        requires { worker < L.workers }
+        ensures ok { IfOk result (λ ticket. (commit_answer self.old.core.primary worker transaction ≡ Ok ticket.number)
+            × (ticket.worker ≡ worker) × (ticket.entries ≡ transaction.entries)
+            × (self.new.core.primary ≡ committed self.old.core.primary worker transaction.entries)) }
+        ensures carried { IfOk result (λ ticket. (self.new.seats ≡ self.old.seats ++ seat.old.number ∷ [])
+            × (seat.new ≡ record seat.old { last = ticket.number; share = seat.old.share + 1 })) }
+        ensures above { IfOk result (λ ticket. (transaction.snapshot < ticket.number) × (seat.old.last < ticket.number)) }
+        ensures refused { IfErr result (λ refusal. (refusal.0 ≡ transaction) × (self.new ≡ self.old) × (seat.new ≡ seat.old)
+            × ((refusal.1 ≡ CommitFault.Memory) ⊎ (commit_answer self.old.core.primary worker transaction ≡ Err refusal.1))) }
+        ensures seen { IfErr result (λ refusal. IsCommitRefusal L.schema seat.old.list transaction refusal.1) }
+        ensures journal { self.new.core.journal ≡ self.old.core.journal }
+        ensures kept { (self.new.told ≡ self.old.told) × (self.new.shown ≡ self.old.shown) × (self.new.free ≡ self.old.free) }
+    {
+        self.telling.confirm(&seat.reading);
+        // The number that is kept of a seat is the seat's own, since no two seats have one number.
+        if !self.roster.reserve() || self.roster.last(seat.number) != seat.last {
+            return Err((transaction, CommitFault::Memory));
+        }
+        match self.core.commit(transaction, worker) {
+            Ok(ticket) => {
+                self.roster.note(seat, ticket.number);
+                Ok(ticket)
+            }
+            Err(refusal) => Err(refusal),
+        }
+    }
+
+    /// What has become of a ticket's commit, after what is durable was published and the seat has seen it.
+    ///
+    /// `Settled`: it stands in the seat's list, at its number; `Lost`: another one does; `NotYet`: the
+    /// list is the whole durable one, and shorter than the number; `Unpublished`: it is shorter, and
+    /// there was no memory to publish what is durable.
+    pub fn settle(&mut self, seat: &mut Seat<L>, ticket: &Ticket) -> Settled
+        ensures later { IsPrefix seat.old.list seat.new.list }
+        ensures seat { seat.new ≡ record seat.old { list = seat.new.list } }
+        ensures answer { IsSettled seat.new.list ticket.now result }
+        ensures all { result ≡ Settled.NotYet → seat.new.list ≡ self.new.core.primary.durable }
+        ensures same { self.new ≡ record self.old { told = self.new.told; shown = self.new.shown } }
+    {
+        let all = self.catch_up(seat);
+        if ticket.number > seat.len() {
+            return if all {
+                Settled::NotYet
+            } else {
+                Settled::Unpublished
+            };
+        }
+        if self.stands(ticket) {
+            Settled::Settled(ticket.number)
+        } else {
+            Settled::Lost
+        }
+    }
+
+    /// Whether the ticket's commit stands at its number, which is one of a durable commit.
+    fn stands(&self, ticket: &Ticket) -> bool
+        requires { ticket.now.number ≤ length self.now.core.primary.durable }
+        ensures { MatchBool result (Stands self.now.core.primary.durable ticket.now) (¬ Stands self.now.core.primary.durable ticket.now) }
+    {
+        rows::laws::equal_is_same();
+        match self.core.versions().commit_at(ticket.number) {
+            None => false,
+            Some(commit) => commit.worker == ticket.worker && commit.entries == ticket.entries,
+        }
+    }
+
+    /// The packet of that `seq` of the worker's stream of the durable list, after that was published and
+    /// the seat has seen it. Fails only when out of memory.
+    pub fn push(
+        &mut self,
+        seat: &mut Seat<L>,
+        worker: u8,
+        seq: u64,
+    ) -> Result<Option<Packet>, AllocError>
+        ensures ok { IfOk result (λ packet. (seat.new.list ≡ self.new.core.primary.durable)
+            × (packet ≡ pushed (primary_of L.schema L.workers seat.new.list) worker seq)) }
+        ensures err { OnErr result (seat.new ≡ seat.old) }
+        ensures later { IsPrefix seat.old.list seat.new.list }
+        ensures seat { seat.new ≡ record seat.old { list = seat.new.list } }
+        ensures same { self.new ≡ record self.old { told = self.new.told; shown = self.new.shown } }
+    {
+        if !self.catch_up(seat) {
+            return Err(AllocError);
+        }
+        Ok(self.core.push(worker, seq))
+    }
+
+    /// What the primary sends for bytes that came, after what is durable was published and the seat has
+    /// seen it. Fails only when out of memory.
+    pub fn on_bytes(&mut self, seat: &mut Seat<L>, bytes: &[u8]) -> Result<Vec<Out>, AllocError>
+        ensures ok { IfOk result (λ outs. (seat.new.list ≡ self.new.core.primary.durable)
+            × (outs.items ≡ answers (primary_of L.schema L.workers seat.new.list) bytes.now)) }
+        ensures later { IsPrefix seat.old.list seat.new.list }
+        ensures seat { seat.new ≡ record seat.old { list = seat.new.list } }
+        ensures same { self.new ≡ record self.old { told = self.new.told; shown = self.new.shown } }
+    {
+        if !self.catch_up(seat) {
+            return Err(AllocError);
+        }
+        self.core.on_bytes(bytes)
+    }
+
+    /// The core, if every seat that was given out is handed in: beyond the commits with which the line
+    /// was made it then has as many as the shares of these seats together. Otherwise all is handed back.
+    pub fn end(self, seats: Vec<Seat<L>>) -> Result<PrimaryCore<J>, (Desk<L, J, R>, Vec<Seat<L>>)>
+        requires { L.parts ≡ L.seats }
+        ensures ok { IfOk result (λ core. (core ≡ self.core) × (length seats.items + self.free ≡ L.seats)
+            × (commit_count core.primary ≡ commit_count L.first + sum (map (λ seat. seat.share) seats.items))) }
+        ensures missing { IfErr result (λ back. (back.0 ≡ self) × (back.1.items ≡ seats.items)
+            × (length seats.items + self.free < L.seats)) }
+    {
+        if seats.len() + self.free.len() < self.count {
+            return Err((self, seats));
+        }
+        let Desk {
+            core,
+            roster,
+            free,
+            rest,
+            ..
+        } = self;
+        let mut roster = roster;
+        let mut all = merged(merged(rest, free), seats);
+        roster.audit(&mut all);
+        Ok(core)
+    }
+
+    /// How many commits are durable once the first `count` pending ones are (all, if there are fewer):
+    /// what a flush that is asked for now is to bring about. Takes no memory.
+    pub fn flush_target(&self, count: usize) -> u64
+        ensures { result ≡ length self.now.core.primary.durable + length (take count self.now.core.primary.pending) }
+    {
+        self.core.keeps_legal();
+        self.core.durable() + count.min(self.core.pending()) as u64
+    }
+
+    /// Begins a flush of the first `count` pending commits, as the core does, or of none if as many are
+    /// durable by now as it was to bring about: another flush has done that. The lock can be let go while
+    /// the records are written.
+    pub fn begin_flush(&mut self, target: u64, count: usize) -> Result<Work<J>, FlushFault>
+        ensures ok { IfOk result
+            (IsLentBy J.is_honest J.standing J.fault_count self.old.core (left_to_flush self.old.core.primary target count)) }
+        ensures lent { OnOk result (self.new ≡ record self.old { core = record self.old.core { journal = None } }) }
+        ensures refused { IfErr result (λ fault. ¬ (fault ≡ FlushFault.Journal)
+            × IsFlushRefusal self.old.core (left_to_flush self.old.core.primary target count) fault self.new.core.primary) }
+        ensures same { OnErr result (IsUnchanged J.is_honest J.standing J.fault_count self.old.core.journal self.new.core.journal) }
+        ensures kept { self.new ≡ record self.old { core = self.new.core } }
+    {
+        let left = if self.core.durable() < target {
+            count
+        } else {
+            0
+        };
+        self.core.begin_flush(left)
+    }
+}
+
+impl<L: Origin, J: JournalStore + Drop, R: Wait + Drop> Desk<L, J, R> {
+    /// Publishes what is durable, so many commits, and has the seat see it.
+    fn flushed(&mut self, seat: &mut Seat<L>, durable: u64) -> Flushed
+        requires { durable ≡ length self.old.core.primary.durable }
+        ensures answer { IsFlushed seat.old.list seat.new.list result }
+        ensures all { TellsDurable self.new.core.primary.durable seat.new.list result }
+        ensures later { IsPrefix seat.old.list seat.new.list }
+        ensures seat { seat.new ≡ record seat.old { list = seat.new.list } }
+        ensures same { self.new ≡ record self.old { told = self.new.told; shown = self.new.shown } }
+    {
+        if self.catch_up(seat) {
+            Flushed::Published(durable)
+        } else {
+            Flushed::Unpublished(durable)
+        }
+    }
+
+    /// Ends the flush that this desk began, as the core does, and publishes what is durable then.
+    pub fn end_flush(&mut self, seat: &mut Seat<L>, done: Done<J>) -> Result<Flushed, FlushFault>
+        ensures not_lent { is_some self.old.core.journal ≡ true
+            → (result ≡ Err FlushFault.NotLent) × (self.new ≡ self.old) }
+        ensures ended { self.old.core.journal ≡ None → self.new.core ≡ ended self.old.core.primary done }
+        ensures written { self.old.core.journal ≡ None
+            → EndsWritten J.is_honest J.standing J.fault_count self.old.core.primary done self.new.core }
+        ensures flushed { IfOk result (IsFlushed seat.old.list seat.new.list) }
+        ensures all { IfOk result (TellsDurable self.new.core.primary.durable seat.new.list) }
+        ensures refused { IfErr result (λ fault. (seat.new ≡ seat.old) × (self.new ≡ record self.old { core = self.new.core })) }
+        ensures later { IsPrefix seat.old.list seat.new.list }
+        ensures seat { seat.new ≡ record seat.old { list = seat.new.list } }
+    {
+        match self.core.end_flush(done) {
+            Ok(durable) => Ok(self.flushed(seat, durable)),
+            Err(fault) => Err(fault),
+        }
+    }
+}

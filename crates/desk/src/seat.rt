@@ -1,0 +1,167 @@
+//! A seat of a line.
+
+ghost use Rattle.std.specs.Prelude.{◌≡◌, ◌==◌, ◌<◌, [], length, IfOk, IfErr};
+ghost use mathlib.Core.List.{IsPrefix};
+ghost use Rattle.rows.specs.Shape.{shape_of};
+ghost use Rattle.journal.specs.Recovery.{IsJournaled};
+ghost use Rattle.mvcc.specs.Transactions.{get_answer, insert_answer, set_answer, delete_answer};
+ghost use Rattle.published.specs.declared.faults.LineFault.TheVariants.{Unread};
+ghost use Rattle.published.specs.Answers.{IsAnswer, IsChange};
+
+use crate::origin::Origin;
+use mvcc::Transaction;
+use published::LineFault;
+use rows::{RowId, Value};
+use std::alloc::Global;
+use std::marker::Model;
+use std::sync::ledger::Share;
+
+/// A seat of a line: a reader of what is published, with the number that its commits carry, the number
+/// of its newest ticket, and its share of the line's commits. One thread at a time uses it. None of its
+/// own calls waits or takes a lock.
+///
+/// Contracts see these, and the list of commits that it has seen: one that a journal may be of, which
+/// only grows.
+#[derive(Drop)]
+pub struct Seat<L: Origin> {
+    pub(crate) reading: published::Seat<L>,
+    pub(crate) number: u8,
+    pub(crate) last: u64,
+    pub(crate) share: Share<L>,
+}
+
+impl<L: Origin> Model for Seat<L> {
+    ghost use Rattle.std.specs.Prelude.{◌≡◌, ◌<◌};
+    ghost use Rattle.desk.specs.State.{SeatState};
+
+    ghost Value = { SeatState };
+
+    ghost view = { λ s. record { list = s.reading; number = s.number; last = s.last; share = s.share.amount } };
+
+    ghost invariant = { λ s. (s.number < L.seats) × (s.share.parts ≡ 1) };
+}
+
+impl<L: Origin> Seat<L> {
+    /// How many commits it has seen. Takes no memory.
+    pub fn len(&self) -> u64
+        ensures { result ≡ length self.now.list }
+    {
+        self.reading.front().len()
+    }
+
+    /// Whether it has seen no commit. Takes no memory.
+    pub fn is_empty(&self) -> bool
+        ensures { result ≡ (length self.now.list == 0) }
+    {
+        self.reading.front().is_empty()
+    }
+
+    /// Begins a transaction. Its snapshot is the newest version that is published, or a newer one that
+    /// the seat has seen. Takes no memory.
+    ///
+    /// Fails with `Unread` if what is published cannot be entered.
+    pub fn begin(&mut self, alloc: Global) -> Result<Transaction, LineFault>
+        ensures legal { IsJournaled L.workers (shape_of L.schema) self.new.list }
+        ensures later { IsPrefix self.old.list self.new.list }
+        ensures same { self.new ≡ record self.old { list = self.new.list } }
+        ensures begun { IfOk result (λ t. t ≡ record { snapshot = length self.new.list; entries = [] }) }
+        ensures refused { IfErr result (λ fault. fault ≡ Unread) }
+    {
+        self.reading.begin(alloc)
+    }
+
+    /// The value of a column of a row, as the transaction sees it. Takes no memory.
+    ///
+    /// Fails with the first of these: `Unread`, what is published cannot be entered, or is shorter than
+    /// what the seat has seen; `Ahead`, the transaction's snapshot is above the seat's list; `Tx`, the
+    /// transaction's own refusal.
+    pub fn value(
+        &mut self,
+        transaction: &Transaction,
+        table: u8,
+        row: RowId,
+        column: usize,
+    ) -> Result<Value, LineFault>
+        ensures legal { IsJournaled L.workers (shape_of L.schema) self.new.list }
+        ensures later { IsPrefix self.old.list self.new.list }
+        ensures same { self.new ≡ record self.old { list = self.new.list } }
+        ensures answer { IsAnswer transaction.now.snapshot (length self.new.list)
+            (get_answer (shape_of L.schema) self.new.list transaction.now table row.0 column) result }
+    {
+        self.reading.value(transaction, table, row, column)
+    }
+
+    /// Puts a new row into a table of the transaction.
+    ///
+    /// Fails as `value` does, and also where the transaction is out of memory. The transaction is then
+    /// as it was.
+    pub fn insert(
+        &mut self,
+        transaction: &mut Transaction,
+        table: u8,
+        row: RowId,
+        values: &[Value],
+    ) -> Result<(), LineFault>
+        ensures legal { IsJournaled L.workers (shape_of L.schema) self.new.list }
+        ensures later { IsPrefix self.old.list self.new.list }
+        ensures same { self.new ≡ record self.old { list = self.new.list } }
+        ensures answer { IsChange (length self.new.list)
+            (insert_answer (shape_of L.schema) self.new.list transaction.old table row.0 values.now)
+            transaction.old transaction.new result }
+    {
+        self.reading.insert(transaction, table, row, values)
+    }
+
+    /// Gives one column of a row another value in the transaction.
+    ///
+    /// Fails as `value` does, and also where the transaction is out of memory. The transaction is then
+    /// as it was.
+    pub fn set(
+        &mut self,
+        transaction: &mut Transaction,
+        table: u8,
+        row: RowId,
+        column: usize,
+        value: Value,
+    ) -> Result<(), LineFault>
+        ensures legal { IsJournaled L.workers (shape_of L.schema) self.new.list }
+        ensures later { IsPrefix self.old.list self.new.list }
+        ensures same { self.new ≡ record self.old { list = self.new.list } }
+        ensures answer { IsChange (length self.new.list)
+            (set_answer (shape_of L.schema) self.new.list transaction.old table row.0 column value)
+            transaction.old transaction.new result }
+    {
+        self.reading.set(transaction, table, row, column, value)
+    }
+
+    /// Takes a row out of a table of the transaction.
+    ///
+    /// Fails as `value` does, and also where the transaction is out of memory. The transaction is then
+    /// as it was.
+    pub fn delete(
+        &mut self,
+        transaction: &mut Transaction,
+        table: u8,
+        row: RowId,
+    ) -> Result<(), LineFault>
+        ensures legal { IsJournaled L.workers (shape_of L.schema) self.new.list }
+        ensures later { IsPrefix self.old.list self.new.list }
+        ensures same { self.new ≡ record self.old { list = self.new.list } }
+        ensures answer { IsChange (length self.new.list)
+            (delete_answer (shape_of L.schema) self.new.list transaction.old table row.0)
+            transaction.old transaction.new result }
+    {
+        self.reading.delete(transaction, table, row)
+    }
+
+    /// Both seats take the longer of their lists. Takes no memory.
+    pub fn meet(&mut self, other: &mut Seat<L>)
+        ensures one { self.new.list ≡ other.new.list }
+        ensures legal { IsJournaled L.workers (shape_of L.schema) self.new.list }
+        ensures mine { IsPrefix self.old.list self.new.list }
+        ensures theirs { IsPrefix other.old.list other.new.list }
+        ensures same { (self.new ≡ record self.old { list = self.new.list }) × (other.new ≡ record other.old { list = other.new.list }) }
+    {
+        self.reading.meet(&mut other.reading);
+    }
+}

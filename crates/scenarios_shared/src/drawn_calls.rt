@@ -1,0 +1,411 @@
+//! Drawn calls of three seats that never meet, on one thread: each is answered as by a primary of its
+//! own that takes the same calls.
+
+ghost use Rattle.std.specs.Prelude.{◌≡◌, ◌<◌, ◌≤◌};
+
+use crate::cores::core_on;
+use journal::MemJournal;
+use mvcc::{Transaction, TxFault};
+use primary::{CommitFault, FlushFault, PrimaryCore, Ticket};
+use published::LineFault;
+use rows::{RowId, Value};
+use scenarios_common::drawn_numbers::draw;
+use scenarios_common::worker_datagrams::{ask_of, want_of};
+use shared::{Flushed, Line, Origin, Seat, Settled, Start};
+use std::alloc::{AllocError, Global};
+use std::marker::Brand;
+use std::mem;
+use std::sync::Wait;
+use std::test::Fail;
+use wire::{Out, Packet};
+
+/// Calls that are drawn.
+const CALLS: usize = 10_000;
+
+/// The seeds from which the calls are drawn.
+const SEEDS: [u64; 2] = [7, 2024];
+
+/// A seat, a transaction that it began, and the same transaction on the other primary.
+#[derive(Drop)]
+struct Player<L: Origin> {
+    seat: Seat<L>,
+    transaction: Transaction,
+    plain: Transaction,
+    number: u8,
+}
+
+/// What a transaction's refusal is called at a seat.
+fn at_seat<T>(answer: Result<T, TxFault>) -> Result<T, LineFault> {
+    answer.map_err(LineFault::Tx)
+}
+
+/// What a commit was answered: the ticket, or the fault with how many entries were handed back.
+fn told(
+    answer: Result<Ticket, (Transaction, CommitFault)>,
+) -> Result<Ticket, (usize, CommitFault)> {
+    match answer {
+        Ok(ticket) => Ok(ticket),
+        Err((transaction, fault)) => Err((transaction.entries().len(), fault)),
+    }
+}
+
+/// Whether two commits were answered the same. A ticket is kept.
+fn is_same(
+    answer: Result<Ticket, (usize, CommitFault)>,
+    other: Result<Ticket, (usize, CommitFault)>,
+    tickets: &mut Vec<Ticket>,
+) -> bool {
+    match (answer, other) {
+        (Ok(ticket), Ok(other)) => {
+            let is_same = ticket.number == other.number
+                && ticket.worker == other.worker
+                && ticket.entries == other.entries;
+            is_same && tickets.push(ticket).is_ok()
+        }
+        (Err(refusal), Err(other)) => refusal == other,
+        _ => false,
+    }
+}
+
+/// Whether a flush was answered the same, and all was published.
+fn is_flushed_same(answer: Result<Flushed, FlushFault>, other: Result<u64, FlushFault>) -> bool {
+    match (answer, other) {
+        (Ok(Flushed::Published(durable)), Ok(other)) => durable == other,
+        (Err(fault), Err(other)) => fault == other,
+        _ => false,
+    }
+}
+
+/// What has become of a ticket's commit at a primary.
+fn settled_at(core: &PrimaryCore<MemJournal>, ticket: &Ticket) -> Settled {
+    if ticket.number > core.durable() {
+        return Settled::NotYet;
+    }
+    match core.versions().commit_at(ticket.number) {
+        Some(commit) if commit.worker == ticket.worker && commit.entries == ticket.entries => {
+            Settled::Settled(ticket.number)
+        }
+        _ => Settled::Lost,
+    }
+}
+
+/// Whether a packet has the same bytes, or there is none in either.
+fn is_pushed_same(answer: &Result<Option<Packet>, AllocError>, other: &Option<Packet>) -> bool {
+    match (answer, other) {
+        (Ok(Some(packet)), Some(other)) => packet.bytes() == other.bytes(),
+        (Ok(None), None) => true,
+        _ => false,
+    }
+}
+
+/// Whether the same is sent.
+fn is_sent_same(outs: &[Out], others: &[Out]) -> bool {
+    outs.len() == others.len()
+        && outs.iter().zip(others.iter()).all(|(out, other)| out.to == other.to
+            && out.packet.bytes() == other.packet.bytes())
+}
+
+impl<L: Origin> Player<L> {
+    /// The worker, by the player's number.
+    fn worker(&self) -> u8
+        ensures { result ≤ 1 }
+    {
+        self.number % 2
+    }
+
+    /// Begins anew, and answers whether that is at what is durable.
+    fn begins(&mut self, alloc: Global, core: &PrimaryCore<MemJournal>) -> bool {
+        let Ok(transaction) = self.seat.begin(alloc) else {
+            return false;
+        };
+        self.transaction = transaction;
+        self.plain = Transaction::begin(alloc, core.durable());
+        self.transaction.snapshot() == core.durable()
+    }
+
+    /// Whether the transactions answer the same value of a row, and have as many entries.
+    fn reads(&mut self, core: &PrimaryCore<MemJournal>, row: u64, column: usize) -> bool {
+        let Player {
+            seat,
+            transaction,
+            plain,
+            ..
+        } = self;
+        if plain.snapshot() > core.versions().len() {
+            return false;
+        }
+        let answer = seat.value(transaction, 0, RowId(row), column);
+        answer == at_seat(plain.get(core.versions(), 0, RowId(row), column))
+            && transaction.entries() == plain.entries()
+    }
+
+    /// Whether an insert is answered the same.
+    fn inserts(&mut self, core: &PrimaryCore<MemJournal>, row: u64, value: i64) -> bool {
+        let Player {
+            seat,
+            transaction,
+            plain,
+            ..
+        } = self;
+        if plain.snapshot() > core.versions().len() {
+            return false;
+        }
+        let values = [Value::Int(value), Value::Int(-1)];
+        let answer = seat.insert(transaction, 0, RowId(row), &values);
+        answer == at_seat(plain.insert(core.versions(), 0, RowId(row), &values))
+    }
+
+    /// Whether a change of a row is answered the same.
+    fn sets(
+        &mut self,
+        core: &PrimaryCore<MemJournal>,
+        row: u64,
+        column: usize,
+        value: i64,
+    ) -> bool {
+        let Player {
+            seat,
+            transaction,
+            plain,
+            ..
+        } = self;
+        if plain.snapshot() > core.versions().len() {
+            return false;
+        }
+        let answer = seat.set(transaction, 0, RowId(row), column, Value::Int(value));
+        answer == at_seat(plain.set(core.versions(), 0, RowId(row), column, Value::Int(value)))
+    }
+
+    /// Whether a delete is answered the same.
+    fn deletes(&mut self, core: &PrimaryCore<MemJournal>, row: u64) -> bool {
+        let Player {
+            seat,
+            transaction,
+            plain,
+            ..
+        } = self;
+        if plain.snapshot() > core.versions().len() {
+            return false;
+        }
+        let answer = seat.delete(transaction, 0, RowId(row));
+        answer == at_seat(plain.delete(core.versions(), 0, RowId(row)))
+    }
+
+    /// Whether a call of the transaction that is drawn is answered the same.
+    fn changes(&mut self, core: &PrimaryCore<MemJournal>, state: &mut u64) -> bool {
+        let row = draw(state, 8) as u64;
+        let column = draw(state, 3);
+        let value = draw(state, 9) as i64;
+        match draw(state, 7) {
+            0 | 1 => self.inserts(core, row, value),
+            2 | 3 => self.sets(core, row, column, value),
+            4 => self.deletes(core, row),
+            _ => self.reads(core, row, column),
+        }
+    }
+
+    /// Whether the commit of the transactions is answered the same. The player begins anew then.
+    fn commits<R: Wait + Drop, W: Wait>(
+        &mut self,
+        rt: &W,
+        alloc: Global,
+        line: &Line<L, MemJournal, R>,
+        core: &mut PrimaryCore<MemJournal>,
+        tickets: &mut Vec<Ticket>,
+    ) -> bool
+        requires { 1 < L.workers }
+    {
+        if core.workers() < 2 {
+            return false;
+        }
+        let worker = self.worker();
+        let mine = mem::replace(&mut self.transaction, Transaction::begin(alloc, 0));
+        let plain = mem::replace(&mut self.plain, Transaction::begin(alloc, 0));
+        let answer = told(line.commit(rt, &mut self.seat, mine, worker));
+        let other = told(core.commit(plain, worker));
+        is_same(answer, other, tickets) && self.begins(alloc, core)
+    }
+
+    /// Whether a flush is answered the same.
+    fn flushes<R: Wait + Drop, W: Wait>(
+        &mut self,
+        rt: &W,
+        line: &Line<L, MemJournal, R>,
+        core: &mut PrimaryCore<MemJournal>,
+        count: usize,
+    ) -> bool {
+        let answer = line.flush(rt, &mut self.seat, count);
+        is_flushed_same(answer, core.flush(count))
+    }
+
+    /// Whether the same has become of one of the last tickets.
+    fn settles<R: Wait + Drop, W: Wait>(
+        &mut self,
+        rt: &W,
+        line: &Line<L, MemJournal, R>,
+        core: &PrimaryCore<MemJournal>,
+        tickets: &[Ticket],
+        state: &mut u64,
+    ) -> bool {
+        let back = draw(state, 12).wrapping_add(1);
+        match tickets.get(tickets.len().wrapping_sub(back)) {
+            Some(ticket) => line.settle(rt, &mut self.seat, ticket) == settled_at(core, ticket),
+            None => true,
+        }
+    }
+
+    /// Whether a packet that is drawn is the same.
+    fn pushes<R: Wait + Drop, W: Wait>(
+        &mut self,
+        rt: &W,
+        line: &Line<L, MemJournal, R>,
+        core: &PrimaryCore<MemJournal>,
+        state: &mut u64,
+    ) -> bool {
+        let worker = draw(state, 3) as u8;
+        let seq = draw(state, core.durable() as usize % 4096 + 2) as u64;
+        let answer = line.push(rt, &mut self.seat, worker, seq);
+        is_pushed_same(&answer, &core.push(worker, seq))
+    }
+
+    /// Whether the same is sent for these bytes.
+    fn answers<R: Wait + Drop, W: Wait>(
+        &mut self,
+        rt: &W,
+        line: &Line<L, MemJournal, R>,
+        core: &PrimaryCore<MemJournal>,
+        bytes: &[u8],
+    ) -> bool {
+        match (
+            line.on_bytes(rt, &mut self.seat, bytes),
+            core.on_bytes(bytes),
+        ) {
+            (Ok(outs), Ok(others)) => is_sent_same(&outs, &others),
+            _ => false,
+        }
+    }
+
+    /// Whether the same is sent for an Ask, or a Want, that is drawn.
+    fn answers_drawn<R: Wait + Drop, W: Wait>(
+        &mut self,
+        rt: &W,
+        line: &Line<L, MemJournal, R>,
+        core: &PrimaryCore<MemJournal>,
+        state: &mut u64,
+    ) -> bool {
+        if draw(state, 2) == 0 {
+            return self.answers(rt, line, core, &ask_of(draw(state, 1000) as u64));
+        }
+        let replica = draw(state, 4) as u8;
+        let worker = draw(state, 3) as u8;
+        let seq = draw(state, core.durable() as usize % 4096 + 2) as u64;
+        self.answers(rt, line, core, &want_of(replica, worker, seq))
+    }
+
+    /// Whether a call that is drawn is answered the same.
+    fn plays<R: Wait + Drop, W: Wait>(
+        &mut self,
+        rt: &W,
+        alloc: Global,
+        line: &Line<L, MemJournal, R>,
+        core: &mut PrimaryCore<MemJournal>,
+        tickets: &mut Vec<Ticket>,
+        state: &mut u64,
+    ) -> bool
+        requires { 1 < L.workers }
+    {
+        match draw(state, 14) {
+            0 => self.begins(alloc, core),
+            1 | 2 => self.commits(rt, alloc, line, core, tickets),
+            3 => self.flushes(rt, line, core, draw(state, 4)),
+            4 => self.settles(rt, line, core, tickets, state),
+            5 => self.pushes(rt, line, core, state),
+            6 => self.answers_drawn(rt, line, core, state),
+            _ => self.changes(core, state),
+        }
+    }
+}
+
+/// Three players, each with a transaction that began on nothing. `None` if it is out of memory.
+fn players_of<L: Origin, R: Wait + Drop, W: Wait>(
+    rt: &W,
+    alloc: Global,
+    line: &Line<L, MemJournal, R>,
+) -> Option<Vec<Player<L>>> {
+    let mut players = Vec::new(alloc);
+    for number in 0..3 {
+        let player = Player {
+            seat: line.seat(rt)?,
+            transaction: Transaction::begin(alloc, 0),
+            plain: Transaction::begin(alloc, 0),
+            number,
+        };
+        players.push(player).ok()?;
+    }
+    Some(players)
+}
+
+/// The number of the first drawn call that is answered otherwise than by the other primary.
+fn other_played<L: Origin, R: Wait + Drop, W: Wait>(
+    rt: &W,
+    alloc: Global,
+    line: &Line<L, MemJournal, R>,
+    core: &mut PrimaryCore<MemJournal>,
+    players: &mut [Player<L>],
+    seed: u64,
+) -> usize
+    requires { 1 < L.workers }
+{
+    let mut tickets = Vec::new(alloc);
+    let mut state = seed;
+    for number in 0..CALLS {
+        let Some(player) = players.get_mut(draw(&mut state, 3)) else {
+            return number;
+        };
+        if !player.plays(rt, alloc, line, core, &mut tickets, &mut state) {
+            return number;
+        }
+    }
+    CALLS
+}
+
+/// The same of a line of this primary, and of another primary. `None` if it is out of memory.
+fn other_answered<L: Origin, R: Wait>(
+    rt: &R,
+    alloc: Global,
+    core: PrimaryCore<MemJournal>,
+    start: Start,
+    plain: &mut PrimaryCore<MemJournal>,
+    seed: u64,
+) -> Option<usize>
+    requires book { start.opened.seen.book ≡ L.book }
+    requires schema { core.primary.schema ≡ L.schema }
+    requires workers { core.primary.workers ≡ L.workers }
+    requires first { core.primary ≡ L.first }
+    requires name { start.blank.name ≡ L.name }
+    requires parts { start.blank.parts ≡ L.parts }
+    requires seats { start.seats ≡ L.seats }
+{
+    if core.workers() < 2 {
+        return None;
+    }
+    let line = Line::<L, MemJournal, &R>::new(alloc, rt, core, start).ok()?;
+    let mut players = players_of(rt, alloc, &line)?;
+    Some(other_played(rt, alloc, &line, plain, &mut players, seed))
+}
+
+/// The same of two new primaries.
+fn other_of_new<R: Wait>(rt: &R, alloc: Global, seed: u64) -> Result<Option<usize>, Fail> {
+    let mut plain = core_on(alloc, MemJournal::new(alloc))?;
+    let core = core_on(alloc, MemJournal::new(alloc))?;
+    let start = Start::new(3).ok().ok_or("start")?;
+    Ok(other_answered::<Brand, R>(rt, alloc, core, start, &mut plain, seed))
+}
+
+#[test]
+fn drawn_calls_are_answered_as_by_a_primary_alone(rt: HostRuntime) -> Result<(), Fail> {
+    for seed in SEEDS {
+        assert_eq!(rt; other_of_new(&rt, rt.alloc(), seed)?, Some(CALLS));
+    }
+    Ok(())
+}

@@ -1,0 +1,13 @@
+//! Why a line is not made.
+
+use thiserror::Error;
+
+/// Why a line is not made: the first that stands, in this order.
+#[derive(Clone, Copy, Debug, PartialEq, Eq, Error)]
+pub enum NewFault {
+    /// There is no history that readers could know beginnings of. No program meets that.
+    #[error("no reader can be had")]
+    NoReader,
+    #[error("out of memory")]
+    Memory,
+}

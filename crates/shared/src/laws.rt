@@ -1,0 +1,13 @@
+//! Laws of what is handed out.
+
+ghost use Rattle.shared.specs.Laws.{PushedIsOfList, AnsweredIsOfList, OfListStays};
+
+/// What a primary pushes, and each datagram that it answers, is of its durable list: a frame of one of the
+/// list's streams, or a Head that counts the frames at one of its versions; and so it is of every longer
+/// list. So all that seats handed out is of the one list that they hold once they have met. It does
+/// nothing: its contract is the law.
+pub fn what_is_sent_is_of_the_list()
+    ensures pushed { PushedIsOfList }
+    ensures answered { AnsweredIsOfList }
+    ensures stays { OfListStays }
+{}

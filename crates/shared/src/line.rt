@@ -1,0 +1,200 @@
+//! The line: the lock, and the calls that take it.
+
+ghost use Rattle.std.specs.Prelude.{◌≡◌, ◌+◌, ◌<◌, ◌≤◌, length, map, sum, IfOk, IfErr, IfSome, OnErr, MatchResult};
+ghost use mathlib.Core.List.{IsPrefix};
+ghost use Rattle.primary.specs.Sending.{pushed, answers};
+ghost use Rattle.desk.specs.Answers.{IsCommitRefusal, IsFlushed, IsSettled, primary_of};
+ghost use Rattle.desk.specs.Keeping.{commit_count};
+ghost use Rattle.desk.specs.State.{IsNew};
+
+use crate::faults::NewFault;
+use crate::start::Start;
+use desk::{Desk, Flushed, Origin, Seat, Settled};
+use journal::JournalStore;
+use mvcc::Transaction;
+use primary::{CommitFault, FlushFault, PrimaryCore, Ticket};
+use std::alloc::{AllocError, Global};
+use std::sync::{Mutex, Wait};
+use wire::{Out, Packet};
+
+/// A primary for many threads, each with a seat.
+///
+/// `L` is the line that it is. `R` is the handle with which it waits for readers of what is published.
+/// What holds of what lies under the lock, each time it is taken, is `desk::specs::Keeping`.
+#[derive(Drop)]
+pub struct Line<L: Origin, J: JournalStore, R: Wait + Drop> {
+    desk: Mutex<Desk<L, J, R>>,
+    turns: Mutex<()>,
+}
+
+impl<L: Origin, J: JournalStore, R: Wait + Drop> Line<L, J, R> {
+    /// A line for this primary, with the seats that `start` names; what is durable is published. It
+    /// hands the primary back with `Memory` if it is out of memory.
+    pub fn new(
+        alloc: Global,
+        rt: R,
+        core: PrimaryCore<J>,
+        start: Start,
+    ) -> Result<Line<L, J, R>, (PrimaryCore<J>, NewFault)>
+        requires book { start.opened.seen.book ≡ L.book }
+        requires schema { core.primary.schema ≡ L.schema }
+        requires workers { core.primary.workers ≡ L.workers }
+        requires first { core.primary ≡ L.first }
+        requires name { start.blank.name ≡ L.name }
+        requires parts { start.blank.parts ≡ L.parts }
+        requires seats { start.seats ≡ L.seats }
+        ensures { IfErr result (λ refusal. (refusal.0 ≡ core) × (refusal.1 ≡ NewFault.Memory)) }
+    {
+        let Start {
+            opened,
+            blank,
+            seats,
+        } = start;
+        match Desk::new(alloc, rt, core, opened, blank, seats) {
+            Ok(desk) => Ok(Line {
+                desk: Mutex::new(desk),
+                turns: Mutex::new(()),
+            }),
+            Err(core) => Err((core, NewFault::Memory)),
+        }
+    }
+
+    /// A seat that was not given out yet; `None` if all are. It has seen what was durable when the line
+    /// was made, and has no ticket. It may wait; takes no memory.
+    pub fn seat<W: Wait>(&self, rt: &W) -> Option<Seat<L>>
+        ensures { IfSome result (IsNew L.first) }
+    {
+        self.desk.lock(rt).seat()
+    }
+
+    /// Commits a transaction for a worker: the commit is pending, and the ticket has its number, worker
+    /// and entries. It may wait.
+    ///
+    /// Fails with the first of these, and hands the transaction back: `Failed`, the journal failed;
+    /// `ReadOnly`, it has no entries; `Foreign`, it is not of this primary; `Conflict` with the number of
+    /// the last commit after its snapshot that touches one of its rows; `NumbersUsedUp`. `Memory` comes
+    /// before these if there is no room to note the commit. If a conflict is with a commit that is still
+    /// pending, flush before the transaction is begun anew: a snapshot has only what is durable.
+    pub fn commit<W: Wait>(
+        &self,
+        rt: &W,
+        seat: &mut Seat<L>,
+        transaction: Transaction,
+        worker: u8,
+    ) -> Result<Ticket, (Transaction, CommitFault)>
+        requires { worker < L.workers }
+        ensures ok { IfOk result (λ ticket. (ticket.worker ≡ worker) × (ticket.entries ≡ transaction.entries)) }
+        ensures above { IfOk result (λ ticket. (transaction.snapshot < ticket.number) × (seat.old.last < ticket.number)) }
+        ensures seat { MatchResult result (λ ticket. seat.new ≡ record seat.old { last = ticket.number; share = seat.old.share + 1 })
+            (λ refusal. seat.new ≡ seat.old) }
+        ensures refused { IfErr result (λ refusal. (refusal.0 ≡ transaction)
+            × IsCommitRefusal L.schema seat.old.list transaction refusal.1) }
+    {
+        self.desk.lock(rt).commit(seat, transaction, worker)
+    }
+
+    /// What has become of a ticket's commit, after what is durable was published. It may wait.
+    ///
+    /// `Settled`: it is durable; `Lost`: another commit is durable under its number; `NotYet`: the
+    /// durable list is shorter than its number; `Unpublished`: the seat's list is, and there was no
+    /// memory to publish what is durable.
+    pub fn settle<W: Wait>(&self, rt: &W, seat: &mut Seat<L>, ticket: &Ticket) -> Settled
+        ensures later { IsPrefix seat.old.list seat.new.list }
+        ensures seat { seat.new ≡ record seat.old { list = seat.new.list } }
+        ensures answer { IsSettled seat.new.list ticket.now result }
+    {
+        self.desk.lock(rt).settle(seat, ticket)
+    }
+
+    /// The packet of that `seq` of the worker's stream of what is durable, if the stream has it, after
+    /// what is durable was published. It may wait. Fails only when out of memory, and then hands nothing
+    /// out.
+    pub fn push<W: Wait>(
+        &self,
+        rt: &W,
+        seat: &mut Seat<L>,
+        worker: u8,
+        seq: u64,
+    ) -> Result<Option<Packet>, AllocError>
+        ensures ok { IfOk result (λ packet. packet ≡ pushed (primary_of L.schema L.workers seat.new.list) worker seq) }
+        ensures later { IsPrefix seat.old.list seat.new.list }
+        ensures seat { seat.new ≡ record seat.old { list = seat.new.list } }
+    {
+        self.desk.lock(rt).push(seat, worker, seq)
+    }
+
+    /// What the primary sends for bytes that came, after what is durable was published: to an Ask one
+    /// Head, to a Want the frames that it names, 16 at most, to anything else nothing. It may wait. Fails
+    /// only when out of memory, and then hands nothing out.
+    pub fn on_bytes<W: Wait>(
+        &self,
+        rt: &W,
+        seat: &mut Seat<L>,
+        bytes: &[u8],
+    ) -> Result<Vec<Out>, AllocError>
+        ensures ok { IfOk result (λ outs. outs.items ≡ answers (primary_of L.schema L.workers seat.new.list) bytes.now) }
+        ensures later { IsPrefix seat.old.list seat.new.list }
+        ensures seat { seat.new ≡ record seat.old { list = seat.new.list } }
+    {
+        self.desk.lock(rt).on_bytes(seat, bytes)
+    }
+
+    /// The primary, if every seat that was given out is handed in. It then has as many commits beyond
+    /// those with which the line was made as these seats got tickets. Otherwise all is handed back.
+    pub fn end(self, seats: Vec<Seat<L>>) -> Result<PrimaryCore<J>, (Line<L, J, R>, Vec<Seat<L>>)>
+        requires { L.parts ≡ L.seats }
+        ensures ok { IfOk result (λ core. commit_count core.primary ≡ commit_count L.first + sum (map (λ seat. seat.share) seats.items)) }
+        ensures missing { IfErr result (λ back. (back.1.items ≡ seats.items) × (length seats.items < L.seats)) }
+    {
+        let Line { desk, turns } = self;
+        match desk.into_inner().end(seats) {
+            Ok(core) => Ok(core),
+            Err((desk, seats)) => Err((
+                Line {
+                    desk: Mutex::new(desk),
+                    turns,
+                },
+                seats,
+            )),
+        }
+    }
+}
+
+impl<L: Origin, J: JournalStore + Drop, R: Wait + Drop> Line<L, J, R> {
+    /// Makes the commits durable that are the first `count` pending ones when it is called (all, if there
+    /// are fewer), whosoever they are, and publishes them: `Published` with how many are durable then, or
+    /// `Unpublished` if there was no memory to publish them. One flush writes at a time, in one append;
+    /// the others wait for their turn, and write nothing if their commits are durable by then. Commits,
+    /// reads and answers go on meanwhile.
+    ///
+    /// Fails with `Failed` if the journal failed before, with `Memory`, and then nothing has changed; or
+    /// with `Journal` if the journal did not take the records: no commit is durable by it, and each
+    /// commit and flush answers `Failed` until the primary is started again.
+    pub fn flush<W: Wait>(
+        &self,
+        rt: &W,
+        seat: &mut Seat<L>,
+        count: usize,
+    ) -> Result<Flushed, FlushFault>
+        ensures flushed { IfOk result (IsFlushed seat.old.list seat.new.list) }
+        ensures refused { OnErr result (seat.new ≡ seat.old) }
+        ensures later { IsPrefix seat.old.list seat.new.list }
+        ensures seat { seat.new ≡ record seat.old { list = seat.new.list } }
+    {
+        let target = self.desk.lock(rt).flush_target(count);
+        // So that no other flush has the journal out when this one begins or ends. Those that wait here
+        // mostly find that the one before has written their commits too.
+        let turn = self.turns.lock(rt);
+        let begun = self.desk.lock(rt).begin_flush(target, count);
+        let ended = match begun {
+            Ok(work) => {
+                // The lock is not held while the journal is written.
+                let done = work.write();
+                self.desk.lock(rt).end_flush(seat, done)
+            }
+            Err(fault) => Err(fault),
+        };
+        drop(turn);
+        ended
+    }
+}
