@@ -18,7 +18,7 @@ use Rattle.rows.specs.Values.{value_of}
 use Rattle.rows.specs.Entries.{table_of, fitting}
 use Rattle.rows.specs.Tables.{patched_row}
 use Rattle.rows.specs.Commits.{is_of}
-use Rattle.rows.specs.Inner.RowAfter.{inserted_row, row_after_one, row_after_entry, row_after_fit}
+use Rattle.rows.specs.RowAfter.{inserted_row, row_after_one, row_after_entry, row_after_fit}
 use Rattle.rows.proofs.RowLaws.{row_after_fit-push}
 use Rattle.mvcc.specs.Inner.OwnRows.{supersedes}
 use Rattle.mvcc.proofs.Keys.{of-parts}

@@ -20,7 +20,7 @@ use Rattle.rows.specs.declared.faults.EntryFault.TheVariants.{WrongSize, NotACol
 use Rattle.rows.specs.Entries.{sized, placed, fitting}
 use Rattle.rows.specs.Tables.{Tables, opening, shape_in, rows_of, row_at, patched_row, apply_entry, apply_entries}
 use Rattle.rows.specs.Commits.{apply_commits, tables_after, is_of}
-use Rattle.rows.specs.Inner.RowAfter.{row_after_one, row_after_entry, row_after, row_after_commits}
+use Rattle.rows.specs.RowAfter.{row_after_one, row_after_entry, row_after, row_after_commits}
 use Rattle.rows.proofs.Presence.{apply_entry-parts, and_then-parts, shape_in-opening}
 use Rattle.rows.proofs.TableLaws.{from_is_ok, apply_commits-split, entry-kinds, entries-kinds}
 use Rattle.rows.proofs.RowLaws.{row-at}
