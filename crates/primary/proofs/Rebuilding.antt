@@ -1,7 +1,6 @@
 -- A list of commits rebuilt one by one: each is defined where it stands, and its frames can be sent.
 use Rattle.std.proofs.Common.{◌≡◌, ◌+◌, ◌<◌, ◌≤◌, ℕ, true, false, List, [], ◌∷◌, ◌++◌, length, take, drop, get_or}
-use Rattle.std.proofs.Common.{Result, Ok, Err, sym, ap, subst, ◌∙◌, arith, refl}
-use Rattle.std.specs.Prelude.{IsOk}
+use Rattle.std.proofs.Common.{sym, ap, subst, ◌∙◌, arith, refl}
 use Rattle.std.specs.Result.{is_ok}
 use Rattle.std.proofs.lemmas.List.{take_all, drop_more, take-append-drop}
 use Rattle.std.proofs.Math.ListN.{drop_of_length-le}
@@ -10,7 +9,7 @@ use Rattle.rows.specs.declared.kind.Kind.{Kind}
 use Rattle.rows.specs.Commits.{IsCommit, apply_commits, tables_after}
 use Rattle.rows.specs.Limits.{commit_entries_max, workers_max}
 use Rattle.rows.specs.Shape.{Shape, shape_of}
-use Rattle.rows.specs.Tables.{Tables, Refusal, opening, apply_entries}
+use Rattle.rows.specs.Tables.{opening, apply_entries}
 use Rattle.rows.specs.ListLaws.{EachIsDefined}
 use Rattle.mvcc.specs.History.{History, defined_at}
 use Rattle.update_log.specs.declared.span.Span.{Span}
