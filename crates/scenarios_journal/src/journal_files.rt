@@ -5,6 +5,7 @@ use journal::{FileJournal, JournalStore, OpenFault};
 use scenarios_common::files::fresh_path;
 use scenarios_journal_common::journal_cases::{JOURNAL, Outcome};
 use std::alloc::Global;
+use std::env::temp_dir;
 use std::fs;
 use std::test::Fail;
 
