@@ -1,0 +1,18 @@
+-- The values before the row.
+use Rattle.std.proofs.Common.{rules, ◌≡◌, ◌+◌, ◌<◌, ◌≤◌, [], length, true, Some, slice_get, slice_set, take, drop, ◌++◌, ℕ, ◌*◌, List, ◌∷◌, refl, sym, ap, ◌∙◌, arith}
+use Rattle.std.specs.List.{insert, remove}
+use Rattle.rows.specs.Values.{value_of}
+use Rattle.columns.specs.Columns.{kind_of, values_in, octets_in, AreCells}
+use Rattle.columns.proofs.Wide.{numbers-insert, numbers-remove, octets-insert, octets-remove, octets-set, octets-get, octets-take, octets-drop}
+use Rattle.std.proofs.lemmas.List.{take-map}
+use Rattle.rows.specs.declared.value.Value.TheVariants as values
+use Rattle.columns.proofs.cells.Cells.truncate.Goals as goal
+
+pub returns-in-Numbers-clause-values : goal.returns-in-Numbers-clause-values
+returns-in-Numbers-clause-values c =
+    rw (c.in-Numbers.is, c.truncate.ensures.items) (sym (take-map values.Int c.args.at c.in-Numbers.numbers.items))
+
+pub returns-in-Octets-clause-values : goal.returns-in-Octets-clause-values
+returns-in-Octets-clause-values c =
+    rw (c.in-Octets.is, c.truncate-in-Octets.ensures.items)
+    (sym (octets-take c.in-Octets.width c.args.rows c.args.at c.in-Octets.bytes.items c.requires.within))
