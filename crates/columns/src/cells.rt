@@ -51,6 +51,16 @@ impl Cells {
         }
     }
 
+    /// How many bytes one of its values takes in a row.
+    pub fn width(&self) -> usize
+        ensures { result ≡ width_of (kind_of self.now) }
+    {
+        match self {
+            Cells::Numbers(_) => 8,
+            Cells::Octets { width, .. } => *width as usize,
+        }
+    }
+
     /// Makes room for one more value. Fails only when out of memory. The values stay.
     pub fn reserve(&mut self) -> Result<(), AllocError>
         ensures keeps { Keeps self.old self.new }
