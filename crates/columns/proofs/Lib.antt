@@ -1,2 +1,5 @@
 pub mod Wide
 pub mod EachColumn
+pub mod Ordered
+pub mod Beside
+pub mod Built

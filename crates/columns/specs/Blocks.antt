@@ -1,5 +1,5 @@
 -- The rows that columns are, beside their identifiers.
-use Rattle.std.specs.Prelude.{ℕ, List, [], ◌∷◌, map, length}
+use Rattle.std.specs.Prelude.{ℕ, List, [], ◌∷◌, map, length, Option, None, Some, slice_get}
 use Rattle.rows.specs.declared.kind.Kind.{Kind}
 use Rattle.rows.specs.declared.value.Value.{Value}
 use Rattle.rows.specs.Tables.{Rows, Table}
@@ -24,3 +24,11 @@ kinds_with columns = map kind_of columns
 -- the table of these identifiers and columns
 abbrev pub table_with : List ℕ → List Cells → Table
 table_with ids columns = record { kinds = kinds_with columns; rows = rows_with (length ids) ids columns }
+
+-- the value of a column of the row at an index
+abbrev pub cell_in : Rows → ℕ → ℕ → Option Value
+cell_in rows at column = cell (slice_get rows at)
+  where
+    cell : Option (ℕ × List Value) → Option Value
+    cell None = None
+    cell (Some row) = slice_get row.1 column

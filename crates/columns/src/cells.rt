@@ -19,10 +19,7 @@ const STEP: usize = 128;
 #[derive(Debug, Drop)]
 pub enum Cells {
     Numbers(Vec<i64>),
-    Octets {
-        width: u8,
-        bytes: Vec<u8>,
-    },
+    Octets { width: u8, bytes: Vec<u8> },
 }
 
 impl Cells {

@@ -1,5 +1,5 @@
 -- The columns before the index have their kinds, and no values.
-use Rattle.std.proofs.Common.{◌≡◌, ◌+◌, ◌≤◌, length, take, vec_len, vec_capacity}
+use Rattle.std.proofs.Common.{◌≡◌, ◌≤◌, length, take, vec_len, vec_capacity}
 use Rattle.columns.specs.Blocks.{kinds_with}
 use Rattle.columns.specs.Inner.Edits.{AllCells}
 use Rattle.columns.proofs.edits.empty_columns.Given as goal

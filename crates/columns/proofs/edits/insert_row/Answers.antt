@@ -1,9 +1,7 @@
-use Rattle.std.proofs.Common.{rules, ◌≡◌, ℕ, ◌+◌, ◌<◌, ◌≤◌, length, get_or, slice_set, drop, refl, sym, ap, subst, ◌∙◌, arith}
-use Rattle.rows.specs.Shape.{width_of}
+use Rattle.std.proofs.Common.{rules, ◌<◌, length, get_or, arith}
 use Rattle.columns.specs.declared.cells.Cells.{Cells}
-use Rattle.columns.specs.Columns.{kind_of, HasRoom, Keeps, IsTail}
-use Rattle.columns.specs.Inner.Edits.{Each, SameFrom, IsPutIn, IsTaken, bytes_from}
-use Rattle.columns.proofs.EachColumn.{each-push, each-more, same-more, keeps-more, bytes-wide, bytes-more}
+use Rattle.columns.specs.Inner.Edits.{IsPutIn}
+use Rattle.columns.proofs.EachColumn.{each-more, same-more, bytes-wide, bytes-more}
 use Rattle.std.proofs.lemmas.List.{get_or_default}
 use Rattle.columns.proofs.edits.insert_row.Goals as goal
 

@@ -1,9 +1,6 @@
-use Rattle.std.proofs.Common.{rules, ◌≡◌, ℕ, ◌+◌, ◌<◌, ◌≤◌, length, get_or, slice_set, drop, refl, sym, ap, subst, ◌∙◌, arith}
-use Rattle.rows.specs.Shape.{width_of}
-use Rattle.columns.specs.declared.cells.Cells.{Cells}
-use Rattle.columns.specs.Columns.{kind_of, HasRoom, Keeps, IsTail}
-use Rattle.columns.specs.Inner.Edits.{Each, SameFrom, IsPutIn, IsTaken, bytes_from}
-use Rattle.columns.proofs.EachColumn.{each-push, each-more, same-more, keeps-more, bytes-wide, bytes-more}
+use Rattle.std.proofs.Common.{rules, ℕ}
+use Rattle.columns.specs.Columns.{IsTail}
+use Rattle.columns.proofs.EachColumn.{each-push}
 use Rattle.std.proofs.lemmas.List.{get_or_default}
 use Rattle.columns.proofs.edits.rows_from.Goals as goal
 

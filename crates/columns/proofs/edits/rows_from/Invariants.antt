@@ -1,5 +1,5 @@
 -- The columns before the index are copied.
-use Rattle.std.proofs.Common.{◌≡◌, ◌+◌, ◌≤◌, length, vec_len, vec_capacity}
+use Rattle.std.proofs.Common.{◌≡◌, ◌≤◌, length, vec_len, vec_capacity}
 use Rattle.columns.specs.Columns.{IsTail}
 use Rattle.columns.specs.Inner.Edits.{Each}
 use Rattle.columns.proofs.edits.rows_from.Given as goal

@@ -1,9 +1,6 @@
 -- The value stands at its place.
-use Rattle.std.proofs.Common.{rules, ◌≡◌, ◌+◌, ◌<◌, ◌≤◌, [], length, true, Some, slice_get, slice_set, take, drop, ◌++◌, ℕ, ◌*◌, List, ◌∷◌, refl, sym, ap, ◌∙◌, arith}
-use Rattle.std.specs.List.{insert, remove}
-use Rattle.rows.specs.Values.{value_of}
-use Rattle.columns.specs.Columns.{kind_of, values_in, octets_in, AreCells}
-use Rattle.columns.proofs.Wide.{numbers-insert, numbers-remove, octets-insert, octets-remove, octets-set, octets-get, octets-take, octets-drop}
+use Rattle.std.proofs.Common.{rules, ◌≡◌, ◌+◌, length, take, ℕ, ◌*◌, List, arith}
+use Rattle.columns.proofs.Wide.{numbers-insert, octets-insert}
 use Rattle.columns.proofs.cells.Cells.insert.Goals as goal
 
 pub returns-in-Numbers-clause-values : goal.returns-in-Numbers-clause-values

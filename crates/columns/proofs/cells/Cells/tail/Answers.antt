@@ -1,9 +1,6 @@
 -- The values from the row on.
-use Rattle.std.proofs.Common.{rules, ◌≡◌, ◌+◌, ◌<◌, ◌≤◌, [], length, true, Some, slice_get, slice_set, take, drop, ◌++◌, ℕ, ◌*◌, List, ◌∷◌, refl, sym, ap, ◌∙◌, arith}
-use Rattle.std.specs.List.{insert, remove}
-use Rattle.rows.specs.Values.{value_of}
-use Rattle.columns.specs.Columns.{kind_of, values_in, octets_in, AreCells}
-use Rattle.columns.proofs.Wide.{numbers-insert, numbers-remove, octets-insert, octets-remove, octets-set, octets-get, octets-take, octets-drop, octets-left}
+use Rattle.std.proofs.Common.{rules, ◌≡◌, length, drop, ◌*◌, sym, ap, ◌∙◌}
+use Rattle.columns.proofs.Wide.{octets-drop, octets-left}
 use Rattle.std.proofs.lemmas.List.{drop-map}
 use Rattle.rows.specs.declared.value.Value.TheVariants as values
 use Rattle.columns.proofs.cells.Cells.tail.Goals as goal
