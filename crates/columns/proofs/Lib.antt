@@ -3,3 +3,4 @@ pub mod EachColumn
 pub mod Ordered
 pub mod Beside
 pub mod Built
+pub mod Joined

@@ -2,3 +2,4 @@
 -- public clause of another crate rests on these.
 pub mod Edits
 pub mod Parts
+pub mod Joins

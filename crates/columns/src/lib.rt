@@ -4,6 +4,8 @@
 mod block;
 mod cells;
 mod edits;
+mod piece;
 
 pub use block::Block;
 pub use cells::Cells;
+pub use piece::{contains, home_of};
