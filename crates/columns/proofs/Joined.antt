@@ -1,13 +1,22 @@
 -- Blocks one behind the other, and a row between those below it and those above it.
 use Rattle.std.proofs.Common.{◌≡◌, ℕ, zero, suc, ◌+◌, ◌<◌, ◌≤◌, List, [], ◌∷◌, ◌++◌, length, get_or, take, drop, refl, sym, ap, subst, ◌∙◌, slice_set, arith}
-use Rattle.std.specs.Map.{keys_of}
+use Rattle.std.proofs.Common.{true, false, Option, None, Some, Result, Ok, Err, OnOk, OnErr, inl, inr}
+use Rattle.std.specs.BTreeMap.{is_at}
+use Rattle.std.specs.Map.{keys_of, set_value}
+use Rattle.std.specs.Option.{is_some}
+use Rattle.std.specs.Ordering.{nat_cmp}
+use Rattle.std.proofs.lemmas.Bool.{cases_eq, false≢true}
+use Rattle.std.proofs.lemmas.Bool.Decides.{nat_tests}
+use Rattle.std.proofs.lemmas.Map.{keys-set_value}
+use Rattle.std.proofs.lemmas.Map.Entries.{length-keys_of}
+use Rattle.rows.specs.declared.kind.Kind.{Kind}
 use Rattle.std.proofs.lemmas.Grind.{flat_map-append}
-use Rattle.std.proofs.lemmas.List.{take-append-drop, drop_more}
+use Rattle.std.proofs.lemmas.List.{take-append-drop, drop_more, set_split, length-set, get_or-set_same, get_or-set_other}
 use Rattle.rows.specs.declared.value.Value.{Value}
-use Rattle.rows.specs.Tables.{Rows, Table, row_at, is_present}
+use Rattle.rows.specs.Tables.{Rows, Table, row_at, is_present, with_row, with_patch, patched_row}
 use Rattle.columns.specs.Orders.{AllOver, AllUnder, Rising}
-use Rattle.columns.specs.Inner.Joins.{joined}
-use Rattle.columns.proofs.Ordered.{rising-parts, under-before, under-higher, over-lower, over-parts, row_at-front, row_at-back}
+use Rattle.columns.specs.Inner.Joins.{joined, AreBlocks}
+use Rattle.columns.proofs.Ordered.{rising-parts, under-before, under-higher, over-lower, over-parts, row_at-front, row_at-back, with_row-front, with_row-back, set-front, set-back, rising-set}
 
 
 -- at a block
@@ -53,3 +62,110 @@ row_at-home blocks m row d lt under over =
     ap (λ rows. row_at rows row) (joined-at blocks m d lt)
     ∙ row_at-front row (joined (take m blocks)) ((get_or blocks m d).rows ++ joined (drop (m + 1) blocks)) under
     ∙ row_at-back row (get_or blocks m d).rows (joined (drop (m + 1) blocks)) over
+
+-- ---- another block in the place of one
+
+pub joined-set : (blocks : List Table) (m : ℕ) (new : Table) → m < length blocks
+    → joined (slice_set blocks m new) ≡ joined (take m blocks) ++ (new.rows ++ joined (drop (m + 1) blocks))
+joined-set blocks m new lt =
+    let next : suc m ≡ m + 1 = omega arith in
+    ap joined (set_split blocks m new lt)
+    ∙ flat_map-append (λ (block : Table). block.rows) (take m blocks) (new ∷ drop (suc m) blocks)
+    ∙ ap (λ n. joined (take m blocks) ++ (new.rows ++ joined (drop n blocks))) next
+
+-- where a row stands or goes
+pub record IsHome (blocks : List Table) (m row : ℕ) : Type 0 where
+  pub within : m < length blocks
+  pub front : AllUnder row (joined (take m blocks))
+  pub back : AllOver row (joined (drop (m + 1) blocks))
+
+module _ (blocks : List Table) (m row : ℕ) (d : Table) (home : IsHome blocks m row) where
+  pub home-present : is_present (joined blocks) row ≡ is_present (get_or blocks m d).rows row
+  home-present = ap is_some (row_at-home blocks m row d home.within home.front home.back)
+
+  -- the block takes the row
+  pub home-insert : (new : Table) (values : List Value) → new.rows ≡ with_row (get_or blocks m d).rows row values
+      → joined (slice_set blocks m new) ≡ with_row (joined blocks) row values
+  home-insert new values put =
+      joined-set blocks m new home.within
+      ∙ ap (λ rows. joined (take m blocks) ++ (rows ++ joined (drop (m + 1) blocks))) put
+      ∙ ap (λ rows. joined (take m blocks) ++ rows)
+      (sym (with_row-back row values (get_or blocks m d).rows (joined (drop (m + 1) blocks)) home.back))
+      ∙ sym (with_row-front row values (joined (take m blocks)) ((get_or blocks m d).rows ++ joined (drop (m + 1) blocks)) home.front)
+      ∙ ap (λ rows. with_row rows row values) (sym (joined-at blocks m d home.within))
+
+  home-set : (new : Table) (values : List Value) → new.rows ≡ set_value (is_at (nat_cmp row)) (get_or blocks m d).rows values
+      → joined (slice_set blocks m new) ≡ set_value (is_at (nat_cmp row)) (joined blocks) values
+  home-set new values put =
+      joined-set blocks m new home.within
+      ∙ ap (λ rows. joined (take m blocks) ++ (rows ++ joined (drop (m + 1) blocks))) put
+      ∙ ap (λ rows. joined (take m blocks) ++ rows)
+      (sym (set-back row values (get_or blocks m d).rows (joined (drop (m + 1) blocks)) home.back))
+      ∙ sym (set-front row values (joined (take m blocks)) ((get_or blocks m d).rows ++ joined (drop (m + 1) blocks)) home.front)
+      ∙ ap (λ rows. set_value (is_at (nat_cmp row)) rows values) (sym (joined-at blocks m d home.within))
+
+  -- the block changes the row
+  pub home-patch : (new : Table) (kinds : List Kind) (offset : ℕ) (bytes : List ℕ) → is_present (joined blocks) row ≡ true
+      → new.rows ≡ with_patch kinds (get_or blocks m d).rows row offset bytes
+      → joined (slice_set blocks m new) ≡ with_patch kinds (joined blocks) row offset bytes
+  home-patch new kinds offset bytes there put = by (row_at (get_or blocks m d).rows row) refl
+    where
+      same : row_at (joined blocks) row ≡ row_at (get_or blocks m d).rows row
+      same = row_at-home blocks m row d home.within home.front home.back
+
+      by : (found : Option (List Value)) → row_at (get_or blocks m d).rows row ≡ found
+          → joined (slice_set blocks m new) ≡ with_patch kinds (joined blocks) row offset bytes
+      by None e = absurd (false≢true (ap is_some (sym (same ∙ e)) ∙ there))
+      by (Some values) e =
+          let one : new.rows ≡ set_value (is_at (nat_cmp row)) (get_or blocks m d).rows (patched_row kinds offset bytes values) = put ∙ rw e refl in
+          let all : row_at (joined blocks) row ≡ Some values = same ∙ e in
+          home-set new (patched_row kinds offset bytes values) one ∙ rw all refl
+
+-- blocks, with another in the place of one
+pub blocks-set : (kinds : List Kind) (blocks : List Table) (m : ℕ) (new : Table) → m < length blocks → AreBlocks kinds blocks
+    → new.kinds ≡ kinds → 0 < length new.rows → Rising (joined (slice_set blocks m new)) → AreBlocks kinds (slice_set blocks m new)
+blocks-set kinds blocks m new lt are of some rise = record {
+  alike = λ k d few. elim (cases_eq k m) [
+    | inl here ↦ rw (here, get_or-set_same blocks m new d lt) of
+    | inr other ↦ rw (get_or-set_other blocks m k new d other) (are.alike k d (omega (arith, few, length-set blocks m new)))
+  ];
+  some = λ k d few. elim (cases_eq k m) [
+    | inl here ↦ rw (here, get_or-set_same blocks m new d lt) some
+    | inr other ↦ rw (get_or-set_other blocks m k new d other) (are.some k d (omega (arith, few, length-set blocks m new)))
+  ];
+  rise = rise;
+}
+
+pub some-with_row : (rows : Rows) (row : ℕ) (values : List Value) → 0 < length (with_row rows row values)
+some-with_row [] row values = omega arith
+some-with_row (one ∷ rows) row values = grind (arith, nat_tests)
+
+pub length-with_patch : (kinds : List Kind) (rows : Rows) (row offset : ℕ) (bytes : List ℕ)
+    → length (with_patch kinds rows row offset bytes) ≡ length rows
+length-with_patch kinds rows row offset bytes = by (row_at rows row) refl
+  where
+    by : (found : Option (List Value)) → row_at rows row ≡ found → length (with_patch kinds rows row offset bytes) ≡ length rows
+    by None e = rw e refl
+    by (Some values) e = rw e (many rows (patched_row kinds offset bytes values))
+      where
+        many : (rows : Rows) (values : List Value) → length (set_value (is_at (nat_cmp row)) rows values) ≡ length rows
+        many rows values =
+            let keys = ap length (keys-set_value (is_at (nat_cmp row)) rows values) in
+            omega (arith, keys, length-keys_of rows, length-keys_of (set_value (is_at (nat_cmp row)) rows values))
+
+pub rising-with_patch : (kinds : List Kind) (rows : Rows) (row offset : ℕ) (bytes : List ℕ) → Rising rows
+    → Rising (with_patch kinds rows row offset bytes)
+rising-with_patch kinds rows row offset bytes rise = by (row_at rows row) refl
+  where
+    by : (found : Option (List Value)) → row_at rows row ≡ found → Rising (with_patch kinds rows row offset bytes)
+    by None e = rw e rise
+    by (Some values) e = rw e (rising-set row (patched_row kinds offset bytes values) rows rise)
+
+pub ok-then : {T E : Type 0} (result : Result T E) (P Q : Type 0) → OnOk result P → (P → Q) → OnOk result Q
+ok-then (Ok value) P Q h then = then h
+ok-then (Err fault) P Q h then = h
+
+-- what holds after a call that fails or not
+pub ok-or-err : {T E : Type 0} (result : Result T E) (P Q R : Type 0) → OnOk result P → OnErr result Q → (P → R) → (Q → R) → R
+ok-or-err (Ok value) P Q R ok err then otherwise = then ok
+ok-or-err (Err fault) P Q R ok err then otherwise = otherwise err

@@ -1,11 +1,15 @@
 //! Blocks of a table's rows, one behind the other.
 
-ghost use Rattle.std.specs.Prelude.{◌≡◌, ◌+◌, ◌<◌, ◌≤◌, length, take, drop};
-ghost use Rattle.rows.specs.Tables.{is_present};
+ghost use Rattle.std.specs.Prelude.{◌≡◌, ◌+◌, ◌<◌, ◌≤◌, length, take, drop, true, false, OnOk, OnErr};
+ghost use Rattle.rows.specs.Shape.{row_width};
+ghost use Rattle.rows.specs.Values.{values_of};
+ghost use Rattle.rows.specs.Tables.{is_present, with_row, with_patch};
 ghost use Rattle.columns.specs.Orders.{AllOver, AllUnder, Rising};
-ghost use Rattle.columns.specs.Inner.Joins.{joined, AllHaveRows};
+ghost use Rattle.columns.specs.Inner.Joins.{joined, AllHaveRows, AreBlocks};
 
 use crate::block::Block;
+use rows::Kind;
+use std::alloc::AllocError;
 
 /// The index of the block that a row stands in, if it is there, and that it goes into, if it is not:
 /// the last that begins at or below it, or else the first.
@@ -40,4 +44,39 @@ pub fn contains(blocks: &[Block], row: u64) -> bool
         return false;
     }
     blocks[home_of(blocks, row)].contains(row)
+}
+
+/// Puts in a row that is not there, given by its bytes, among the rows of blocks. Fails only when out
+/// of memory, and then nothing has changed.
+pub fn insert_row(
+    blocks: &mut [Block],
+    kinds: &[Kind],
+    row: u64,
+    bytes: &[u8],
+) -> Result<(), AllocError>
+    requires blocks { AreBlocks kinds.now blocks.old }
+    requires some { 0 < length blocks.old }
+    requires absent { is_present (joined blocks.old) row ≡ false }
+    requires wide { row_width kinds.now ≤ length bytes.now }
+    ensures ok { OnOk result (joined blocks.new ≡ with_row (joined blocks.old) row (values_of kinds.now bytes.now)) }
+    ensures err { OnErr result (joined blocks.new ≡ joined blocks.old) }
+    ensures blocks { AreBlocks kinds.now blocks.new }
+    ensures len { length blocks.new ≡ length blocks.old }
+{
+    let _ = kinds;
+    let home = home_of(blocks, row);
+    blocks[home].insert(row, bytes)
+}
+
+/// Puts bytes in the place of one column's of a row that is there, among the rows of blocks. Where
+/// they are not exactly one column's nothing changes.
+pub fn patch_row(blocks: &mut [Block], kinds: &[Kind], row: u64, offset: u16, bytes: &[u8])
+    requires blocks { AreBlocks kinds.now blocks.old }
+    requires there { is_present (joined blocks.old) row ≡ true }
+    ensures rows { joined blocks.new ≡ with_patch kinds.now (joined blocks.old) row offset bytes.now }
+    ensures blocks { AreBlocks kinds.now blocks.new }
+    ensures len { length blocks.new ≡ length blocks.old }
+{
+    let home = home_of(blocks, row);
+    blocks[home].patch(kinds, row, offset, bytes);
 }
