@@ -1,7 +1,9 @@
 -- Blocks one behind the other, and a row between those below it and those above it.
 use Rattle.std.proofs.Common.{◌≡◌, ℕ, zero, suc, ◌+◌, ◌<◌, ◌≤◌, List, [], ◌∷◌, ◌++◌, length, get_or, take, drop, refl, sym, ap, subst, ◌∙◌, slice_set, arith}
-use Rattle.std.proofs.Common.{true, false, Option, None, Some, Result, Ok, Err, OnOk, OnErr, inl, inr}
+use Rattle.std.proofs.Common.{true, false, Option, None, Some, Result, Ok, Err, OnOk, OnErr, ◌⊎◌, inl, inr}
 use Rattle.std.specs.BTreeMap.{is_at}
+use Rattle.std.specs.List.{remove}
+use Rattle.std.proofs.lemmas.List.Edits.{length-remove, get_or-remove_below, get_or-remove_above}
 use Rattle.std.specs.Map.{keys_of, set_value}
 use Rattle.std.specs.Option.{is_some}
 use Rattle.std.specs.Ordering.{nat_cmp}
@@ -13,10 +15,10 @@ use Rattle.rows.specs.declared.kind.Kind.{Kind}
 use Rattle.std.proofs.lemmas.Grind.{flat_map-append}
 use Rattle.std.proofs.lemmas.List.{take-append-drop, drop_more, set_split, length-set, get_or-set_same, get_or-set_other}
 use Rattle.rows.specs.declared.value.Value.{Value}
-use Rattle.rows.specs.Tables.{Rows, Table, row_at, is_present, with_row, with_patch, patched_row}
-use Rattle.columns.specs.Orders.{AllOver, AllUnder, Rising}
+use Rattle.rows.specs.Tables.{Rows, Table, row_at, is_present, with_row, with_patch, without_row, patched_row}
+use Rattle.columns.specs.Orders.{AllOver, AllUnder, Rising, place_in}
 use Rattle.columns.specs.Inner.Joins.{joined, AreBlocks}
-use Rattle.columns.proofs.Ordered.{rising-parts, under-before, under-higher, over-lower, over-parts, row_at-front, row_at-back, with_row-front, with_row-back, set-front, set-back, rising-set}
+use Rattle.columns.proofs.Ordered.{rising-parts, under-before, under-higher, over-lower, over-parts, row_at-front, row_at-back, with_row-front, with_row-back, set-front, set-back, rising-set, without_row-append, without_row-under, without_row-over, without_row-remove, there-within}
 
 
 -- at a block
@@ -169,3 +171,76 @@ ok-then (Err fault) P Q h then = h
 pub ok-or-err : {T E : Type 0} (result : Result T E) (P Q R : Type 0) → OnOk result P → OnErr result Q → (P → R) → (Q → R) → R
 ok-or-err (Ok value) P Q R ok err then otherwise = then ok
 ok-or-err (Err fault) P Q R ok err then otherwise = otherwise err
+
+-- ---- a row taken out
+
+pub joined-remove : (blocks : List Table) (m : ℕ) → joined (remove blocks m) ≡ joined (take m blocks) ++ joined (drop (m + 1) blocks)
+joined-remove blocks m =
+    let next : suc m ≡ m + 1 = omega arith in
+    flat_map-append (λ (block : Table). block.rows) (take m blocks) (drop (suc m) blocks)
+    ∙ ap (λ n. joined (take m blocks) ++ joined (drop n blocks)) next
+
+home-without : (blocks : List Table) (m row : ℕ) (d : Table) → IsHome blocks m row
+    → without_row (joined blocks) row ≡ joined (take m blocks) ++ (without_row (get_or blocks m d).rows row ++ joined (drop (m + 1) blocks))
+home-without blocks m row d home =
+    let rows = (get_or blocks m d).rows in
+    ap (λ rows. without_row rows row) (joined-at blocks m d home.within)
+    ∙ without_row-append row (joined (take m blocks)) (rows ++ joined (drop (m + 1) blocks))
+    ∙ ap (λ front. front ++ without_row (rows ++ joined (drop (m + 1) blocks)) row) (without_row-under row (joined (take m blocks)) home.front)
+    ∙ ap (λ back. joined (take m blocks) ++ back) (without_row-append row rows (joined (drop (m + 1) blocks)))
+    ∙ ap (λ back. joined (take m blocks) ++ (without_row rows row ++ back)) (without_row-over row (joined (drop (m + 1) blocks)) home.back)
+
+pub home-remove : (blocks : List Table) (m row : ℕ) (d new : Table) → IsHome blocks m row → new.rows ≡ without_row (get_or blocks m d).rows row
+    → joined (slice_set blocks m new) ≡ without_row (joined blocks) row
+home-remove blocks m row d new home left =
+    joined-set blocks m new home.within ∙ ap (λ rows. joined (take m blocks) ++ (rows ++ joined (drop (m + 1) blocks))) left
+    ∙ sym (home-without blocks m row d home)
+
+alone : (rows : Rows) (row : ℕ) → length rows ≡ 1 → is_present rows row ≡ true → without_row rows row ≡ []
+alone [] row one there = refl
+alone (first ∷ []) row one there = grind (arith, nat_tests)
+alone (first ∷ second ∷ rows) row one there = absurd (omega arith)
+
+pub home-drop : (blocks : List Table) (m row : ℕ) (d : Table) → IsHome blocks m row → length (get_or blocks m d).rows ≡ 1
+    → is_present (joined blocks) row ≡ true → joined (remove blocks m) ≡ without_row (joined blocks) row
+home-drop blocks m row d home one there =
+    let none = alone (get_or blocks m d).rows row one (sym (home-present blocks m row d home) ∙ there) in
+    joined-remove blocks m
+    ∙ sym (home-without blocks m row d home ∙ ap (λ rows. joined (take m blocks) ++ (rows ++ joined (drop (m + 1) blocks))) none)
+
+le_or_lt : (a b : ℕ) → (a ≤ b) ⊎ (b < a)
+le_or_lt zero b = inl (omega arith)
+le_or_lt (suc a) zero = inr (omega arith)
+le_or_lt (suc a) (suc b) = elim (le_or_lt a b) [
+  | inl h ↦ inl (omega arith)
+  | inr h ↦ inr (omega arith)
+]
+
+-- the blocks without one
+pub blocks-remove : (kinds : List Kind) (blocks : List Table) (m : ℕ) → m < length blocks → AreBlocks kinds blocks
+    → Rising (joined (remove blocks m)) → AreBlocks kinds (remove blocks m)
+blocks-remove kinds blocks m lt are rise =
+    let many = length-remove blocks m lt in
+    record {
+      alike = λ k d few. elim (le_or_lt m k) [
+        | inl past ↦ rw (get_or-remove_above blocks m d k past lt) (are.alike (k + 1) d (omega arith))
+        | inr before ↦ rw (get_or-remove_below blocks m d k before lt) (are.alike k d (omega arith))
+      ];
+      some = λ k d few. elim (le_or_lt m k) [
+        | inl past ↦ rw (get_or-remove_above blocks m d k past lt) (are.some (k + 1) d (omega arith))
+        | inr before ↦ rw (get_or-remove_below blocks m d k before lt) (are.some k d (omega arith))
+      ];
+      rise = rise;
+    }
+
+-- some rows are left of more than one
+pub left-some : (blocks : List Table) (m row : ℕ) (d : Table) → IsHome blocks m row → Rising (joined blocks)
+    → is_present (joined blocks) row ≡ true → 1 < length (get_or blocks m d).rows → 0 < length (without_row (get_or blocks m d).rows row)
+left-some blocks m row d home rise there more =
+    let rows = (get_or blocks m d).rows in
+    let parts = rising-parts (joined (take m blocks)) (rows ++ joined (drop (m + 1) blocks)) (subst Rising (joined-at blocks m d home.within) rise) in
+    let own = (rising-parts rows (joined (drop (m + 1) blocks)) parts.1).0 in
+    let here = sym (home-present blocks m row d home) ∙ there in
+    let taken = ap length (without_row-remove row rows own here) in
+    let many = length-remove rows (place_in rows row) (there-within row rows own here) in
+    omega (arith, taken, many, more)

@@ -3,7 +3,7 @@
 ghost use Rattle.std.specs.Prelude.{◌≡◌, ◌+◌, ◌<◌, ◌≤◌, length, take, drop, true, false, OnOk, OnErr};
 ghost use Rattle.rows.specs.Shape.{row_width};
 ghost use Rattle.rows.specs.Values.{values_of};
-ghost use Rattle.rows.specs.Tables.{is_present, with_row, with_patch};
+ghost use Rattle.rows.specs.Tables.{is_present, with_row, with_patch, without_row};
 ghost use Rattle.columns.specs.Orders.{AllOver, AllUnder, Rising};
 ghost use Rattle.columns.specs.Inner.Joins.{joined, AllHaveRows, AreBlocks};
 
@@ -79,4 +79,20 @@ pub fn patch_row(blocks: &mut [Block], kinds: &[Kind], row: u64, offset: u16, by
 {
     let home = home_of(blocks, row);
     blocks[home].patch(kinds, row, offset, bytes);
+}
+
+/// Takes out a row that is there, from the rows of blocks; a block that it leaves empty is dropped.
+pub fn remove_row(blocks: &mut Vec<Block>, kinds: &[Kind], row: u64)
+    requires blocks { AreBlocks kinds.now blocks.old.items }
+    requires there { is_present (joined blocks.old.items) row ≡ true }
+    ensures rows { joined blocks.new.items ≡ without_row (joined blocks.old.items) row }
+    ensures blocks { AreBlocks kinds.now blocks.new.items }
+{
+    let _ = kinds;
+    let home = home_of(blocks.as_slice(), row);
+    if blocks[home].len() == 1 {
+        let _ = blocks.remove(home);
+    } else {
+        blocks[home].remove(row);
+    }
 }
