@@ -1,9 +1,9 @@
 -- Blocks one behind the other, and a row between those below it and those above it.
-use Rattle.std.proofs.Common.{◌≡◌, ℕ, zero, suc, ◌+◌, ◌<◌, ◌≤◌, List, [], ◌∷◌, ◌++◌, length, get_or, take, drop, refl, sym, ap, subst, ◌∙◌, slice_set, arith}
+use Rattle.std.proofs.Common.{◌≡◌, ℕ, zero, suc, ◌+◌, ◌-◌, ◌<◌, ◌≤◌, List, [], ◌∷◌, ◌++◌, length, get_or, take, drop, refl, sym, ap, subst, ◌∙◌, slice_set, arith}
 use Rattle.std.proofs.Common.{true, false, Option, None, Some, Result, Ok, Err, OnOk, OnErr, ◌⊎◌, inl, inr}
 use Rattle.std.specs.BTreeMap.{is_at}
-use Rattle.std.specs.List.{remove}
-use Rattle.std.proofs.lemmas.List.Edits.{length-remove, get_or-remove_below, get_or-remove_above}
+use Rattle.std.specs.List.{remove, insert}
+use Rattle.std.proofs.lemmas.List.Edits.{length-insert, get_or-insert_below, get_or-insert_at, get_or-insert_above, length-remove, get_or-remove_below, get_or-remove_above}
 use Rattle.std.specs.Map.{keys_of, set_value}
 use Rattle.std.specs.Option.{is_some}
 use Rattle.std.specs.Ordering.{nat_cmp}
@@ -13,7 +13,7 @@ use Rattle.std.proofs.lemmas.Map.{keys-set_value}
 use Rattle.std.proofs.lemmas.Map.Entries.{length-keys_of}
 use Rattle.rows.specs.declared.kind.Kind.{Kind}
 use Rattle.std.proofs.lemmas.Grind.{flat_map-append}
-use Rattle.std.proofs.lemmas.List.{take-append-drop, drop_more, set_split, length-set, get_or-set_same, get_or-set_other}
+use Rattle.std.proofs.lemmas.List.{append_assoc, take-append-le, take-take, length-take-le, drop_at, take-append-drop, drop_more, set_split, length-set, get_or-set_same, get_or-set_other}
 use Rattle.rows.specs.declared.value.Value.{Value}
 use Rattle.rows.specs.Tables.{Rows, Table, row_at, is_present, with_row, with_patch, without_row, patched_row}
 use Rattle.columns.specs.Orders.{AllOver, AllUnder, Rising, place_in}
@@ -244,3 +244,63 @@ left-some blocks m row d home rise there more =
     let taken = ap length (without_row-remove row rows own here) in
     let many = length-remove rows (place_in rows row) (there-within row rows own here) in
     omega (arith, taken, many, more)
+
+-- ---- a block cut in two
+
+each-insert : (P : Table → Type 0) (blocks : List Table) (i : ℕ) (new : Table) → i ≤ length blocks
+    → ((k : ℕ) (d : Table) → k < length blocks → P (get_or blocks k d)) → P new
+    → (k : ℕ) (d : Table) → k < length blocks + 1 → P (get_or (insert blocks i new) k d)
+each-insert P blocks i new le each one k d few = elim (le_or_lt i k) [
+  | inr before ↦ rw (get_or-insert_below blocks i new d k before le) (each k d (omega arith))
+  | inl past ↦ elim (cases_eq k i) [
+    | inl here ↦ rw (here, get_or-insert_at blocks i new d le) one
+    | inr other ↦ (let back : k ≡ (k - 1) + 1 = omega arith in
+        subst (λ k. P (get_or (insert blocks i new) k d)) (sym back)
+        (rw (get_or-insert_above blocks i new d (k - 1) (omega arith) le) (each (k - 1) d (omega arith))))
+  ]
+]
+
+each-set : (P : Table → Type 0) (blocks : List Table) (m : ℕ) (new : Table) → m < length blocks
+    → ((k : ℕ) (d : Table) → k < length blocks → P (get_or blocks k d)) → P new
+    → (k : ℕ) (d : Table) → k < length blocks → P (get_or (slice_set blocks m new) k d)
+each-set P blocks m new lt each one k d few = elim (cases_eq k m) [
+  | inl here ↦ rw (here, get_or-set_same blocks m new d lt) one
+  | inr other ↦ rw (get_or-set_other blocks m k new d other) (each k d few)
+]
+
+pub joined-cut : (blocks : List Table) (m : ℕ) (d head tail : Table) → m < length blocks
+    → head.rows ++ tail.rows ≡ (get_or blocks m d).rows
+    → joined (slice_set (insert blocks (m + 1) tail) m head) ≡ joined blocks
+joined-cut blocks m d head tail lt both =
+    let whole = blocks in
+    let le : m + 1 ≤ length blocks = omega arith in
+    let many = length-insert blocks (m + 1) tail le in
+    let front : take m (insert blocks (m + 1) tail) ≡ take m blocks =
+    take-append-le m (take (m + 1) blocks) (tail ∷ drop (m + 1) blocks) (omega (arith, length-take-le (m + 1) blocks le)) ∙ take-take m (m + 1) blocks (omega arith) in
+    let back : drop (m + 1) (insert blocks (m + 1) tail) ≡ tail ∷ drop (m + 1) blocks =
+    drop_at (take (m + 1) blocks) (tail ∷ drop (m + 1) blocks) (m + 1) (length-take-le (m + 1) blocks le) in
+    joined-set (insert blocks (m + 1) tail) m head (omega (arith, many))
+    ∙ ap (λ blocks. joined blocks ++ (head.rows ++ joined (drop (m + 1) (insert whole (m + 1) tail)))) front
+    ∙ ap (λ rest. joined (take m blocks) ++ (head.rows ++ joined rest)) back
+    ∙ ap (λ rows. joined (take m blocks) ++ rows) (sym (append_assoc head.rows tail.rows (joined (drop (m + 1) blocks))))
+    ∙ ap (λ rows. joined (take m blocks) ++ (rows ++ joined (drop (m + 1) blocks))) both
+    ∙ sym (joined-at blocks m d lt)
+
+pub blocks-cut : (kinds : List Kind) (blocks : List Table) (m : ℕ) (d head tail : Table) → m < length blocks → AreBlocks kinds blocks
+    → head.rows ++ tail.rows ≡ (get_or blocks m d).rows → head.kinds ≡ kinds → tail.kinds ≡ kinds → 0 < length head.rows → 0 < length tail.rows
+    → AreBlocks kinds (slice_set (insert blocks (m + 1) tail) m head)
+blocks-cut kinds blocks m d head tail lt are both head_kinds tail_kinds head_some tail_some =
+    let le : m + 1 ≤ length blocks = omega arith in
+    let many = length-insert blocks (m + 1) tail le in
+    let all = insert blocks (m + 1) tail in
+    let within : m < length all = omega (arith, many) in
+    let same = length-set all m head in
+    let Kind_is = λ (block : Table). block.kinds ≡ kinds in
+    let Has = λ (block : Table). 0 < length block.rows in
+    record {
+      alike = λ k e few. each-set Kind_is all m head within
+          (λ k e few. each-insert Kind_is blocks (m + 1) tail le are.alike tail_kinds k e (omega (arith, many, few))) head_kinds k e (omega (arith, same, few));
+      some = λ k e few. each-set Has all m head within
+          (λ k e few. each-insert Has blocks (m + 1) tail le are.some tail_some k e (omega (arith, many, few))) head_some k e (omega (arith, same, few));
+      rise = subst Rising (sym (joined-cut blocks m d head tail lt both)) are.rise;
+    }

@@ -8,4 +8,4 @@ mod piece;
 
 pub use block::Block;
 pub use cells::Cells;
-pub use piece::{contains, home_of, insert_row, patch_row, remove_row};
+pub use piece::{contains, home_of, insert_row, make_room, patch_row, remove_row};

@@ -9,7 +9,10 @@ ghost use Rattle.columns.specs.Inner.Joins.{joined, AllHaveRows, AreBlocks};
 
 use crate::block::Block;
 use rows::Kind;
-use std::alloc::AllocError;
+use std::alloc::{AllocError, Global};
+
+/// How many rows a block has at most, but for the one that it takes when it is cut.
+const BLOCK_ROWS: usize = 1024;
 
 /// The index of the block that a row stands in, if it is there, and that it goes into, if it is not:
 /// the last that begins at or below it, or else the first.
@@ -94,5 +97,50 @@ pub fn remove_row(blocks: &mut Vec<Block>, kinds: &[Kind], row: u64)
         let _ = blocks.remove(home);
     } else {
         blocks[home].remove(row);
+    }
+}
+
+/// Makes room for a row among the rows of blocks: where the block that it goes into is full, its last
+/// rows become a block of their own. Behind all its rows, or before them, one row is parted from the
+/// others, so that rows which come in order leave full blocks; else half of them. The rows stay. Fails
+/// only when out of memory, and then nothing has changed.
+pub fn make_room(
+    alloc: Global,
+    blocks: &mut Vec<Block>,
+    kinds: &[Kind],
+    row: u64,
+) -> Result<(), AllocError>
+    requires blocks { AreBlocks kinds.now blocks.old.items }
+    requires some { 0 < length blocks.old.items }
+    ensures rows { joined blocks.new.items ≡ joined blocks.old.items }
+    ensures blocks { AreBlocks kinds.now blocks.new.items }
+    ensures some { 0 < length blocks.new.items }
+{
+    let _ = kinds;
+    let home = home_of(blocks.as_slice(), row);
+    let rows = blocks[home].len();
+    if rows < BLOCK_ROWS {
+        return Ok(());
+    }
+    let cut = cut_at(rows, blocks[home].place(row));
+    let tail = blocks[home].tail(alloc, cut)?;
+    if blocks.insert(home + 1, tail).is_err() {
+        return Err(AllocError);
+    }
+    blocks[home].truncate(cut);
+    Ok(())
+}
+
+/// Where a full block is cut, for a row that is to stand at a place in it.
+fn cut_at(rows: usize, place: usize) -> usize
+    requires { 1 < rows }
+    ensures { (0 < result) × (result < rows) }
+{
+    if place == 0 {
+        1
+    } else if place >= rows {
+        rows - 1
+    } else {
+        rows / 2
     }
 }
