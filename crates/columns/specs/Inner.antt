@@ -3,3 +3,4 @@
 pub mod Edits
 pub mod Parts
 pub mod Joins
+pub mod Pieces

@@ -5,7 +5,8 @@ mod block;
 mod cells;
 mod edits;
 mod piece;
+mod sequence;
 
 pub use block::Block;
 pub use cells::Cells;
-pub use piece::{contains, home_of, insert_row, make_room, patch_row, remove_row};
+pub use piece::Piece;

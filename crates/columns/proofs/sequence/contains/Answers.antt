@@ -3,7 +3,7 @@ use Rattle.std.proofs.Common.{rules, ◌≡◌, length, get_or, ap, sym, ◌∙�
 use Rattle.std.specs.Option.{is_some}
 use Rattle.rows.specs.Tables.{Table, is_present}
 use Rattle.columns.proofs.Joined.{row_at-home}
-use Rattle.columns.proofs.piece.contains.Goals as goal
+use Rattle.columns.proofs.sequence.contains.Goals as goal
 
 pub returns : goal.returns
 returns c =

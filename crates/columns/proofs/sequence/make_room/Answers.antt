@@ -6,8 +6,8 @@ use Rattle.columns.specs.Inner.Joins.{joined, AreBlocks}
 use Rattle.columns.proofs.Joined.{joined-cut, blocks-cut}
 use Rattle.std.proofs.lemmas.List.{get_or_default, take-append-drop, length-take-le, length-drop}
 use Rattle.std.proofs.lemmas.List.Edits.{get_or-insert_below}
-use Rattle.columns.proofs.piece.make_room.Goals as goal
-use Rattle.columns.proofs.piece.make_room.Goals.{After-truncate}
+use Rattle.columns.proofs.sequence.make_room.Goals as goal
+use Rattle.columns.proofs.sequence.make_room.Goals.{After-truncate}
 
 -- the two blocks
 made : (c : After-truncate) → (joined (slice_set c.insert.new.self.items c.home_of-home.result c.truncate.new.self) ≡ joined c.args.blocks.now.items)

@@ -7,7 +7,7 @@ use Rattle.columns.specs.Inner.Joins.{joined, AreBlocks}
 use Rattle.columns.proofs.Ordered.{rising-with_row}
 use Rattle.columns.proofs.Joined.{IsHome, home-present, home-insert, home-patch, blocks-set, some-with_row, length-with_patch, rising-with_patch, ok-then, ok-or-err}
 use Rattle.std.proofs.lemmas.List.{set-get_or}
-use Rattle.columns.proofs.piece.insert_row.Goals as goal
+use Rattle.columns.proofs.sequence.insert_row.Goals as goal
 
 pub insert-requires-clause-absent : goal.insert-requires-clause-absent
 insert-requires-clause-absent c =

@@ -2,7 +2,7 @@
 use Rattle.std.proofs.Common.{◌≡◌, ◌-◌, ◌<◌, ◌≤◌, length, take, drop}
 use Rattle.columns.specs.Orders.{AllOver, AllUnder}
 use Rattle.columns.specs.Inner.Joins.{joined}
-use Rattle.columns.proofs.piece.home_of.Given as goal
+use Rattle.columns.proofs.sequence.home_of.Given as goal
 
 abbrev pub invariant-loop-low : goal.invariant-loop-low
 invariant-loop-low l = record {

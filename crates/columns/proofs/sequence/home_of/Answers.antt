@@ -3,7 +3,7 @@ use Rattle.std.proofs.Common.{rules, ◌≡◌, ℕ, ◌+◌, ◌-◌, ◌/◌, 
 use Rattle.std.specs.Map.{keys_of}
 use Rattle.rows.specs.Tables.{Table}
 use Rattle.columns.proofs.Joined.{under-step, over-step}
-use Rattle.columns.proofs.piece.home_of.Goals as goal
+use Rattle.columns.proofs.sequence.home_of.Goals as goal
 
 pub loop-low-preserved-then-ids-row : goal.loop-low-preserved-then-ids-row
 loop-low-preserved-then-ids-row c =

@@ -6,7 +6,7 @@ use Rattle.columns.specs.Inner.Joins.{joined, AreBlocks}
 use Rattle.columns.proofs.Ordered.{rising-without_row}
 use Rattle.columns.proofs.Joined.{IsHome, home-present, home-remove, home-drop, blocks-set, blocks-remove, left-some}
 use Rattle.std.proofs.lemmas.List.{get_or_default}
-use Rattle.columns.proofs.piece.remove_row.Goals as goal
+use Rattle.columns.proofs.sequence.remove_row.Goals as goal
 
 pub remove-requires-else-len-eq1 : goal.remove-requires-else-len-eq1
 remove-requires-else-len-eq1 c =
