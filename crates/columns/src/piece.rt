@@ -6,7 +6,7 @@ ghost use Rattle.rows.specs.Values.{values_of};
 ghost use Rattle.rows.specs.Tables.{is_present, with_row, with_patch, without_row};
 
 use crate::block::Block;
-use crate::sequence::{contains, insert_row, make_room, patch_row, remove_row};
+use crate::sequence::{contains, patch_row, put_row, remove_row};
 use rows::{Kind, KindList};
 use std::alloc::{AllocError, Global};
 use std::marker::Model;
@@ -56,6 +56,17 @@ impl Piece {
         ensures { result ≡ is_present self.now.rows row }
     {
         contains(self.blocks.as_slice(), row)
+    }
+
+    /// Puts in a row that is not there, given by its bytes. Fails only when out of memory, and then the
+    /// rows are as they were.
+    pub fn insert(&mut self, alloc: Global, row: u64, bytes: &[u8]) -> Result<(), AllocError>
+        requires absent { is_present self.old.rows row ≡ false }
+        requires wide { row_width self.old.kinds ≤ length bytes.now }
+        ensures ok { OnOk result (self.new ≡ record self.old { rows = with_row self.old.rows row (values_of self.old.kinds bytes.now) }) }
+        ensures err { OnErr result (self.new ≡ self.old) }
+    {
+        put_row(alloc, &mut self.blocks, self.kinds.as_slice(), row, bytes)
     }
 
     /// Puts bytes in the place of one column's of a row that is there. Where they are not exactly one

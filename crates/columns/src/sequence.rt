@@ -1,7 +1,8 @@
 //! Blocks of a table's rows, one behind the other.
 
-ghost use Rattle.std.specs.Prelude.{◌≡◌, ◌+◌, ◌<◌, ◌≤◌, length, take, drop, true, false, OnOk, OnErr};
-ghost use Rattle.rows.specs.Shape.{row_width};
+ghost use Rattle.std.specs.Prelude.{◌≡◌, ◌+◌, ◌<◌, ◌≤◌, length, take, drop, true, false, [], IfOk, OnOk, OnErr};
+ghost use Rattle.std.specs.List.{list_all};
+ghost use Rattle.rows.specs.Shape.{row_width, is_good};
 ghost use Rattle.rows.specs.Values.{values_of};
 ghost use Rattle.rows.specs.Tables.{is_present, with_row, with_patch, without_row};
 ghost use Rattle.columns.specs.Orders.{AllOver, AllUnder, Rising};
@@ -69,6 +70,45 @@ pub fn insert_row(
     let _ = kinds;
     let home = home_of(blocks, row);
     blocks[home].insert(row, bytes)
+}
+
+/// Puts in a row that is not there, given by its bytes, in blocks that may be none; a full block is cut
+/// first. Fails only when out of memory, and then the rows are as they were.
+pub fn put_row(
+    alloc: Global,
+    blocks: &mut Vec<Block>,
+    kinds: &[Kind],
+    row: u64,
+    bytes: &[u8],
+) -> Result<(), AllocError>
+    requires blocks { AreBlocks kinds.now blocks.old.items }
+    requires good { list_all is_good kinds.now ≡ true }
+    requires absent { is_present (joined blocks.old.items) row ≡ false }
+    requires wide { row_width kinds.now ≤ length bytes.now }
+    ensures ok { OnOk result (joined blocks.new.items ≡ with_row (joined blocks.old.items) row (values_of kinds.now bytes.now)) }
+    ensures err { OnErr result (joined blocks.new.items ≡ joined blocks.old.items) }
+    ensures blocks { AreBlocks kinds.now blocks.new.items }
+{
+    if blocks.is_empty() {
+        let block = block_of(alloc, kinds, row, bytes)?;
+        if blocks.push(block).is_err() {
+            return Err(AllocError);
+        }
+        return Ok(());
+    }
+    make_room(alloc, blocks, kinds, row)?;
+    insert_row(blocks.as_mut_slice(), kinds, row, bytes)
+}
+
+/// A block of one row, given by its bytes. Fails only when out of memory.
+fn block_of(alloc: Global, kinds: &[Kind], row: u64, bytes: &[u8]) -> Result<Block, AllocError>
+    requires good { list_all is_good kinds.now ≡ true }
+    requires wide { row_width kinds.now ≤ length bytes.now }
+    ensures { IfOk result (λ block. block ≡ record { kinds = kinds.now; rows = with_row [] row (values_of kinds.now bytes.now) }) }
+{
+    let mut block = Block::new(alloc, kinds)?;
+    block.insert(row, bytes)?;
+    Ok(block)
 }
 
 /// Puts bytes in the place of one column's of a row that is there, among the rows of blocks. Where
