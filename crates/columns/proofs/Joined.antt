@@ -1,6 +1,6 @@
 -- Blocks one behind the other, and a row between those below it and those above it.
 use Rattle.std.proofs.Common.{◌≡◌, ℕ, zero, suc, ◌+◌, ◌-◌, ◌<◌, ◌≤◌, List, [], ◌∷◌, ◌++◌, length, get_or, take, drop, refl, sym, ap, subst, ◌∙◌, slice_set, arith}
-use Rattle.std.proofs.Common.{true, false, Option, None, Some, Result, Ok, Err, OnOk, OnErr, ◌⊎◌, inl, inr}
+use Rattle.std.proofs.Common.{true, Option, None, Some, Result, Ok, Err, OnOk, OnErr, ◌⊎◌, inl, inr}
 use Rattle.std.specs.BTreeMap.{is_at}
 use Rattle.std.specs.List.{remove, insert}
 use Rattle.std.proofs.lemmas.List.Edits.{length-insert, get_or-insert_below, get_or-insert_at, get_or-insert_above, length-remove, get_or-remove_below, get_or-remove_above}
@@ -18,8 +18,7 @@ use Rattle.rows.specs.declared.value.Value.{Value}
 use Rattle.rows.specs.Tables.{Rows, Table, row_at, is_present, with_row, with_patch, without_row, patched_row}
 use Rattle.columns.specs.Orders.{AllOver, AllUnder, Rising, place_in}
 use Rattle.columns.specs.Inner.Joins.{joined, AreBlocks}
-use Rattle.columns.proofs.Ordered.{rising-parts, under-before, under-higher, over-lower, over-parts, row_at-front, row_at-back, with_row-front, with_row-back, set-front, set-back, rising-set, without_row-append, without_row-under, without_row-over, without_row-remove, there-within}
-
+use Rattle.columns.proofs.Ordered.{rising-parts, under-before, under-higher, over-lower, row_at-front, row_at-back, with_row-front, with_row-back, set-front, set-back, rising-set, without_row-append, without_row-under, without_row-over, without_row-remove, there-within}
 
 -- at a block
 pub joined-at : (blocks : List Table) (m : ℕ) (d : Table) → m < length blocks

@@ -75,7 +75,13 @@ impl Piece {
         requires { is_present self.old.rows row ≡ true }
         ensures { self.new ≡ record self.old { rows = with_patch self.old.kinds self.old.rows row offset bytes.now } }
     {
-        patch_row(self.blocks.as_mut_slice(), self.kinds.as_slice(), row, offset, bytes);
+        patch_row(
+            self.blocks.as_mut_slice(),
+            self.kinds.as_slice(),
+            row,
+            offset,
+            bytes,
+        );
     }
 
     /// Takes out a row that is there. Takes no memory.

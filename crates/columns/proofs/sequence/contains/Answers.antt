@@ -1,5 +1,5 @@
 -- Its block alone may have it.
-use Rattle.std.proofs.Common.{rules, ◌≡◌, length, get_or, ap, sym, ◌∙◌, arith}
+use Rattle.std.proofs.Common.{ap, sym, ◌∙◌}
 use Rattle.std.specs.Option.{is_some}
 use Rattle.rows.specs.Tables.{Table, is_present}
 use Rattle.columns.proofs.Joined.{row_at-home}

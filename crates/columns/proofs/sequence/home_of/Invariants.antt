@@ -1,5 +1,5 @@
 -- The rows before the block at `low` are below the row, and those from the block at `high` on above it.
-use Rattle.std.proofs.Common.{◌≡◌, ◌-◌, ◌<◌, ◌≤◌, length, take, drop}
+use Rattle.std.proofs.Common.{◌-◌, ◌<◌, ◌≤◌, length, take, drop}
 use Rattle.columns.specs.Orders.{AllOver, AllUnder}
 use Rattle.columns.specs.Inner.Joins.{joined}
 use Rattle.columns.proofs.sequence.home_of.Given as goal

@@ -1,5 +1,5 @@
 -- The rows before the cut and those behind it are the block's.
-use Rattle.std.proofs.Common.{rules, ◌≡◌, ℕ, ◌+◌, ◌<◌, ◌≤◌, length, get_or, slice_set, take, drop, ◌++◌, true, false, refl, sym, ap, subst, ◌∙◌, arith}
+use Rattle.std.proofs.Common.{rules, ◌≡◌, ◌+◌, ◌<◌, length, get_or, slice_set, take, drop, ◌++◌, sym, ap, subst, ◌∙◌, arith}
 use Rattle.std.specs.List.{insert}
 use Rattle.rows.specs.Tables.{Table}
 use Rattle.columns.specs.Inner.Joins.{joined, AreBlocks}

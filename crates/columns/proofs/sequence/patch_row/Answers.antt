@@ -1,12 +1,9 @@
 -- The row's home has it.
-use Rattle.std.proofs.Common.{◌≡◌, ℕ, ◌<◌, length, get_or, slice_set, true, false, OnOk, OnErr, refl, sym, ap, subst, ◌∙◌, arith}
-use Rattle.rows.specs.Tables.{Table, is_present, with_row, with_patch}
-use Rattle.rows.specs.Values.{values_of}
+use Rattle.std.proofs.Common.{◌≡◌, length, get_or, sym, ap, subst, ◌∙◌, arith}
+use Rattle.rows.specs.Tables.{Table, with_patch}
 use Rattle.columns.specs.Orders.{Rising}
-use Rattle.columns.specs.Inner.Joins.{joined, AreBlocks}
-use Rattle.columns.proofs.Ordered.{rising-with_row}
-use Rattle.columns.proofs.Joined.{IsHome, home-present, home-insert, home-patch, blocks-set, some-with_row, length-with_patch, rising-with_patch, ok-then, ok-or-err}
-use Rattle.std.proofs.lemmas.List.{set-get_or}
+use Rattle.columns.specs.Inner.Joins.{joined}
+use Rattle.columns.proofs.Joined.{IsHome, home-present, home-patch, blocks-set, length-with_patch, rising-with_patch}
 use Rattle.columns.proofs.sequence.patch_row.Goals as goal
 
 pub patch-requires-clause-there : goal.patch-requires-clause-there

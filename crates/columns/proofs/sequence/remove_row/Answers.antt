@@ -1,5 +1,5 @@
 -- The row's home loses it, and is dropped where it was its only row.
-use Rattle.std.proofs.Common.{rules, ◌≡◌, ℕ, ◌<◌, length, get_or, slice_set, true, false, refl, sym, ap, subst, ◌∙◌, arith}
+use Rattle.std.proofs.Common.{rules, ◌≡◌, ◌<◌, length, get_or, sym, ap, subst, ◌∙◌, arith}
 use Rattle.rows.specs.Tables.{Table, is_present, without_row}
 use Rattle.columns.specs.Orders.{Rising}
 use Rattle.columns.specs.Inner.Joins.{joined, AreBlocks}
