@@ -1,5 +1,6 @@
 -- The table of identifiers and columns, when a row is put in or taken out, or some rows are left.
-use Rattle.std.proofs.Common.{◌≡◌, ℕ, zero, suc, ◌+◌, ◌-◌, ◌<◌, ◌≤◌, true, false, List, [], ◌∷◌, length, get_or, take, drop, Option, None, Some, slice_get, nat_lt}
+use Rattle.std.proofs.Common.{◌≡◌, ℕ, zero, suc, ◌+◌, ◌-◌, ◌<◌, ◌≤◌, true, false, List, [], ◌∷◌, length, get_or, take, drop, Option}
+use Rattle.std.proofs.Common.{None, Some, slice_get, nat_lt}
 use Rattle.std.proofs.Common.{refl, sym, ap, subst, ◌∙◌, inl, inr, slice_set, arith}
 use Rattle.std.specs.List.{insert, remove, prefix_len}
 use Rattle.std.specs.List.Sorted.{IsStrictlySortedBy}
@@ -21,8 +22,10 @@ use Rattle.columns.specs.Columns.{kind_of, values_in, AreCells, Keeps, IsTail}
 use Rattle.columns.specs.Blocks.{rows_with, kinds_with, table_with}
 use Rattle.columns.specs.Orders.{Rising, place_in}
 use Rattle.columns.specs.Inner.Edits.{AllCells, Each, IsTaken, IsFront, IsPutIn}
-use Rattle.columns.proofs.Ordered.{sorted-keys, with_row-insert, without_row-remove, rising-with_row, rising-without_row, rising-set, rising-parts, place-within, there-within, there-at, set-place, set-same}
-use Rattle.columns.proofs.Beside.{rows-keys, rows-length, rows-insert, rows-remove, rows-take, rows-drop, rows-same, rows-none, rows-set, column-found, kinds-same}
+use Rattle.columns.proofs.Ordered.{sorted-keys, with_row-insert, without_row-remove, rising-with_row, rising-without_row, rising-set}
+use Rattle.columns.proofs.Ordered.{rising-parts, place-within, there-within, there-at, set-place, set-same}
+use Rattle.columns.proofs.Beside.{rows-keys, rows-length, rows-insert, rows-remove, rows-take, rows-drop, rows-same, rows-none, rows-set}
+use Rattle.columns.proofs.Beside.{column-found, kinds-same}
 
 -- each column has its values, once each was changed
 cells-after : (R : ℕ → Cells → Cells → Type 0) (count : ℕ) (olds news : List Cells) → length news ≡ length olds

@@ -1,9 +1,11 @@
 -- Blocks one behind the other, and a row between those below it and those above it.
-use Rattle.std.proofs.Common.{◌≡◌, ℕ, zero, suc, ◌+◌, ◌-◌, ◌<◌, ◌≤◌, List, [], ◌∷◌, ◌++◌, length, get_or, take, drop, refl, sym, ap, subst, ◌∙◌, slice_set, arith}
+use Rattle.std.proofs.Common.{◌≡◌, ℕ, zero, suc, ◌+◌, ◌-◌, ◌<◌, ◌≤◌, List, [], ◌∷◌, ◌++◌, length, get_or, take, drop, refl, sym, ap}
+use Rattle.std.proofs.Common.{subst, ◌∙◌, slice_set, arith}
 use Rattle.std.proofs.Common.{true, Option, None, Some, Result, Ok, Err, OnOk, OnErr, ◌⊎◌, inl, inr}
 use Rattle.std.specs.BTreeMap.{is_at}
 use Rattle.std.specs.List.{remove, insert}
-use Rattle.std.proofs.lemmas.List.Edits.{length-insert, get_or-insert_below, get_or-insert_at, get_or-insert_above, length-remove, get_or-remove_below, get_or-remove_above}
+use Rattle.std.proofs.lemmas.List.Edits.{length-insert, get_or-insert_below, get_or-insert_at, get_or-insert_above, length-remove}
+use Rattle.std.proofs.lemmas.List.Edits.{get_or-remove_below, get_or-remove_above}
 use Rattle.std.specs.Map.{keys_of, set_value}
 use Rattle.std.specs.Option.{is_some}
 use Rattle.std.specs.Ordering.{nat_cmp}
@@ -13,12 +15,15 @@ use Rattle.std.proofs.lemmas.Map.{keys-set_value}
 use Rattle.std.proofs.lemmas.Map.Entries.{length-keys_of}
 use Rattle.rows.specs.declared.kind.Kind.{Kind}
 use Rattle.std.proofs.lemmas.Grind.{flat_map-append}
-use Rattle.std.proofs.lemmas.List.{append_assoc, take-append-le, take-take, length-take-le, drop_at, take-append-drop, drop_more, set_split, length-set, get_or-set_same, get_or-set_other}
+use Rattle.std.proofs.lemmas.List.{append_assoc, take-append-le, take-take, length-take-le, drop_at, take-append-drop, drop_more}
+use Rattle.std.proofs.lemmas.List.{set_split, length-set, get_or-set_same, get_or-set_other}
 use Rattle.rows.specs.declared.value.Value.{Value}
 use Rattle.rows.specs.Tables.{Rows, Table, row_at, is_present, with_row, with_patch, without_row, patched_row}
 use Rattle.columns.specs.Orders.{AllOver, AllUnder, Rising, place_in}
 use Rattle.columns.specs.Inner.Joins.{joined, AreBlocks}
-use Rattle.columns.proofs.Ordered.{rising-parts, under-before, under-higher, over-lower, row_at-front, row_at-back, with_row-front, with_row-back, set-front, set-back, rising-set, without_row-append, without_row-under, without_row-over, without_row-remove, there-within}
+use Rattle.columns.proofs.Ordered.{rising-parts, under-before, under-higher, over-lower, row_at-front, row_at-back, with_row-front}
+use Rattle.columns.proofs.Ordered.{with_row-back, set-front, set-back, rising-set, without_row-append, without_row-under}
+use Rattle.columns.proofs.Ordered.{without_row-over, without_row-remove, there-within}
 
 -- at a block
 pub joined-at : (blocks : List Table) (m : ℕ) (d : Table) → m < length blocks

@@ -1,6 +1,8 @@
 -- Rows in rising identifier: where a row stands, and what is changed there.
-use Rattle.std.proofs.Common.{◌≡◌, ℕ, zero, suc, ◌+◌, ◌<◌, ◌≤◌, Bool, true, false, cond, not, ◌==◌, List, [], ◌∷◌, ◌++◌, length, take, drop, None, Some}
-use Rattle.std.proofs.Common.{Less, Equal, Greater, Ordering, refl, sym, ap, subst, ◌∙◌, nat_lt, slice_get, slice_set, nat_eq, get_or, arith}
+use Rattle.std.proofs.Common.{◌≡◌, ℕ, zero, suc, ◌+◌, ◌<◌, ◌≤◌, Bool, true, false, cond, not, ◌==◌, List, [], ◌∷◌, ◌++◌, length, take}
+use Rattle.std.proofs.Common.{drop, None, Some}
+use Rattle.std.proofs.Common.{Less, Equal, Greater, Ordering, refl, sym, ap, subst, ◌∙◌, nat_lt, slice_get, slice_set, nat_eq, get_or}
+use Rattle.std.proofs.Common.{arith}
 use Rattle.std.specs.BTreeMap.{is_at}
 use Rattle.std.specs.List.{AllByRecursion, insert, remove, prefix_len}
 use Rattle.std.specs.List.Sorted.{IsStrictlySortedBy, IsPartitionPoint}

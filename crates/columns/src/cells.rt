@@ -1,6 +1,7 @@
 //! The values of one column, side by side.
 
-ghost use Rattle.std.specs.Prelude.{◌≡◌, ◌+◌, ◌<◌, ◌≤◌, [], length, true, Some, slice_get, slice_set, OnOk, IfOk, take, drop, ◌++◌, vec_len, vec_capacity};
+ghost use Rattle.std.specs.Prelude.{◌≡◌, ◌+◌, ◌<◌, ◌≤◌, [], length, true, Some, slice_get, slice_set, OnOk, IfOk, take, drop, ◌++◌};
+ghost use Rattle.std.specs.Prelude.{vec_len, vec_capacity};
 ghost use Rattle.std.specs.List.{insert, remove};
 ghost use Rattle.rows.specs.Shape.{width_of, is_good};
 ghost use Rattle.rows.specs.Values.{value_of};
