@@ -1,12 +1,11 @@
 //! The desk.
 
-ghost use Rattle.std.specs.Prelude.{◌≡◌, ◌⊎◌, ◌+◌, ◌-◌, ◌<◌, ◌≤◌, ◌^◌, [], ◌∷◌, ◌++◌, length, map, sum, take};
-ghost use Rattle.std.specs.Prelude.{Ok, Err, None, true, is_some, IfOk, IfErr, IfSome, OnOk, OnErr, MatchBool, MatchOption, MatchResult};
+ghost use Rattle.std.specs.Prelude.{◌≡◌, ◌⊎◌, ◌+◌, ◌<◌, ◌≤◌, [], ◌∷◌, ◌++◌, length, map, sum, take};
+ghost use Rattle.std.specs.Prelude.{Ok, Err, None, true, false, ◌&&◌, nat_lt, nat_le, is_some, is_none, IfOk, IfErr, IfSome, OnOk, OnErr};
+ghost use Rattle.std.specs.Prelude.{MatchBool, MatchOption};
 ghost use mathlib.Core.List.{IsPrefix};
-ghost use Rattle.rows.specs.Shape.{shape_of};
-ghost use Rattle.journal.specs.Recovery.{IsJournaled};
 ghost use Rattle.primary.specs.Journaling.{IsUnchanged, IsFlushRefusal};
-ghost use Rattle.primary.specs.Lending.{IsLentBy, EndsWritten, ended, end_answer};
+ghost use Rattle.primary.specs.Lending.{IsLentBy, EndsWritten, ended};
 ghost use Rattle.primary.specs.Sending.{pushed, answers};
 ghost use Rattle.primary.specs.Steps.{commit_answer, committed};
 ghost use Rattle.desk.specs.Answers.{IsCommitRefusal, IsFlushed, TellsDurable, IsSettled, Stands, left_to_flush, primary_of};
@@ -314,6 +313,14 @@ impl<L: Origin, J: JournalStore, R: Wait + Drop> Desk<L, J, R> {
         self.core.durable() + count.min(self.core.pending()) as u64
     }
 
+    /// Whether a flush that is to bring about so many durable commits has to wait: another flush has the
+    /// journal, and they are not durable yet.
+    pub fn must_wait(&self, target: u64) -> bool
+        ensures { result ≡ (is_none self.now.core.journal && nat_lt (length self.now.core.primary.durable) target) }
+    {
+        self.core.lent() && self.core.durable() < target
+    }
+
     /// Begins a flush of the first `count` pending commits, as the core does, or of none if as many are
     /// durable by now as it was to bring about: another flush has done that. The lock can be let go while
     /// the records are written.
@@ -352,6 +359,26 @@ impl<L: Origin, J: JournalStore + Drop, R: Wait + Drop> Desk<L, J, R> {
         }
     }
 
+    /// What a flush is answered whose commits became durable before it could begin, while another flush has
+    /// the journal: what is durable is published. `None` if there is no such flush, or they are not durable.
+    pub fn flushed_before(&mut self, seat: &mut Seat<L>, target: u64) -> Option<Flushed>
+        ensures flushed { IfSome result (IsFlushed seat.old.list seat.new.list) }
+        ensures all { IfSome result (TellsDurable self.new.core.primary.durable seat.new.list) }
+        ensures durable { IfSome result (λ _. (self.old.core.journal ≡ None) × (target ≤ length self.old.core.primary.durable)) }
+        ensures none { result ≡ None → (seat.new ≡ seat.old) × (self.new ≡ self.old)
+            × (is_none self.old.core.journal && nat_le target (length self.old.core.primary.durable) ≡ false) }
+        ensures same { self.new ≡ record self.old { told = self.new.told; shown = self.new.shown } }
+        ensures later { IsPrefix seat.old.list seat.new.list }
+        ensures seat { seat.new ≡ record seat.old { list = seat.new.list } }
+    {
+        let durable = self.core.durable();
+        if self.core.lent() && target <= durable {
+            Some(self.flushed(seat, durable))
+        } else {
+            None
+        }
+    }
+
     /// Ends the flush that this desk began, as the core does, and publishes what is durable then.
     pub fn end_flush(&mut self, seat: &mut Seat<L>, done: Done<J>) -> Result<Flushed, FlushFault>
         ensures not_lent { is_some self.old.core.journal ≡ true
@@ -361,6 +388,7 @@ impl<L: Origin, J: JournalStore + Drop, R: Wait + Drop> Desk<L, J, R> {
             → EndsWritten J.is_honest J.standing J.fault_count self.old.core.primary done self.new.core }
         ensures flushed { IfOk result (IsFlushed seat.old.list seat.new.list) }
         ensures all { IfOk result (TellsDurable self.new.core.primary.durable seat.new.list) }
+        ensures kept { self.new ≡ record self.old { core = self.new.core; told = self.new.told; shown = self.new.shown } }
         ensures refused { IfErr result (λ fault. (seat.new ≡ seat.old) × (self.new ≡ record self.old { core = self.new.core })) }
         ensures later { IsPrefix seat.old.list seat.new.list }
         ensures seat { seat.new ≡ record seat.old { list = seat.new.list } }

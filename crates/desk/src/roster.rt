@@ -1,6 +1,6 @@
 //! Which seat each commit is of.
 
-ghost use Rattle.std.specs.Prelude.{◌≡◌, ◌+◌, ◌<◌, ◌≤◌, [], ◌∷◌, ◌++◌, length, IfOk, MatchBool, Some, slice_get};
+ghost use Rattle.std.specs.Prelude.{◌≡◌, ◌+◌, ◌<◌, ◌≤◌, [], ◌∷◌, ◌++◌, length, IfOk, MatchBool};
 ghost use Rattle.desk.specs.Keeping.{commit_count, last_number};
 ghost use Rattle.desk.specs.Inner.Noted.{IsNoted};
 

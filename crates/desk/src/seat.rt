@@ -1,6 +1,6 @@
 //! A seat of a line.
 
-ghost use Rattle.std.specs.Prelude.{◌≡◌, ◌==◌, ◌<◌, [], length, IfOk, IfErr};
+ghost use Rattle.std.specs.Prelude.{◌≡◌, ◌==◌, [], length, IfOk, IfErr};
 ghost use mathlib.Core.List.{IsPrefix};
 ghost use Rattle.rows.specs.Shape.{shape_of};
 ghost use Rattle.journal.specs.Recovery.{IsJournaled};

@@ -66,7 +66,7 @@ DropsStayKept =
     (all : List Arrivals) (lows counts : List ℕ) → ((worker : ℕ) → slice_index lows worker ≤ slice_index counts worker)
     → AreKeptFrom all lows → AreKeptFrom (dropped all counts) counts
 
--- one that is lacking is of a worker that is there
+-- a frame that is lacking is of a worker that is there
 abbrev pub LackingIsOfWorker : Type 0
 LackingIsOfWorker =
     (all : List Arrivals) (counts : List ℕ) (missing : ℕ × ℕ) → lacking all counts ≡ Some missing → missing.0 < length all

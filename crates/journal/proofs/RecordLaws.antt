@@ -1,24 +1,23 @@
 -- Records at the front of bytes: what is read is spelled so, and what is spelled so is read.
 use Rattle.std.proofs.Common.{◌≡◌, ℕ, ◌+◌, ◌*◌, ◌%◌, ◌^◌, ◌<◌, ◌≤◌, Bool, true, false, cond, eqb, ltb, ◌||◌, ◌&&◌, List, [], ◌∷◌, ◌++◌}
-use Rattle.std.proofs.Common.{length, get_or, take, drop, Option, Some, None, refl, sym, ap, subst, ◌∙◌, arith, append_assoc, length-append}
+use Rattle.std.proofs.Common.{length, get_or, take, drop, Option, Some, None, refl, sym, ap, subst, ◌∙◌, inl, inr, arith, append_assoc}
+use Rattle.std.proofs.Common.{length-append}
 use Rattle.std.specs.Option.{option_map}
-use Rattle.std.specs.Int.{w32, from_be_bytes}
 use Rattle.std.specs.List.{flat_map, AllByRecursion}
 use Rattle.std.proofs.Math.Nat.{mod-eq_of_lt}
-use Rattle.std.proofs.lemmas.Bool.{ltb-false, le-ltb, not-true, not_from_false, and_from, and_parts, or_from, or_parts, ne_eqb}
+use Rattle.std.proofs.lemmas.Bool.{cases_lt, ltb-false, le-ltb, not-true, not_from_false, and_from, and_parts, or_from, or_parts, ne_eqb}
 use Rattle.std.proofs.lemmas.Bool.Decides.{nat_tests}
-use Rattle.std.proofs.lemmas.List.{length-take, length-drop, take-append-drop, take_at, drop-drop}
-use Rattle.std.proofs.lemmas.Nat.{be_bytes_4}
+use Rattle.std.proofs.lemmas.List.{length-take, length-drop, take-append-drop, take_at, drop-drop, drop_more}
+use Rattle.std.proofs.lemmas.List.{get_or-take, get_or-drop, get_or_past}
 use Rattle.byteorder.specs.Endian.{big_bytes, big_number}
-use Rattle.byteorder.specs.Numbers.{big_number-reads_back, big_from-bytes, big_from-take}
+use Rattle.byteorder.specs.Numbers.{big_number-reads_back, big_from-bytes}
 use Rattle.rows.specs.declared.commit.Commit.{Commit}
 use Rattle.rows.specs.declared.entry.Entry.{Entry}
 use Rattle.rows.specs.declared.entry.Entry.TheVariants.{Insert, Patch, Delete}
 use Rattle.rows.specs.Limits.{commit_entries_max}
-use Rattle.rows.specs.Laws.{FoundAreSpelled, SpelledAreFound}
+use Rattle.rows.specs.Laws.{FoundAreSpelled, SpelledAreFound, NumbersAreSpelled, NumbersAreBelow}
 use Rattle.rows.specs.Reading.{entries_filling}
 use Rattle.rows.specs.Spelling.{AreBytes, HasSpelling, entry_spelling}
-use Rattle.rows.proofs.Bytes.{AreBytes-drop, AreBytes-take, cut_1, cut_2, cut_8, number_fits}
 use Rattle.journal.specs.declared.numbered_commit.NumberedCommit.{NumberedCommit}
 use Rattle.journal.specs.Inner.Reading.{commit_in, record_at}
 use Rattle.journal.specs.Recovery.{IsBeginning, HasRecord, entry_len_min, entry_len_max, record_front_len, record_len_min, record_len_max}
@@ -176,16 +175,16 @@ same_record law bytes n m commit other one two =
 
 -- ---- what is read is spelled so
 
-number_4 : (bytes : List ℕ) → big_number 4 bytes ≡ from_be_bytes w32 bytes
-number_4 bytes = omega arith
+-- bytes of bytes, behind others or at the front
+AreBytes-drop : (n : ℕ) (bytes : List ℕ) → AreBytes bytes → AreBytes (drop n bytes)
+AreBytes-drop n bytes h i = rw get_or-drop (h (n + i))
 
-front_4 : (bytes : List ℕ) → 4 ≤ length bytes → AreBytes bytes → big_bytes 4 (big_number 4 bytes) ≡ take 4 bytes
-front_4 bytes long fits =
-    be_bytes_4 (take 4 bytes) (big_number 4 bytes) (omega (arith, length-take 4 bytes)) (AreBytes-take 4 bytes fits)
-    (sym (big_from-take 0 4 4 bytes (omega arith)) ∙ number_4 (take 4 bytes))
-
-cut_4 : (bytes : List ℕ) → 4 ≤ length bytes → AreBytes bytes → big_bytes 4 (big_number 4 bytes) ++ drop 4 bytes ≡ bytes
-cut_4 bytes long fits = ap (λ (t : List ℕ). t ++ drop 4 bytes) (front_4 bytes long fits) ∙ take-append-drop 4 bytes
+AreBytes-take : (n : ℕ) (bytes : List ℕ) → AreBytes bytes → AreBytes (take n bytes)
+AreBytes-take n bytes h i =
+    elim (cases_lt i n) [
+      | inl lt ↦ rw (get_or-take n bytes i 0 lt) (h i)
+      | inr le ↦ rw (get_or_past (take n bytes) i 0 (omega (arith, length-take n bytes))) (omega arith)
+    ]
 
 passed : {A : Type 0} (b : Bool) (o : Option A) (y : A) → cond b o None ≡ Some y → (b ≡ true) × (o ≡ Some y)
 passed true o y e = (refl, e)
@@ -209,33 +208,6 @@ record IsReadBody (body : List ℕ) (found : NumberedCommit) : Type 0 where
   held : HasRecord found.commit
   spelled : record_body found.number found.commit ≡ body
 
-commit_in-spelled : (law : FoundAreSpelled) (body : List ℕ) (found : NumberedCommit) → AreBytes body → 11 ≤ length body
-    → commit_in body ≡ Some found → IsReadBody body found
-commit_in-spelled law body found fits long e =
-    let count = big_number 2 (drop 9 body) in
-    let number = big_number 8 (drop 1 body) in
-    let worker = get_or body 0 0 in
-    let tested = refused (eqb count 0 || ltb commit_entries_max count) _ found e in
-    let parts = mapped (body_of body) (entries_filling count (drop 11 body)) found tested.1 in
-    let entries = parts.0 in
-    let read = law count (drop 11 body) entries (AreBytes-drop 11 body fits) parts.1 in
-    let as_many = read.0 in
-    let joined = flat_map entry_spelling entries in
-    let at_9 : big_bytes 2 (length entries) ++ joined ≡ drop 9 body =
-    ap (λ (n : ℕ). big_bytes 2 n ++ joined) as_many ∙ ap (λ (t : List ℕ). big_bytes 2 count ++ t) (sym read.2)
-    ∙ cut_2 9 body (omega arith) fits in
-    let at_1 : big_bytes 8 number ++ drop 9 body ≡ drop 1 body = cut_8 1 body (omega arith) fits in
-    let at_0 : worker ∷ drop 1 body ≡ body = cut_1 0 body (omega arith) in
-    let whole : record_body number (record { worker = worker; entries = entries }) ≡ body =
-    ap (λ (t : List ℕ). worker ∷ (big_bytes 8 number ++ t)) at_9 ∙ ap (λ (t : List ℕ). worker ∷ t) at_1 ∙ at_0 in
-    let counted = or_parts (eqb count 0) (ltb commit_entries_max count) tested.0 in
-    let made : IsReadBody body (body_of body entries) = record {
-      numbered = number_fits 8 1 body fits;
-      held = record { some = grind (arith, nat_tests); few = grind (arith, nat_tests); spelled = read.1 };
-      spelled = whole;
-    } in
-    subst (IsReadBody body) parts.2 made
-
 record IsWhole (bytes : List ℕ) : Type 0 where
   long : 4 ≤ length bytes
   there : is_record_len (big_number 4 bytes) ≡ true → 4 + big_number 4 bytes ≤ length bytes
@@ -256,36 +228,64 @@ pub record IsReadAt (bytes : List ℕ) (found : NumberedCommit) : Type 0 where
   pub there : 4 + big_number 4 bytes ≤ length bytes
   pub spelled : bytes ≡ record_of found.number found.commit ++ drop (4 + big_number 4 bytes) bytes
 
-pub record_at-spelled : (law : FoundAreSpelled) (bytes : List ℕ) (found : NumberedCommit) → AreBytes bytes → is_torn bytes ≡ false
-    → record_at bytes ≡ Some found → IsReadAt bytes found
-record_at-spelled law bytes found fits whole e =
-    let len = big_number 4 bytes in
-    let size = whole_from bytes whole in
-    let tested = passed (is_record_len len) (commit_in (take len (drop 4 bytes))) found e in
-    let long = long_from len tested.0 in
-    let within = size.there tested.0 in
-    let body : List ℕ = take len (drop 4 bytes) in
-    let body_len : length body ≡ len = omega (arith, length-take len (drop 4 bytes), length-drop 4 bytes) in
-    let are_bytes = AreBytes-take len (drop 4 bytes) (AreBytes-drop 4 bytes fits) in
-    let read = commit_in-spelled law body found are_bytes (omega (arith, long.least)) tested.1 in
-    let same_len : length (record_body found.number found.commit) ≡ len = ap length read.spelled ∙ body_len in
-    let text : record_of found.number found.commit ≡ big_bytes 4 len ++ body =
-    ap (λ (n : ℕ). big_bytes 4 n ++ record_body found.number found.commit) same_len
-    ∙ ap (λ (t : List ℕ). big_bytes 4 len ++ t) read.spelled in
-    let rest : body ++ drop (4 + len) bytes ≡ drop 4 bytes =
-    ap (λ (t : List ℕ). body ++ t) (sym (drop-drop len 4 bytes)) ∙ take-append-drop len (drop 4 bytes) in
-    record {
-      numbered = read.numbered;
-      held = read.held;
-      there = within;
-      spelled =
-          sym (ap (λ (t : List ℕ). t ++ drop (4 + len) bytes) text ∙ append_assoc (big_bytes 4 len) body (drop (4 + len) bytes)
-          ∙ ap (λ (t : List ℕ). big_bytes 4 len ++ t) rest ∙ cut_4 bytes size.long fits);
-    }
+module _ (cut : NumbersAreSpelled) (below : NumbersAreBelow) where
+  commit_in-spelled : (law : FoundAreSpelled) (body : List ℕ) (found : NumberedCommit) → AreBytes body → 11 ≤ length body
+      → commit_in body ≡ Some found → IsReadBody body found
+  commit_in-spelled law body found fits long e =
+      let count = big_number 2 (drop 9 body) in
+      let number = big_number 8 (drop 1 body) in
+      let worker = get_or body 0 0 in
+      let tested = refused (eqb count 0 || ltb commit_entries_max count) _ found e in
+      let parts = mapped (body_of body) (entries_filling count (drop 11 body)) found tested.1 in
+      let entries = parts.0 in
+      let read = law count (drop 11 body) entries (AreBytes-drop 11 body fits) parts.1 in
+      let as_many = read.0 in
+      let joined = flat_map entry_spelling entries in
+      let at_9 : big_bytes 2 (length entries) ++ joined ≡ drop 9 body =
+      ap (λ (n : ℕ). big_bytes 2 n ++ joined) as_many ∙ ap (λ (t : List ℕ). big_bytes 2 count ++ t) (sym read.2)
+      ∙ cut 2 9 body (omega arith) fits in
+      let at_1 : big_bytes 8 number ++ drop 9 body ≡ drop 1 body = cut 8 1 body (omega arith) fits in
+      let at_0 : worker ∷ drop 1 body ≡ body = sym (drop_more body 0 0 (omega arith)) in
+      let whole : record_body number (record { worker = worker; entries = entries }) ≡ body =
+      ap (λ (t : List ℕ). worker ∷ (big_bytes 8 number ++ t)) at_9 ∙ ap (λ (t : List ℕ). worker ∷ t) at_1 ∙ at_0 in
+      let counted = or_parts (eqb count 0) (ltb commit_entries_max count) tested.0 in
+      let made : IsReadBody body (body_of body entries) = record {
+        numbered = below 8 1 body fits;
+        held = record { some = grind (arith, nat_tests); few = grind (arith, nat_tests); spelled = read.1 };
+        spelled = whole;
+      } in
+      subst (IsReadBody body) parts.2 made
 
-pub read_here : (law : FoundAreSpelled) (bytes : List ℕ) (found : NumberedCommit) (result : Option NumberedCommit) → AreBytes bytes
-    → is_torn bytes ≡ false → result ≡ record_at bytes → result ≡ Some found → IsReadAt bytes found
-read_here law bytes found result fits whole is some = record_at-spelled law bytes found fits whole (sym is ∙ some)
+  pub record_at-spelled : (law : FoundAreSpelled) (bytes : List ℕ) (found : NumberedCommit) → AreBytes bytes → is_torn bytes ≡ false
+      → record_at bytes ≡ Some found → IsReadAt bytes found
+  record_at-spelled law bytes found fits whole e =
+      let len = big_number 4 bytes in
+      let size = whole_from bytes whole in
+      let tested = passed (is_record_len len) (commit_in (take len (drop 4 bytes))) found e in
+      let long = long_from len tested.0 in
+      let within = size.there tested.0 in
+      let body : List ℕ = take len (drop 4 bytes) in
+      let body_len : length body ≡ len = omega (arith, length-take len (drop 4 bytes), length-drop 4 bytes) in
+      let are_bytes = AreBytes-take len (drop 4 bytes) (AreBytes-drop 4 bytes fits) in
+      let read = commit_in-spelled law body found are_bytes (omega (arith, long.least)) tested.1 in
+      let same_len : length (record_body found.number found.commit) ≡ len = ap length read.spelled ∙ body_len in
+      let text : record_of found.number found.commit ≡ big_bytes 4 len ++ body =
+      ap (λ (n : ℕ). big_bytes 4 n ++ record_body found.number found.commit) same_len
+      ∙ ap (λ (t : List ℕ). big_bytes 4 len ++ t) read.spelled in
+      let rest : body ++ drop (4 + len) bytes ≡ drop 4 bytes =
+      ap (λ (t : List ℕ). body ++ t) (sym (drop-drop len 4 bytes)) ∙ take-append-drop len (drop 4 bytes) in
+      record {
+        numbered = read.numbered;
+        held = read.held;
+        there = within;
+        spelled =
+            sym (ap (λ (t : List ℕ). t ++ drop (4 + len) bytes) text ∙ append_assoc (big_bytes 4 len) body (drop (4 + len) bytes)
+            ∙ ap (λ (t : List ℕ). big_bytes 4 len ++ t) rest ∙ cut 4 0 bytes size.long fits);
+      }
+
+  pub read_here : (law : FoundAreSpelled) (bytes : List ℕ) (found : NumberedCommit) (result : Option NumberedCommit) → AreBytes bytes
+      → is_torn bytes ≡ false → result ≡ record_at bytes → result ≡ Some found → IsReadAt bytes found
+  read_here law bytes found result fits whole is some = record_at-spelled law bytes found fits whole (sym is ∙ some)
 
 -- what is read stands there
 pub record_at-there : (bytes : List ℕ) (found : NumberedCommit) → IsReadAt bytes found → IsRecordAt bytes found.number found.commit

@@ -109,6 +109,7 @@ fn next_commit<'a>(
     ensures err { IfErr result (IsStop workers number store.old.tables offset rest.now) }
 {
     rows::laws::entries_are_read_as_spelled();
+    rows::laws::numbers_are_read_as_spelled();
     let found = match read_record(alloc, rest) {
         Err(_) => return Err(JournalFault::Memory),
         Ok(None) => return Err(JournalFault::Damaged(offset)),

@@ -13,7 +13,7 @@ use Rattle.rows.specs.Shape.{Shape, row_width, column_at}
 use Rattle.rows.specs.Values.{value_of}
 use Rattle.rows.specs.Tables.{patched_row}
 use Rattle.rows.specs.Commits.{is_of}
-use Rattle.rows.specs.Inner.RowAfter.{row_after_fit, inserted_row}
+use Rattle.rows.specs.RowAfter.{row_after_fit, inserted_row}
 use Rattle.mvcc.specs.Inner.Cells.{cell_of, inserted_cell, patched_cell, cell_after_one, cell_after_entry, cell_after}
 use Rattle.mvcc.specs.Inner.OwnRows.{picked}
 use Rattle.mvcc.proofs.Effects.{effect, step, step-is}

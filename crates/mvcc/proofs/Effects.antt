@@ -18,8 +18,7 @@ use Rattle.rows.specs.Values.{value_of}
 use Rattle.rows.specs.Entries.{table_of, fitting}
 use Rattle.rows.specs.Tables.{patched_row}
 use Rattle.rows.specs.Commits.{is_of}
-use Rattle.rows.specs.Inner.RowAfter.{inserted_row, row_after_one, row_after_entry, row_after_fit}
-use Rattle.rows.proofs.RowLaws.{row_after_fit-push}
+use Rattle.rows.specs.RowAfter.{inserted_row, row_after_one, row_after_entry, row_after_fit}
 use Rattle.mvcc.specs.Inner.OwnRows.{supersedes}
 use Rattle.mvcc.proofs.Keys.{of-parts}
 
@@ -277,6 +276,13 @@ still-after shape table row (Delete table' row') entries was =
     by : (found : Option (List Kind)) → Keeps found (Delete table' row')
     by None = none-keeps (Delete table' row')
     by (Some kinds) = delete-keeps kinds table' row'
+
+-- one more entry at the end
+pub row_after_fit-push : (shape : Shape) (table row : ℕ) (entries : List Entry) (entry : Entry) (was : Option (List Value))
+    → row_after_fit shape table row (entries ++ entry ∷ []) was ≡ step shape table row entry (row_after_fit shape table row entries was)
+row_after_fit-push shape table row [] entry was = refl
+row_after_fit-push shape table row (first ∷ entries) entry was =
+    row_after_fit-push shape table row entries entry (step shape table row first was)
 
 -- the entries of which one more of this row leaves nothing may be left out before it
 pub superseded : (shape : Shape) (table row : ℕ) (entry : Entry) (entries : List Entry) (was : Option (List Value))

@@ -14,14 +14,13 @@ use Rattle.rows.specs.Shape.{Shape, kinds_in, row_width}
 use Rattle.rows.specs.Values.{values_of}
 use Rattle.rows.specs.Tables.{rows_of, row_at, apply_entries}
 use Rattle.rows.specs.Commits.{tables_after, is_of}
-use Rattle.rows.proofs.TableLaws.{apply_commits-push}
+use Rattle.rows.specs.ListLaws.{OneMoreIsDefined}
 use Rattle.mvcc.specs.declared.link.Link.{Link}
 use Rattle.mvcc.specs.Newest.{newest_of}
 use Rattle.mvcc.specs.Values.{value_in}
-use Rattle.mvcc.specs.Inner.RowBytes.{AreWide}
+use Rattle.mvcc.specs.Inner.RowBytes.{AreWide, IsTold, RowsHaveBytes}
 use Rattle.mvcc.specs.Inner.Chains.{Chains, chain_of, newest_in, bytes_at, taken_back_at, linked, links_at, all_taken_back, Turns}
 use Rattle.mvcc.specs.Inner.Chains.{and_entries, AreChains, AreChainsTakenBack, AreVersions}
-use Rattle.mvcc.proofs.RowBytes.{IsTold, version-told}
 use Rattle.mvcc.proofs.Histories.{chain-at, chain-sorted, chain-newest_of, taken_back-chain, taken_back-and_entries, and_entries-other}
 use Rattle.mvcc.proofs.Histories.{and_entries-push}
 use Rattle.mvcc.proofs.Histories.{and_entries-commit}
@@ -97,15 +96,16 @@ pub newest-at : (commits : List Commit) (chains : Chains) (t r : ℕ) → AreCha
 newest-at commits chains t r kept = ap newest_in (kept t r) ∙ chain-newest_of t r commits
 
 -- a row at a version has the values of its chain's bytes, which are as wide as its columns
-pub row-kept : (shape : Shape) (commits : List Commit) (chains : Chains) (version t r : ℕ) → AreVersions shape commits chains
-    → IsTold shape t r (row_at (rows_of (tables_after shape commits version) t) r) (bytes_at version (links_at chains t r))
-row-kept shape commits chains version t r versions =
-    subst (IsTold shape t r (row_at (rows_of (tables_after shape commits version) t) r))
+pub row-kept : (law : RowsHaveBytes) (shape : Shape) (commits : List Commit) (chains : Chains) (version t r : ℕ)
+    → AreVersions shape commits chains
+    → IsTold (kinds_in shape t) (row_at (rows_of (tables_after shape commits version) t) r) (bytes_at version (links_at chains t r))
+row-kept law shape commits chains version t r versions =
+    subst (IsTold (kinds_in shape t) (row_at (rows_of (tables_after shape commits version) t) r))
     (sym (ap (bytes_at version) (versions.kept t r) ∙ chain-at t r version commits))
-    (version-told shape t r commits version versions.legal)
+    (law shape commits version t r versions.legal)
 
 -- the value of a column at a version: that in its chain's bytes, which are as wide as its row
-module _ (shape : Shape) (commits : List Commit) (chains : Chains) (version t r column : ℕ)
+module _ (law : RowsHaveBytes) (shape : Shape) (commits : List Commit) (chains : Chains) (version t r column : ℕ)
     (versions : AreVersions shape commits chains) where
   -- the bytes of the row's chain
   abbrev bytes : Option (List ℕ)
@@ -115,7 +115,7 @@ module _ (shape : Shape) (commits : List Commit) (chains : Chains) (version t r 
       → value_in (tables_after shape commits version) t r column
       ≡ option_and_then (λ values. slice_get values column) (option_map (values_of kinds) bytes)
   value-columns kinds columns =
-      let kept = row-kept shape commits chains version t r versions in
+      let kept = row-kept law shape commits chains version t r versions in
       ap (option_and_then (λ values. slice_get values column))
       (kept.told ∙ ap (λ kinds. option_map (values_of kinds) bytes) columns)
 
@@ -145,16 +145,16 @@ module _ (shape : Shape) (commits : List Commit) (chains : Chains) (version t r 
   pub wide-there : (kinds : List Kind) (found : List ℕ) → Some kinds ≡ slice_get shape t → Some found ≡ bytes
       → length found ≡ row_width kinds
   wide-there kinds found of_table there =
-      let kept = row-kept shape commits chains version t r versions in
+      let kept = row-kept law shape commits chains version t r versions in
       let columns : kinds_in shape t ≡ kinds = rw (← of_table) refl in
       subst (AreWide kinds) (sym there) (subst (λ kinds. AreWide kinds bytes) columns kept.wide)
 
 -- with one more commit
-pub versions-push : (shape : Shape) (commits : List Commit) (before after : Chains) (commit : Commit)
+pub versions-push : (law : OneMoreIsDefined) (shape : Shape) (commits : List Commit) (before after : Chains) (commit : Commit)
     → AreVersions shape commits before → is_ok (apply_entries (tables_after shape commits (length commits)) commit.entries) ≡ true
     → AreChains (and_entries commits commit.entries) after → AreVersions shape (commits ++ commit ∷ []) after
-versions-push shape commits before after commit versions defined kept = record {
-  legal = apply_commits-push shape commits commit versions.legal defined;
+versions-push law shape commits before after commit versions defined kept = record {
+  legal = law shape commits commit versions.legal defined;
   kept = λ t r. kept t r ∙ sym (and_entries-commit t r commits commit);
 }
 

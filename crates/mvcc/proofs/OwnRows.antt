@@ -11,10 +11,9 @@ use Rattle.rows.specs.Entries.{table_of}
 use Rattle.rows.specs.Commits.{is_of}
 use Rattle.mvcc.specs.Inner.Keys.{is_key_of, row_of}
 use Rattle.mvcc.proofs.Keys.{of-parts}
-use Rattle.rows.specs.Inner.RowAfter.{row_after_fit}
-use Rattle.rows.proofs.RowLaws.{row_after_fit-push}
+use Rattle.rows.specs.RowAfter.{row_after_fit}
 use Rattle.mvcc.specs.Inner.OwnRows.{RowIndices, indices_at, picked, supersedes, is_superseded, kept_indices, IsIndexOf}
-use Rattle.mvcc.proofs.Effects.{step, superseded, other_row}
+use Rattle.mvcc.proofs.Effects.{step, superseded, other_row, row_after_fit-push}
 
 abbrev or_none : Option (List ℕ) → List ℕ
 or_none None = []

@@ -2,7 +2,7 @@
 use Rattle.std.proofs.Common.{◌≡◌, ℕ, suc, ◌+◌, ◌-◌, ◌≤◌, Bool, true, false, cond, ◌&&◌, ◌==◌, List, [], ◌∷◌, ◌++◌}
 use Rattle.std.proofs.Common.{length, take, drop, slice_get, Option, None, Some, Ok, Err, nat_lt, refl, sym, ap, subst, ◌∙◌, arith}
 use Rattle.std.specs.Prelude.{nat_le}
-use Rattle.std.specs.List.{slice_set, list_any}
+use Rattle.std.specs.List.{slice_set, list_any, AllByRecursion}
 use Rattle.std.specs.Option.{option_map, is_some}
 use Rattle.std.specs.Result.{is_ok}
 use Rattle.std.proofs.lemmas.Bool.{and_parts, or_parts, eqb-true, ltb-false, le-leb}
@@ -18,15 +18,13 @@ use Rattle.rows.specs.Shape.{Shape, width_of, row_width, kinds_in, column_from, 
 use Rattle.rows.specs.Values.{value_of, values_of}
 use Rattle.rows.specs.declared.faults.EntryFault.TheVariants.{WrongSize, NotAColumn}
 use Rattle.rows.specs.Entries.{sized, placed, fitting}
-use Rattle.rows.specs.Tables.{Tables, opening, shape_in, rows_of, row_at, patched_row, apply_entry, apply_entries}
-use Rattle.rows.specs.Commits.{apply_commits, tables_after, is_of}
-use Rattle.rows.specs.Inner.RowAfter.{row_after_one, row_after_entry, row_after, row_after_commits}
-use Rattle.rows.proofs.Presence.{apply_entry-parts, and_then-parts, shape_in-opening}
-use Rattle.rows.proofs.TableLaws.{from_is_ok, apply_commits-split, entry-kinds, entries-kinds}
-use Rattle.rows.proofs.RowLaws.{row-at}
-use Rattle.rows.proofs.Fronts.{value-same}
+use Rattle.rows.specs.Tables.{patched_row}
+use Rattle.rows.specs.Commits.{is_of}
+use Rattle.rows.specs.Laws.{WidthTellsValue}
+use Rattle.rows.specs.ListLaws.{BeginningsAreDefined, EachFits, RowsAreLeft}
+use Rattle.rows.specs.RowAfter.{row_after_one, row_after_entry, row_after, row_after_commits}
 use Rattle.mvcc.specs.Inner.RowBytes.{patched_bytes, bytes_after_one, bytes_after_entry, bytes_after, bytes_after_commits}
-use Rattle.mvcc.specs.Inner.RowBytes.{AreWide}
+use Rattle.mvcc.specs.Inner.RowBytes.{AreWide, IsTold, RowsHaveBytes}
 
 -- one more entry at the end, or one more commit
 pub bytes_after-push : (table row : ℕ) (entries : List Entry) (entry : Entry) (was : Option (List ℕ))
@@ -87,14 +85,14 @@ IsPut before columns offset column kind bytes row =
     (before ≤ column) × (offset + length bytes ≤ row_width columns)
     × (slice_set (values_of columns row) (column - before) (value_of kind bytes) ≡ values_of columns (put_at offset bytes row))
 
-put-values : (before : ℕ) (columns : List Kind) (offset column : ℕ) (kind : Kind) (bytes row : List ℕ)
+put-values : (tells : WidthTellsValue) (before : ℕ) (columns : List Kind) (offset column : ℕ) (kind : Kind) (bytes row : List ℕ)
     → column_from before columns offset (length bytes) ≡ Some (column, kind) → row_width columns ≤ length row
     → IsPut before columns offset column kind bytes row
-put-values before [] offset column kind bytes row e wide = absurd cc
-put-values before (first ∷ columns) offset column kind bytes row e wide =
+put-values tells before [] offset column kind bytes row e wide = absurd cc
+put-values tells before (first ∷ columns) offset column kind bytes row e wide =
     let rest = drop (width_of first) row in
     by ((offset == 0) && (length bytes == width_of first)) (nat_lt offset (width_of first)) refl refl
-    (λ m found. put-values (before + 1) columns m column kind bytes rest found
+    (λ m found. put-values tells (before + 1) columns m column kind bytes rest found
     (omega (arith, whole, wide, length-drop (width_of first) row))) e
   where
     whole : row_width (first ∷ columns) ≡ width_of first + row_width columns
@@ -108,7 +106,7 @@ put-values before (first ∷ columns) offset column kind bytes row e wide =
           omega (arith, at),
           omega (arith, front, same, whole),
           rw (none, ← is, front)
-              (ap (λ value. value ∷ values_of columns (drop (width_of first) row)) (sym (value-same first (put_at 0 bytes row) bytes put.0))
+              (ap (λ value. value ∷ values_of columns (drop (width_of first) row)) (sym (tells first (put_at 0 bytes row) bytes put.0))
               ∙ ap (λ rest. value_of first (put_at 0 bytes row) ∷ values_of columns rest) (sym put.1)),
         )
 
@@ -122,7 +120,7 @@ put-values before (first ∷ columns) offset column kind bytes row e wide =
           rw (behind, far)
               (ap (λ values. value_of first row ∷ values) (next.2 ∙ ap (values_of columns) (sym put.1))
               ∙ ap (λ value. value ∷ values_of columns (drop (width_of first) (put_at (width_of first + m) bytes row)))
-              (sym (value-same first (put_at (width_of first + m) bytes row) row put.0))),
+              (sym (tells first (put_at (width_of first + m) bytes row) row put.0))),
         )
 
     by : (found short : Bool) → ((offset == 0) && (length bytes == width_of first)) ≡ found → nat_lt offset (width_of first) ≡ short
@@ -142,11 +140,12 @@ put-values before (first ∷ columns) offset column kind bytes row e wide =
         later m (omega (arith, ltb-false offset (width_of first) s)) (next m e)
 
 -- a patched row: its values are those of the patched bytes
-patched-values : (columns : List Kind) (offset : ℕ) (bytes row : List ℕ) → is_some (column_at columns offset (length bytes)) ≡ true
+patched-values : (tells : WidthTellsValue) (columns : List Kind) (offset : ℕ) (bytes row : List ℕ)
+    → is_some (column_at columns offset (length bytes)) ≡ true
     → length row ≡ row_width columns
     → (patched_row columns offset bytes (values_of columns row) ≡ values_of columns (patched_bytes offset bytes row))
     × (length (patched_bytes offset bytes row) ≡ row_width columns)
-patched-values columns offset bytes row placed wide = by (column_at columns offset (length bytes)) refl
+patched-values tells columns offset bytes row placed wide = by (column_at columns offset (length bytes)) refl
   where
     by : (found : Option (ℕ × Kind)) → column_at columns offset (length bytes) ≡ found
         → (patched_row columns offset bytes (values_of columns row) ≡ values_of columns (patched_bytes offset bytes row))
@@ -154,7 +153,7 @@ patched-values columns offset bytes row placed wide = by (column_at columns offs
     by None e = absurd (let none : is_some {T = ℕ × Kind} None ≡ true = ap is_some (sym e) ∙ placed in cc)
     by (Some column) e =
         let first : column.0 ≡ column.0 - 0 = omega arith in
-        let put = put-values 0 columns offset column.0 column.1 bytes row e (omega (arith, wide)) in
+        let put = put-values tells 0 columns offset column.0 column.1 bytes row e (omega (arith, wide)) in
         let within : nat_le (offset + length bytes) (length row) ≡ true = le-leb _ _ (omega (arith, put.1, wide)) in
         let front : offset ≤ length row = omega (arith, put.1, wide) in
         rw (e, within, first) (
@@ -171,7 +170,7 @@ patched-values columns offset bytes row placed wide = by (column_at columns offs
         )
 
 -- what an entry that fits leaves of a row
-module _ (shape : Shape) (table row : ℕ) where
+module _ (tells : WidthTellsValue) (shape : Shape) (table row : ℕ) where
   -- the columns of the row
   abbrev columns : List Kind
   columns = kinds_in shape table
@@ -195,13 +194,9 @@ module _ (shape : Shape) (table row : ℕ) where
       by true h = refl
       by false h = absurd cc
 
-  -- values that are those of bytes, which are as wide as the row
-  pub record IsTold (values : Option (List Value)) (bytes : Option (List ℕ)) : Type 0 where
-    pub told : values ≡ option_map (values_of columns) bytes
-    pub wide : AreWide columns bytes
-
   one-told : (entry : Entry) (bytes : Option (List ℕ)) → is_ok (fitting shape entry) ≡ true → is_of table row entry ≡ true
-      → AreWide columns bytes → IsTold (row_after_one columns entry (option_map (values_of columns) bytes)) (bytes_after_one entry bytes)
+      → AreWide columns bytes
+      → IsTold columns (row_after_one columns entry (option_map (values_of columns) bytes)) (bytes_after_one entry bytes)
   one-told (Insert t r put) None fits here wide =
       let same : t ≡ table = eqb-true t table (and_parts (t == table) (r.0 == row) here).0 in
       record { told = refl; wide = sized-wide (slice_get shape t) (length put) (ap (slice_get shape) (sym same)) fits }
@@ -210,48 +205,43 @@ module _ (shape : Shape) (table row : ℕ) where
   one-told (Patch t r offset put) (Some was) fits here wide =
       let same : t ≡ table = eqb-true t table (and_parts (t == table) (r.0 == row) here).0 in
       let column = placed-column (slice_get shape t) offset (length put) (ap (slice_get shape) (sym same)) fits in
-      let patched = patched-values columns offset put was column wide in
+      let patched = patched-values tells columns offset put was column wide in
       record { told = ap Some patched.0; wide = patched.1 }
   one-told (Delete t r) bytes fits here wide = record { told = refl; wide = tt }
 
   entry-told : (entry : Entry) (values : Option (List Value)) (bytes : Option (List ℕ)) → is_ok (fitting shape entry) ≡ true
-      → IsTold values bytes → IsTold (row_after_entry shape table row entry values) (bytes_after_entry table row entry bytes)
+      → IsTold columns values bytes
+      → IsTold columns (row_after_entry shape table row entry values) (bytes_after_entry table row entry bytes)
   entry-told entry values bytes fits was = by (is_of table row entry) refl
     where
       by : (here : Bool) → is_of table row entry ≡ here
-          → IsTold (row_after_entry shape table row entry values) (bytes_after_entry table row entry bytes)
+          → IsTold columns (row_after_entry shape table row entry values) (bytes_after_entry table row entry bytes)
       by true e =
-          rw e (subst (λ was. IsTold (row_after_one columns entry was) (bytes_after_one entry bytes)) (sym was.told)
+          rw e (subst (λ was. IsTold columns (row_after_one columns entry was) (bytes_after_one entry bytes)) (sym was.told)
           (one-told entry bytes fits e was.wide))
       by false e = rw e was
 
-  -- entries that are defined, and commits
-  entries-told : (tables after : Tables) (entries : List Entry) (values : Option (List Value)) (bytes : Option (List ℕ))
-      → shape_in tables ≡ shape → apply_entries tables entries ≡ Ok after → IsTold values bytes
-      → IsTold (row_after shape table row entries values) (bytes_after table row entries bytes)
-  entries-told tables after [] values bytes same h was = was
-  entries-told tables after (entry ∷ entries) values bytes same h was =
-      let parts = and_then-parts _ (apply_entry tables entry) after h in
-      let fits = ap (λ shape. is_ok (fitting shape entry)) (sym same) ∙ (apply_entry-parts tables parts.0 entry parts.1).0 in
-      entries-told parts.0 after entries _ _ (entry-kinds tables parts.0 entry parts.1 ∙ same) parts.2
-      (entry-told entry values bytes fits was)
+  -- entries that fit, and commits
+  entries-told : (entries : List Entry) (values : Option (List Value)) (bytes : Option (List ℕ))
+      → AllByRecursion (λ entry. is_ok (fitting shape entry) ≡ true) entries → IsTold columns values bytes
+      → IsTold columns (row_after shape table row entries values) (bytes_after table row entries bytes)
+  entries-told [] values bytes fit was = was
+  entries-told (entry ∷ entries) values bytes fit was = entries-told entries _ _ fit.1 (entry-told entry values bytes fit.0 was)
 
-  commits-told : (tables after : Tables) (commits : List Commit) (values : Option (List Value)) (bytes : Option (List ℕ))
-      → shape_in tables ≡ shape → apply_commits tables commits ≡ Ok after → IsTold values bytes
-      → IsTold (row_after_commits shape table row commits values) (bytes_after_commits table row commits bytes)
-  commits-told tables after [] values bytes same h was = was
-  commits-told tables after (commit ∷ commits) values bytes same h was =
-      let parts = and_then-parts _ (apply_entries tables commit.entries) after h in
-      commits-told parts.0 after commits _ _ (entries-kinds tables parts.0 commit.entries parts.1 ∙ same) parts.2
-      (entries-told tables parts.0 commit.entries values bytes same parts.1 was)
+  pub commits-told : (commits : List Commit) (values : Option (List Value)) (bytes : Option (List ℕ))
+      → AllByRecursion (λ commit. AllByRecursion (λ entry. is_ok (fitting shape entry) ≡ true) commit.entries) commits
+      → IsTold columns values bytes
+      → IsTold columns (row_after_commits shape table row commits values) (bytes_after_commits table row commits bytes)
+  commits-told [] values bytes fit was = was
+  commits-told (commit ∷ commits) values bytes fit was =
+      commits-told commits _ _ fit.1 (entries-told commit.entries values bytes fit.0 was)
 
-  -- a row at a version is that of its bytes after the commits up to it
-  pub version-told : (commits : List Commit) (version : ℕ) → is_ok (apply_commits (opening shape) commits) ≡ true
-      → IsTold (row_at (rows_of (tables_after shape commits version) table) row) (bytes_after_commits table row (take version commits) None)
-  version-told commits version h =
-      let all = from_is_ok _ h in
-      let split = apply_commits-split shape commits version all.0 all.1 in
-      subst (λ values. IsTold values (bytes_after_commits table row (take version commits) None))
-      (sym (row-at shape commits version table row h))
-      (commits-told (opening shape) (tables_after shape commits version) (take version commits) None None (shape_in-opening shape)
-      split.0 (record { told = refl; wide = tt }))
+-- a row at a version is that of its bytes after the commits up to it
+pub rows-have_bytes : WidthTellsValue → BeginningsAreDefined → EachFits → RowsAreLeft → RowsHaveBytes
+rows-have_bytes tells first fits left shape commits version table row h =
+    let columns = kinds_in shape table in
+    let begun = first shape commits version h in
+    subst (λ values. IsTold columns values (bytes_after_commits table row (take version commits) None))
+    (sym (left shape commits version table row h))
+    (commits-told tells shape table row (take version commits) None None (fits shape (take version commits) (ap is_ok begun))
+    (record { told = refl; wide = tt }))

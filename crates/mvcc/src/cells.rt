@@ -10,6 +10,7 @@ ghost use Rattle.rows.specs.Values.{values_of};
 ghost use Rattle.mvcc.specs.Inner.OwnRows.{picked};
 ghost use Rattle.mvcc.specs.Inner.Cells.{inserted_cell, patched_cell, cell_after_one, cell_after_entry, cell_after};
 
+use rows::laws::columns_are_of_their_width;
 use rows::{Entry, Kind, RowId, Value, column_at, first_value, width_of_row};
 
 /// What the entries at these indices make of a column of a row, in a table with columns of these
@@ -91,6 +92,7 @@ fn patched_cell(
     requires { list_all is_good kinds.now ≡ true }
     ensures { result ≡ patched_cell kinds.now offset bytes.now column value }
 {
+    columns_are_of_their_width();
     match column_at(kinds, offset as usize, bytes.len()) {
         Some((found, kind)) => {
             if found == column && value.is_some() {

@@ -15,6 +15,7 @@ ghost use Rattle.mvcc.specs.Inner.RowsTold.{there_in};
 use crate::row_ids::row_of;
 use crate::rows_told::RowsTold;
 use crate::versions::Versions;
+use rows::laws::entries_are_defined_one_by_one;
 use rows::{Entry, fits, is_there_after};
 use std::alloc::Global;
 
@@ -25,6 +26,7 @@ pub fn are_defined(alloc: Global, versions: &Versions, version: u64, entries: &[
     ensures answer { result ≡ defined_at versions.now version entries.now }
     ensures spelled { OnTrue result (AllByRecursion HasSpelling entries.now) }
 {
+    entries_are_defined_one_by_one();
     let mut told = RowsTold::new(alloc);
     for entry in entries {
         let there = is_there(versions, version, &told, entry);
@@ -67,6 +69,7 @@ fn are_defined_by_walk(versions: &Versions, version: u64, entries: &[Entry]) -> 
     ensures answer { result ≡ defined_at versions.now version entries.now }
     ensures spelled { OnTrue result (AllByRecursion HasSpelling entries.now) }
 {
+    entries_are_defined_one_by_one();
     for index in 0..entries.len() {
         let (before, _) = entries.split_at(index);
         let entry = &entries[index];

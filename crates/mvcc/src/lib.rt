@@ -20,6 +20,7 @@ mod chains;
 mod defining;
 mod faults;
 mod kept_bytes;
+mod laws;
 mod link;
 mod own_rows;
 mod row_ids;

@@ -21,6 +21,7 @@ use crate::own_rows::{OwnRows, indices_with};
 use crate::row_ids::row_of;
 use crate::values::{is_value_of, matches_table};
 use crate::versions::Versions;
+use rows::laws::{changes_keep_kinds, rows_are_as_entries_leave_them};
 use rows::limits::COMMIT_ENTRIES_MAX;
 use rows::{Entry, EntryList, Kind, RowId, Schema, Value, row_bytes, width_of_row};
 use std::alloc::{AllocError, Global};
@@ -224,6 +225,7 @@ impl Transaction {
         ensures { option_map (λ k. k.now) result
             ≡ slice_get (seen_shape (shape_of versions.now.schema) versions.now.commits self.now) table }
     {
+        changes_keep_kinds();
         versions.schema().kinds(table as usize)
     }
 
@@ -232,6 +234,7 @@ impl Transaction {
         ensures { result ≡ is_some
             (column_kind (seen_shape (shape_of versions.now.schema) versions.now.commits self.now) table column) }
     {
+        changes_keep_kinds();
         has_column(versions.schema(), table, column)
     }
 
@@ -249,6 +252,7 @@ impl Transaction {
             then Some (column_offset (seen_shape (shape_of versions.now.schema) versions.now.commits self.now) table column)
             else None) }
     {
+        changes_keep_kinds();
         offset_for(versions.schema(), table, column, value)
     }
 
@@ -273,6 +277,7 @@ impl Transaction {
         ensures { result ≡ cell_of column
             (row_at (rows_of (seen_by (shape_of versions.now.schema) versions.now.commits self.now) table) row.0) }
     {
+        rows_are_as_entries_leave_them();
         let was = cell_at(versions, self.snapshot, table, row, column);
         match versions.schema().kinds(table as usize) {
             None => was,

@@ -16,7 +16,9 @@ ghost use Rattle.mvcc.specs.Values.{value_in};
 use crate::cells::value_in_row;
 use crate::chains::Chains;
 use crate::defining::are_defined;
+use crate::laws::rows_have_their_bytes;
 use crate::row_ids::row_of;
+use rows::laws::{commits_are_defined_one_by_one, entries_are_defined_one_by_one};
 use rows::{Commit, Entry, EntryList, RowId, Schema, Value};
 use std::alloc::{AllocError, Global};
 use std::marker::Model;
@@ -65,6 +67,7 @@ impl Versions {
         ensures first { (version : ℕ)
             → IsOk (apply_commits (opening (shape_of self.now.schema)) (take version self.now.commits)) }
     {
+        commits_are_defined_one_by_one();
         // A look at a field brings the invariant to the proof.
         let _ = &self.chains;
     }
@@ -157,6 +160,7 @@ impl Versions {
         ensures ok { OnOk result (self.new ≡ record self.old { commits = self.old.commits ++ commit ∷ [] }) }
         ensures err { IfErr result (λ back. (back ≡ commit) × (self.new ≡ self.old)) }
     {
+        commits_are_defined_one_by_one();
         let Ok(()) = self.commits.reserve(1) else {
             return Err(commit);
         };
@@ -185,6 +189,7 @@ impl Versions {
         requires { version ≤ length self.now.commits }
         ensures { result ≡ is_row_at (tables_at self.now version) table row.0 }
     {
+        rows_have_their_bytes();
         self.chains.bytes_at(version, table, row).is_some()
     }
 
@@ -194,6 +199,7 @@ impl Versions {
         requires { version ≤ length self.now.commits }
         ensures { result ≡ value_in (tables_at self.now version) table row.0 column }
     {
+        rows_have_their_bytes();
         let kinds = self.schema.kinds(table as usize)?;
         let bytes = self.chains.bytes_at(version, table, row)?;
         value_in_row(kinds, bytes, column)
@@ -213,6 +219,7 @@ impl Versions {
         ensures stay_defined { (version : ℕ) → result ≤ version → defined_at self.now version entries.now ≡ true
             → defined_at self.now (length self.now.commits) entries.now ≡ true }
     {
+        entries_are_defined_one_by_one();
         // A look at a field brings the invariant to the proof.
         let _ = &self.chains;
         let mut last = 0;

@@ -1,18 +1,16 @@
 -- A list of commits rebuilt one by one: each is defined where it stands, and its frames can be sent.
-use Rattle.std.proofs.Common.{◌≡◌, ◌+◌, ◌<◌, ◌≤◌, ℕ, true, false, List, [], ◌∷◌, length, take, drop, get_or}
-use Rattle.std.proofs.Common.{Result, Ok, Err, sym, ap, subst, ◌∙◌, arith, refl}
-use Rattle.std.specs.Prelude.{IsOk}
+use Rattle.std.proofs.Common.{◌≡◌, ◌+◌, ◌<◌, ◌≤◌, ℕ, true, false, List, [], ◌∷◌, ◌++◌, length, take, drop, get_or}
+use Rattle.std.proofs.Common.{sym, ap, subst, ◌∙◌, arith, refl}
 use Rattle.std.specs.Result.{is_ok}
-use Rattle.std.proofs.lemmas.List.{take_all, drop_more}
+use Rattle.std.proofs.lemmas.List.{take_all, drop_more, take-append-drop}
 use Rattle.std.proofs.Math.ListN.{drop_of_length-le}
 use Rattle.rows.specs.declared.commit.Commit.{Commit}
 use Rattle.rows.specs.declared.kind.Kind.{Kind}
 use Rattle.rows.specs.Commits.{IsCommit, apply_commits, tables_after}
 use Rattle.rows.specs.Limits.{commit_entries_max, workers_max}
 use Rattle.rows.specs.Shape.{Shape, shape_of}
-use Rattle.rows.specs.Tables.{Tables, Refusal, opening, apply_entries}
-use Rattle.rows.proofs.Presence.{and_then-parts}
-use Rattle.rows.proofs.TableLaws.{apply_commits-split}
+use Rattle.rows.specs.Tables.{opening, apply_entries}
+use Rattle.rows.specs.ListLaws.{EachIsDefined}
 use Rattle.mvcc.specs.History.{History, defined_at}
 use Rattle.update_log.specs.declared.span.Span.{Span}
 use Rattle.update_log.specs.Frames.{IsCuttable}
@@ -24,35 +22,20 @@ use Rattle.primary.specs.Steps.{started_primary}
 use Rattle.primary.specs.Inner.Parts.{primary_of}
 use Rattle.primary.proofs.Streams.{next-below}
 
-pub ok-of : (r : Result Tables Refusal) → IsOk r → (tables : Tables) × (r ≡ Ok tables)
-ok-of (Ok tables) ok = (tables, refl)
-ok-of (Err refusal) ok = absurd cc
-
--- the tables at a version are those after the first commits
-tables-front : (shape : Shape) (commits : List Commit) (version : ℕ)
-    → tables_after shape (take version commits) (length (take version commits)) ≡ tables_after shape commits version
-tables-front shape commits version = rw (take_all (length (take version commits)) (take version commits) (omega arith)) refl
-
 -- the next commit is defined where it stands
-pub defined-next : (versions : History) (schema : List (List ℕ × List Kind)) (workers : ℕ) (commits : List Commit) (i : ℕ)
-    (commit : Commit) → i < length commits → commit ≡ get_or commits i commit → IsJournaled workers (shape_of schema) commits
+pub defined-next : (each : EachIsDefined) (versions : History) (schema : List (List ℕ × List Kind)) (workers : ℕ) (commits : List Commit)
+    (i : ℕ) (commit : Commit) → i < length commits → commit ≡ get_or commits i commit → IsJournaled workers (shape_of schema) commits
     → versions.schema ≡ schema → versions.commits ≡ take i commits
     → defined_at versions (length versions.commits) commit.entries ≡ true
-defined-next versions schema workers commits i commit h e journaled same taken =
+defined-next each versions schema workers commits i commit h e journaled same taken =
     let shape = shape_of schema in
-    let all = ok-of (apply_commits (opening shape) commits) journaled.legal.defined in
-    let split = apply_commits-split shape commits i all.0 all.1 in
     let rest = drop (i + 1) commits in
-    let next : drop i commits ≡ commit ∷ rest =
-    drop_more commits i commit h ∙ ap (λ c. c ∷ rest) (sym e) in
-    let parts =
-    and_then-parts (λ after. apply_commits after rest) (apply_entries (tables_after shape commits i) commit.entries) all.0
-    (ap (apply_commits (tables_after shape commits i)) (sym next) ∙ split.1) in
-    let here : tables_after (shape_of versions.schema) versions.commits (length versions.commits) ≡ tables_after shape commits i =
-    ap (λ s. tables_after (shape_of s) versions.commits (length versions.commits)) same
-    ∙ ap (λ cs. tables_after shape cs (length cs)) taken
-    ∙ tables-front shape commits i in
-    ap (λ tables. is_ok (apply_entries tables commit.entries)) here ∙ ap is_ok parts.1
+    let next : drop i commits ≡ commit ∷ rest = drop_more commits i commit h ∙ ap (λ c. c ∷ rest) (sym e) in
+    let whole : take i commits ++ commit ∷ rest ≡ commits =
+    ap (λ back. take i commits ++ back) (sym next) ∙ take-append-drop i commits in
+    ap (λ s. is_ok (apply_entries (tables_after (shape_of s) versions.commits (length versions.commits)) commit.entries)) same
+    ∙ ap (λ cs. is_ok (apply_entries (tables_after shape cs (length cs)) commit.entries)) taken
+    ∙ each shape (take i commits) commit rest (ap (λ cs. is_ok (apply_commits (opening shape) cs)) whole ∙ journaled.legal.defined)
 
 -- and it can be cut into frames, each of which has a seq
 pub cuttable-next : (workers : ℕ) (shape : Shape) (commits : List Commit) (i : ℕ) (commit : Commit) (streams : List (List Span))

@@ -36,6 +36,7 @@ pub fn rebuild(
     ensures versions { IfOk result (λ rebuilt. rebuilt.versions ≡ record { schema = schema.now; commits = commits.now }) }
     ensures streams { IfOk result (λ rebuilt. AreStreamsOf rebuilt.streams.streams commits.now) }
 {
+    rows::laws::commits_are_defined_one_by_one();
     let mut versions = Versions::new(alloc, schema)?;
     let mut streams = Streams::new(alloc)?;
     for commit in commits {

@@ -98,6 +98,7 @@ impl<L: Line, R: Wait + Drop> Publisher<L, R> {
         ensures queued { MatchResult result (λ _. self.new.queued ≡ self.old.queued ++ step.commit ∷ [])
             (λ back. (back ≡ step) × (self.new.queued ≡ self.old.queued)) }
     {
+        rows::laws::commits_are_defined_one_by_one();
         self.writer.append(step)
     }
 

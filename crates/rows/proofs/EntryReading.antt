@@ -13,7 +13,7 @@ use Rattle.rows.specs.declared.limits.TheConstants.{TABLES_MAX, ROW_WIDTH_MAX, O
 use Rattle.rows.specs.declared.entry_ref.EntryRef.{EntryRef}
 use Rattle.rows.specs.Reading.{entry_at, entry_behind, is_row_code, insert_at, patch_at, seen, IsSpelledAt}
 use Rattle.rows.specs.Spelling.{AreBytes, HasSpelling, entry_front, entry_spelling}
-use Rattle.rows.proofs.Bytes.{AreBytes-drop, AreBytes-take, cut_1, cut_2, cut_8, number_fits}
+use Rattle.rows.proofs.Bytes.{AreBytes-drop, AreBytes-take, cut, cut_1, number_fits}
 
 -- ---- what the tests of an entry let through
 
@@ -157,7 +157,7 @@ sized_data k rest long fits within =
     ap (λ (t : List ℕ). content ++ t) (sym (drop-drop size (k + 2) rest)) ∙ take-append-drop size (drop (k + 2) rest) in
     let whole : big_bytes 2 (length content) ++ (content ++ behind) ≡ drop k rest =
     ap (λ (n : ℕ). big_bytes 2 n ++ (content ++ behind)) sized ∙ ap (λ (t : List ℕ). big_bytes 2 size ++ t) joined
-    ∙ cut_2 k rest long fits in
+    ∙ cut 2 k rest long fits in
     (sized, sym whole)
 
 -- what stands behind the row
@@ -194,7 +194,7 @@ module _ (table row : ℕ) (rest : List ℕ) (found : Entry × ℕ) (below : tab
       let content = take size (drop 4 rest) in
       let whole = sized_data 2 rest is.long fits is.within in
       let whole_rest : rest ≡ big_bytes 2 offset ++ (big_bytes 2 (length content) ++ (content ++ drop (4 + size) rest)) =
-      sym (cut_2 0 rest (omega (arith, is.long)) fits) ∙ ap (λ (t : List ℕ). big_bytes 2 offset ++ t) whole.1 in
+      sym (cut 2 0 rest (omega (arith, is.long)) fits) ∙ ap (λ (t : List ℕ). big_bytes 2 offset ++ t) whole.1 in
       let behind : drop (14 + size) (entry_front 2 table row ++ rest) ≡ drop (4 + size) rest =
       behind_front 2 table row (14 + size) (4 + size) rest (omega arith) in
       let made : IsSpelledHere (entry_front 2 table row ++ rest) (patch_of table row rest) = record {
@@ -225,7 +225,7 @@ spelled_here bytes found fits e =
     let rest = drop 10 bytes in
     let only = entry_at-only bytes found e in
     let long = only.0 in
-    let at_2 : big_bytes 8 row ++ rest ≡ drop 2 bytes = cut_8 2 bytes (omega arith) fits in
+    let at_2 : big_bytes 8 row ++ rest ≡ drop 2 bytes = cut 8 2 bytes (omega arith) fits in
     let at_1 : table ∷ drop 2 bytes ≡ drop 1 bytes = cut_1 1 bytes (omega arith) in
     let at_0 : op ∷ drop 1 bytes ≡ bytes = cut_1 0 bytes (omega arith) in
     let front : entry_front op table row ++ rest ≡ bytes =

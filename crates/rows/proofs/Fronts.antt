@@ -9,6 +9,7 @@ use Rattle.rows.specs.declared.kind.Kind.TheVariants as kinds
 use Rattle.rows.specs.declared.value.Value.TheVariants.{Int, Octets}
 use Rattle.rows.specs.Shape.{width_of}
 use Rattle.rows.specs.Values.{value_of}
+use Rattle.rows.specs.Laws.{WidthTellsValue}
 
 -- the value at the front of bytes is told by as many as it is wide
 index-front : (n i : ℕ) (bytes : List ℕ) → i < n → slice_index (take n bytes) i ≡ slice_index bytes i
@@ -27,6 +28,5 @@ value-front : (kind : Kind) (bytes : List ℕ) → value_of kind (take (width_of
 value-front kinds.Int bytes = ap (λ number. Int (cast_signed w64 number)) (number-front 0 8 8 bytes (omega arith))
 value-front (kinds.Octets width) bytes = ap Octets (take-take width width bytes (omega arith))
 
-pub value-same : (kind : Kind) (bytes others : List ℕ) → take (width_of kind) bytes ≡ take (width_of kind) others
-    → value_of kind bytes ≡ value_of kind others
+pub value-same : WidthTellsValue
 value-same kind bytes others same = sym (value-front kind bytes) ∙ ap (value_of kind) same ∙ value-front kind others

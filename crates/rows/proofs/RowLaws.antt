@@ -1,5 +1,5 @@
 -- Each row's values after entries and commits: an entry changes the values of its row, and of no other.
-use Rattle.std.proofs.Common.{◌≡◌, ℕ, suc, zero, ◌+◌, ◌<◌, Bool, true, false, cond, not, ◌&&◌, ◌==◌, List, [], ◌∷◌, ◌++◌, length, get_or}
+use Rattle.std.proofs.Common.{◌≡◌, ℕ, suc, zero, ◌<◌, Bool, true, false, cond, not, ◌&&◌, ◌==◌, List, [], ◌∷◌, length}
 use Rattle.std.proofs.Common.{take, Option, None, Some, Ok, refl, sym, ap, subst, ◌∙◌, inl, inr, arith}
 use Rattle.std.specs.List.{filter}
 use Rattle.std.specs.Map.{lookup, set_value}
@@ -7,9 +7,8 @@ use Rattle.std.specs.Option.{is_some, option_map}
 use Rattle.std.specs.Ordering.{nat_cmp}
 use Rattle.std.specs.BTreeMap.{is_at, insert_entry}
 use Rattle.std.specs.Result.{is_ok, result_unwrap_or}
-use Rattle.std.proofs.lemmas.Bool.{or_parts, eq-eqb, ne_eqb, cases_eq}
+use Rattle.std.proofs.lemmas.Bool.{eq-eqb, ne_eqb, cases_eq}
 use Rattle.std.proofs.lemmas.Bool.Decides.{nat_tests}
-use Rattle.std.proofs.lemmas.List.{take_more}
 use Rattle.rows.specs.declared.commit.Commit.{Commit}
 use Rattle.rows.specs.declared.entry.Entry.{Entry}
 use Rattle.rows.specs.declared.entry.Entry.TheVariants.{Insert, Patch, Delete}
@@ -22,11 +21,12 @@ use Rattle.rows.specs.Tables.{Rows, Tables, opening, shape_in, rows_of, kinds_of
 use Rattle.rows.specs.Tables.{is_row_at, with_row, with_patch, without_row}
 use Rattle.rows.specs.Tables.{patched_row, with_rows, is_fit, change_where, apply_entry, apply_entries, applied}
 use Rattle.rows.specs.Commits.{apply_commits, tables_after, is_of}
+use Rattle.rows.specs.ListLaws.{RowsAreLeft, RowsAreSeen}
 use Rattle.rows.specs.Presence.{stands_for}
-use Rattle.rows.specs.Inner.RowAfter.{inserted_row, row_after_one, row_after_entry, row_after, row_after_commits, row_after_fit}
+use Rattle.rows.specs.RowAfter.{inserted_row, row_after_one, row_after_entry, row_after, row_after_commits, row_after_fit}
 use Rattle.rows.proofs.Presence.{rows_of-set_same, rows_of-set_other, renewed, shape_in-with_rows, shape_in-opening}
 use Rattle.rows.proofs.Presence.{fit-within, made, refusal_of, row_of, of-parts}
-use Rattle.rows.proofs.Presence.{stands, step, apply_entry-is, apply_entry-parts, and_then-parts, named, written}
+use Rattle.rows.proofs.Presence.{stands, step, apply_entry-is, apply_entry-parts, and_then-parts}
 use Rattle.rows.proofs.TableLaws.{from_is_ok, apply_commits-split, shape-at}
 
 -- a look-up after an insert: the new key has its value, and any other as before
@@ -233,8 +233,7 @@ Leaves-applied shape tables (entry ∷ entries) same =
     (λ t r. row_after_fit shape t r entries) first others
 
 -- a row at a version is what the commits up to it leave of it
-pub row-at : (shape : Shape) (commits : List Commit) (version table row : ℕ) → is_ok (apply_commits (opening shape) commits) ≡ true
-    → row_at (rows_of (tables_after shape commits version) table) row ≡ row_after_commits shape table row (take version commits) None
+pub row-at : RowsAreLeft
 row-at shape commits version table row h =
     let all = from_is_ok _ h in
     let split = apply_commits-split shape commits version all.0 all.1 in
@@ -244,73 +243,6 @@ row-at shape commits version table row h =
     leaves.rows table row ∙ ap (row_after_commits shape table row (take version commits)) (opening-none shape table row)
 
 -- a row that a transaction sees: that at the version, as its own entries that fit change it
-pub row-seen : (shape : Shape) (commits : List Commit) (version : ℕ) (entries : List Entry) (table row : ℕ)
-    → row_at (rows_of (applied (tables_after shape commits version) entries) table) row ≡ row_after_fit shape table row entries
-    (row_at (rows_of (tables_after shape commits version) table) row)
+pub row-seen : RowsAreSeen
 row-seen shape commits version entries table row =
     (Leaves-applied shape (tables_after shape commits version) entries (shape-at shape commits version)).rows table row
-
--- one more entry at the end, or one more commit
-pub row_after-push : (shape : Shape) (table row : ℕ) (entries : List Entry) (entry : Entry) (was : Option (List Value))
-    → row_after shape table row (entries ++ entry ∷ []) was ≡ row_after_entry shape table row entry (row_after shape table row entries was)
-row_after-push shape table row [] entry was = refl
-row_after-push shape table row (first ∷ entries) entry was =
-    row_after-push shape table row entries entry (row_after_entry shape table row first was)
-
-pub row_after_commits-push : (shape : Shape) (table row : ℕ) (commits : List Commit) (commit : Commit) (was : Option (List Value))
-    → row_after_commits shape table row (commits ++ commit ∷ []) was ≡ row_after shape table row commit.entries
-    (row_after_commits shape table row commits was)
-row_after_commits-push shape table row [] commit was = refl
-row_after_commits-push shape table row (first ∷ commits) commit was =
-    row_after_commits-push shape table row commits commit (row_after shape table row first.entries was)
-
-pub row_after_fit-push : (shape : Shape) (table row : ℕ) (entries : List Entry) (entry : Entry) (was : Option (List Value))
-    → row_after_fit shape table row (entries ++ entry ∷ []) was ≡ cond (is_ok (fitting shape entry))
-    (row_after_entry shape table row entry (row_after_fit shape table row entries was)) (row_after_fit shape table row entries was)
-row_after_fit-push shape table row [] entry was = refl
-row_after_fit-push shape table row (first ∷ entries) entry was =
-    row_after_fit-push shape table row entries entry (cond (is_ok (fitting shape first)) (row_after_entry shape table row first was) was)
-
--- a walk over the entries, or over the commits, one step on
-pub row_after-more : (shape : Shape) (table row : ℕ) (entries : List Entry) (i : ℕ) (entry : Entry) (was : Option (List Value))
-    → i < length entries → entry ≡ get_or entries i entry
-    → row_after shape table row (take (i + 1) entries) was ≡ row_after_entry shape table row entry
-    (row_after shape table row (take i entries) was)
-row_after-more shape table row entries i entry was h e =
-    ap (λ entries. row_after shape table row entries was) (take_more entries i entry h ∙ ap (λ x. take i entries ++ x ∷ []) (sym e))
-    ∙ row_after-push shape table row (take i entries) entry was
-
-pub row_after_commits-more : (shape : Shape) (table row : ℕ) (commits : List Commit) (i : ℕ) (commit : Commit) (was : Option (List Value))
-    → i < length commits → commit ≡ get_or commits i commit
-    → row_after_commits shape table row (take (i + 1) commits) was ≡ row_after shape table row commit.entries
-    (row_after_commits shape table row (take i commits) was)
-row_after_commits-more shape table row commits i commit was h e =
-    ap (λ commits. row_after_commits shape table row commits was)
-    (take_more commits i commit h ∙ ap (λ x. take i commits ++ x ∷ []) (sym e))
-    ∙ row_after_commits-push shape table row (take i commits) commit was
-
-pub row_after_fit-more : (shape : Shape) (table row : ℕ) (entries : List Entry) (i : ℕ) (entry : Entry) (was : Option (List Value))
-    → i < length entries → entry ≡ get_or entries i entry
-    → row_after_fit shape table row (take (i + 1) entries) was
-    ≡ cond (is_ok (fitting shape entry)) (row_after_entry shape table row entry (row_after_fit shape table row (take i entries) was))
-    (row_after_fit shape table row (take i entries) was)
-row_after_fit-more shape table row entries i entry was h e =
-    ap (λ entries. row_after_fit shape table row entries was) (take_more entries i entry h ∙ ap (λ x. take i entries ++ x ∷ []) (sym e))
-    ∙ row_after_fit-push shape table row (take i entries) entry was
-
--- entries that are not of a row leave its values, and so do commits
-pub row_after-unnamed : (shape : Shape) (table row : ℕ) (entries : List Entry) (was : Option (List Value)) → named entries table row ≡ false
-    → row_after shape table row entries was ≡ was
-row_after-unnamed shape table row [] was h = refl
-row_after-unnamed shape table row (entry ∷ entries) was h =
-    let parts = or_parts (is_of table row entry) (named entries table row) h in
-    ap (λ here. row_after shape table row entries (cond here (row_after_one (kinds_in shape table) entry was) was)) parts.0
-    ∙ row_after-unnamed shape table row entries was parts.1
-
-pub row_after_commits-unwritten : (shape : Shape) (table row : ℕ) (commits : List Commit) (was : Option (List Value))
-    → written commits table row ≡ false → row_after_commits shape table row commits was ≡ was
-row_after_commits-unwritten shape table row [] was h = refl
-row_after_commits-unwritten shape table row (commit ∷ commits) was h =
-    let parts = or_parts (named commit.entries table row) (written commits table row) h in
-    ap (row_after_commits shape table row commits) (row_after-unnamed shape table row commit.entries was parts.0)
-    ∙ row_after_commits-unwritten shape table row commits was parts.1

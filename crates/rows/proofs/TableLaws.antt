@@ -3,7 +3,7 @@ pub use Rattle.rows.proofs.Presence.{is_there_after-push, is_there_after_commits
 pub use Rattle.rows.proofs.Presence.{is_there_after_commits-more, is_there_after_fit-more, named, written, unnamed, unwritten}
 use Rattle.std.proofs.Common.{◌≡◌, ℕ, suc, zero, ◌+◌, ◌<◌, ◌≤◌, Bool, true, false, cond, ◌&&◌, ◌==◌, List, [], ◌∷◌, ◌++◌, length, get_or}
 use Rattle.std.proofs.Common.{take, drop, Result, Ok, Err, refl, sym, ap, add-zero, ◌∙◌, ◌⊎◌, inl, inr, arith}
-use Rattle.std.specs.List.{list_any}
+use Rattle.std.specs.List.{list_any, AllByRecursion}
 use Rattle.std.specs.Result.{is_ok}
 use Rattle.std.proofs.lemmas.Bool.{or_from, and_from, or_parts}
 use Rattle.std.proofs.lemmas.List.{take_all, take_more, length-take-le, take-append-drop}
@@ -12,13 +12,15 @@ use Rattle.rows.specs.declared.commit.Commit.{Commit}
 use Rattle.rows.specs.declared.entry.Entry.{Entry}
 use Rattle.rows.specs.Shape.{Shape}
 use Rattle.rows.specs.Entries.{table_of, fitting}
-use Rattle.rows.specs.Tables.{Tables, Refusal, opening, shape_in, is_row_at, is_fit, change_where, apply_entry, apply_entries, applied}
+use Rattle.rows.specs.Tables.{Tables, Refusal, opening, shape_in, is_row_at, is_fit, change_where, apply_entry, apply_entries}
 use Rattle.rows.specs.Tables.{and_then}
-use Rattle.rows.specs.Commits.{apply_commits, tables_after, is_of, overlaps, touches, last_where, last_touching}
+use Rattle.rows.specs.Commits.{apply_commits, tables_after, overlaps, touches, last_where}
 use Rattle.rows.specs.Laws.{EntryKeepsKinds, EntriesKeepKinds, AppliedKeepKinds, CommitsKeepKinds, VersionsKeepKinds, IsSymmetric}
+use Rattle.rows.specs.ListLaws.{BeginningsAreDefined, EachIsDefined, EachFits, OneMoreIsDefined, UndefinedStayUndefined}
+use Rattle.rows.specs.ListLaws.{OneMoreEntryIsDefined, UntouchedStayDefined, PresenceIsTold}
 use Rattle.rows.specs.Presence.{stands_for, is_there_after_one, is_there_after}
 use Rattle.rows.specs.Inner.Presence.{is_there_after_commits, is_there_after_fit}
-use Rattle.rows.proofs.Presence.{there, shape_in-opening, opening-empty, Turns, made, refusal_of, row_of, is_of-is, of-parts, overlaps-is}
+use Rattle.rows.proofs.Presence.{there, shape_in-opening, Turns, made, refusal_of, row_of, is_of-is, of-parts, overlaps-is}
 use Rattle.rows.proofs.Presence.{stands, apply_entry-is, apply_entry-parts, Turns-change}
 use Rattle.rows.proofs.Presence.{Turns-changes, Turns-commits, Turns-applied, and_then-parts}
 
@@ -68,22 +70,6 @@ shape-at shape commits version = kept (apply_commits (opening shape) (take versi
     kept (Ok after) e = rw e ((Turns-commits (opening shape) after (take version commits) e).kinds ∙ shape_in-opening shape)
     kept (Err refusal) e = rw e (shape_in-opening shape)
 
--- the rows at a version are those that the commits up to it leave there
-pub there-at : (shape : Shape) (commits : List Commit) (version table row : ℕ) → is_ok (apply_commits (opening shape) commits) ≡ true
-    → is_row_at (tables_after shape commits version) table row ≡ is_there_after_commits table row (take version commits) false
-there-at shape commits version table row h =
-    let all = from_is_ok _ h in
-    let split = apply_commits-split shape commits version all.0 all.1 in
-    let turns = Turns-commits (opening shape) (tables_after shape commits version) (take version commits) split.0 in
-    turns.rows table row ∙ ap (is_there_after_commits table row (take version commits)) (opening-empty shape table row)
-
--- the rows that a transaction sees: those at the version, as its own entries that fit turn them
-pub there-seen : (shape : Shape) (commits : List Commit) (version : ℕ) (entries : List Entry) (table row : ℕ)
-    → is_row_at (applied (tables_after shape commits version) entries) table row
-    ≡ is_there_after_fit shape table row entries (is_row_at (tables_after shape commits version) table row)
-there-seen shape commits version entries table row =
-    (Turns-applied shape (tables_after shape commits version) entries (shape-at shape commits version)).rows table row
-
 -- entries that are defined fit, so what those that fit leave is what all leave
 pub is_there_after_fit-defined : (shape : Shape) (tables : Tables) (entries : List Entry) (table row : ℕ) (was : Bool)
     → shape_in tables ≡ shape → is_ok (apply_entries tables entries) ≡ true
@@ -129,11 +115,7 @@ defined-push shape tables before entry same h =
     alone (Err refusal) = refl
 
 -- the same on the rows at a version
-pub defined_behind : (shape : Shape) (commits : List Commit) (version : ℕ) (before : List Entry) (entry : Entry) (table row : ℕ)
-    → is_of table row entry ≡ true → is_ok (apply_entries (tables_after shape commits version) before) ≡ true
-    → is_ok (apply_entries (tables_after shape commits version) (before ++ entry ∷ []))
-    ≡ (is_ok (fitting shape entry)
-    && stands_for entry (is_there_after table row before (is_row_at (tables_after shape commits version) table row)))
+pub defined_behind : OneMoreEntryIsDefined
 defined_behind shape commits version before entry table row of h =
     let at = of-parts table row entry of in
     let tables = tables_after shape commits version in
@@ -143,8 +125,7 @@ defined_behind shape commits version before entry table row of h =
     ∙ ap (λ r. is_ok (fitting shape entry) && stands_for entry (is_there_after table r before (is_row_at tables table r))) at.1
 
 -- the first of entries that are defined are defined too
-pub defined_before : (tables : Tables) (before entries : List Entry) → is_ok (apply_entries tables before) ≡ false
-    → is_ok (apply_entries tables (before ++ entries)) ≡ false
+pub defined_before : UndefinedStayUndefined
 defined_before tables before entries h = ap is_ok (apply_entries-append tables before entries) ∙ refused (apply_entries tables before) h
   where
     refused : (first : Result Tables Refusal) → is_ok first ≡ false → is_ok (and_then (λ after. apply_entries after entries) first) ≡ false
@@ -289,10 +270,7 @@ newest : (shape : Shape) (commits : List Commit) (after : Tables) → apply_comm
 newest shape commits after h = rw (take_all (length commits) commits (omega arith), h)
 
 -- entries that are defined at a version, and of rows that no later commit touches, are defined at the newest
-pub still_defined : (shape : Shape) (commits : List Commit) (version : ℕ) (entries : List Entry)
-    → is_ok (apply_commits (opening shape) commits) ≡ true → last_touching entries 0 commits ≤ version
-    → is_ok (apply_entries (tables_after shape commits version) entries) ≡ true
-    → is_ok (apply_entries (tables_after shape commits (length commits)) entries) ≡ true
+pub still_defined : UntouchedStayDefined
 still_defined shape commits version entries legal last defined =
     let all = from_is_ok _ legal in
     let split = apply_commits-split shape commits version all.0 all.1 in
@@ -305,13 +283,58 @@ still_defined shape commits version entries legal last defined =
     (defined-elsewhere (tables_after shape commits version) all.0 made.0 entries turns.kinds rows made.1)
 
 -- a commit that is defined at the newest version goes behind the others
-pub apply_commits-push : (shape : Shape) (commits : List Commit) (commit : Commit) → is_ok (apply_commits (opening shape) commits) ≡ true
-    → is_ok (apply_entries (tables_after shape commits (length commits)) commit.entries) ≡ true
-    → is_ok (apply_commits (opening shape) (commits ++ commit ∷ [])) ≡ true
+pub apply_commits-push : OneMoreIsDefined
 apply_commits-push shape commits commit legal defined =
     let all = from_is_ok _ legal in
     let made = from_is_ok (apply_entries all.0 commit.entries) (rw (newest shape commits all.0 all.1) at defined) in
     rw (apply_commits-append (opening shape) commits (commit ∷ []), all.1, made.1)
+
+-- commits that are defined are defined up to each version, and each behind those before it
+pub apply_commits-first : BeginningsAreDefined
+apply_commits-first shape commits version h =
+    let all = from_is_ok _ h in
+    (apply_commits-split shape commits version all.0 all.1).0
+
+pub each-defined : EachIsDefined
+each-defined shape before commit behind h =
+    let all = from_is_ok _ h in
+    let parts =
+    and_then-parts (λ between. apply_commits between (commit ∷ behind)) (apply_commits (opening shape) before) all.0
+    (sym (apply_commits-append (opening shape) before (commit ∷ behind)) ∙ all.1) in
+    let here = and_then-parts (λ after. apply_commits after behind) (apply_entries parts.0 commit.entries) all.0 parts.2 in
+    rw (newest shape before parts.0 parts.1) (ap is_ok here.1)
+
+-- entries that are defined fit, and so do those of commits
+entries-fit : (shape : Shape) (tables after : Tables) (entries : List Entry) → shape_in tables ≡ shape
+    → apply_entries tables entries ≡ Ok after → AllByRecursion (λ entry. is_ok (fitting shape entry) ≡ true) entries
+entries-fit shape tables after [] same h = tt
+entries-fit shape tables after (entry ∷ entries) same h =
+    let parts = and_then-parts _ (apply_entry tables entry) after h in
+    let first = apply_entry-parts tables parts.0 entry parts.1 in (
+      ap (λ shape. is_ok (fitting shape entry)) (sym same) ∙ first.0,
+      entries-fit shape parts.0 after entries ((Turns-change tables parts.0 entry parts.1).kinds ∙ same) parts.2,
+    )
+
+commits-fit : (shape : Shape) (tables after : Tables) (commits : List Commit) → shape_in tables ≡ shape
+    → apply_commits tables commits ≡ Ok after
+    → AllByRecursion (λ commit. AllByRecursion (λ entry. is_ok (fitting shape entry) ≡ true) commit.entries) commits
+commits-fit shape tables after [] same h = tt
+commits-fit shape tables after (commit ∷ commits) same h =
+    let parts = and_then-parts _ (apply_entries tables commit.entries) after h in (
+      entries-fit shape tables parts.0 commit.entries same parts.1,
+      commits-fit shape parts.0 after commits ((Turns-changes tables parts.0 commit.entries parts.1).kinds ∙ same) parts.2,
+    )
+
+pub each-fits : EachFits
+each-fits shape commits h =
+    let all = from_is_ok _ h in
+    commits-fit shape (opening shape) all.0 commits (shape_in-opening shape) all.1
+
+-- which rows are there after entries that are defined
+pub presence-told : PresenceIsTold
+presence-told tables entries table row h =
+    (Turns-applied (shape_in tables) tables entries refl).rows table row
+    ∙ is_there_after_fit-defined (shape_in tables) tables entries table row (is_row_at tables table row) refl h
 
 -- entries and commits leave the kinds of each table's columns
 pub entry-kinds : EntryKeepsKinds

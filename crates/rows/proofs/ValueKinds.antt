@@ -20,7 +20,7 @@ use Rattle.rows.specs.Entries.{table_of, sized, fitting}
 use Rattle.rows.specs.Tables.{Tables, Refusal, opening, shape_in, RowsAreOfKinds, patched_row, apply_entry, apply_entries}
 use Rattle.rows.specs.Commits.{apply_commits, tables_after, is_of}
 use Rattle.rows.specs.Laws.{EntryKeepsRows, CommitsKeepRows, VersionsAreOfKinds}
-use Rattle.rows.specs.Inner.RowAfter.{row_after_one, row_after_entry}
+use Rattle.rows.specs.RowAfter.{row_after_one, row_after_entry}
 use Rattle.rows.proofs.Presence.{apply_entry-parts, and_then-parts, of-parts}
 use Rattle.rows.proofs.RowLaws.{row_in, opening-none, Leaves-change}
 

@@ -1,11 +1,15 @@
--- Laws of the definitions: what changes leave as it is, how entries are read, which entries conflict, and what is equal.
-use Rattle.std.specs.Prelude.{◌≡◌, ℕ, List, length, nat_eq, Ok, Some}
+-- Laws of the definitions: what changes leave as it is, how numbers and entries are read, which column bytes are of,
+-- which entries conflict, and what is equal.
+use Rattle.std.specs.Prelude.{◌≡◌, ℕ, ◌+◌, ◌^◌, ◌<◌, ◌≤◌, List, ◌++◌, length, take, drop, nat_eq, true, Ok, Some}
 use Rattle.std.specs.Bool.{Decides}
-use Rattle.std.specs.List.{flat_map, AllByRecursion}
+use Rattle.std.specs.List.{flat_map, list_all, AllByRecursion}
 use Rattle.std.specs.Cmp.Lexicographic.{pointwise}
+use Rattle.byteorder.specs.Endian.{big_bytes, big_number}
 use Rattle.rows.specs.declared.commit.Commit.{Commit}
 use Rattle.rows.specs.declared.entry.Entry.{Entry}
-use Rattle.rows.specs.Shape.{Shape}
+use Rattle.rows.specs.declared.kind.Kind.{Kind}
+use Rattle.rows.specs.Shape.{Shape, width_of, is_good, column_at}
+use Rattle.rows.specs.Values.{value_of}
 use Rattle.rows.specs.Tables.{Tables, shape_in, RowsAreOfKinds, apply_entry, apply_entries, applied}
 use Rattle.rows.specs.Commits.{apply_commits, tables_after, overlaps}
 use Rattle.rows.specs.Equality.{is_same_entry, is_same_commit}
@@ -46,6 +50,28 @@ CommitsKeepRows =
 -- so each row at each version has values of its columns' kinds
 abbrev pub VersionsAreOfKinds : Type 0
 VersionsAreOfKinds = (shape : Shape) (commits : List Commit) (version : ℕ) → RowsAreOfKinds (tables_after shape commits version)
+
+-- a number that is read at an offset of bytes is spelled there
+abbrev pub NumbersAreSpelled : Type 0
+NumbersAreSpelled =
+    (size offset : ℕ) (bytes : List ℕ) → offset + size ≤ length bytes → AreBytes bytes
+    → big_bytes size (big_number size (drop offset bytes)) ++ drop (offset + size) bytes ≡ drop offset bytes
+
+-- and has a spelling of that size
+abbrev pub NumbersAreBelow : Type 0
+NumbersAreBelow = (size offset : ℕ) (bytes : List ℕ) → AreBytes bytes → big_number size (drop offset bytes) < 256 ^ size
+
+-- the column that just these bytes are of has a width that columns may have, and is as wide as they are many
+abbrev pub FoundColumnsFit : Type 0
+FoundColumnsFit =
+    (kinds : List Kind) (offset size column : ℕ) (kind : Kind) → column_at kinds offset size ≡ Some (column, kind)
+    → list_all is_good kinds ≡ true → (is_good kind ≡ true) × (size ≡ width_of kind)
+
+-- a column's value is told by as many bytes as it is wide
+abbrev pub WidthTellsValue : Type 0
+WidthTellsValue =
+    (kind : Kind) (bytes others : List ℕ) → take (width_of kind) bytes ≡ take (width_of kind) others
+    → value_of kind bytes ≡ value_of kind others
 
 -- entries that are read from bytes are as many as were asked for, and spelled there
 abbrev pub FoundAreSpelled : Type 0

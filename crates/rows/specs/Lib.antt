@@ -8,7 +8,9 @@ pub mod Equality
 pub mod Tables
 pub mod Commits
 pub mod Laws
+pub mod ListLaws
 pub mod Presence
+pub mod RowAfter
 pub mod Spelling
 pub mod Reading
 pub mod Text

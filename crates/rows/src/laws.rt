@@ -3,6 +3,10 @@
 ghost use Rattle.rows.specs.Laws.{EntryKeepsKinds, EntriesKeepKinds, AppliedKeepKinds, CommitsKeepKinds, VersionsKeepKinds};
 ghost use Rattle.rows.specs.Laws.{EntryKeepsRows, CommitsKeepRows, VersionsAreOfKinds, FoundAreSpelled, SpelledAreFound, IsSymmetric};
 ghost use Rattle.rows.specs.Laws.{BytesEqual, EntryEquals, EntriesEqual, CommitEquals};
+ghost use Rattle.rows.specs.Laws.{NumbersAreSpelled, NumbersAreBelow, FoundColumnsFit, WidthTellsValue};
+ghost use Rattle.rows.specs.ListLaws.{BeginningsAreDefined, EachIsDefined, EachFits, OneMoreIsDefined};
+ghost use Rattle.rows.specs.ListLaws.{UndefinedStayUndefined, OneMoreEntryIsDefined, UntouchedStayDefined, PresenceIsTold};
+ghost use Rattle.rows.specs.ListLaws.{RowsAreLeft, RowsAreSeen};
 
 /// Entries and commits leave the kinds of each table's columns. It does nothing: its contract is
 /// the law.
@@ -20,6 +24,44 @@ pub fn rows_are_of_kinds()
     ensures entry { EntryKeepsRows }
     ensures commits { CommitsKeepRows }
     ensures versions { VersionsAreOfKinds }
+{}
+
+/// A list of commits that is defined is so up to each version, commit by commit, and with one more
+/// that is defined behind it; its entries fit. It does nothing: its contract is the law.
+pub fn commits_are_defined_one_by_one()
+    ensures beginnings { BeginningsAreDefined }
+    ensures each { EachIsDefined }
+    ensures fits { EachFits }
+    ensures longer { OneMoreIsDefined }
+{}
+
+/// Entries that are defined are so one by one, and stay so where no later commit touches their rows;
+/// which rows they leave there is told from them. It does nothing: its contract is the law.
+pub fn entries_are_defined_one_by_one()
+    ensures undefined { UndefinedStayUndefined }
+    ensures longer { OneMoreEntryIsDefined }
+    ensures untouched { UntouchedStayDefined }
+    ensures presence { PresenceIsTold }
+{}
+
+/// A row's values after commits, and after entries that fit, are told from these alone. It does
+/// nothing: its contract is the law.
+pub fn rows_are_as_entries_leave_them()
+    ensures left { RowsAreLeft }
+    ensures seen { RowsAreSeen }
+{}
+
+/// The column that bytes are of is as wide as they are, and they tell its value. It does nothing: its
+/// contract is the law.
+pub fn columns_are_of_their_width()
+    ensures column { FoundColumnsFit }
+    ensures value { WidthTellsValue }
+{}
+
+/// Numbers that are read from bytes are spelled there. It does nothing: its contract is the law.
+pub fn numbers_are_read_as_spelled()
+    ensures spelled { NumbersAreSpelled }
+    ensures below { NumbersAreBelow }
 {}
 
 /// Entries that are read from bytes, all of which they fill, are spelled there, and entries that

@@ -4,8 +4,8 @@
 ghost use Rattle.std.specs.Prelude.{◌≡◌, true};
 
 use crate::failing_disk::FailingDisk;
-use crate::journal_files::fresh_path;
 use journal::{Disk, FileFault, FileJournal, JournalStore};
+use scenarios_common::files::fresh_path;
 use scenarios_journal_common::journal_cases::{HEADER_LEN, JOURNAL};
 use std::alloc::Global;
 use std::fs::{self, File, OpenOptions};

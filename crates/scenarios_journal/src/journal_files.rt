@@ -2,22 +2,11 @@
 
 use crate::journal_bytes::outcome;
 use journal::{FileJournal, JournalStore, OpenFault};
+use scenarios_common::files::fresh_path;
 use scenarios_journal_common::journal_cases::{JOURNAL, Outcome};
 use std::alloc::Global;
-use std::env::temp_dir;
+use std::fs;
 use std::test::Fail;
-use std::{fs, process};
-
-/// The path of a file of this process, for the test of that name; there is no such file.
-pub fn fresh_path(rt: &HostRuntime, name: &str) -> Result<String, Fail> {
-    let folder = temp_dir(rt)?;
-    let process = process::id(rt.process());
-    let path = format!(in rt.alloc(); "{}/journal-{process}-{name}", folder.as_str())?;
-    if fs::exists(rt, path.as_str())? {
-        fs::remove_file(rt, path.as_str())?;
-    }
-    Ok(path)
-}
 
 /// Appends bytes to a journal in a file.
 fn append(journal: &mut FileJournal, bytes: &[u8]) -> Result<(), Fail> {

@@ -1,6 +1,7 @@
-//! What it takes to publish commits, each by itself, while nobody reads, while one seat is read, and
-//! while four are, each in a thread of its own. A test prints what it measured, which `bench/publish`
-//! reads; what passes is that each read was of a version.
+//! What it takes to publish commits, each by itself, while nobody reads, and while one seat is read, or
+//! three, or four, each in a thread of its own. A test prints what it measured, which `bench/publish`
+//! reads; what passes is that each read was of a version. A seat that is read alone, of a line to which
+//! nobody publishes meanwhile, tells `bench/publish` what only the use of a processor costs.
 
 ghost use Rattle.std.specs.Prelude.{◌≡◌};
 ghost use Rattle.rows.specs.Shape.{shape_of};
@@ -24,7 +25,10 @@ use std::thread::{Threads, join};
 use std::time::Instant;
 
 /// Commits that are published.
-const COMMITS: u64 = 20_000;
+const COMMITS: u64 = 60_000;
+
+/// Transactions that a seat reads alone.
+const READS: u64 = 3_000_000;
 
 /// Seats that there may be at once.
 const SEATS: usize = 4;
@@ -142,6 +146,44 @@ fn measured_with<R: Threads + Wait + Clock + Sync>(
     )?)
 }
 
+/// Publishes one commit, and then reads so many transactions of it. Whether each is of a version.
+fn reads_alone<L: Line, R: Wait>(
+    rt: &R,
+    alloc: Global,
+    opened: Opened,
+    schema: &Schema,
+    commits: Vec<Commit>,
+    workers: u8,
+    count: u64,
+) -> Option<bool>
+    requires book { opened.seen.book ≡ L.book }
+    requires schema { schema.now ≡ L.schema }
+    requires workers { workers ≡ L.workers }
+    requires legal { IsJournaled workers (shape_of schema.now) commits.items }
+{
+    let telling = Telling::<L, &R>::new(
+        alloc, rt, opened, schema, commits, SEATS,
+    )?.published_next()?;
+    let mut seat = telling.seat()?;
+    for _ in 0..count {
+        if version_read(&mut seat, alloc) != Some(1) {
+            return Some(false);
+        }
+        thread::yield_now();
+    }
+    Some(true)
+}
+
+/// Reads so many transactions of a line with one commit.
+fn reads_alone_with<R: Wait>(rt: &R, alloc: Global, count: u64) -> Result<bool, Fail> {
+    let schema = accounts(alloc)?;
+    let commits = transfers(alloc, &schema, 1)?;
+    let opened = Opened::new().ok_or("history")?;
+    Ok(reads_alone::<Brand, R>(rt, alloc, opened, &schema, commits, 1, count).ok_or(
+        "out of memory",
+    )?)
+}
+
 #[test]
 fn commits_are_made(rt: HostRuntime) -> Result<(), Fail> {
     let schema = accounts(rt.alloc())?;
@@ -162,6 +204,19 @@ fn commits_are_published_to_nobody(rt: HostRuntime) -> Result<(), Fail> {
 fn commits_are_published_to_one_seat(rt: HostRuntime) -> Result<(), Fail> {
     let Measurement { taken, reads } = measured_with(&rt, rt.alloc(), COMMITS, 1)?;
     println!(rt; "{taken} {reads}")?;
+    Ok(())
+}
+
+#[test]
+fn commits_are_published_to_three_seats(rt: HostRuntime) -> Result<(), Fail> {
+    let Measurement { taken, reads } = measured_with(&rt, rt.alloc(), COMMITS, 3)?;
+    println!(rt; "{taken} {reads}")?;
+    Ok(())
+}
+
+#[test]
+fn a_seat_is_read_alone(rt: HostRuntime) -> Result<(), Fail> {
+    assert!(rt; reads_alone_with(&rt, rt.alloc(), READS)?);
     Ok(())
 }
 

@@ -5,6 +5,7 @@ ghost use Rattle.rows.specs.Shape.{shape_of};
 ghost use Rattle.journal.specs.Recovery.{IsJournaled};
 
 use history::{Keeper, Opened};
+use journal::laws::beginnings_are_journaled;
 use left_right::reader::Reader;
 use published::{Line, Published, Publisher, Seat, Shown, Step};
 use rows::{Commit, Schema};
@@ -69,6 +70,7 @@ impl<L: Line, R: Wait + Drop> Telling<L, R> {
 
     /// A seat that has seen what is told; `None` if each place is in use, or out of memory.
     pub fn seat(&self) -> Option<Seat<L>> {
+        beginnings_are_journaled();
         let reader = self.reader()?;
         Some(Seat::new(reader, self.keeper.front(self.told as u64)))
     }
@@ -148,6 +150,7 @@ fn next_of<L: Line>(commits: &[Commit], told: usize) -> Option<Commit>
     ensures next { IfSome result (λ commit. take (told + 1) commits.now ≡ take told commits.now ++ commit ∷ []) }
     ensures legal { IfSome result (λ commit. IsJournaled L.workers (shape_of L.schema) (take told commits.now ++ commit ∷ [])) }
 {
+    beginnings_are_journaled();
     copy_of(&commits[told])
 }
 

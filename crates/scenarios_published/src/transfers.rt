@@ -6,6 +6,7 @@ ghost use Rattle.rows.specs.Shape.{shape_of};
 ghost use Rattle.journal.specs.Recovery.{IsJournaled};
 
 use byteorder::{BigEndian, ByteOrder};
+use journal::laws::beginnings_are_journaled;
 use journal::{JournalFault, Recovered, header_bytes, recover};
 use rows::{Commit, Kind, Schema, SchemaFault};
 use std::alloc::{AllocError, Global};
@@ -64,6 +65,7 @@ pub fn transfers(alloc: Global, schema: &Schema, count: u64) -> Result<Vec<Commi
 fn kept(alloc: Global, text: &[u8], schema: &Schema) -> Result<Vec<Commit>, JournalFault>
     ensures { IfOk result (λ commits. IsJournaled 1 (shape_of schema.now) commits.items) }
 {
+    beginnings_are_journaled();
     let Recovered {
         commits,
         bytes_kept: _,

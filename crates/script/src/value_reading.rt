@@ -31,7 +31,9 @@ pub fn read_values(alloc: Global, words: &[&[u8]]) -> Result<Vec<Value>, LineFau
     ensures err { IfErr result (OrMemory (λ reason.
         (reason ≡ Reason.BadWords) × (values_in_words (map (λ word. word.now) words.now) ≡ None))) }
 {
-    let mut values = Vec::new(alloc);
+    let Ok(mut values) = Vec::with_capacity(alloc, words.len()) else {
+        return Err(LineFault::Memory);
+    };
     for word in words {
         match value_of(word) {
             Some(value) => {

@@ -20,13 +20,12 @@
 
 mod faults;
 pub mod laws;
-mod limits;
+pub mod limits;
 mod line;
 mod start;
 
 pub use desk::{Flushed, Origin, Seat, Settled};
 pub use faults::NewFault;
-pub use limits::SEATS_MAX;
 pub use line::Line;
 pub use published::LineFault;
 pub use queue::{Pass, QueryQueue};

@@ -1,6 +1,6 @@
 //! The line: the lock, and the calls that take it.
 
-ghost use Rattle.std.specs.Prelude.{◌≡◌, ◌+◌, ◌<◌, ◌≤◌, length, map, sum, IfOk, IfErr, IfSome, OnErr, MatchResult};
+ghost use Rattle.std.specs.Prelude.{◌≡◌, ◌+◌, ◌<◌, length, map, sum, IfOk, IfErr, IfSome, OnErr, MatchResult};
 ghost use mathlib.Core.List.{IsPrefix};
 ghost use Rattle.primary.specs.Sending.{pushed, answers};
 ghost use Rattle.desk.specs.Answers.{IsCommitRefusal, IsFlushed, IsSettled, primary_of};
@@ -14,7 +14,7 @@ use journal::JournalStore;
 use mvcc::Transaction;
 use primary::{CommitFault, FlushFault, PrimaryCore, Ticket};
 use std::alloc::{AllocError, Global};
-use std::sync::{Mutex, Wait};
+use std::sync::{Condvar, Mutex, Wait};
 use wire::{Out, Packet};
 
 /// A primary for many threads, each with a seat.
@@ -24,7 +24,8 @@ use wire::{Out, Packet};
 #[derive(Drop)]
 pub struct Line<L: Origin, J: JournalStore, R: Wait + Drop> {
     desk: Mutex<Desk<L, J, R>>,
-    turns: Mutex<()>,
+    /// Told each time that a flush has ended.
+    written: Condvar,
 }
 
 impl<L: Origin, J: JournalStore, R: Wait + Drop> Line<L, J, R> {
@@ -53,7 +54,7 @@ impl<L: Origin, J: JournalStore, R: Wait + Drop> Line<L, J, R> {
         match Desk::new(alloc, rt, core, opened, blank, seats) {
             Ok(desk) => Ok(Line {
                 desk: Mutex::new(desk),
-                turns: Mutex::new(()),
+                written: Condvar::new(),
             }),
             Err(core) => Err((core, NewFault::Memory)),
         }
@@ -146,13 +147,13 @@ impl<L: Origin, J: JournalStore, R: Wait + Drop> Line<L, J, R> {
         ensures ok { IfOk result (λ core. commit_count core.primary ≡ commit_count L.first + sum (map (λ seat. seat.share) seats.items)) }
         ensures missing { IfErr result (λ back. (back.1.items ≡ seats.items) × (length seats.items < L.seats)) }
     {
-        let Line { desk, turns } = self;
+        let Line { desk, written } = self;
         match desk.into_inner().end(seats) {
             Ok(core) => Ok(core),
             Err((desk, seats)) => Err((
                 Line {
                     desk: Mutex::new(desk),
-                    turns,
+                    written,
                 },
                 seats,
             )),
@@ -164,8 +165,8 @@ impl<L: Origin, J: JournalStore + Drop, R: Wait + Drop> Line<L, J, R> {
     /// Makes the commits durable that are the first `count` pending ones when it is called (all, if there
     /// are fewer), whosoever they are, and publishes them: `Published` with how many are durable then, or
     /// `Unpublished` if there was no memory to publish them. One flush writes at a time, in one append;
-    /// the others wait for their turn, and write nothing if their commits are durable by then. Commits,
-    /// reads and answers go on meanwhile.
+    /// the others wait for it, and write nothing if it has made their commits durable. Commits, reads and
+    /// answers go on meanwhile.
     ///
     /// Fails with `Failed` if the journal failed before, with `Memory`, and then nothing has changed; or
     /// with `Journal` if the journal did not take the records: no commit is durable by it, and each
@@ -181,20 +182,29 @@ impl<L: Origin, J: JournalStore + Drop, R: Wait + Drop> Line<L, J, R> {
         ensures later { IsPrefix seat.old.list seat.new.list }
         ensures seat { seat.new ≡ record seat.old { list = seat.new.list } }
     {
-        let target = self.desk.lock(rt).flush_target(count);
-        // So that no other flush has the journal out when this one begins or ends. Those that wait here
-        // mostly find that the one before has written their commits too.
-        let turn = self.turns.lock(rt);
-        let begun = self.desk.lock(rt).begin_flush(target, count);
+        let desk = self.desk.lock(rt);
+        let target = desk.flush_target(count);
+        // One flush has the journal at a time. Those that wait for it mostly find, all at once, that it has
+        // written their commits too.
+        let mut desk = self.written.wait_while(
+            rt,
+            desk,
+            |desk: &mut Desk<L, J, R>| desk.must_wait(target),
+        );
+        if let Some(flushed) = desk.flushed_before(seat, target) {
+            return Ok(flushed);
+        }
+        let begun = desk.begin_flush(target, count);
+        // The lock is not held while the journal is written.
+        drop(desk);
         let ended = match begun {
             Ok(work) => {
-                // The lock is not held while the journal is written.
                 let done = work.write();
                 self.desk.lock(rt).end_flush(seat, done)
             }
             Err(fault) => Err(fault),
         };
-        drop(turn);
+        self.written.notify_all();
         ended
     }
 }

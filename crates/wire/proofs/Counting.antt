@@ -2,12 +2,12 @@
 use Rattle.std.proofs.Common.{◌≡◌, ℕ, zero, suc, ◌+◌, ◌-◌, ◌*◌, ◌^◌, ◌<◌, List, [], ◌∷◌, ◌++◌, length, drop, refl, sym, ap, ◌∙◌}
 use Rattle.std.proofs.Common.{append_assoc, length-drop, arith}
 use Rattle.std.specs.List.{flat_map, AllByRecursion}
-use Rattle.std.proofs.lemmas.List.{nil_from_length}
+use Rattle.std.proofs.lemmas.List.{nil_from_length, get_or-drop}
 use Rattle.byteorder.specs.Endian.{big_bytes, big_number}
 use Rattle.byteorder.specs.Numbers.{big_number-reads_back}
+use Rattle.rows.specs.Laws.{NumbersAreSpelled, NumbersAreBelow}
 use Rattle.rows.specs.Spelling.{AreBytes}
 use Rattle.wire.specs.Reading.{counts_at}
-use Rattle.rows.proofs.Bytes.{AreBytes-drop, cut_8, number_fits}
 
 -- one step of a loop
 pub counted_more : (front : List ℕ) (workers i : ℕ) (bytes all : List ℕ) → i < workers → front ++ counts_at (workers - i) bytes ≡ all
@@ -16,15 +16,20 @@ counted_more front workers i bytes all lt so_far =
     let k : workers - i ≡ suc (workers - (i + 1)) = omega arith in
     append_assoc front (big_number 8 bytes ∷ []) (counts_at (workers - (i + 1)) (drop 8 bytes)) ∙ rw k at so_far
 
+-- bytes behind others are bytes
+pub AreBytes-drop : (n : ℕ) (bytes : List ℕ) → AreBytes bytes → AreBytes (drop n bytes)
+AreBytes-drop n bytes h i = rw get_or-drop (h (n + i))
+
 -- what is read is spelled so
-pub counts_at-spelled : (workers : ℕ) (bytes : List ℕ) → AreBytes bytes → length bytes ≡ 8 * workers
-    → AllByRecursion (λ count. count < 2 ^ 64) (counts_at workers bytes) × (bytes ≡ flat_map (big_bytes 8) (counts_at workers bytes))
-counts_at-spelled zero bytes fits len = (tt, nil_from_length bytes (omega arith))
-counts_at-spelled (suc workers) bytes fits len =
-    let rest = counts_at-spelled workers (drop 8 bytes) (AreBytes-drop 8 bytes fits) (omega (arith, length-drop 8 bytes)) in (
-      (number_fits 8 0 bytes fits, rest.0),
-      sym (cut_8 0 bytes (omega arith) fits) ∙ ap (λ (t : List ℕ). big_bytes 8 (big_number 8 bytes) ++ t) rest.1,
-    )
+module _ (cut : NumbersAreSpelled) (below : NumbersAreBelow) where
+  pub counts_at-spelled : (workers : ℕ) (bytes : List ℕ) → AreBytes bytes → length bytes ≡ 8 * workers
+      → AllByRecursion (λ count. count < 2 ^ 64) (counts_at workers bytes) × (bytes ≡ flat_map (big_bytes 8) (counts_at workers bytes))
+  counts_at-spelled zero bytes fits len = (tt, nil_from_length bytes (omega arith))
+  counts_at-spelled (suc workers) bytes fits len =
+      let rest = counts_at-spelled workers (drop 8 bytes) (AreBytes-drop 8 bytes fits) (omega (arith, length-drop 8 bytes)) in (
+        (below 8 0 bytes fits, rest.0),
+        sym (cut 8 0 bytes (omega arith) fits) ∙ ap (λ (t : List ℕ). big_bytes 8 (big_number 8 bytes) ++ t) rest.1,
+      )
 
 pub length-counts_at : (workers : ℕ) (bytes : List ℕ) → length (counts_at workers bytes) ≡ workers
 length-counts_at zero bytes = refl

@@ -33,6 +33,7 @@ pub fn read(bytes: &[u8]) -> Result<Datagram<'_>, WireFault>
     ensures only { (datagram : Datagram) → HasDatagramSpelling datagram → bytes.now ≡ spelling datagram → result ≡ Ok datagram }
 {
     laws::entries_are_read_as_spelled();
+    laws::numbers_are_read_as_spelled();
     read_datagram(bytes)
 }
 

@@ -9,17 +9,22 @@ use Rattle.rows.specs.declared.entry.Entry.{Entry}
 use Rattle.rows.specs.declared.entry.Entry.TheVariants.{Insert, Patch, Delete}
 use Rattle.rows.specs.declared.value.Value.{Value}
 use Rattle.rows.specs.Shape.{Shape}
-use Rattle.rows.specs.Commits.{is_of}
+use Rattle.rows.specs.Commits.{is_of, tables_after}
 use Rattle.rows.specs.Presence.{stands_for}
 use Rattle.rows.specs.Values.{bytes_of, value_bytes}
 use Rattle.mvcc.specs.declared.faults.TxFault.TheVariants.{Exists, Missing, Unfit, TooManyEntries}
 use Rattle.rows.specs.declared.limits.TheConstants.{COMMIT_ENTRIES_MAX}
 use Rattle.mvcc.specs.Transaction.{Transaction}
-use Rattle.mvcc.proofs.Seen.{seen-shape}
 use Rattle.mvcc.specs.Transactions.{match_table, match_column, column_kind, column_offset, seen_shape, sees, transaction_with}
 use Rattle.mvcc.specs.Transactions.{insert_answer}
 use Rattle.mvcc.specs.Transactions.{set_answer}
 use Rattle.mvcc.specs.Transactions.{delete_answer}
+use Rattle.world.specs.Inner.StepLaws.{StepLaws}
+
+-- a transaction sees tables of the kinds that they were opened with
+pub seen-shape : (laws : StepLaws) (shape : Shape) (commits : List Commit) (draft : Transaction) → seen_shape shape commits draft ≡ shape
+seen-shape laws shape commits draft =
+    laws.applied (tables_after shape commits draft.snapshot) draft.entries ∙ laws.versions shape commits draft.snapshot
 
 -- the transaction with this entry behind its others
 pub record IsAdded (shape : Shape) (commits : List Commit) (draft : Transaction) (entry : Entry) (new : Transaction) : Type 0 where
@@ -51,7 +56,7 @@ added_to shape commits draft entry new table row of_row stands h = by (nat_lt (l
         let same : with ≡ new = cc in
         record { table = table; row = row; of_row = of_row; stands = stands; made = sym same }
 
-module _ (shape : Shape) (commits : List Commit) (draft : Transaction) (table row : ℕ) (new : Transaction) where
+module _ (laws : StepLaws) (shape : Shape) (commits : List Commit) (draft : Transaction) (table row : ℕ) (new : Transaction) where
   pub insert-added : (values : List Value) → insert_answer shape commits draft table row values ≡ Ok new
       → (match_table values (slice_get shape table) ≡ true)
       × IsAdded shape commits draft (Insert table (record { 0 = row }) (bytes_of values)) new
@@ -67,7 +72,7 @@ module _ (shape : Shape) (commits : List Commit) (draft : Transaction) (table ro
       by false b e f h = absurd (cc)
       by true true e f h = absurd (cc)
       by true false e f h = (
-        ap (λ (s : Shape). match_table values (slice_get s table)) (sym (seen-shape shape commits draft)) ∙ e,
+        ap (λ (s : Shape). match_table values (slice_get s table)) (sym (seen-shape laws shape commits draft)) ∙ e,
         added_to shape commits draft entry new table row (own table row) (ap not f) h,
       )
 
@@ -88,7 +93,7 @@ module _ (shape : Shape) (commits : List Commit) (draft : Transaction) (table ro
       by false b e f h = absurd (cc)
       by true false e f h = absurd (cc)
       by true true e f h =
-          let seen = seen-shape shape commits draft in (
+          let seen = seen-shape laws shape commits draft in (
             ap (λ (s : Shape). match_column value (column_kind s table column)) (sym seen) ∙ e,
             subst (λ (s : Shape). IsAdded shape commits draft
                 (Patch table (record { 0 = row }) (column_offset s table column) (value_bytes value)) new) seen
@@ -108,6 +113,6 @@ module _ (shape : Shape) (commits : List Commit) (draft : Transaction) (table ro
       by false b e f h = absurd (cc)
       by true false e f h = absurd (cc)
       by true true e f h = (
-        ap (λ (s : Shape). is_some (slice_get s table)) (sym (seen-shape shape commits draft)) ∙ e,
+        ap (λ (s : Shape). is_some (slice_get s table)) (sym (seen-shape laws shape commits draft)) ∙ e,
         added_to shape commits draft entry new table row (own table row) f h,
       )

@@ -18,6 +18,7 @@ use Rattle.update_log.specs.Streams.{stream_of}
 use Rattle.wire.specs.declared.datagram.Datagram.{Datagram}
 use Rattle.wire.specs.declared.datagram.Datagram.TheVariants as datagrams
 use Rattle.wire.specs.declared.faults.WireFault.{WireFault}
+use Rattle.wire.specs.Laws.{SpelledAreRead}
 use Rattle.wire.specs.Reading.{reading}
 use Rattle.wire.specs.Spelling.{spelling, frame_spelling, IsAsk}
 use Rattle.mvcc.specs.declared.faults.TxFault.{TxFault}
@@ -217,26 +218,27 @@ start-sound shape p false sound = sound
 -- ---- what the primary sends
 
 -- a frame of the durable list tells the truth of it
-frame-means : (p : Parts) (worker seq : ℕ) (frame : Frame) → PrimaryListsAreLegal p.primary
+frame-means : (reads : SpelledAreRead) (p : Parts) (worker seq : ℕ) (frame : Frame) → PrimaryListsAreLegal p.primary
     → slice_get (stream_of p.primary.durable worker) seq ≡ Some frame
     → Means p.primary.workers p.primary.durable p.boots p.replicas (reading (frame_spelling frame))
-frame-means p worker seq frame lists h =
+frame-means reads p worker seq frame lists h =
     let durable = p.primary.durable in
     let at = frame-at durable worker seq frame h in
     let sendable = All-get IsSendable (stream_of durable worker) (lists.sendable worker) seq frame h in
-    subst (Means p.primary.workers durable p.boots p.replicas) (sym (frame-read frame sendable)) (record {
+    subst (Means p.primary.workers durable p.boots p.replicas) (sym (frame-read reads frame sendable)) (record {
       tells =
           ap (λ (w : ℕ). slice_get (stream_of durable w) frame.seq) at.worker_is
           ∙ ap (slice_get (stream_of durable worker)) at.seq_is ∙ h;
       requests = tt;
     })
 
-pub push-sound : (shape : Shape) (p : Parts) (worker seq : ℕ) (found : Option Frame) → PrimaryListsAreLegal p.primary → Sound shape p
+pub push-sound : (reads : SpelledAreRead) (shape : Shape) (p : Parts) (worker seq : ℕ) (found : Option Frame)
+    → PrimaryListsAreLegal p.primary → Sound shape p
     → slice_get (stream_of p.primary.durable worker) seq ≡ found
     → Sound shape (beside_of (push_happens (world_of p) (option_map frame_spelling found)).1 p)
-push-sound shape p worker seq None lists sound here = sound
-push-sound shape p worker seq (Some frame) lists sound here =
-    Sound-one shape p (frame_spelling frame) sound (frame-means p worker seq frame lists here)
+push-sound reads shape p worker seq None lists sound here = sound
+push-sound reads shape p worker seq (Some frame) lists sound here =
+    Sound-one shape p (frame_spelling frame) sound (frame-means reads p worker seq frame lists here)
 
 -- the streams of the durable list have numbers of 64 bits
 durable-below : (p : Primary) → PrimaryListsAreLegal p → (worker : ℕ) → length (stream_of p.durable worker) < 2 ^ 64
@@ -245,11 +247,12 @@ durable-below p lists worker =
     let grows = stream-grows p.durable p.pending worker in
     omega arith
 
-head-means : (shape : Shape) (p : Parts) (replica boot request : ℕ) → PrimaryListsAreLegal p.primary → Sound shape p
+head-means : (reads : SpelledAreRead) (shape : Shape) (p : Parts) (replica boot request : ℕ) → PrimaryListsAreLegal p.primary
+    → Sound shape p
     → IsAsk replica boot request
     → ((r : Replica) → slice_get p.replicas replica ≡ Some r → IsOfBoot (boots_at p.boots replica) r.boot boot (request ≤ r.request))
     → Means p.primary.workers p.primary.durable p.boots p.replicas (reading (spelling (head_for p.primary replica boot request)))
-head-means shape p replica boot request lists sound ask asked =
+head-means reads shape p replica boot request lists sound ask asked =
     let durable = p.primary.durable in
     let workers = p.primary.workers in
     let counts = counts_of durable (length durable) workers in
@@ -257,7 +260,7 @@ head-means shape p replica boot request lists sound ask asked =
     let below : length durable < 2 ^ 64 =
     let all = lists.numbered.commits_below in omega (arith, length-append durable p.primary.pending) in
     let read =
-    head-read replica boot request (length durable) counts ask below
+    head-read reads replica boot request (length durable) counts ask below
     (counts-spelled durable workers sound.primary_is.workers_some sound.primary_is.workers_few (durable-below p.primary lists)) in
     subst (Means workers durable p.boots p.replicas) (sym read) (record {
       tells = (omega arith, counts-length durable (length durable) workers, counts-are durable workers legal.each);
@@ -273,41 +276,46 @@ packets-at replica [] i bytes h = absurd (none-some bytes h)
 packets-at replica (frame ∷ frames) zero bytes h = (frame, refl, same_Some (frame_spelling frame) bytes h)
 packets-at replica (frame ∷ frames) (suc i) bytes h = packets-at replica frames i bytes h
 
-want-means : (p : Parts) (replica worker from : ℕ) → PrimaryListsAreLegal p.primary → (i : ℕ) (bytes : List ℕ)
+want-means : (reads : SpelledAreRead) (p : Parts) (replica worker from : ℕ) → PrimaryListsAreLegal p.primary → (i : ℕ) (bytes : List ℕ)
     → slice_get (packets_of (map (frame_to replica) (wanted p.primary worker from))) i ≡ Some bytes
     → Means p.primary.workers p.primary.durable p.boots p.replicas (reading bytes)
-want-means p replica worker from lists i bytes h =
+want-means reads p replica worker from lists i bytes h =
     let stream = stream_of p.primary.durable worker in
     let found = packets-at replica (wanted p.primary worker from) i bytes h in
     let at = sym (get-drop from stream i) ∙ get-take 16 (drop from stream) i found.0 found.1 in
     subst (λ (b : List ℕ). Means p.primary.workers p.primary.durable p.boots p.replicas (reading b)) found.2
-    (frame-means p worker (from + i) found.0 lists at)
+    (frame-means reads p worker (from + i) found.0 lists at)
 
-answers-mean : (shape : Shape) (p : Parts) (datagram : Result Datagram WireFault) → PrimaryListsAreLegal p.primary → Sound shape p
+answers-mean : (reads : SpelledAreRead) (shape : Shape) (p : Parts) (datagram : Result Datagram WireFault)
+    → PrimaryListsAreLegal p.primary → Sound shape p
     → Means p.primary.workers p.primary.durable p.boots p.replicas datagram
     → (i : ℕ) (bytes : List ℕ) → slice_get (packets_of (answers_to p.primary datagram)) i ≡ Some bytes
     → Means p.primary.workers p.primary.durable p.boots p.replicas (reading bytes)
-answers-mean shape p (Err fault) lists sound means i bytes h = absurd (none-some bytes h)
-answers-mean shape p (Ok (datagrams.Frame worker seq commit last entries)) lists sound means i bytes h = absurd (none-some bytes h)
-answers-mean shape p (Ok (datagrams.Ask replica boot request)) lists sound means i bytes h =
+answers-mean reads shape p (Err fault) lists sound means i bytes h = absurd (none-some bytes h)
+answers-mean reads shape p (Ok (datagrams.Frame worker seq commit last entries)) lists sound means i bytes h = absurd (none-some bytes h)
+answers-mean reads shape p (Ok (datagrams.Ask replica boot request)) lists sound means i bytes h =
     subst (λ (b : List ℕ). Means p.primary.workers p.primary.durable p.boots p.replicas (reading b))
     (sym (get-one (spelling (head_for p.primary replica boot request)) i bytes h))
-    (head-means shape p replica boot request lists sound means.requests.0 means.requests.1)
-answers-mean shape p (Ok (datagrams.Head replica boot request version counts)) lists sound means i bytes h = absurd (none-some bytes h)
-answers-mean shape p (Ok (datagrams.Want replica worker from)) lists sound means i bytes h = want-means p replica worker from lists i bytes
+    (head-means reads shape p replica boot request lists sound means.requests.0 means.requests.1)
+answers-mean reads shape p (Ok (datagrams.Head replica boot request version counts)) lists sound means i bytes h =
+    absurd (none-some bytes h)
+answers-mean reads shape p (Ok (datagrams.Want replica worker from)) lists sound means i bytes h =
+    want-means reads p replica worker from lists i bytes
     h
 
 -- bytes that come to the primary
-hand-sound : (shape : Shape) (p : Parts) (bytes : List ℕ) → PrimaryListsAreLegal p.primary → Sound shape p
+hand-sound : (reads : SpelledAreRead) (shape : Shape) (p : Parts) (bytes : List ℕ) → PrimaryListsAreLegal p.primary → Sound shape p
     → Means p.primary.workers p.primary.durable p.boots p.replicas (reading bytes)
     → Sound shape (beside_of (delivered (world_of p) bytes nodes.Primary).1 p)
-hand-sound shape p bytes lists sound means =
-    Sound-sent shape p (packets_of (answers p.primary bytes)) sound (answers-mean shape p (reading bytes) lists sound means)
+hand-sound reads shape p bytes lists sound means =
+    Sound-sent shape p (packets_of (answers p.primary bytes)) sound (answers-mean reads shape p (reading bytes) lists sound means)
 
-pub deliver-sound : (shape : Shape) (p : Parts) (index : ℕ) (found : Option (List ℕ)) → PrimaryListsAreLegal p.primary → Sound shape p
+pub deliver-sound : (reads : SpelledAreRead) (shape : Shape) (p : Parts) (index : ℕ) (found : Option (List ℕ))
+    → PrimaryListsAreLegal p.primary → Sound shape p
     → slice_get p.sent index ≡ found → Sound shape (beside_of (deliver_happens (world_of p) nodes.Primary found).1 p)
-deliver-sound shape p index None lists sound here = sound
-deliver-sound shape p index (Some bytes) lists sound here = hand-sound shape p bytes lists sound (sound.sent_is index bytes here)
+deliver-sound reads shape p index None lists sound here = sound
+deliver-sound reads shape p index (Some bytes) lists sound here =
+    hand-sound reads shape p bytes lists sound (sound.sent_is index bytes here)
 
 -- bytes that are not forged
 pub raw-means : (shape : Shape) (p : Parts) (bytes : List ℕ) → Sound shape p → is_forged p.sent bytes ≡ false
@@ -316,11 +324,11 @@ raw-means shape p bytes sound =
     unforged (Means p.primary.workers p.primary.durable p.boots p.replicas) p.sent bytes (λ fault. record { tells = tt; requests = tt })
     sound.sent_is
 
-pub raw-sound : (shape : Shape) (p : Parts) (bytes : List ℕ) → PrimaryListsAreLegal p.primary → Sound shape p
+pub raw-sound : (reads : SpelledAreRead) (shape : Shape) (p : Parts) (bytes : List ℕ) → PrimaryListsAreLegal p.primary → Sound shape p
     → Sound shape (beside_of (raw_happens (world_of p) nodes.Primary bytes).1 p)
-raw-sound shape p bytes lists sound = by (is_forged p.sent bytes) refl
+raw-sound reads shape p bytes lists sound = by (is_forged p.sent bytes) refl
   where
     by : (forged : Bool) → is_forged p.sent bytes ≡ forged
         → Sound shape (beside_of (cond forged (outputs.Forged, world_of p) (delivered (world_of p) bytes nodes.Primary)).1 p)
     by true e = sound
-    by false e = hand-sound shape p bytes lists sound (raw-means shape p bytes sound e)
+    by false e = hand-sound reads shape p bytes lists sound (raw-means shape p bytes sound e)

@@ -44,6 +44,7 @@ use Rattle.world.specs.Allowed.{RunIsInterrupted, RunIsInterruptedAt, MayHappen,
 use Rattle.world.specs.Theorem.{seen_batch, reader_of, database_of, RunsAreOfDatabase}
 use Rattle.world.specs.Outputs.{of_change, of_look}
 use Rattle.world.specs.Inner.Fresh.{IsFreshBatch, IsFreshReading, Fresh, HasBoot}
+use Rattle.world.specs.Inner.StepLaws.{StepLaws}
 use Rattle.world.proofs.Fresh.{opening-fresh}
 use Rattle.world.proofs.Freshness.{ready-batch, step-serves, possible-boots}
 use Rattle.world.proofs.Undamaged.{step-fine}
@@ -397,16 +398,16 @@ readers-started workers number zero = refl
 readers-started workers number (suc count) = ap (λ (l : List Reader). new_reader ∷ l) (readers-started workers (suc number) count)
 
 -- a run of a fresh world, seen as its users see it
-runs-tell : (schema : List (List ℕ × List Kind)) (old end : World) (todo : List Event) (done : List Output)
+runs-tell : (laws : StepLaws) (schema : List (List ℕ × List Kind)) (old end : World) (todo : List Event) (done : List Output)
     → AllByRecursion HasBoot todo → Fresh old → old.primary.schema ≡ schema → Runs old todo done end
     → RunsBy (λ old event output new. IsDatabaseStep schema old output new) (database_of old) todo done (database_of end)
-runs-tell schema old end [] [] boots h same run = ap database_of run
-runs-tell schema old end [] (output ∷ done) boots h same run = absurd run
-runs-tell schema old end (event ∷ todo) [] boots h same run = absurd run
-runs-tell schema old end (event ∷ todo) (output ∷ done) boots h same run =
+runs-tell laws schema old end [] [] boots h same run = ap database_of run
+runs-tell laws schema old end [] (output ∷ done) boots h same run = absurd run
+runs-tell laws schema old end (event ∷ todo) [] boots h same run = absurd run
+runs-tell laws schema old end (event ∷ todo) (output ∷ done) boots h same run =
     let mid = run.0 in
-    let serves = step-serves old event output mid boots.0 h run.1 in
-    let fine = step-fine old event output mid run.1 in
+    let serves = step-serves laws old event output mid boots.0 h run.1 in
+    let fine = step-fine laws old event output mid run.1 in
     let schema_stays = (step-counts old event output mid run.1).schema in (
       database_of mid,
       (
@@ -414,12 +415,12 @@ runs-tell schema old end (event ∷ todo) (output ∷ done) boots h same run =
         subst (λ (s : List (List ℕ × List Kind)). Says s (database_of old) output (database_of mid).readers) same
             (step-tells old h event output mid run.1),
       ),
-      runs-tell schema mid end todo done boots.1 serves.fresh (schema_stays ∙ same) run.2,
+      runs-tell laws schema mid end todo done boots.1 serves.fresh (schema_stays ∙ same) run.2,
     )
 
-pub runs-of-database : RunsAreOfDatabase
-runs-of-database setup todo done end few possible run =
+pub runs-of-database : (laws : StepLaws) → RunsAreOfDatabase
+runs-of-database laws setup todo done end few possible run =
     subst (λ (d : Database). RunsBy (λ old event output new. IsDatabaseStep setup.schema old output new) d todo done (database_of end))
     (ap (λ (readers : List Reader). record { commits = []; readers = readers }) (readers-started setup.workers 0 setup.replicas))
-    (runs-tell setup.schema (opening_world setup) end todo done (possible-boots setup.workers setup.replicas todo possible)
+    (runs-tell laws setup.schema (opening_world setup) end todo done (possible-boots setup.workers setup.replicas todo possible)
     (opening-fresh setup few) refl run)

@@ -19,18 +19,18 @@ use Rattle.update_log.specs.Frames.{IsSendable}
 use Rattle.rows.specs.Reading.{entries_filling}
 use Rattle.wire.specs.Reading.{reading, body_at, counts_at}
 use Rattle.wire.specs.Spelling.{datagram_of, datagram_of_frame, spelling, frame_spelling, IsAsk, AreCounts}
-use Rattle.rows.proofs.EntriesFilling.{spelled-found}
-use Rattle.wire.proofs.SpelledIsRead.{reading-again}
+use Rattle.wire.specs.Laws.{SpelledAreRead}
 
 -- a frame that is sent reads as itself
-pub frame-read : (frame : Frame) → IsSendable frame → reading (frame_spelling frame) ≡ Ok (datagram_of_frame frame)
-frame-read frame sendable = reading-again spelled-found (datagram_of_frame frame) sendable
+pub frame-read : (reads : SpelledAreRead) (frame : Frame) → IsSendable frame → reading (frame_spelling frame) ≡ Ok (datagram_of_frame frame)
+frame-read reads frame sendable = reads (datagram_of_frame frame) sendable
 
 -- a Head reads as itself
-pub head-read : (replica boot request version : ℕ) (counts : List ℕ) → IsAsk replica boot request → version < 2 ^ 64 → AreCounts counts
+pub head-read : (reads : SpelledAreRead) (replica boot request version : ℕ) (counts : List ℕ) → IsAsk replica boot request
+    → version < 2 ^ 64 → AreCounts counts
     → reading (spelling (datagrams.Head replica boot request version counts)) ≡ Ok (datagrams.Head replica boot request version counts)
-head-read replica boot request version counts ask below spelled =
-    reading-again spelled-found (datagrams.Head replica boot request version counts) (ask, below, spelled)
+head-read reads replica boot request version counts ask below spelled =
+    reads (datagrams.Head replica boot request version counts) (ask, below, spelled)
 
 byte-below : (k n : ℕ) → byte_at k n < 256
 byte-below zero n = omega arith
@@ -54,11 +54,11 @@ ask-kept replica boot request replica_below boot_below =
     record { replica_below = replica_below; boot_below = boot_below; request_below = omega arith }
 
 -- an Ask reads as itself, its request as 64 bits keep it
-pub ask-read : (replica boot request : ℕ) → replica < REPLICAS_MAX → boot < 2 ^ 64
+pub ask-read : (reads : SpelledAreRead) (replica boot request : ℕ) → replica < REPLICAS_MAX → boot < 2 ^ 64
     → reading (spelling (datagrams.Ask replica boot request)) ≡ Ok (datagrams.Ask replica boot (request % 2 ^ 64))
-ask-read replica boot request replica_below boot_below =
+ask-read reads replica boot request replica_below boot_below =
     ap (λ (bytes : List ℕ). reading (datagram_of 2 ((replica ∷ []) ++ big_bytes 8 boot ++ bytes))) (sym (bytes-kept request))
-    ∙ reading-again spelled-found (datagrams.Ask replica boot (request % 2 ^ 64))
+    ∙ reads (datagrams.Ask replica boot (request % 2 ^ 64))
     (ask-kept replica boot request replica_below boot_below)
 
 -- ---- whatever the numbers

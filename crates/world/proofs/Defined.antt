@@ -16,12 +16,12 @@ use Rattle.rows.specs.Tables.{is_row_at, apply_entries}
 use Rattle.rows.specs.Commits.{tables_after}
 use Rattle.rows.specs.Presence.{stands_for, is_there_after}
 use Rattle.rows.specs.Values.{bytes_of}
-use Rattle.rows.proofs.TableLaws.{shape-at, there-seen, is_there_after_fit-defined, defined_behind}
 use Rattle.mvcc.specs.Transaction.{Transaction}
 use Rattle.mvcc.specs.Transactions.{match_table, sees, insert_answer, set_answer, delete_answer}
 use Rattle.world.proofs.Adding.{IsAdded, insert-added, set-added, delete-added}
 use Rattle.world.proofs.Placing.{column-matched, value-fits}
 use Rattle.world.proofs.Changing.{length-values, matched, delete-fits}
+use Rattle.world.specs.Inner.StepLaws.{StepLaws}
 
 sized-matched : (found : Option (List Kind)) (kinds : List Kind) (size : ℕ) → found ≡ Some kinds → size ≡ row_width kinds
     → is_ok (sized found size) ≡ true
@@ -40,7 +40,7 @@ pub record IsDefined (shape : Shape) (commits : List Commit) (draft new : Transa
   pub reads : new.snapshot ≡ draft.snapshot
   pub defined : is_ok (apply_entries (tables_after shape commits draft.snapshot) new.entries) ≡ true
 
-module _ (shape : Shape) (commits : List Commit) (draft new : Transaction)
+module _ (laws : StepLaws) (shape : Shape) (commits : List Commit) (draft new : Transaction)
     (defined : is_ok (apply_entries (tables_after shape commits draft.snapshot) draft.entries) ≡ true) where
   -- an entry that fits, and whose row stands as it needs it, is defined behind the others
   added-defined : (entry : Entry) → is_ok (fitting shape entry) ≡ true → IsAdded shape commits draft entry new
@@ -51,10 +51,9 @@ module _ (shape : Shape) (commits : List Commit) (draft new : Transaction)
       let row = added.row in
       let was = is_row_at tables table row in
       let seen : is_there_after table row draft.entries was ≡ sees shape commits draft table row =
-      sym (is_there_after_fit-defined shape tables draft.entries table row was (shape-at shape commits draft.snapshot) defined)
-      ∙ sym (there-seen shape commits draft.snapshot draft.entries table row) in
+      sym (laws.presence tables draft.entries table row defined) in
       let is : is_ok (apply_entries tables (draft.entries ++ entry ∷ [])) ≡ true =
-      defined_behind shape commits draft.snapshot draft.entries entry table row added.of_row defined
+      laws.longer shape commits draft.snapshot draft.entries entry table row added.of_row defined
       ∙ and_from (is_ok (fitting shape entry)) (stands_for entry (is_there_after table row draft.entries was)) fits
       (ap (stands_for entry) seen ∙ added.stands) in
       subst (IsDefined shape commits draft) (sym added.made) (record { reads = refl; defined = is })
@@ -62,17 +61,17 @@ module _ (shape : Shape) (commits : List Commit) (draft new : Transaction)
   pub insert-defined : (table row : ℕ) (values : List Value) → insert_answer shape commits draft table row values ≡ Ok new
       → IsDefined shape commits draft new
   insert-defined table row values h =
-      let taken = insert-added shape commits draft table row new values h in
+      let taken = insert-added laws shape commits draft table row new values h in
       added-defined _ (values-fit shape table (record { 0 = row }) values taken.0) taken.1
 
   pub set-defined : (table row column : ℕ) (value : Value) → set_answer shape commits draft table row column value ≡ Ok new
       → IsDefined shape commits draft new
   set-defined table row column value h =
-      let taken = set-added shape commits draft table row new column value h in
+      let taken = set-added laws shape commits draft table row new column value h in
       let at = column-matched shape table column value taken.0 in
       added-defined _ (value-fits shape table (record { 0 = row }) column value at) taken.1
 
   pub delete-defined : (table row : ℕ) → delete_answer shape commits draft table row ≡ Ok new → IsDefined shape commits draft new
   delete-defined table row h =
-      let taken = delete-added shape commits draft table row new h in
+      let taken = delete-added laws shape commits draft table row new h in
       added-defined _ (delete-fits shape table (record { 0 = row }) taken.0) taken.1

@@ -1,6 +1,7 @@
--- What is known of replicas that are fed from a list of commits.
+-- What is known of replicas that are fed from a list of commits, and of steps.
 use Rattle.dispatcher.specs.Feeding.{FreshIsFed, CommitsKeepFed, BytesKeepFed, TrueHeadGoesOn, OpenKeepsFed, AskKeepsFed, RunKeepsFed}
 use Rattle.dispatcher.specs.Feeding.{TrueFrameIsTaken, ReadyIsAnswered, DumpIsTables, StepsKeepNames}
+use Rattle.world.specs.Inner.StepLaws.{StepLaws}
 
 pub record FedLaws : Type 0 where
   pub fresh : FreshIsFed
@@ -14,3 +15,4 @@ pub record FedLaws : Type 0 where
   pub ready : ReadyIsAnswered
   pub dump : DumpIsTables
   pub names : StepsKeepNames
+  pub steps : StepLaws

@@ -29,6 +29,7 @@ use Rattle.world.specs.Allowed.{RunIsInterrupted, RunIsInterruptedAt, MayHappen,
 use Rattle.world.proofs.Lists.{get-set_same}
 use Rattle.world.proofs.Datagrams.{ask-read, ask-kept, want-reads}
 use Rattle.world.specs.Inner.Fresh.{IsFreshBatch, IsFreshReading, Fresh, HasBoot}
+use Rattle.world.specs.Inner.StepLaws.{StepLaws}
 use Rattle.world.proofs.Restarts.{never-had, Fresh-restarted}
 use Rattle.world.proofs.Fresh.{Fresh-transactions, Fresh-sent, Follows, alike, moved, Fresh-member}
 use Rattle.world.proofs.Serving.{IsSilent, Serves, quiet, change-serves, look-serves, commit-serves, abort-serves, flush-serves}
@@ -56,17 +57,18 @@ open-serves w event plan i (Some m) h here = by m.broken (nat_le WAITING_QUERIES
         refl)) tt
 
 -- an Ask of a request that its replica has made
-ask-fresh : (w : World) (members : List Member) (i : ℕ) (m : Member) (request : ℕ) → Fresh w → slice_get w.members i ≡ Some m
+ask-fresh : (laws : StepLaws) (w : World) (members : List Member) (i : ℕ) (m : Member) (request : ℕ) → Fresh w
+    → slice_get w.members i ≡ Some m
     → ((other : Member) → slice_get members m.number ≡ Some other → (other.boots ≡ m.boots) × (request ≤ other.request))
     → IsFreshReading w.primary.durable members (reading (ask_bytes m request))
-ask-fresh w members i m request h here made =
+ask-fresh laws w members i m request h here made =
     let is = h.members_are i m here in
     let number_is = is.number_is in
     let few = h.few in
     let within = slice_get_within w.members i m here in
     let number_below : m.number < REPLICAS_MAX = omega arith in
     let boot_below = is.boot_is.below in
-    subst (IsFreshReading w.primary.durable members) (sym (ask-read m.number m.boot request number_below boot_below)) (
+    subst (IsFreshReading w.primary.durable members) (sym (ask-read laws.reads m.number m.boot request number_below boot_below)) (
       ask-kept m.number m.boot request number_below boot_below,
       λ other there.
           let is_made = made other there in
@@ -93,39 +95,41 @@ new-follows w m below = record {
     new : AskedBatch
     new = record { plans = m.waiting; asked_at = length w.primary.durable; fetched = None }
 
-again-serves : (w : World) (event : Event) (i : ℕ) (m : Member) (plans : List Plan) (asked_at : ℕ) (fetched : Option Fetched) → Fresh w
+again-serves : (laws : StepLaws) (w : World) (event : Event) (i : ℕ) (m : Member) (plans : List Plan) (asked_at : ℕ)
+    (fetched : Option Fetched) → Fresh w
     → slice_get w.members i ≡ Some m
     → Serves w event (ask_happens w m (Some (record { plans = plans; asked_at = asked_at; fetched = fetched })))
-again-serves w event i m plans asked_at (Some fetched) h here = quiet w event (outputs.Busy, w) h tt
-again-serves w event i m plans asked_at None h here =
-    send-serves w w event (ask_bytes m m.request) h (ask-fresh w w.members i m m.request h here (λ other there.
+again-serves laws w event i m plans asked_at (Some fetched) h here = quiet w event (outputs.Busy, w) h tt
+again-serves laws w event i m plans asked_at None h here =
+    send-serves w w event (ask_bytes m m.request) h (ask-fresh laws w w.members i m m.request h here (λ other there.
     let same : m ≡ other = same_Some m other (sym here ∙ ap (slice_get w.members) (sym (h.members_are i m here).number_is) ∙ there) in
     let asked = ap (λ (x : Member). x.request) same in
     (ap (λ (x : Member). x.boots) (sym same), omega arith)))
 
-asks : (w : World) (event : Event) (i : ℕ) (m : Member) (batch : Option AskedBatch) → Fresh w → slice_get w.members i ≡ Some m
+asks : (laws : StepLaws) (w : World) (event : Event) (i : ℕ) (m : Member) (batch : Option AskedBatch) → Fresh w
+    → slice_get w.members i ≡ Some m
     → Serves w event (ask_happens w m batch)
-asks w event i m (Some batch) h here = again-serves w event i m batch.plans batch.asked_at batch.fetched h here
-asks w event i m None h here = by (length m.waiting == 0)
+asks laws w event i m (Some batch) h here = again-serves laws w event i m batch.plans batch.asked_at batch.fetched h here
+asks laws w event i m None h here = by (length m.waiting == 0)
   where
     by : (b : Bool) → Serves w event (cond b (outputs.Empty, w) (send (with_member w (new_batch w m)) (ask_bytes m (m.request + 1))))
     by true = quiet w event (outputs.Empty, w) h tt
     by false =
         send-serves (with_member w (new_batch w m)) w event (ask_bytes m (m.request + 1))
         (Fresh-member w i m (new_batch w m) h here (new-follows w m (h.members_are i m here).below))
-        (ask-fresh w (slice_set w.members m.number (new_batch w m)) i m (m.request + 1) h here (λ other there.
+        (ask-fresh laws w (slice_set w.members m.number (new_batch w m)) i m (m.request + 1) h here (λ other there.
         let same = get-set_same w.members m.number (new_batch w m) other there in
         let asked = ap (λ (x : Member). x.request) same in
         (ap (λ (x : Member). x.boots) same, omega arith)))
 
-ask-serves : (w : World) (event : Event) (i : ℕ) (found : Option Member) → Fresh w → slice_get w.members i ≡ found
+ask-serves : (laws : StepLaws) (w : World) (event : Event) (i : ℕ) (found : Option Member) → Fresh w → slice_get w.members i ≡ found
     → Serves w event (on_member w found (λ m. cond m.broken (outputs.Broken, w) (ask_happens w m m.batch)))
-ask-serves w event i None h here = quiet w event (outputs.Ignored, w) h tt
-ask-serves w event i (Some m) h here = by m.broken
+ask-serves laws w event i None h here = quiet w event (outputs.Ignored, w) h tt
+ask-serves laws w event i (Some m) h here = by m.broken
   where
     by : (b : Bool) → Serves w event (cond b (outputs.Broken, w) (ask_happens w m m.batch))
     by true = quiet w event (outputs.Broken, w) h tt
-    by false = asks w event i m m.batch h here
+    by false = asks laws w event i m m.batch h here
 
 -- ---- reports
 
@@ -255,42 +259,42 @@ restart-serves w event i boot (Some m) h here below = by (had_boot m.boots boot)
 
 -- ---- any step
 
-happens-serves : (w : World) (event : Event) → HasBoot event → Fresh w → Serves w event (happens w event)
-happens-serves w events.Begin is h = unless-serves w _ _ h (quiet w events.Begin _ (Fresh-transactions w _ h) tt)
-happens-serves w (events.Insert transaction table row values) is h =
+happens-serves : (laws : StepLaws) (w : World) (event : Event) → HasBoot event → Fresh w → Serves w event (happens w event)
+happens-serves laws w events.Begin is h = unless-serves w _ _ h (quiet w events.Begin _ (Fresh-transactions w _ h) tt)
+happens-serves laws w (events.Insert transaction table row values) is h =
     unless-serves w _ _ h (change-serves w _ transaction (open_transaction w.transactions transaction)
     (λ draft. insert_answer (shape_of w.primary.schema) w.primary.durable draft table row.0 values) h)
-happens-serves w (events.Set transaction table row column value) is h =
+happens-serves laws w (events.Set transaction table row column value) is h =
     unless-serves w _ _ h (change-serves w _ transaction (open_transaction w.transactions transaction)
     (λ draft. set_answer (shape_of w.primary.schema) w.primary.durable draft table row.0 column value) h)
-happens-serves w (events.Delete transaction table row) is h =
+happens-serves laws w (events.Delete transaction table row) is h =
     unless-serves w _ _ h (change-serves w _ transaction (open_transaction w.transactions transaction)
     (λ draft. delete_answer (shape_of w.primary.schema) w.primary.durable draft table row.0) h)
-happens-serves w (events.Get transaction table row column) is h =
+happens-serves laws w (events.Get transaction table row column) is h =
     unless-serves w _ _ h (look-serves w _ (open_transaction w.transactions transaction)
     (λ draft. get_answer (shape_of w.primary.schema) w.primary.durable draft table row.0 column) h)
-happens-serves w (events.Commit transaction worker) is h =
+happens-serves laws w (events.Commit transaction worker) is h =
     unless-serves w _ _ h (commit-serves w _ transaction worker (open_transaction w.transactions transaction) h)
-happens-serves w (events.Abort transaction) is h =
+happens-serves laws w (events.Abort transaction) is h =
     unless-serves w _ _ h (abort-serves w _ transaction (open_transaction w.transactions transaction) h)
-happens-serves w (events.Flush count) is h = unless-serves w _ _ h (flush-serves w _ count w.primary.failed h)
-happens-serves w (events.Stop bytes) is h = unless-serves w _ _ h (stop-serves w _ bytes h)
-happens-serves w events.Start is h = start-serves w _ w.stopped h
-happens-serves w (events.Push worker seq) is h =
+happens-serves laws w (events.Flush count) is h = unless-serves w _ _ h (flush-serves w _ count w.primary.failed h)
+happens-serves laws w (events.Stop bytes) is h = unless-serves w _ _ h (stop-serves w _ bytes h)
+happens-serves laws w events.Start is h = start-serves w _ w.stopped h
+happens-serves laws w (events.Push worker seq) is h =
     unless-serves w _ _ h (push-serves w _ (slice_get (stream_of w.primary.durable worker) seq) h)
-happens-serves w (events.Deliver index nodes.Primary) is h =
+happens-serves laws w (events.Deliver index nodes.Primary) is h =
     unless-serves w _ _ h (deliver-serves w _ index nodes.Primary (slice_get w.sent index) h refl)
-happens-serves w (events.Deliver index (nodes.Replica number)) is h =
+happens-serves laws w (events.Deliver index (nodes.Replica number)) is h =
     deliver-serves w _ index (nodes.Replica number) (slice_get w.sent index) h refl
-happens-serves w (events.Show index) is h = show-serves w _ (slice_get w.sent index) h
-happens-serves w (events.Open replica plan) is h = open-serves w _ plan replica (slice_get w.members replica) h refl
-happens-serves w (events.Ask replica) is h = ask-serves w _ replica (slice_get w.members replica) h refl
-happens-serves w (events.Run replica) is h = run-serves w replica (slice_get w.members replica) h refl
-happens-serves w (events.Version replica) is h = version-serves w _ (slice_get w.members replica) h
-happens-serves w (events.Dump replica) is h = dump-serves w replica (slice_get w.members replica) h refl
-happens-serves w (events.Restart replica boot) is h = restart-serves w _ replica boot (slice_get w.members replica) h refl is
-happens-serves w (events.Raw nodes.Primary bytes) is h = unless-serves w _ _ h (raw-serves w _ nodes.Primary bytes h)
-happens-serves w (events.Raw (nodes.Replica number) bytes) is h = raw-serves w _ (nodes.Replica number) bytes h
+happens-serves laws w (events.Show index) is h = show-serves w _ (slice_get w.sent index) h
+happens-serves laws w (events.Open replica plan) is h = open-serves w _ plan replica (slice_get w.members replica) h refl
+happens-serves laws w (events.Ask replica) is h = ask-serves laws w _ replica (slice_get w.members replica) h refl
+happens-serves laws w (events.Run replica) is h = run-serves w replica (slice_get w.members replica) h refl
+happens-serves laws w (events.Version replica) is h = version-serves w _ (slice_get w.members replica) h
+happens-serves laws w (events.Dump replica) is h = dump-serves w replica (slice_get w.members replica) h refl
+happens-serves laws w (events.Restart replica boot) is h = restart-serves w _ replica boot (slice_get w.members replica) h refl is
+happens-serves laws w (events.Raw nodes.Primary bytes) is h = unless-serves w _ _ h (raw-serves w _ nodes.Primary bytes h)
+happens-serves laws w (events.Raw (nodes.Replica number) bytes) is h = raw-serves w _ (nodes.Replica number) bytes h
 
 cut-event : (w : World) (event : Event) (output : Output) (new : World) → Fresh w → RunIsInterruptedAt w event output new
     → Serves w event (output, new)
@@ -298,10 +302,10 @@ cut-event w (events.Run replica) output new h cut =
     cut-serves w (events.Run replica) replica (slice_get w.members replica) output new h refl cut
 cut-event w other output new h cut = absurd cut
 
-pub step-serves : (old : World) (event : Event) (output : Output) (new : World) → HasBoot event → Fresh old
+pub step-serves : (laws : StepLaws) (old : World) (event : Event) (output : Output) (new : World) → HasBoot event → Fresh old
     → MayHappen old event output new → Serves old event (output, new)
-step-serves old event output new is h may = elim may [
-  | inl made ↦ subst (Serves old event) made (happens-serves old event is h)
+step-serves laws old event output new is h may = elim may [
+  | inl made ↦ subst (Serves old event) made (happens-serves laws old event is h)
   | inr other ↦ elim other [
     | inl memory ↦ quiet old event (output, new) (subst Fresh (sym memory.1) h) (subst IsSilent (sym memory.0) tt)
     | inr cut ↦ cut-event old event output new h cut

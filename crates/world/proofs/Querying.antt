@@ -10,6 +10,7 @@ use Rattle.rows.specs.declared.limits.TheConstants.{REPLICAS_MAX, WAITING_QUERIE
 use Rattle.rows.specs.Shape.{Shape}
 use Rattle.rows.specs.Tables.{Tables, shape_in}
 use Rattle.rows.specs.Commits.{tables_after}
+use Rattle.wire.specs.Laws.{SpelledAreRead}
 use Rattle.wire.specs.declared.datagram.Datagram.TheVariants as datagrams
 use Rattle.wire.specs.Reading.{reading}
 use Rattle.wire.specs.Spelling.{spelling}
@@ -127,12 +128,13 @@ query-opens laws shape p i plan (Some r) sound here =
 
 -- ---- asking
 
-ask-means : (workers : ℕ) (durable : List Commit) (boots : List (List ℕ)) (replicas : List Replica) (number boot request : ℕ)
+ask-means : (reads : SpelledAreRead) (workers : ℕ) (durable : List Commit) (boots : List (List ℕ)) (replicas : List Replica)
+    (number boot request : ℕ)
     → number < REPLICAS_MAX → boot < 2 ^ 64
     → ((r : Replica) → slice_get replicas number ≡ Some r → IsOfBoot (boots_at boots number) r.boot boot (request ≤ r.request))
     → Means workers durable boots replicas (reading (spelling (datagrams.Ask number boot request)))
-ask-means workers durable boots replicas number boot request number_below boot_below asked =
-    subst (Means workers durable boots replicas) (sym (ask-read number boot request number_below boot_below))
+ask-means reads workers durable boots replicas number boot request number_below boot_below asked =
+    subst (Means workers durable boots replicas) (sym (ask-read reads number boot request number_below boot_below))
     (record {
       tells = tt;
       requests = (
@@ -196,7 +198,8 @@ asks-anew laws shape p i r sound here taken =
           (Sound-noted shape begun noted
           (Sound-replica shape p i r (with_batch r) sound here (batch-goes laws shape p.primary.durable r fed.feeding taken))
           (length-set p.asked_at i (length p.primary.durable)))
-          (ask-means p.primary.workers p.primary.durable p.boots (slice_set p.replicas i (with_batch r)) r.number r.boot (r.request + 1)
+          (ask-means laws.steps.reads p.primary.workers p.primary.durable p.boots (slice_set p.replicas i (with_batch r)) r.number r.boot
+          (r.request + 1)
           (number-below shape p i r sound here) (boot-below shape p i r sound here)
           (λ s there.
           let same : s ≡ with_batch r =
@@ -206,17 +209,19 @@ asks-anew laws shape p i r sound here taken =
           record { had = boot-had shape p i r sound here; holds = λ own. omega arith })),
     )
 
-asks-again : (shape : Shape) (p : Parts) (i : ℕ) (r : Replica) (queries : ReplicaBatch) → Sound shape p → slice_get p.replicas i ≡ Some r
+asks-again : (reads : SpelledAreRead) (shape : Shape) (p : Parts) (i : ℕ) (r : Replica) (queries : ReplicaBatch) → Sound shape p
+    → slice_get p.replicas i ≡ Some r
     → Follows shape (send (world_of p) (ask_bytes (member_at p i r) r.request))
     (asking p i (Some queries) (Ok (ask_for r.number r.boot r.request, r)))
-asks-again shape p i r queries sound here =
+asks-again reads shape p i r queries sound here =
     let bytes = spelling (datagrams.Ask r.number r.boot r.request) in
     let fed = sound.fed i r here in
     let same : with_sent p bytes ≡ with_sent (with_replica p i r) bytes =
     ap (λ (replicas : List Replica). with_sent (record p { replicas = replicas }) bytes) (sym (set-same p.replicas i r here)) in (
       ap (λ (p' : Parts). (sent_one p bytes, world_of p')) same,
       subst (Sound shape) same (Sound-one shape p bytes sound
-          (ask-means p.primary.workers p.primary.durable p.boots p.replicas r.number r.boot r.request (number-below shape p i r sound here)
+          (ask-means reads p.primary.workers p.primary.durable p.boots p.replicas r.number r.boot r.request
+          (number-below shape p i r sound here)
           (boot-below shape p i r sound here)
           (λ s there.
           let e : r ≡ s = same_Some r s (sym here ∙ ap (slice_get p.replicas) (sym fed.number_is) ∙ there) in
@@ -224,19 +229,20 @@ asks-again shape p i r queries sound here =
           record { had = boot-had shape p i r sound here; holds = λ own. omega arith }))),
     )
 
-asks-fetched : (shape : Shape) (p : Parts) (i : ℕ) (r : Replica) (plans : List Plan) (fetched : Option Fetched) → Sound shape p
+asks-fetched : (reads : SpelledAreRead) (shape : Shape) (p : Parts) (i : ℕ) (r : Replica) (plans : List Plan) (fetched : Option Fetched)
+    → Sound shape p
     → slice_get p.replicas i ≡ Some r
     → Follows shape (ask_happens (world_of p) (member_at p i r)
     (Some (record { plans = plans; asked_at = slice_index p.asked_at i; fetched = fetched })))
     (asking p i (Some (record { plans = plans; fetched = fetched })) (asked_by r (Some (record { plans = plans; fetched = fetched }))))
-asks-fetched shape p i r plans None sound here = asks-again shape p i r (record { plans = plans; fetched = None }) sound here
-asks-fetched shape p i r plans (Some fetched) sound here = (refl, sound)
+asks-fetched reads shape p i r plans None sound here = asks-again reads shape p i r (record { plans = plans; fetched = None }) sound here
+asks-fetched reads shape p i r plans (Some fetched) sound here = (refl, sound)
 
 asks-by : (laws : FedLaws) (shape : Shape) (p : Parts) (i : ℕ) (r : Replica) (batch : Option ReplicaBatch) → Sound shape p
     → slice_get p.replicas i ≡ Some r → asked r ≡ asked_by r batch
     → Follows shape (ask_happens (world_of p) (member_at p i r)
     (option_map (batch_of (slice_index p.asked_at i)) batch)) (asking p i batch (asked_by r batch))
-asks-by laws shape p i r (Some queries) sound here is = asks-fetched shape p i r queries.plans queries.fetched sound here
+asks-by laws shape p i r (Some queries) sound here is = asks-fetched laws.steps.reads shape p i r queries.plans queries.fetched sound here
 asks-by laws shape p i r None sound here is = by (length r.waiting == 0) is
   where
     by : (b : Bool) → asked r ≡ cond b (Err asks.Empty) (Ok (ask_for r.number r.boot (r.request + 1), with_batch r)) → Follows shape

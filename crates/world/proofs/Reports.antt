@@ -21,6 +21,7 @@ use Rattle.world.specs.Theorem.{SaysRows, IsFaultless, IsStep, IsCoreStep, OfEac
 use Rattle.world.specs.Theorem.{HasGrowingList, HasLegalList, HasNoFault, AllowedRunsAreExact}
 use Rattle.world.specs.Inner.Fresh.{Fresh, HasBoot}
 use Rattle.world.specs.Inner.Undamaged.{IsUndamaged}
+use Rattle.world.specs.Inner.StepLaws.{StepLaws}
 use Rattle.world.proofs.Fresh.{opening-fresh}
 use Rattle.world.proofs.Freshness.{step-serves, possible-boots}
 use Rattle.world.proofs.Undamaged.{step-fine, opening-undamaged}
@@ -89,26 +90,28 @@ run-grows durable Step grows old end (event ∷ todo) (output ∷ done) run =
 
 -- ---- the world, whoever makes it
 
-runs-exact : (old end : World) (todo : List Event) (done : List Output) → AllByRecursion HasBoot todo → IsUndamaged old → Fresh old
+runs-exact : (laws : StepLaws) (old end : World) (todo : List Event) (done : List Output) → AllByRecursion HasBoot todo → IsUndamaged old
+    → Fresh old
     → Runs old todo done end → RunsBy (IsStep end.primary.durable) old todo done end
-runs-exact old end [] [] boots undamaged fresh run = run
-runs-exact old end [] (output ∷ done) boots undamaged fresh run = absurd run
-runs-exact old end (event ∷ todo) [] boots undamaged fresh run = absurd run
-runs-exact old end (event ∷ todo) (output ∷ done) boots undamaged fresh run =
-    let fine = step-fine old event output run.0 run.1 in
-    let serves = step-serves old event output run.0 boots.0 fresh run.1 in
+runs-exact laws old end [] [] boots undamaged fresh run = run
+runs-exact laws old end [] (output ∷ done) boots undamaged fresh run = absurd run
+runs-exact laws old end (event ∷ todo) [] boots undamaged fresh run = absurd run
+runs-exact laws old end (event ∷ todo) (output ∷ done) boots undamaged fresh run =
+    let fine = step-fine laws old event output run.0 run.1 in
+    let serves = step-serves laws old event output run.0 boots.0 fresh run.1 in
     let step : IsStep old.primary.durable old event output run.0 =
     record { happens = run.1; rows = serves.rows; durable = fine.grows; faultless = fine.output undamaged } in
     let begins = run-grows (λ (w : World). w.primary.durable) MayHappen
-    (λ first e o second may. (step-fine first e o second may).grows) old end (event ∷ todo) (output ∷ done) run in (
+    (λ first e o second may. (step-fine laws first e o second may).grows) old end (event ∷ todo) (output ∷ done) run in (
       run.0,
       step-by end.primary.durable old event output run.0 begins step,
-      runs-exact run.0 end todo done boots.1 (fine.undamaged undamaged) serves.fresh run.2,
+      runs-exact laws run.0 end todo done boots.1 (fine.undamaged undamaged) serves.fresh run.2,
     )
 
-pub allowed-exact : AllowedRunsAreExact
-allowed-exact setup todo done end few possible run =
-    runs-exact (opening_world setup) end todo done (possible-boots setup.workers setup.replicas todo possible) (opening-undamaged setup)
+pub allowed-exact : (laws : StepLaws) → AllowedRunsAreExact
+allowed-exact laws setup todo done end few possible run =
+    runs-exact laws (opening_world setup) end todo done (possible-boots setup.workers setup.replicas todo possible)
+    (opening-undamaged setup)
     (opening-fresh setup few) run
 
 -- ---- what follows of a run of the cores

@@ -51,6 +51,7 @@ use Rattle.world.specs.Steps.{is_forged, delivered, restarted, restart_happens, 
 use Rattle.world.specs.Stops.{whole_in}
 use Rattle.world.specs.Inner.Undamaged.{IsBegunTransaction, IsUndamaged}
 use Rattle.world.specs.Allowed.{RunIsInterrupted, RunIsInterruptedAt, MayHappen}
+use Rattle.world.specs.Inner.StepLaws.{StepLaws}
 use Rattle.world.proofs.Lists.{get-set, get-append, get-one}
 use Rattle.world.proofs.Defined.{IsDefined, insert-defined, set-defined, delete-defined}
 use Rattle.world.proofs.Committing.{opened, none-open}
@@ -443,43 +444,43 @@ served w next fine = by w.stopped
 
 -- ---- any step
 
-happens-fine : (w : World) (event : Event) → IsFine w (happens w event)
-happens-fine w events.Begin = served w _ (begins w)
-happens-fine w (events.Insert transaction table row values) =
+happens-fine : (laws : StepLaws) (w : World) (event : Event) → IsFine w (happens w event)
+happens-fine laws w events.Begin = served w _ (begins w)
+happens-fine laws w (events.Insert transaction table row values) =
     served w _ (change-fine w transaction
     (λ draft. insert_answer (shape_of w.primary.schema) w.primary.durable draft table row.0 values)
     (open_transaction w.transactions transaction) refl
-    (λ draft new h defined. insert-defined (shape_of w.primary.schema) w.primary.durable draft new defined table row.0 values h))
-happens-fine w (events.Set transaction table row column value) =
+    (λ draft new h defined. insert-defined laws (shape_of w.primary.schema) w.primary.durable draft new defined table row.0 values h))
+happens-fine laws w (events.Set transaction table row column value) =
     served w _ (change-fine w transaction
     (λ draft. set_answer (shape_of w.primary.schema) w.primary.durable draft table row.0 column value)
     (open_transaction w.transactions transaction) refl
-    (λ draft new h defined. set-defined (shape_of w.primary.schema) w.primary.durable draft new defined table row.0 column value h))
-happens-fine w (events.Delete transaction table row) =
+    (λ draft new h defined. set-defined laws (shape_of w.primary.schema) w.primary.durable draft new defined table row.0 column value h))
+happens-fine laws w (events.Delete transaction table row) =
     served w _ (change-fine w transaction (λ draft. delete_answer (shape_of w.primary.schema) w.primary.durable draft table row.0)
     (open_transaction w.transactions transaction) refl
-    (λ draft new h defined. delete-defined (shape_of w.primary.schema) w.primary.durable draft new defined table row.0 h))
-happens-fine w (events.Get transaction table row column) =
+    (λ draft new h defined. delete-defined laws (shape_of w.primary.schema) w.primary.durable draft new defined table row.0 h))
+happens-fine laws w (events.Get transaction table row column) =
     served w _ (look-fine w (λ draft. get_answer (shape_of w.primary.schema) w.primary.durable draft table row.0 column)
     (open_transaction w.transactions transaction))
-happens-fine w (events.Commit transaction worker) =
+happens-fine laws w (events.Commit transaction worker) =
     served w _ (commit-fine w transaction worker (open_transaction w.transactions transaction) refl)
-happens-fine w (events.Abort transaction) = served w _ (abort-fine w transaction (open_transaction w.transactions transaction))
-happens-fine w (events.Flush count) = served w _ (flush-fine w count w.primary.failed refl)
-happens-fine w (events.Stop bytes) = served w _ (stop-fine w bytes)
-happens-fine w events.Start = start-fine w w.stopped
-happens-fine w (events.Push worker seq) = served w _ (push-fine w (pushed w.primary worker seq))
-happens-fine w (events.Deliver index nodes.Primary) = served w _ (deliver-fine w nodes.Primary (slice_get w.sent index))
-happens-fine w (events.Deliver index (nodes.Replica number)) = deliver-fine w (nodes.Replica number) (slice_get w.sent index)
-happens-fine w (events.Show index) = show-fine w (slice_get w.sent index)
-happens-fine w (events.Open replica plan) = open-fine w plan (slice_get w.members replica)
-happens-fine w (events.Ask replica) = ask-fine w (slice_get w.members replica)
-happens-fine w (events.Run replica) = run-fine w (slice_get w.members replica)
-happens-fine w (events.Version replica) = version-fine w (slice_get w.members replica)
-happens-fine w (events.Dump replica) = dump-fine w (slice_get w.members replica)
-happens-fine w (events.Restart replica boot) = restart-fine w boot (slice_get w.members replica)
-happens-fine w (events.Raw nodes.Primary bytes) = served w _ (raw-fine w nodes.Primary bytes (is_forged w.sent bytes))
-happens-fine w (events.Raw (nodes.Replica number) bytes) = raw-fine w (nodes.Replica number) bytes (is_forged w.sent bytes)
+happens-fine laws w (events.Abort transaction) = served w _ (abort-fine w transaction (open_transaction w.transactions transaction))
+happens-fine laws w (events.Flush count) = served w _ (flush-fine w count w.primary.failed refl)
+happens-fine laws w (events.Stop bytes) = served w _ (stop-fine w bytes)
+happens-fine laws w events.Start = start-fine w w.stopped
+happens-fine laws w (events.Push worker seq) = served w _ (push-fine w (pushed w.primary worker seq))
+happens-fine laws w (events.Deliver index nodes.Primary) = served w _ (deliver-fine w nodes.Primary (slice_get w.sent index))
+happens-fine laws w (events.Deliver index (nodes.Replica number)) = deliver-fine w (nodes.Replica number) (slice_get w.sent index)
+happens-fine laws w (events.Show index) = show-fine w (slice_get w.sent index)
+happens-fine laws w (events.Open replica plan) = open-fine w plan (slice_get w.members replica)
+happens-fine laws w (events.Ask replica) = ask-fine w (slice_get w.members replica)
+happens-fine laws w (events.Run replica) = run-fine w (slice_get w.members replica)
+happens-fine laws w (events.Version replica) = version-fine w (slice_get w.members replica)
+happens-fine laws w (events.Dump replica) = dump-fine w (slice_get w.members replica)
+happens-fine laws w (events.Restart replica boot) = restart-fine w boot (slice_get w.members replica)
+happens-fine laws w (events.Raw nodes.Primary bytes) = served w _ (raw-fine w nodes.Primary bytes (is_forged w.sent bytes))
+happens-fine laws w (events.Raw (nodes.Replica number) bytes) = raw-fine w (nodes.Replica number) bytes (is_forged w.sent bytes)
 
 cut-fine : (w : World) (found : Option Member) (output : Output) (new : World) → RunIsInterrupted w found output new
     → IsFine w (output, new)
@@ -497,9 +498,10 @@ cut-event : (w : World) (event : Event) (output : Output) (new : World) → RunI
 cut-event w (events.Run replica) output new cut = cut-fine w (slice_get w.members replica) output new cut
 cut-event w other output new cut = absurd cut
 
-pub step-fine : (old : World) (event : Event) (output : Output) (new : World) → MayHappen old event output new → IsFine old (output, new)
-step-fine old event output new may = elim may [
-  | inl made ↦ subst (IsFine old) made (happens-fine old event)
+pub step-fine : (laws : StepLaws) (old : World) (event : Event) (output : Output) (new : World) → MayHappen old event output new
+    → IsFine old (output, new)
+step-fine laws old event output new may = elim may [
+  | inl made ↦ subst (IsFine old) made (happens-fine laws old event)
   | inr other ↦ elim other [
     | inl memory ↦ subst (λ (o : Output). IsFine old (o, new)) (sym memory.0)
         (subst (λ (v : World). IsFine old (outputs.Memory, v)) (sym memory.1) (plain old old outputs.Memory refl refl tt))

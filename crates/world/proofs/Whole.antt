@@ -255,21 +255,21 @@ module _ (laws : FedLaws) (shape : Shape) (p : Parts) (sound : Sound shape p) (n
       (λ draft. insert_answer (shape_of p.primary.schema) p.primary.durable draft table row.0 values)
       (open_transaction p.transactions transaction) sound
       (λ draft after h. reads_same _ _ draft _ after
-      (insert-added (shape_of p.primary.schema) p.primary.durable draft table row.0 after values h).1) refl)
+      (insert-added laws.steps (shape_of p.primary.schema) p.primary.durable draft table row.0 after values h).1) refl)
   may-follow (events.Set transaction table row column value) output new may =
       happens-served shape p _ _ output new sound (λ cut. cut) lists may refl
       (λ lists. change-sound shape p transaction
       (λ draft. set_answer (shape_of p.primary.schema) p.primary.durable draft table row.0 column value)
       (open_transaction p.transactions transaction) sound
       (λ draft after h. reads_same _ _ draft _ after
-      (set-added (shape_of p.primary.schema) p.primary.durable draft table row.0 after column value h).1) refl)
+      (set-added laws.steps (shape_of p.primary.schema) p.primary.durable draft table row.0 after column value h).1) refl)
   may-follow (events.Delete transaction table row) output new may =
       happens-served shape p _ _ output new sound (λ cut. cut) lists may refl
       (λ lists. change-sound shape p transaction
       (λ draft. delete_answer (shape_of p.primary.schema) p.primary.durable draft table row.0)
       (open_transaction p.transactions transaction) sound
       (λ draft after h. reads_same _ _ draft _ after
-      (delete-added (shape_of p.primary.schema) p.primary.durable draft table row.0 after h).1) refl)
+      (delete-added laws.steps (shape_of p.primary.schema) p.primary.durable draft table row.0 after h).1) refl)
   may-follow (events.Get transaction table row column) output new may =
       happens-served shape p _ _ output new sound (λ cut. cut) lists may refl
       (λ lists. look-sound shape p (λ draft. get_answer (shape_of p.primary.schema) p.primary.durable draft table row.0 column)
@@ -289,10 +289,10 @@ module _ (laws : FedLaws) (shape : Shape) (p : Parts) (sound : Sound shape p) (n
       happens-beside shape p _ output new sound (λ cut. cut) may (start-sound shape p p.stopped sound)
   may-follow (events.Push worker seq) output new may =
       happens-served shape p _ _ output new sound (λ cut. cut) lists may refl
-      (λ lists. push-sound shape p worker seq (slice_get (stream_of p.primary.durable worker) seq) lists sound refl)
+      (λ lists. push-sound laws.steps.reads shape p worker seq (slice_get (stream_of p.primary.durable worker) seq) lists sound refl)
   may-follow (events.Deliver index nodes.Primary) output new may =
       happens-served shape p _ _ output new sound (λ cut. cut) lists may refl
-      (λ lists. deliver-sound shape p index (slice_get p.sent index) lists sound refl)
+      (λ lists. deliver-sound laws.steps.reads shape p index (slice_get p.sent index) lists sound refl)
   may-follow (events.Deliver index (nodes.Replica number)) output new may =
       happens-called shape p (events.Deliver index (nodes.Replica number)) (come_by p number (slice_get p.sent index)) output new sound
       (λ answer takes. takes)
@@ -321,7 +321,8 @@ module _ (laws : FedLaws) (shape : Shape) (p : Parts) (sound : Sound shape p) (n
       (λ answer takes. takes)
       (found-member shape p replica _ _ (restart-made laws shape p replica boot (slice_get p.replicas replica) sound refl may.0)) may.1
   may-follow (events.Raw nodes.Primary bytes) output new may =
-      happens-served shape p _ _ output new sound (λ cut. cut) lists may refl (λ lists. raw-sound shape p bytes lists sound)
+      happens-served shape p _ _ output new sound (λ cut. cut) lists may refl
+      (λ lists. raw-sound laws.steps.reads shape p bytes lists sound)
   may-follow (events.Raw (nodes.Replica number) bytes) output new may =
       happens-called shape p (events.Raw (nodes.Replica number) bytes) (raw_by p number bytes (slice_get p.replicas number)) output new
       sound (λ answer takes. takes)
@@ -566,8 +567,8 @@ step-keeps laws old event output new kept lists may =
     let first = may-follow laws shape old kept.sound kept.named lists event output new may in
     let same = first.1.primary_is.shape_is in
     let sound = subst (λ (s : Shape). Sound s new) (sym same) first.1 in
-    let fine = step-fine (world_of old) event output (world_of new) first.0 in
-    let serves = step-serves (world_of old) event output (world_of new) (may-boot old event output new may) kept.fresh first.0 in
+    let fine = step-fine laws.steps (world_of old) event output (world_of new) first.0 in
+    let serves = step-serves laws.steps (world_of old) event output (world_of new) (may-boot old event output new may) kept.fresh first.0 in
     let stays = step-counts (world_of old) event output (world_of new) first.0 in
     let undamaged = fine.undamaged kept.undamaged in
     let journal = stays-kept old event output new kept.journal may in

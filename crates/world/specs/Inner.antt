@@ -8,3 +8,4 @@ pub mod Sound
 pub mod Undamaged
 pub mod Fresh
 pub mod Invariant
+pub mod StepLaws

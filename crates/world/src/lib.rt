@@ -20,6 +20,7 @@
 mod boot_list;
 mod cores;
 mod faults;
+mod laws;
 mod naming;
 mod primary_node;
 mod restarting;

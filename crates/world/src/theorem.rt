@@ -6,6 +6,7 @@ ghost use Rattle.world.specs.Theorem.{CoresStand};
 ghost use Rattle.world.specs.Theorem.{AllowedRunsAreExact, RunsAreOfDatabase};
 ghost use Rattle.world.specs.Stops.{StopIsRecovered, StopKeepsDurable, StopEndsTransactions};
 
+use crate::laws::steps_are_told;
 use journal::laws::stops_are_recovered;
 
 /// What each run keeps, of which `run` says that it is one: its outputs are allowed; each report
@@ -23,7 +24,9 @@ pub fn runs_keep_promises()
     ensures legal { OfEachRun HasLegalList }
     ensures faultless { OfEachRun HasNoFault }
     ensures cores { OfEachRun CoresStand }
-{}
+{
+    steps_are_told();
+}
 
 /// What is durable after a stop is what the journal keeps of the bytes that stand then; it is what
 /// was durable, with more or nothing behind it; and no transaction is open. No code takes part.
@@ -40,7 +43,9 @@ pub fn stops_keep_what_stands()
 /// takes part.
 pub fn allowed_runs_are_exact()
     ensures { AllowedRunsAreExact }
-{}
+{
+    steps_are_told();
+}
 
 /// Whatever is allowed in the world by events that are possible is, as users see it, a run of a
 /// list of commits that only grows, of replicas that each stand at a version of it and go back to
@@ -48,4 +53,6 @@ pub fn allowed_runs_are_exact()
 /// fetched for them, at least as new as the list was when they asked. No code takes part.
 pub fn runs_are_of_database()
     ensures { RunsAreOfDatabase }
-{}
+{
+    steps_are_told();
+}

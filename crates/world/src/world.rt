@@ -12,6 +12,7 @@ ghost use Rattle.world.specs.Theorem.{SaysRows, IsFaultless};
 ghost use Rattle.rows.specs.Limits.{workers_max, replicas_max};
 
 use crate::cores::Cores;
+use crate::laws::steps_are_told;
 use dispatcher::fed_replicas_stay_fed;
 use script::{Event, Output, Setup};
 use std::alloc::{AllocError, Global};
@@ -47,6 +48,7 @@ impl World {
         ensures { IfOk result (λ world. world ≡ parts_started setup.now) }
     {
         fed_replicas_stay_fed();
+        steps_are_told();
         setup.schema.keeps_limits();
         let cores = Cores::start(alloc, setup)?;
         Ok(World { cores })
@@ -71,6 +73,7 @@ impl World {
         ensures replicas { length self.new.replicas ≡ length self.old.replicas }
     {
         fed_replicas_stay_fed();
+        steps_are_told();
         self.cores.keeps_core();
         let output = self.cores.happen(event);
         self.cores.keeps_core();

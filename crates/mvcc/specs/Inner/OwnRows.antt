@@ -8,7 +8,7 @@ use Rattle.rows.specs.declared.entry.Entry.TheVariants.{Insert, Patch, Delete}
 use Rattle.rows.specs.declared.value.Value.{Value}
 use Rattle.rows.specs.Shape.{Shape}
 use Rattle.mvcc.specs.Inner.Keys.{is_key_of}
-use Rattle.rows.specs.Inner.RowAfter.{row_after_fit}
+use Rattle.rows.specs.RowAfter.{row_after_fit}
 
 -- the indices of entries, by table and row
 abbrev pub RowIndices : Type 0

@@ -18,7 +18,8 @@ returns-then-found-number-clause-err c =
     let rest = c.args.rest.now in
     let found = c.in-Ok-Some.found in
     let read =
-    read_here c.entries_are_read_as_spelled.ensures.found rest found c.in-Ok-Some.field-0 (λ i. omega (arith, c.type_inv.rest i))
+    read_here c.numbers_are_read_as_spelled.ensures.spelled c.numbers_are_read_as_spelled.ensures.below
+    c.entries_are_read_as_spelled.ensures.found rest found c.in-Ok-Some.field-0 (λ i. omega (arith, c.type_inv.rest i))
     c.requires.some c.in-Ok-Some.ensures c.in-Ok-Some.field-0-is in (
       refl,
       record {
@@ -34,7 +35,8 @@ returns-in-Ok-false-clause-err c =
     let rest = c.args.rest.now in
     let found = c.in-Ok-Some.found in
     let read =
-    read_here c.entries_are_read_as_spelled.ensures.found rest found c.in-Ok-Some.field-0 (λ i. omega (arith, c.type_inv.rest i))
+    read_here c.numbers_are_read_as_spelled.ensures.spelled c.numbers_are_read_as_spelled.ensures.below
+    c.entries_are_read_as_spelled.ensures.found rest found c.in-Ok-Some.field-0 (λ i. omega (arith, c.type_inv.rest i))
     c.requires.some c.in-Ok-Some.ensures c.in-Ok-Some.field-0-is in (
       refl,
       record {
@@ -51,7 +53,8 @@ returns-clause-ok c =
     let rest = c.args.rest.now in
     let found = c.in-Ok-Some.found in
     let read =
-    read_here c.entries_are_read_as_spelled.ensures.found rest found c.in-Ok-Some.field-0 (λ i. omega (arith, c.type_inv.rest i))
+    read_here c.numbers_are_read_as_spelled.ensures.spelled c.numbers_are_read_as_spelled.ensures.below
+    c.entries_are_read_as_spelled.ensures.found rest found c.in-Ok-Some.field-0 (λ i. omega (arith, c.type_inv.rest i))
     c.requires.some c.in-Ok-Some.ensures c.in-Ok-Some.field-0-is in
     record {
       front =

@@ -17,7 +17,9 @@ returns-then-not-is_defined-clause-answer c =
     let before = c.loop-entry.invariant in
     let there = c.is_there-there.result in
     let stands = told-there versions version (take i entries) c.loop-entry.told entry there before.told c.is_there-there.ensures in
-    not_defined-more versions version entries i entry there c.loop-entry-test.true c.entry-item.is before.defined stands
+    not_defined-more c.entries_are_defined_one_by_one.ensures.longer c.entries_are_defined_one_by_one.ensures.undefined versions version
+    entries i entry there
+    c.loop-entry-test.true c.entry-item.is before.defined stands
     c.if-not-is_defined.ensures.answer
 
 pub loop-entry-preserved : goal.loop-entry-preserved
@@ -32,7 +34,8 @@ loop-entry-preserved c =
     let stands = told-there versions version (take i entries) c.loop-entry.told entry there before.told c.is_there-there.ensures in
     record {
       defined =
-          defined-more versions version entries i entry there c.loop-entry-test.true c.entry-item.is before.defined stands
+          defined-more c.entries_are_defined_one_by_one.ensures.longer versions version entries i entry there
+          c.loop-entry-test.true c.entry-item.is before.defined stands
           ∙ sym c.if-not-is_defined.ensures.answer;
       spelled = spelled-more entries i entry c.loop-entry-test.true c.entry-item.is before.spelled c.if-not-is_defined.ensures.spelled;
       told =

@@ -12,7 +12,9 @@ pub returns-then-not-is_defined-clause-answer : goal.returns-then-not-is_defined
 returns-then-not-is_defined-clause-answer c =
     let versions = c.args.versions.now in
     let entry = c.index-entries-index.result in
-    not_defined-more versions c.args.version c.args.entries.now c.loop-index.index entry c.is_row_there_after-there.result
+    not_defined-more c.entries_are_defined_one_by_one.ensures.longer c.entries_are_defined_one_by_one.ensures.undefined versions
+    c.args.version c.args.entries.now
+    c.loop-index.index entry c.is_row_there_after-there.result
     c.loop-index-test.true c.index-entries-index.is c.loop-index.invariant.defined
     (c.is_row_there_after-there.ensures
     ∙ ap (λ before. is_there_after (table_of entry) (row_of entry) before
@@ -25,7 +27,8 @@ loop-index-preserved c =
     let entry = c.index-entries-index.result in
     record {
       defined =
-          defined-more versions c.args.version c.args.entries.now c.loop-index.index entry c.is_row_there_after-there.result
+          defined-more c.entries_are_defined_one_by_one.ensures.longer versions c.args.version c.args.entries.now
+          c.loop-index.index entry c.is_row_there_after-there.result
           c.loop-index-test.true c.index-entries-index.is c.loop-index.invariant.defined
           (c.is_row_there_after-there.ensures
           ∙ ap (λ before. is_there_after (table_of entry) (row_of entry) before

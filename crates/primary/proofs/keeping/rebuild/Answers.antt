@@ -19,8 +19,9 @@ extend-requires c =
 pub absorb-requires : goal.absorb-requires
 absorb-requires c =
     let so_far = c.loop-commit.invariant in
-    rw c.as_slice.ensures (defined-next c.loop-commit.versions c.args.schema.now c.args.workers c.args.commits.now
-    c.loop-commit.commit-index c.commit-item.result c.loop-commit-test.true c.commit-item.is c.requires.journaled so_far.schema
+    rw c.as_slice.ensures (defined-next c.commits_are_defined_one_by_one.ensures.each c.loop-commit.versions c.args.schema.now
+    c.args.workers c.args.commits.now c.loop-commit.commit-index c.commit-item.result c.loop-commit-test.true c.commit-item.is
+    c.requires.journaled so_far.schema
     so_far.commits)
 
 pub loop-commit-preserved : goal.loop-commit-preserved

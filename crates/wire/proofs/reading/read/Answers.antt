@@ -7,7 +7,8 @@ use Rattle.wire.proofs.reading.read.Goals as goal
 
 pub returns-clause-found : goal.returns-clause-found
 returns-clause-found c =
-    is_found c.entries_are_read_as_spelled.ensures.found c.args.bytes.now c.read_datagram.result (λ i. omega (arith, c.type_inv.bytes i))
+    is_found c.numbers_are_read_as_spelled.ensures.spelled c.numbers_are_read_as_spelled.ensures.below
+    c.entries_are_read_as_spelled.ensures.found c.args.bytes.now c.read_datagram.result (λ i. omega (arith, c.type_inv.bytes i))
     c.read_datagram.ensures
 
 pub returns-clause-only : goal.returns-clause-only

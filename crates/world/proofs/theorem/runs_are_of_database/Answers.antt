@@ -3,4 +3,4 @@ use Rattle.world.proofs.Databases.{runs-of-database}
 use Rattle.world.proofs.theorem.runs_are_of_database.Goals as goal
 
 pub returns : goal.returns
-returns c = runs-of-database
+returns c = runs-of-database c.steps_are_told.ensures

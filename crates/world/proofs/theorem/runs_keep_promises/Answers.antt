@@ -12,5 +12,5 @@ returns c = record {
   durable = run-growing;
   legal = run-legal;
   faultless = run-faultless;
-  cores = run-stands;
+  cores = run-stands c.steps_are_told.ensures;
 }

@@ -3,7 +3,6 @@ use Rattle.std.proofs.Common.{◌≡◌, slice_get, Some, None, sym, ap, ◌∙�
 use Rattle.rows.specs.Shape.{shape_of}
 use Rattle.rows.specs.Tables.{rows_of, row_at}
 use Rattle.rows.specs.Commits.{tables_after}
-use Rattle.rows.proofs.RowLaws.{row-seen}
 use Rattle.mvcc.specs.Inner.OwnRows.{picked, indices_at}
 use Rattle.mvcc.specs.Inner.Cells.{cell_of, cell_after}
 use Rattle.mvcc.proofs.Effects.{unlisted}
@@ -23,7 +22,7 @@ returns-in-None c =
     sym (c.in-None.ensures.value ∙ ap (λ schema. slice_get (shape_of schema) table) c.schema.ensures) in
     rw (← c.self.view_is)
     (c.cell_at-was.ensures ∙ ap (cell_of c.args.column)
-    (sym (row-seen shape versions.commits inside.snapshot entries table row
+    (sym (c.rows_are_as_entries_leave_them.ensures.seen shape versions.commits inside.snapshot entries table row
     ∙ unlisted shape table row entries was none)))
 
 pub returns-in-Some : goal.returns-in-Some
@@ -48,4 +47,4 @@ returns-in-Some c =
     ∙ ap (cell_after kinds table row column (picked entries indices)) c.cell_at-was.ensures
     ∙ sym (cell-row shape kinds table row column (picked entries indices) was some)
     ∙ ap (cell_of column) (c.self.invariant.1.told table row shape was
-    ∙ sym (row-seen shape versions.commits inside.snapshot entries table row)))
+    ∙ sym (c.rows_are_as_entries_leave_them.ensures.seen shape versions.commits inside.snapshot entries table row)))

@@ -9,5 +9,6 @@ use Rattle.mvcc.proofs.transaction.Transaction.has_column.Goals as goal
 pub returns : goal.returns
 returns c =
     let versions = c.args.versions.now in
-    rw (seen-shape (shape_of versions.schema) versions.commits c.args.self.now)
+    rw (seen-shape c.changes_keep_kinds.ensures.applied c.changes_keep_kinds.ensures.versions (shape_of versions.schema)
+    versions.commits c.args.self.now)
     (c.has_column.ensures ∙ ap (λ schema. is_some (column_kind (shape_of schema) c.args.table c.args.column)) c.schema.ensures)

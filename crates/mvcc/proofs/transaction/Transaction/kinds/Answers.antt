@@ -7,5 +7,6 @@ use Rattle.mvcc.proofs.transaction.Transaction.kinds.Goals as goal
 pub returns : goal.returns
 returns c =
     let versions = c.args.versions.now in
-    rw (seen-shape (shape_of versions.schema) versions.commits c.args.self.now)
+    rw (seen-shape c.changes_keep_kinds.ensures.applied c.changes_keep_kinds.ensures.versions (shape_of versions.schema)
+    versions.commits c.args.self.now)
     (c.kinds.ensures.value ∙ ap (λ schema. slice_get (shape_of schema) c.args.table) c.schema.ensures)

@@ -8,7 +8,8 @@ use Rattle.mvcc.proofs.transaction.Transaction.offset_for.Goals as goal
 pub returns : goal.returns
 returns c =
     let versions = c.args.versions.now in
-    rw (seen-shape (shape_of versions.schema) versions.commits c.args.self.now)
+    rw (seen-shape c.changes_keep_kinds.ensures.applied c.changes_keep_kinds.ensures.versions (shape_of versions.schema)
+    versions.commits c.args.self.now)
     (c.offset_for.ensures
     ∙ ap (λ schema. cond (match_column c.args.value.now (column_kind (shape_of schema) c.args.table c.args.column))
     (Some (column_offset (shape_of schema) c.args.table c.args.column)) None) c.schema.ensures)

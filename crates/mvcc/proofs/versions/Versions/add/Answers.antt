@@ -20,5 +20,6 @@ invariant_of-self-2 c =
     (c.as_slice-commits.ensures.value ∙ c.in-Ok.ensures.items) c.in-Ok-link_commit.ensures.ok in
     let kept : AreChains (and_entries inside.commits.items commit.entries) c.link_commit.new.self =
     subst (λ entries. AreChains (and_entries inside.commits.items entries) c.link_commit.new.self) c.as_slice-entries.ensures linked in
-    rw items (versions-push (shape_of inside.schema) inside.commits.items inside.chains c.link_commit.new.self commit
+    rw items (versions-push c.commits_are_defined_one_by_one.ensures.longer (shape_of inside.schema) inside.commits.items
+    inside.chains c.link_commit.new.self commit
     c.self.invariant defined kept)

@@ -18,7 +18,8 @@ returns c =
     let shape = shape_of inside.schema in
     let table = c.args.table in
     let bytes = bytes_at c.args.version (links_at inside.chains table c.args.row.0) in
-    let kept = row-kept shape inside.commits.items inside.chains c.args.version table c.args.row.0 c.self.invariant in
+    let kept = row-kept c.rows_have_their_bytes.ensures shape inside.commits.items inside.chains c.args.version table c.args.row.0
+    c.self.invariant in
     rw (← c.self.view_is)
     (c.is_some.ensures ∙ sym (is_some-map _ c.bytes_at.result) ∙ ap is_some c.bytes_at.ensures
     ∙ sym (is_some-map (values_of (kinds_in shape table)) bytes) ∙ ap is_some (sym kept.told))

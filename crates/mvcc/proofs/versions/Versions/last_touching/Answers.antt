@@ -5,7 +5,6 @@ use Rattle.rows.specs.Shape.{shape_of}
 use Rattle.rows.specs.Entries.{table_of}
 use Rattle.mvcc.specs.Inner.Keys.{row_of}
 use Rattle.rows.specs.Commits.{last_touching}
-use Rattle.rows.proofs.TableLaws.{still_defined}
 use Rattle.mvcc.specs.History.{History, defined_at}
 use Rattle.mvcc.specs.Newest.{newest_of}
 use Rattle.mvcc.proofs.Newest.{last_touching-none, last_touching-next}
@@ -36,5 +35,6 @@ returns-clause-stay_defined c =
     ∙ ap (λ (v : History). last_touching entries 0 v.commits) (sym c.self.view_is) in
     subst (λ (v : History). (version : ℕ) → c.loop-entry.last ≤ version → defined_at v version entries ≡ true
     → defined_at v (length v.commits) entries ≡ true) c.self.view_is
-    (λ version below defined. still_defined (shape_of inside.schema) inside.commits.items version entries c.self.invariant.legal
+    (λ version below defined. c.entries_are_defined_one_by_one.ensures.untouched (shape_of inside.schema) inside.commits.items version
+    entries c.self.invariant.legal
     (subst (λ n. n ≤ version) last below) defined)

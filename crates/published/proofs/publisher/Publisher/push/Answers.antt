@@ -7,7 +7,8 @@ pub invariant_of-self : goal.invariant_of-self
 invariant_of-self g c =
     let q = c.self.view_is in
     let inv = c.self.invariant in
-    let r = pushed g.L.Naming.book g.L.Line.schema g.L.Line.workers c.self.inside.writer.desk.shown.value
+    let r = pushed c.commits_are_defined_one_by_one.ensures.each g.L.Naming.book g.L.Line.schema g.L.Line.workers
+    c.self.inside.writer.desk.shown.value
     (drop c.self.inside.writer.behind c.self.inside.writer.log.items) (drop c.append.new.self.behind c.append.new.self.log.items)
     c.args.step c.append.result inv.1 c.requires.book (rw (ap (λ v. v.queued) q) c.requires.history) c.requires.some
     (rw (ap (λ v. v.queued) q) c.requires.legal) c.append.ensures.pending in
@@ -17,7 +18,8 @@ pub returns-clause-queued : goal.returns-clause-queued
 returns-clause-queued g c =
     let q = c.self.view_is in
     let inv = c.self.invariant in
-    let r = pushed g.L.Naming.book g.L.Line.schema g.L.Line.workers c.self.inside.writer.desk.shown.value
+    let r = pushed c.commits_are_defined_one_by_one.ensures.each g.L.Naming.book g.L.Line.schema g.L.Line.workers
+    c.self.inside.writer.desk.shown.value
     (drop c.self.inside.writer.behind c.self.inside.writer.log.items) (drop c.append.new.self.behind c.append.new.self.log.items)
     c.args.step c.append.result inv.1 c.requires.book (rw (ap (λ v. v.queued) q) c.requires.history) c.requires.some
     (rw (ap (λ v. v.queued) q) c.requires.legal) c.append.ensures.pending in

@@ -18,6 +18,7 @@ invariant_of-result c =
       ready = e.ready;
       dump = e.dump;
       names = e.names;
+      steps = c.steps_are_told.ensures;
     } in
     rw c.in_ok-cores.ensures
     (started-kept laws c.args.setup.now c.keeps_limits.ensures c.requires.some c.requires.workers c.requires.replicas)

@@ -25,6 +25,7 @@ invariant_of-self c =
       ready = e.ready;
       dump = e.dump;
       names = e.names;
+      steps = c.steps_are_told.ensures;
     } in
     (step-keeps laws c.self.inside.cores c.args.event.now c.happen-output.result c.happen-output.new.self c.self.invariant
     c.keeps_core.ensures.lists c.happen-output.ensures).kept
@@ -44,6 +45,7 @@ returns c =
       ready = e.ready;
       dump = e.dump;
       names = e.names;
+      steps = c.steps_are_told.ensures;
     } in
     let done =
     step-keeps laws c.self.inside.cores c.args.event.now c.happen-output.result c.happen-output.new.self c.self.invariant
