@@ -51,7 +51,7 @@ pub fn contains(blocks: &[Block], row: u64) -> bool
 }
 
 /// Puts in a row that is not there, given by its bytes, among the rows of blocks. Fails only when out
-/// of memory, and then nothing has changed.
+/// of memory, and then the rows are as they were.
 pub fn insert_row(
     blocks: &mut [Block],
     kinds: &[Kind],
@@ -143,7 +143,7 @@ pub fn remove_row(blocks: &mut Vec<Block>, kinds: &[Kind], row: u64)
 /// Makes room for a row among the rows of blocks: where the block that it goes into is full, its last
 /// rows become a block of their own. Behind all its rows, or before them, one row is parted from the
 /// others, so that rows which come in order leave full blocks; else half of them. The rows stay. Fails
-/// only when out of memory, and then nothing has changed.
+/// only when out of memory, and then the rows are as they were.
 pub fn make_room(
     alloc: Global,
     blocks: &mut Vec<Block>,
