@@ -1,7 +1,0 @@
-//! Scenarios of `columns`, by its public calls: rows in blocks of columns.
-#![tactic(auto)]
-
-#[cfg(test)]
-mod blocks;
-#[cfg(test)]
-mod pieces;
