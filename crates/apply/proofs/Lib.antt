@@ -1,0 +1,6 @@
+pub mod Wide
+pub mod EachColumn
+pub mod Ordered
+pub mod Beside
+pub mod Built
+pub mod Joined

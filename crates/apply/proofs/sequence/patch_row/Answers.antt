@@ -1,0 +1,45 @@
+-- The row's home has it.
+use Rattle.std.proofs.Common.{◌≡◌, length, get_or, sym, ap, subst, ◌∙◌, arith}
+use Rattle.rows.specs.Tables.{Table, with_patch}
+use Rattle.apply.specs.Orders.{Rising}
+use Rattle.apply.specs.Inner.Joins.{joined}
+use Rattle.apply.proofs.Joined.{IsHome, home-present, home-patch, blocks-set, length-with_patch, rising-with_patch}
+use Rattle.apply.proofs.sequence.patch_row.Goals as goal
+
+pub patch-requires-clause-there : goal.patch-requires-clause-there
+patch-requires-clause-there c =
+    let home : IsHome c.args.blocks.now c.home_of-home.result c.args.row =
+    record { within = c.home_of-home.ensures.within; front = c.home_of-home.ensures.front; back = c.home_of-home.ensures.back } in
+    sym (home-present c.args.blocks.now c.home_of-home.result c.args.row c.index-blocks-home.result home) ∙ c.requires.there
+
+pub returns-clause-rows : goal.returns-clause-rows
+returns-clause-rows c =
+    let blocks = c.args.blocks.now in
+    let m = c.home_of-home.result in
+    let d = c.index-blocks-home.result in
+    let home : IsHome blocks m c.args.row =
+    record { within = c.home_of-home.ensures.within; front = c.home_of-home.ensures.front; back = c.home_of-home.ensures.back } in
+    let kinds : (get_or blocks m d).kinds ≡ c.args.kinds.now = c.requires.blocks.alike m d home.within in
+    home-patch blocks m c.args.row d home c.patch.new.self c.args.kinds.now c.args.offset c.args.bytes.now c.requires.there
+    (ap (λ (block : Table). block.rows) c.patch.ensures
+    ∙ ap (λ kinds. with_patch kinds (get_or blocks m d).rows c.args.row c.args.offset c.args.bytes.now) kinds)
+
+pub returns-clause-blocks : goal.returns-clause-blocks
+returns-clause-blocks c =
+    let blocks = c.args.blocks.now in
+    let m = c.home_of-home.result in
+    let d = c.index-blocks-home.result in
+    let new = c.patch.new.self in
+    let kinds = c.args.kinds.now in
+    let home : IsHome blocks m c.args.row =
+    record { within = c.home_of-home.ensures.within; front = c.home_of-home.ensures.front; back = c.home_of-home.ensures.back } in
+    let same : (get_or blocks m d).kinds ≡ kinds = c.requires.blocks.alike m d home.within in
+    let rows : new.rows ≡ with_patch kinds (get_or blocks m d).rows c.args.row c.args.offset c.args.bytes.now =
+    ap (λ (block : Table). block.rows) c.patch.ensures
+    ∙ ap (λ kinds. with_patch kinds (get_or blocks m d).rows c.args.row c.args.offset c.args.bytes.now) same in
+    let made = home-patch blocks m c.args.row d home new kinds c.args.offset c.args.bytes.now c.requires.there rows in
+    let some = c.requires.blocks.some m d home.within in
+    let many = ap length rows ∙ length-with_patch kinds (get_or blocks m d).rows c.args.row c.args.offset c.args.bytes.now in
+    blocks-set kinds blocks m new home.within c.requires.blocks (ap (λ (block : Table). block.kinds) c.patch.ensures ∙ same)
+    (omega (arith, some, many))
+    (subst Rising (sym made) (rising-with_patch kinds (joined blocks) c.args.row c.args.offset c.args.bytes.now c.requires.blocks.rise))

@@ -1,0 +1,94 @@
+//! The rows of one table in one partition.
+
+ghost use Rattle.std.specs.Prelude.{◌≡◌, ◌≤◌, [], length, true, false, IfOk, OnOk, OnErr};
+ghost use Rattle.rows.specs.Shape.{AreColumns, row_width};
+ghost use Rattle.rows.specs.Values.{values_of};
+ghost use Rattle.rows.specs.Tables.{is_present, with_row, with_patch, without_row};
+
+use crate::block::Block;
+use crate::sequence::{contains, patch_row, put_row, remove_row};
+use rows::{Kind, KindList};
+use std::alloc::{AllocError, Global};
+use std::marker::Model;
+
+/// The rows of one table, as blocks of columns. Contracts see the kinds of its columns, which a table
+/// may have, and its rows in rising identifier.
+#[derive(Debug, Drop)]
+pub struct Piece {
+    kinds: KindList,
+    blocks: Vec<Block>,
+}
+
+impl Model for Piece {
+    ghost use Rattle.rows.specs.Tables.{Table};
+
+    ghost Value = { Table };
+
+    ghost use Rattle.apply.specs.Inner.Pieces.{table_of_piece, IsPiece};
+
+    ghost view = { table_of_piece };
+
+    ghost invariant = { IsPiece };
+}
+
+impl Piece {
+    /// A table with columns of these kinds, and without rows. Fails only when out of memory.
+    pub fn new(alloc: Global, kinds: &[Kind]) -> Result<Piece, AllocError>
+        requires { AreColumns kinds.now }
+        ensures { IfOk result (λ piece. piece ≡ record { kinds = kinds.now; rows = [] }) }
+    {
+        Ok(Piece {
+            kinds: KindList::from_slice(alloc, kinds)?,
+            blocks: Vec::new(alloc),
+        })
+    }
+
+    /// The kinds of its columns, lent.
+    pub fn kinds(&self) -> &[Kind]
+        ensures value { result.now ≡ self.now.kinds }
+        ensures columns { AreColumns result.now }
+    {
+        self.kinds.as_slice()
+    }
+
+    /// Whether the row is there.
+    pub fn contains(&self, row: u64) -> bool
+        ensures { result ≡ is_present self.now.rows row }
+    {
+        contains(self.blocks.as_slice(), row)
+    }
+
+    /// Puts in a row that is not there, given by its bytes. Fails only when out of memory, and then the
+    /// rows are as they were.
+    pub fn insert(&mut self, alloc: Global, row: u64, bytes: &[u8]) -> Result<(), AllocError>
+        requires absent { is_present self.old.rows row ≡ false }
+        requires wide { row_width self.old.kinds ≤ length bytes.now }
+        ensures ok { OnOk result (self.new ≡ record self.old { rows = with_row self.old.rows row (values_of self.old.kinds bytes.now) }) }
+        ensures err { OnErr result (self.new ≡ self.old) }
+    {
+        put_row(alloc, &mut self.blocks, self.kinds.as_slice(), row, bytes)
+    }
+
+    /// Puts bytes in the place of one column's of a row that is there. Where they are not exactly one
+    /// column's nothing changes. Takes no memory.
+    pub fn patch(&mut self, row: u64, offset: u16, bytes: &[u8])
+        requires { is_present self.old.rows row ≡ true }
+        ensures { self.new ≡ record self.old { rows = with_patch self.old.kinds self.old.rows row offset bytes.now } }
+    {
+        patch_row(
+            self.blocks.as_mut_slice(),
+            self.kinds.as_slice(),
+            row,
+            offset,
+            bytes,
+        );
+    }
+
+    /// Takes out a row that is there. Takes no memory.
+    pub fn remove(&mut self, row: u64)
+        requires { is_present self.old.rows row ≡ true }
+        ensures { self.new ≡ record self.old { rows = without_row self.old.rows row } }
+    {
+        remove_row(&mut self.blocks, self.kinds.as_slice(), row);
+    }
+}

@@ -1,0 +1,186 @@
+//! Blocks of a table's rows, one behind the other.
+
+ghost use Rattle.std.specs.Prelude.{◌≡◌, ◌+◌, ◌<◌, ◌≤◌, length, take, drop, true, false, [], IfOk, OnOk, OnErr};
+ghost use Rattle.std.specs.List.{list_all};
+ghost use Rattle.rows.specs.Shape.{row_width, is_good};
+ghost use Rattle.rows.specs.Values.{values_of};
+ghost use Rattle.rows.specs.Tables.{is_present, with_row, with_patch, without_row};
+ghost use Rattle.apply.specs.Orders.{AllOver, AllUnder, Rising};
+ghost use Rattle.apply.specs.Inner.Joins.{joined, AllHaveRows, AreBlocks};
+
+use crate::block::Block;
+use rows::Kind;
+use std::alloc::{AllocError, Global};
+
+/// How many rows a block has at most, but for the one that it takes when it is cut.
+const BLOCK_ROWS: usize = 1024;
+
+/// The index of the block that a row stands in, if it is there, and that it goes into, if it is not:
+/// the last that begins at or below it, or else the first.
+pub fn home_of(blocks: &[Block], row: u64) -> usize
+    requires some { 0 < length blocks.now }
+    requires rows { AllHaveRows blocks.now }
+    requires rise { Rising (joined blocks.now) }
+    ensures within { result < length blocks.now }
+    ensures front { AllUnder row (joined (take result blocks.now)) }
+    ensures back { AllOver row (joined (drop (result + 1) blocks.now)) }
+{
+    let mut low = 0;
+    let mut high = blocks.len();
+    while low + 1 < high {
+        let middle = low + (high - low) / 2;
+        if blocks[middle].ids()[0] <= row {
+            low = middle;
+        } else {
+            high = middle;
+        }
+    }
+    low
+}
+
+/// Whether a row is there.
+pub fn contains(blocks: &[Block], row: u64) -> bool
+    requires rows { AllHaveRows blocks.now }
+    requires rise { Rising (joined blocks.now) }
+    ensures { result ≡ is_present (joined blocks.now) row }
+{
+    if blocks.is_empty() {
+        return false;
+    }
+    blocks[home_of(blocks, row)].contains(row)
+}
+
+/// Puts in a row that is not there, given by its bytes, among the rows of blocks. Fails only when out
+/// of memory, and then the rows are as they were.
+pub fn insert_row(
+    blocks: &mut [Block],
+    kinds: &[Kind],
+    row: u64,
+    bytes: &[u8],
+) -> Result<(), AllocError>
+    requires blocks { AreBlocks kinds.now blocks.old }
+    requires some { 0 < length blocks.old }
+    requires absent { is_present (joined blocks.old) row ≡ false }
+    requires wide { row_width kinds.now ≤ length bytes.now }
+    ensures ok { OnOk result (joined blocks.new ≡ with_row (joined blocks.old) row (values_of kinds.now bytes.now)) }
+    ensures err { OnErr result (joined blocks.new ≡ joined blocks.old) }
+    ensures blocks { AreBlocks kinds.now blocks.new }
+    ensures len { length blocks.new ≡ length blocks.old }
+{
+    let _ = kinds;
+    let home = home_of(blocks, row);
+    blocks[home].insert(row, bytes)
+}
+
+/// Puts in a row that is not there, given by its bytes, in blocks that may be none; a full block is cut
+/// first. Fails only when out of memory, and then the rows are as they were.
+pub fn put_row(
+    alloc: Global,
+    blocks: &mut Vec<Block>,
+    kinds: &[Kind],
+    row: u64,
+    bytes: &[u8],
+) -> Result<(), AllocError>
+    requires blocks { AreBlocks kinds.now blocks.old.items }
+    requires good { list_all is_good kinds.now ≡ true }
+    requires absent { is_present (joined blocks.old.items) row ≡ false }
+    requires wide { row_width kinds.now ≤ length bytes.now }
+    ensures ok { OnOk result (joined blocks.new.items ≡ with_row (joined blocks.old.items) row (values_of kinds.now bytes.now)) }
+    ensures err { OnErr result (joined blocks.new.items ≡ joined blocks.old.items) }
+    ensures blocks { AreBlocks kinds.now blocks.new.items }
+{
+    if blocks.is_empty() {
+        let block = block_of(alloc, kinds, row, bytes)?;
+        if blocks.push(block).is_err() {
+            return Err(AllocError);
+        }
+        return Ok(());
+    }
+    make_room(alloc, blocks, kinds, row)?;
+    insert_row(blocks.as_mut_slice(), kinds, row, bytes)
+}
+
+/// A block of one row, given by its bytes. Fails only when out of memory.
+fn block_of(alloc: Global, kinds: &[Kind], row: u64, bytes: &[u8]) -> Result<Block, AllocError>
+    requires good { list_all is_good kinds.now ≡ true }
+    requires wide { row_width kinds.now ≤ length bytes.now }
+    ensures { IfOk result (λ block. block ≡ record { kinds = kinds.now; rows = with_row [] row (values_of kinds.now bytes.now) }) }
+{
+    let mut block = Block::new(alloc, kinds)?;
+    block.insert(row, bytes)?;
+    Ok(block)
+}
+
+/// Puts bytes in the place of one column's of a row that is there, among the rows of blocks. Where
+/// they are not exactly one column's nothing changes.
+pub fn patch_row(blocks: &mut [Block], kinds: &[Kind], row: u64, offset: u16, bytes: &[u8])
+    requires blocks { AreBlocks kinds.now blocks.old }
+    requires there { is_present (joined blocks.old) row ≡ true }
+    ensures rows { joined blocks.new ≡ with_patch kinds.now (joined blocks.old) row offset bytes.now }
+    ensures blocks { AreBlocks kinds.now blocks.new }
+    ensures len { length blocks.new ≡ length blocks.old }
+{
+    let home = home_of(blocks, row);
+    blocks[home].patch(kinds, row, offset, bytes);
+}
+
+/// Takes out a row that is there, from the rows of blocks; a block that it leaves empty is dropped.
+pub fn remove_row(blocks: &mut Vec<Block>, kinds: &[Kind], row: u64)
+    requires blocks { AreBlocks kinds.now blocks.old.items }
+    requires there { is_present (joined blocks.old.items) row ≡ true }
+    ensures rows { joined blocks.new.items ≡ without_row (joined blocks.old.items) row }
+    ensures blocks { AreBlocks kinds.now blocks.new.items }
+{
+    let _ = kinds;
+    let home = home_of(blocks.as_slice(), row);
+    if blocks[home].len() == 1 {
+        let _ = blocks.remove(home);
+    } else {
+        blocks[home].remove(row);
+    }
+}
+
+/// Makes room for a row among the rows of blocks: where the block that it goes into is full, its last
+/// rows become a block of their own. Behind all its rows, or before them, one row is parted from the
+/// others, so that rows which come in order leave full blocks; else half of them. The rows stay. Fails
+/// only when out of memory, and then the rows are as they were.
+pub fn make_room(
+    alloc: Global,
+    blocks: &mut Vec<Block>,
+    kinds: &[Kind],
+    row: u64,
+) -> Result<(), AllocError>
+    requires blocks { AreBlocks kinds.now blocks.old.items }
+    requires some { 0 < length blocks.old.items }
+    ensures rows { joined blocks.new.items ≡ joined blocks.old.items }
+    ensures blocks { AreBlocks kinds.now blocks.new.items }
+    ensures some { 0 < length blocks.new.items }
+{
+    let _ = kinds;
+    let home = home_of(blocks.as_slice(), row);
+    let rows = blocks[home].len();
+    if rows < BLOCK_ROWS {
+        return Ok(());
+    }
+    let cut = cut_at(rows, blocks[home].place(row));
+    let tail = blocks[home].tail(alloc, cut)?;
+    if blocks.insert(home + 1, tail).is_err() {
+        return Err(AllocError);
+    }
+    blocks[home].truncate(cut);
+    Ok(())
+}
+
+/// Where a full block is cut, for a row that is to stand at a place in it.
+fn cut_at(rows: usize, place: usize) -> usize
+    requires { 1 < rows }
+    ensures { (0 < result) × (result < rows) }
+{
+    if place == 0 {
+        1
+    } else if place >= rows {
+        rows - 1
+    } else {
+        rows / 2
+    }
+}

@@ -1,0 +1,7 @@
+//! Scenarios of `apply`, by its public calls: rows in blocks of columns.
+#![tactic(auto)]
+
+#[cfg(test)]
+mod blocks;
+#[cfg(test)]
+mod pieces;
