@@ -236,7 +236,7 @@ fn four_threads_commit(rt: HostRuntime) -> Result<(), Fail> {
 const SIXTEEN: Crew = Crew {
     committers: 16,
     readers: 0,
-    each: 1000,
+    each: 400,
 };
 
 #[test]
@@ -253,7 +253,7 @@ fn sixteen_threads_commit(rt: HostRuntime) -> Result<(), Fail> {
 const SIXTEEN_AND_READERS: Crew = Crew {
     committers: 16,
     readers: 4,
-    each: 1000,
+    each: 400,
 };
 
 #[test]

@@ -25,10 +25,10 @@ use std::thread::{Threads, join};
 use std::time::Instant;
 
 /// Commits that are published.
-const COMMITS: u64 = 60_000;
+const COMMITS: u64 = 20_000;
 
 /// Transactions that a seat reads alone.
-const READS: u64 = 3_000_000;
+const READS: u64 = 1_000_000;
 
 /// Seats that there may be at once.
 const SEATS: usize = 4;
