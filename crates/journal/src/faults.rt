@@ -37,7 +37,7 @@ pub enum OpenFault {
 }
 
 /// Why a call on a journal in a file failed.
-#[derive(Debug, Drop, Error)]
+#[derive(Clone, Copy, Debug, Error)]
 pub enum FileFault {
     /// An earlier append or cut failed, and what it left was not cleared away yet.
     #[error("what a failed write left in the journal was not cleared away")]

@@ -1,6 +1,6 @@
 //! A journal in a file.
 
-ghost use Rattle.std.specs.Prelude.{◌≡◌, ◌+◌, ◌<◌, length, take, drop, true, IfOk};
+ghost use Rattle.std.specs.Prelude.{◌≡◌, ◌+◌, ◌<◌, length, take, drop, true, IfOk, is_some, nat_lt};
 ghost use Rattle.journal.specs.Storing.{faults_max};
 
 use crate::disk::Disk;
@@ -26,10 +26,12 @@ pub struct FileJournal<D: Disk = File> {
     /// Whether others may stand behind them.
     unsettled: bool,
     faults: u64,
+    /// The newest of them.
+    last_fault: Option<FileFault>,
 }
 
 impl<D: Disk> Model for FileJournal<D> {
-    ghost use Rattle.std.specs.Prelude.{◌≡◌, take, drop, true};
+    ghost use Rattle.std.specs.Prelude.{◌≡◌, take, drop, true, is_some, nat_lt};
     ghost use Rattle.journal.specs.State.{FileState};
     ghost use Rattle.journal.specs.Inner.Settling.{StandsIn};
 
@@ -37,7 +39,7 @@ impl<D: Disk> Model for FileJournal<D> {
 
     ghost view = { λ j. record { bytes = take j.len (D.content j.disk); left_behind = drop j.len (D.content j.disk); faults = j.faults } };
 
-    ghost invariant = { λ j. D.is_honest ≡ true → StandsIn j.len j.unsettled (D.content j.disk) };
+    ghost invariant = { λ j. (D.is_honest ≡ true → StandsIn j.len j.unsettled (D.content j.disk)) × (is_some j.last_fault ≡ nat_lt 0 j.faults) };
 }
 
 impl FileJournal<File> {
@@ -70,15 +72,25 @@ impl<D: Disk> FileJournal<D> {
             len,
             unsettled: false,
             faults: 0,
+            last_fault: None,
         }
     }
 
-    /// Counts a fault.
+    /// Why the newest of the calls that failed did; `None` exactly while none has failed. So a program
+    /// can print the system's words where a primary tells only that its journal failed. Takes no memory.
+    pub fn last_fault(&self) -> Option<FileFault>
+        ensures { is_some result ≡ nat_lt 0 self.now.faults }
+    {
+        self.last_fault
+    }
+
+    /// Counts a fault, and keeps it.
     fn fault(&mut self, fault: FileFault) -> FileFault
         requires { self.old.faults < faults_max }
         ensures { self.new ≡ record self.old { faults = self.old.faults + 1 } }
     {
         self.faults += 1;
+        self.last_fault = Some(fault);
         fault
     }
 }

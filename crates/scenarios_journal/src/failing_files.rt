@@ -100,6 +100,62 @@ fn a_file_that_cannot_be_written_has_faults(rt: HostRuntime) -> Result<(), Fail>
     Ok(())
 }
 
+/// Why a call failed, as a journal keeps it.
+#[derive(Clone, Copy, PartialEq)]
+enum Reason {
+    None,
+    Unsettled,
+    /// The system's number of the error; none where the error is not the system's.
+    System(Option<i32>),
+}
+
+/// The reason that a journal keeps.
+fn reason_of<D: Disk>(journal: &FileJournal<D>) -> Reason {
+    match journal.last_fault() {
+        None => Reason::None,
+        Some(FileFault::Unsettled) => Reason::Unsettled,
+        Some(FileFault::System(error)) => Reason::System(error.raw_os_error()),
+    }
+}
+
+/// What a journal in a file that cannot be written keeps as its last fault: at first, after an append,
+/// after another one, and after a cut.
+fn reasons_unwritten(rt: &HostRuntime, path: &str) -> Result<[Reason; 4], Fail> {
+    let file = OpenOptions::new().read(true).open(rt, path)?;
+    let len = file.metadata()?.len();
+    let mut journal = FileJournal::on(file, len);
+    let first = reason_of(&journal);
+    let _ = append(&mut journal, &JOURNAL[HEADER_LEN..])?;
+    let written = reason_of(&journal);
+    let _ = append(&mut journal, &JOURNAL[HEADER_LEN..])?;
+    let again = reason_of(&journal);
+    let _ = cut_to(&mut journal, HEADER_LEN)?;
+    Ok([first, written, again, reason_of(&journal)])
+}
+
+/// The number of the system's error where a file is not open for writing (EBADF).
+const NOT_OPEN_FOR_WRITING: i32 = 9;
+
+/// The number of the system's error where a file that is not open for writing is to be cut (EINVAL).
+const NOT_TO_BE_CUT: i32 = 22;
+
+/// A journal keeps the system's reason of the newest fault, and that a call was not tried.
+#[test]
+fn the_reason_of_the_last_fault_is_kept(rt: HostRuntime) -> Result<(), Fail> {
+    let path = fresh_path(&rt, "reason")?;
+    fs::write(&rt, path.as_str(), JOURNAL)?;
+    let reasons = reasons_unwritten(&rt, path.as_str())?;
+    fs::remove_file(&rt, path.as_str())?;
+    let wanted = [
+        Reason::None,
+        Reason::System(Some(NOT_OPEN_FOR_WRITING)),
+        Reason::Unsettled,
+        Reason::System(Some(NOT_TO_BE_CUT)),
+    ];
+    assert!(rt; reasons == wanted);
+    Ok(())
+}
+
 /// The length of the longest file that the system makes of this one, found by halving. What it
 /// gains are holes, which take no room.
 fn longest(file: &File) -> u64 {
