@@ -1,0 +1,69 @@
+-- When a replica is broken, by what its calls answer.
+use Rattle.std.proofs.Common.{◌≡◌, ℕ, Bool, true, false, cond, List, Option, Some, None, Result, Ok, Err, refl, sym, ap, ◌∙◌, inl, inr}
+use Rattle.std.proofs.Common.{not, ◌||◌, ◌&&◌, ◌==◌, nat_lt}
+use Rattle.std.proofs.lemmas.Bool.{cond_both}
+use Rattle.std.specs.List.{list_all}
+use Rattle.std.specs.Result.{is_ok}
+use Rattle.rows.specs.Entries.{fitting}
+use Rattle.rows.specs.Tables.{shape_in}
+use Rattle.update_log.specs.declared.frame.Frame.{Frame}
+use Rattle.intake.specs.declared.taken.Taken.{Taken}
+use Rattle.intake.specs.declared.taken.Taken.TheVariants as takens
+use Rattle.intake.specs.Steps.{taken}
+use Rattle.wire.specs.declared.datagram.Datagram.{Datagram}
+use Rattle.wire.specs.declared.datagram.Datagram.TheVariants as datagrams
+use Rattle.wire.specs.declared.faults.WireFault.{WireFault}
+use Rattle.wire.specs.Reading.{reading}
+use Rattle.dispatcher.specs.State.{Replica, Batch, Fetched}
+use Rattle.dispatcher.specs.declared.outcome.Got.{Got}
+use Rattle.dispatcher.specs.declared.outcome.Got.TheVariants as got
+use Rattle.dispatcher.specs.Steps.{received, datagram_comes, frame_comes, got_of, goes_on, own_head_comes, head_by_batch, taken_head, MayTake}
+
+-- an answer that is not `Broken`
+abbrev IsOther : Got → Type 0
+IsOther answer = answer ≡ got.Broken → ⊥
+
+got_of-other : (answer : Taken) → IsOther (got_of answer)
+got_of-other takens.Repeat = λ is. absurd (cc)
+got_of-other takens.Ahead = λ is. absurd (cc)
+got_of-other takens.Memory = λ is. absurd (cc)
+got_of-other takens.Stored = λ is. absurd (cc)
+
+frame-other : (r : Replica) (frame : Frame) → IsOther (frame_comes r frame).0
+frame-other r frame =
+    cond_both (not (nat_lt frame.worker r.workers) || not (list_all (λ entry. is_ok (fitting (shape_in r.tables) entry)) frame.entries))
+    (got.Ignored, r) (got_of (taken r.arrivals frame).0, record r { arrivals = (taken r.arrivals frame).1 })
+    (λ (answer : Got × Replica). IsOther answer.0) (λ not_taken is. absurd (cc)) (λ takes. got_of-other (taken r.arrivals frame).0)
+
+head-other : (r : Replica) (version : ℕ) (counts : List ℕ) → IsOther (own_head_comes r version counts).0
+head-other r version counts =
+    cond_both (goes_on r version counts) (head_by_batch r version counts r.batch) (got.Ignored, r)
+    (λ (answer : Got × Replica). IsOther answer.0) (λ goes. by_batch r.batch) (λ other is. absurd (cc))
+  where
+    by_fetched : (plans : _) (fetched : Option Fetched) → IsOther (taken_head r version counts plans fetched).0
+    by_fetched plans (Some fetched) = λ is. absurd (cc)
+    by_fetched plans None = λ is. absurd (cc)
+
+    by_batch : (batch : Option Batch) → IsOther (head_by_batch r version counts batch).0
+    by_batch None = λ is. absurd (cc)
+    by_batch (Some batch) = by_fetched batch.plans batch.fetched
+
+datagram-other : (r : Replica) (datagram : Result Datagram WireFault) → IsOther (datagram_comes r datagram).0
+datagram-other r (Err fault) = λ is. absurd (cc)
+datagram-other r (Ok (datagrams.Frame worker seq commit last entries)) =
+    frame-other r (record { worker = worker; seq = seq; commit = commit; last = last; entries = entries })
+datagram-other r (Ok (datagrams.Ask replica boot request)) = λ is. absurd (cc)
+datagram-other r (Ok (datagrams.Head replica boot request version counts)) =
+    cond_both ((replica == r.number) && (boot == r.boot) && (request == r.request)) (own_head_comes r version counts) (got.Ignored, r)
+    (λ (answer : Got × Replica). IsOther answer.0) (λ own. head-other r version counts) (λ other is. absurd (cc))
+datagram-other r (Ok (datagrams.Want replica worker from)) = λ is. absurd (cc)
+
+-- a replica that answers so is broken
+pub heard_is_broken : (r s : Replica) (bytes : List ℕ) → MayTake r (received r bytes) got.Broken s → s.broken ≡ true
+heard_is_broken r s bytes (inl memory) = absurd (cc)
+heard_is_broken r s bytes (inr comes) = by r.broken refl comes
+  where
+    by : (broken : Bool) → r.broken ≡ broken → cond broken (got.Broken, r) (datagram_comes r (reading bytes)) ≡ (got.Broken, s)
+        → s.broken ≡ true
+    by true is same = sym (ap (λ (answer : Got × Replica). answer.1.broken) same) ∙ is
+    by false is same = absurd (datagram-other r (reading bytes) (ap (λ (answer : Got × Replica). answer.0) same))

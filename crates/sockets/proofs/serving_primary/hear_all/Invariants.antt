@@ -1,0 +1,11 @@
+-- What came so far was answered.
+use Rattle.std.proofs.Common.{◌≡◌, []}
+use Rattle.sockets.specs.Inner.Deeds.{Deeds}
+use Rattle.sockets.proofs.serving_primary.hear_all.Given as goal
+
+abbrev pub invariant-loop : goal.invariant-loop
+invariant-loop g l = record {
+  deeds : Deeds {P = g.row.P.Denot} g.L.Line.schema g.L.Line.workers g.P.Port.is_honest g.P.Port.came g.P.Port.sent
+      g.P.Port.fault_count l.fn.port l.port l.fn.seat.list l.seat.list 0 (λ _. []);
+  seat : l.seat ≡ record l.fn.seat { list = l.seat.list };
+}

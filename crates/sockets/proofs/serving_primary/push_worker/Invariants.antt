@@ -1,0 +1,11 @@
+-- The frames so far were pushed.
+use Rattle.std.proofs.Common.{◌≡◌}
+use Rattle.sockets.specs.Inner.Deeds.{Pushes}
+use Rattle.sockets.proofs.serving_primary.push_worker.Given as goal
+
+abbrev pub invariant-loop : goal.invariant-loop
+invariant-loop g l = record {
+  pushes : Pushes {P = g.row.P.Denot} g.L.Line.schema g.L.Line.workers g.P.Port.is_honest g.P.Port.came g.P.Port.sent
+      g.P.Port.fault_count l.fn.port l.port l.fn.seat.list l.seat.list l.fn.worker l.fn.from l.seq;
+  seat : l.seat ≡ record l.fn.seat { list = l.seat.list };
+}

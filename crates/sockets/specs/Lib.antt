@@ -1,0 +1,5 @@
+pub mod Carrying
+pub mod Serving
+pub mod Replicas
+pub mod Primaries
+pub mod Inner

@@ -1,0 +1,214 @@
+//! A primary that serves: it pushes what is durable to its replicas, and answers what comes.
+
+ghost use Rattle.std.specs.Prelude.{◌≡◌, ◌<◌, ◌≤◌, ◌⊎◌, [], length, Some, IfOk, IfErr, IsTrue};
+ghost use Rattle.rows.specs.Limits.{datagram_max, workers_max};
+ghost use Rattle.sockets.specs.Primaries.{ServesPrimary};
+ghost use Rattle.sockets.specs.Inner.Deeds.{Deeds, Pushes, PushesAll, SendsAll, pushes_if};
+ghost use Rattle.sockets.specs.Replicas.{failures};
+ghost use Rattle.sockets.specs.declared.faults.ServeFault.TheVariants.{Socket};
+
+use crate::faults::ServeFault;
+use crate::turns::{BUFFER_LEN, ROUND_DATAGRAMS, TURN_ROUNDS, take_turn};
+use journal::JournalStore;
+use ports::{Patience, Port};
+use shared::{Line, Origin, Seat};
+use std::sync::Wait;
+use wire::{Out, To};
+
+/// How many frames are pushed in a turn, at most, over all workers.
+const TURN_PUSHES: usize = 64;
+
+/// How many frames of one worker are pushed in a turn, at most.
+const WORKER_PUSHES: usize = 16;
+
+/// Serves until the turns are used up; `None` turns have no end. `counters` has for each worker the seq of
+/// the first frame that was not pushed yet, at first 0; another call goes on where this one stopped.
+///
+/// In a turn it pushes the next durable frames of each worker, 64 at most, to all replicas, each once;
+/// then it answers what comes, for which it waits at most 10 ms with nothing coming. A datagram for which
+/// there is no memory is as one that was lost, and so is one that cannot be sent.
+///
+/// It also ends where the port has counted as many faults as it can. Fails with `Socket` where a receive
+/// failed; it may be called again.
+pub fn serve_primary<L: Origin, J: JournalStore, H: Wait + Drop, P: Port, R: Wait>(
+    rt: &R,
+    line: &Line<L, J, H>,
+    seat: &mut Seat<L>,
+    port: &mut P,
+    counters: &mut [u64],
+    turns: &mut Option<u64>,
+) -> Result<(), ServeFault>
+    requires { length counters.old ≤ workers_max }
+    ensures serves { ServesPrimary L.schema L.workers P.is_honest P.came P.sent P.fault_count port.old port.new
+        seat.old.list seat.new.list counters.old counters.new result }
+    ensures seat { seat.new ≡ record seat.old { list = seat.new.list } }
+    ensures counters { length counters.new ≡ length counters.old }
+    ensures ended { IfOk result (λ _. (turns.new ≡ Some 0) ⊎ (P.fault_count port.new ≡ u64.MAX)) }
+    ensures failed { IfErr result (λ fault. fault ≡ Socket) }
+{
+    let mut buffer = [0u8; BUFFER_LEN];
+    for _ in rt.forever() {
+        if port.faults() == u64::MAX || !take_turn(turns) {
+            return Ok(());
+        }
+        push_all(rt, line, seat, port, counters);
+        if let Err(fault) = hear_all(rt, line, seat, port, &mut buffer) {
+            return Err(fault);
+        }
+    }
+    unreachable!()
+}
+
+/// Pushes the next frames of each worker to all replicas.
+fn push_all<L: Origin, J: JournalStore, H: Wait + Drop, P: Port, R: Wait>(
+    rt: &R,
+    line: &Line<L, J, H>,
+    seat: &mut Seat<L>,
+    port: &mut P,
+    counters: &mut [u64],
+)
+    requires { length counters.old ≤ workers_max }
+    ensures pushes { PushesAll L.schema L.workers P.is_honest P.came P.sent P.fault_count port.old port.new
+        seat.old.list seat.new.list counters.old counters.new }
+    ensures seat { seat.new ≡ record seat.old { list = seat.new.list } }
+    ensures counters { length counters.new ≡ length counters.old }
+{
+    let most = pushes_of_each(counters.len());
+    for worker in 0..counters.len() {
+        counters[worker] = push_worker(rt, line, seat, worker as u8, port, counters[worker], most);
+    }
+}
+
+/// How many frames of each worker are pushed in a turn, at most, where there are so many workers.
+fn pushes_of_each(workers: usize) -> usize {
+    if workers <= TURN_PUSHES / WORKER_PUSHES {
+        WORKER_PUSHES
+    } else {
+        TURN_PUSHES / workers
+    }
+}
+
+/// Pushes the frames of a worker from a seq on, so many at most, and answers the first seq that was not
+/// pushed.
+fn push_worker<L: Origin, J: JournalStore, H: Wait + Drop, P: Port, R: Wait>(
+    rt: &R,
+    line: &Line<L, J, H>,
+    seat: &mut Seat<L>,
+    worker: u8,
+    port: &mut P,
+    from: u64,
+    most: usize,
+) -> u64
+    ensures deeds { Pushes L.schema L.workers P.is_honest P.came P.sent P.fault_count port.old port.new
+        seat.old.list seat.new.list worker from result }
+    ensures seat { seat.new ≡ record seat.old { list = seat.new.list } }
+{
+    let mut seq = from;
+    for _ in 0..most {
+        if !push(rt, line, seat, worker, port, seq) {
+            break;
+        }
+        seq += 1;
+    }
+    seq
+}
+
+/// Pushes a frame, and answers whether there was one. None is pushed whose seq is the last of 64 bits,
+/// which no stream has.
+fn push<L: Origin, J: JournalStore, H: Wait + Drop, P: Port, R: Wait>(
+    rt: &R,
+    line: &Line<L, J, H>,
+    seat: &mut Seat<L>,
+    worker: u8,
+    port: &mut P,
+    seq: u64,
+) -> bool
+    ensures deeds { Deeds L.schema L.workers P.is_honest P.came P.sent P.fault_count port.old port.new
+        seat.old.list seat.new.list 0 (pushes_if result worker seq) }
+    ensures seat { seat.new ≡ record seat.old { list = seat.new.list } }
+    ensures below { IsTrue result → seq < u64.MAX }
+{
+    if seq == u64::MAX || port.faults() == u64::MAX {
+        return false;
+    }
+    match line.push(rt, seat, worker, seq) {
+        Ok(Some(packet)) => {
+            let to = To::Replicas;
+            // One that could not be sent is lost, as it may be on its way; the replicas ask for it.
+            let _ = port.send(Out { to, packet });
+            true
+        }
+        Ok(None) => false,
+        Err(_) => false,
+    }
+}
+
+/// Receives and answers what comes: it waits for the first datagram alone.
+fn hear_all<L: Origin, J: JournalStore, H: Wait + Drop, P: Port, R: Wait>(
+    rt: &R,
+    line: &Line<L, J, H>,
+    seat: &mut Seat<L>,
+    port: &mut P,
+    buffer: &mut [u8],
+) -> Result<(), ServeFault>
+    requires room { datagram_max < length buffer.old }
+    ensures deeds { Deeds L.schema L.workers P.is_honest P.came P.sent P.fault_count port.old port.new
+        seat.old.list seat.new.list (failures result) (λ _. []) }
+    ensures seat { seat.new ≡ record seat.old { list = seat.new.list } }
+    ensures failed { IfErr result (λ fault. fault ≡ Socket) }
+{
+    let mut patience = Patience::Waits;
+    for _ in 0..TURN_ROUNDS * ROUND_DATAGRAMS {
+        match hear(rt, line, seat, port, buffer, patience) {
+            Ok(true) => {}
+            Ok(false) => return Ok(()),
+            Err(fault) => return Err(fault),
+        }
+        patience = Patience::Takes;
+    }
+    Ok(())
+}
+
+/// Receives one datagram and answers it; says whether one came.
+fn hear<L: Origin, J: JournalStore, H: Wait + Drop, P: Port, R: Wait>(
+    rt: &R,
+    line: &Line<L, J, H>,
+    seat: &mut Seat<L>,
+    port: &mut P,
+    buffer: &mut [u8],
+    patience: Patience,
+) -> Result<bool, ServeFault>
+    requires room { datagram_max < length buffer.old }
+    ensures deeds { Deeds L.schema L.workers P.is_honest P.came P.sent P.fault_count port.old port.new
+        seat.old.list seat.new.list (failures result) (λ _. []) }
+    ensures seat { seat.new ≡ record seat.old { list = seat.new.list } }
+    ensures failed { IfErr result (λ fault. fault ≡ Socket) }
+{
+    if port.faults() == u64::MAX {
+        return Ok(false);
+    }
+    match port.recv(buffer, patience) {
+        Ok(None) => Ok(false),
+        Ok(Some(len)) => match line.on_bytes(rt, seat, &buffer[..len]) {
+            Ok(outs) => {
+                send_all(port, outs);
+                Ok(true)
+            }
+            Err(_) => Ok(true),
+        },
+        Err(_) => Err(ServeFault::Socket),
+    }
+}
+
+/// Sends datagrams, in their order. Those that come after the port has counted as many faults as it can
+/// are lost.
+fn send_all<P: Port>(port: &mut P, outs: Vec<Out>)
+    ensures { SendsAll P.is_honest P.came P.sent P.fault_count port.old port.new outs.items }
+{
+    for out in outs {
+        if port.faults() == u64::MAX {
+            return;
+        }
+        let _ = port.send(out);
+    }
+}

@@ -1,0 +1,30 @@
+//! The turns of a serve call, and how much one does.
+
+ghost use Rattle.std.specs.Prelude.{◌≡◌, Some, false};
+
+use rows::limits::DATAGRAM_MAX;
+
+/// One byte more than a datagram has, so that a longer one is not taken for its front.
+pub const BUFFER_LEN: usize = DATAGRAM_MAX + 1;
+
+/// How many datagrams are received in a row, at most, before a node does something else: as many as
+/// answer one Want.
+pub const ROUND_DATAGRAMS: usize = 16;
+
+/// How many rounds of receives a turn has, at most. All of them take no more than the receive buffer of a
+/// socket holds.
+pub const TURN_ROUNDS: usize = 4;
+
+/// Uses up one turn, if one is left; `None` is no limit.
+pub fn take_turn(turns: &mut Option<u64>) -> bool
+    ensures { result ≡ false → turns.new ≡ Some 0 }
+{
+    match turns {
+        None => true,
+        Some(0) => false,
+        Some(left) => {
+            *left -= 1;
+            true
+        }
+    }
+}
