@@ -68,7 +68,7 @@ fn is_passed<R: Threads + Wait + Sync>(rt: &R, alloc: Global, held: u8) -> Resul
     let gate = Turnstile::new(held);
     let answers = answered(rt, alloc, core, 2, &jobs, &gate);
     Ok(match answers {
-        Some(Ok(answers)) => are_tickets(&answers, 20) && gate.was_passed(),
+        Some(Ok(answers)) => are_tickets(&answers, 20) && gate.was_passed(20),
         _ => false,
     })
 }

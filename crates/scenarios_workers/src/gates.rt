@@ -24,6 +24,7 @@ pub struct Turnstile {
     held: u8,
     answered: AtomicU64,
     used_up: AtomicU64,
+    told: AtomicU64,
 }
 
 impl Turnstile {
@@ -33,23 +34,27 @@ impl Turnstile {
             held,
             answered: AtomicU64::new(0),
             used_up: AtomicU64::new(0),
+            told: AtomicU64::new(0),
         }
     }
 
-    /// Whether the turns of no commit ran out.
-    pub fn was_passed(&self) -> bool {
+    /// Whether it was told of so many commits, before each and after it, and the turns of none ran out.
+    pub fn was_passed(&self, commits: u64) -> bool {
         self.used_up.load(Ordering::SeqCst) == 0
+            && self.told.load(Ordering::SeqCst) == commits.wrapping_mul(2)
     }
 }
 
 impl Gate for Turnstile {
     fn before(&self, worker: u8, _job: usize) {
+        self.told.fetch_add(1, Ordering::SeqCst);
         if worker == self.held && !is_raised(&self.answered) {
             self.used_up.store(1, Ordering::SeqCst);
         }
     }
 
     fn answered(&self, worker: u8, _job: usize) {
+        self.told.fetch_add(1, Ordering::SeqCst);
         if worker != self.held {
             self.answered.store(1, Ordering::SeqCst);
         }

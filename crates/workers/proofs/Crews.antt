@@ -1,10 +1,10 @@
 -- The answers of a crew, put into the order of the jobs.
-use Rattle.std.proofs.Common.{◌≡◌, refl, ap, sym, ◌∙◌, subst, arith, add-one, ℕ, zero, suc, ◌+◌, ◌<◌, ◌≤◌}
-use Rattle.std.proofs.Common.{Bool, true, false, cond, ◌==◌, None}
-use Rattle.std.proofs.Common.{List, [], ◌∷◌, ◌++◌, length, get_or, take, drop, length-append}
+use Rattle.std.proofs.Common.{◌≡◌, refl, ap, sym, ◌∙◌, subst, arith, ℕ, zero, suc, ◌+◌, ◌<◌, ◌≤◌}
+use Rattle.std.proofs.Common.{Bool, true, false, cond, if◌then◌else◌, ◌==◌, nat_lt, None}
+use Rattle.std.proofs.Common.{List, [], ◌∷◌, ◌++◌, length, get_or, take, drop, length-append, append-nil}
 use Rattle.std.specs.List.{AllZip, All}
-use Rattle.std.proofs.lemmas.Bool.{eqb-true, eqb-false, eq-eqb}
-use Rattle.std.proofs.lemmas.List.{get_or-set_same, get_or-set_other}
+use Rattle.std.proofs.lemmas.Bool.{eqb-true, eqb-false, eq-eqb, ne_eqb, ltb-true, ltb-false}
+use Rattle.std.proofs.lemmas.List.{get_or-set_same, get_or-set_other, length-take-le}
 use Rattle.std.proofs.lemmas.Grind.{get_or_default_zero}
 use Rattle.std.proofs.lemmas.List.Filters.{length-filter_more}
 use Rattle.std.proofs.Math.ListN.{set}
@@ -14,13 +14,14 @@ use Rattle.rows.specs.declared.commit.Commit.{Commit}
 use Rattle.rows.specs.Shape.{Shape}
 use Rattle.workers.specs.declared.job.Job.{Job}
 use Rattle.workers.specs.declared.job_answer.JobAnswer.{JobAnswer}
+use Rattle.workers.specs.declared.job_answer.JobAnswer.TheVariants.{Ticket, Conflict, Refused}
 use Rattle.workers.specs.Answers.{IsJobAnswer}
-use Rattle.workers.specs.Crews.{EachWorked, FirstHasSeenAll, AreAnswered, first_list}
-use Rattle.workers.specs.Inner.Steps.{HasMet, EachMet, EachAnswers, EachIsDone}
-use Rattle.workers.specs.Work.{HasWorked, jobs_of}
+use Rattle.workers.specs.Crews.{EachWorked, EachHasAnswered, FirstHasSeenAll, AreAnswered, first_list}
+use Rattle.workers.specs.Inner.Steps.{HasMet, EachMet, EachIsDone}
+use Rattle.workers.specs.Work.{HasWorked, IsRising, jobs_of, answers_of}
 use Rattle.workers.specs.Worker.{WorkerState}
 use Rattle.workers.proofs.Beginnings.{prefix_self, prefix_trans, prefix_length}
-use Rattle.workers.proofs.Jobs.{answers-begun, zip-snoc, zip-seam}
+use Rattle.workers.proofs.Jobs.{answers-begun, mine-snoc, others-snoc, take-more}
 use Rattle.workers.proofs.Working.{worked-met, all-answered}
 
 pub each-met : (workers : ℕ) (shape : Shape) (jobs : List Job) (old mid new : List WorkerState) → length mid ≡ length old
@@ -35,22 +36,37 @@ each-done workers shape jobs old new same worked none number any lt =
     (worked number any (omega (arith, same, lt))).whole (none number any lt)
 
 pub each-answers : (workers : ℕ) (shape : Shape) (jobs : List Job) (old new : List WorkerState) (first : List Commit)
-    → length new ≡ length old
+    (answers : List JobAnswer) → length new ≡ length old
     → EachWorked workers shape jobs old new → All (λ worker. worker.fault ≡ None) new
-    → All (λ worker. IsPrefix first worker.seat.list) old → FirstHasSeenAll new
-    → EachAnswers shape (length first) (first_list new) jobs new
-each-answers workers shape jobs old new first same worked none begins seen number any lt =
-    let below : number < length old = omega (arith, same, lt) in
+    → All (λ worker. IsPrefix first worker.seat.list) old → FirstHasSeenAll new → EachHasAnswered jobs new answers
+    → (number : ℕ) → number < length new
+    → AllZip (IsJobAnswer shape (length first) (first_list new)) (jobs_of number jobs) (answers_of number jobs answers)
+each-answers workers shape jobs [] new first answers same worked none begins seen each number lt = absurd (omega (arith, same, lt))
+each-answers workers shape jobs (any ∷ old) new first answers same worked none begins seen each number lt =
+    let crew = any ∷ old in
+    let below : number < length crew = omega (arith, same, lt) in
     let w = worked number any below in
-    answers-begun shape (length first) (length (get_or old number any).seat.list) (get_or new number any).seat.list (first_list new)
-    (jobs_of number jobs) (get_or new number any).answers (prefix_length first (get_or old number any).seat.list (begins number any below))
-    (seen number any lt)
-    (all-answered workers shape number jobs (get_or old number any) (get_or new number any) w (none number any lt))
+    subst (AllZip (IsJobAnswer shape (length first) (first_list new)) (jobs_of number jobs)) (sym (each number any lt))
+    (answers-begun shape (length first) (length (get_or crew number any).seat.list) (get_or new number any).seat.list (first_list new)
+    (jobs_of number jobs) (get_or new number any).answers
+    (prefix_length first (get_or crew number any).seat.list (begins number any below)) (seen number any lt)
+    (all-answered workers shape number jobs (get_or crew number any) (get_or new number any) w (none number any lt)))
 
-cond-more : (own : Bool) (job : Job) (all front rest : List Job) → all ≡ front ++ rest
-    → cond own (job ∷ all) all ≡ cond own (job ∷ front) front ++ rest
-cond-more true job all front rest e = ap (λ (js : List Job). job ∷ js) e
-cond-more false job all front rest e = e
+cond-more : {A : Type 0} (own : Bool) (x : A) (all front rest : List A) → all ≡ front ++ rest
+    → (if own then x ∷ all else all) ≡ (if own then x ∷ front else front) ++ rest
+cond-more true x all front rest e = ap (λ xs. x ∷ xs) e
+cond-more false x all front rest e = e
+
+-- the answers of a worker's jobs, with one job more
+of-snoc : (number : ℕ) (jobs : List Job) (answers : List JobAnswer) (job : Job) (answer : JobAnswer) → length jobs ≡ length answers
+    → answers_of number (jobs ++ job ∷ []) (answers ++ answer ∷ [])
+    ≡ answers_of number jobs answers ++ (if job.worker == number then answer ∷ [] else [])
+of-snoc number [] [] job answer same = refl
+of-snoc number [] (other ∷ answers) job answer same = absurd (omega (arith, same))
+of-snoc number (other ∷ jobs) [] job answer same = absurd (omega (arith, same))
+of-snoc number (other ∷ jobs) (told ∷ answers) job answer same =
+    cond-more (other.worker == number) told (answers_of number (jobs ++ job ∷ []) (answers ++ answer ∷ [])) (answers_of number jobs answers)
+    (if job.worker == number then answer ∷ [] else []) (of-snoc number jobs answers job answer (omega (arith, same)))
 
 -- a job stands among those of its worker, behind those before it
 pub mine-at : (worker : ℕ) (jobs : List Job) (i : ℕ) (any : Job) → i < length jobs → (get_or jobs i any).worker ≡ worker
@@ -116,35 +132,57 @@ next-after next jobs i count job index lt is long there at are worker below =
         get_or-set_other next job.worker worker (index + 1) 0 (λ same. absurd (cc (e, eq-eqb job.worker worker (sym same))))
         ∙ (are worker below ∙ omega (arith, none))
 
--- one job more is answered by the next answer of its worker
-pub answered-more : (shape : Shape) (from : ℕ) (list : List Commit) (jobs : List Job) (crew : List WorkerState) (i : ℕ) (job : Job)
-    (worker : WorkerState) (answers : List JobAnswer) (index : ℕ) (none : JobAnswer) → i < length jobs → job ≡ get_or jobs i job
-    → job.worker < length crew → worker ≡ get_or crew job.worker worker → index ≡ length (jobs_of job.worker (take i jobs))
-    → EachAnswers shape from list jobs crew → AllZip (IsJobAnswer shape from list) (take i jobs) answers
-    → AllZip (IsJobAnswer shape from list) (take (i + 1) jobs) (answers ++ get_or worker.answers index none ∷ [])
-answered-more shape from list jobs crew i job worker answers index none lt is below there at each are =
-    rw (add-one, take-suc jobs i job lt, ← is, at) (
-    zip-snoc R (take i jobs) answers job (get_or worker.answers (length (jobs_of job.worker (take i jobs))) none) are
-    (zip-seam R (jobs_of job.worker (take i jobs)) job (jobs_of job.worker (drop (suc i) jobs)) worker.answers none mine)
-    )
-  where
-    R : Job → JobAnswer → Type 0
-    R = IsJobAnswer shape from list
-
-    split : jobs_of job.worker jobs ≡ jobs_of job.worker (take i jobs) ++ job ∷ jobs_of job.worker (drop (suc i) jobs)
-    split =
-        mine-at job.worker jobs i job lt (ap (λ (j : Job). j.worker) (sym is))
-        ∙ ap (λ j. jobs_of job.worker (take i jobs) ++ j ∷ jobs_of job.worker (drop (suc i) jobs)) (sym is)
-
-    mine : AllZip R (jobs_of job.worker (take i jobs) ++ job ∷ jobs_of job.worker (drop (suc i) jobs)) worker.answers
-    mine =
-        subst (λ js. AllZip R js worker.answers) split
-        (subst (λ (w : WorkerState). AllZip R (jobs_of job.worker jobs) w.answers) (sym there) (each job.worker worker below))
-
 get-any : {A : Type 0} (xs : List A) (i : ℕ) (d e : A) → i < length xs → get_or xs i d ≡ get_or xs i e
 get-any [] i d e lt = absurd (omega arith)
 get-any (x ∷ xs) zero d e lt = refl
 get-any (x ∷ xs) (suc i) d e lt = get-any xs i d e (omega arith)
+
+-- one job more is answered by the next answer of its worker
+pub answered-more : (jobs : List Job) (crew : List WorkerState) (i : ℕ) (job : Job) (worker : WorkerState) (answers : List JobAnswer)
+    (index : ℕ) (none : JobAnswer) → i < length jobs → job ≡ get_or jobs i job → length answers ≡ i → job.worker < length crew
+    → worker ≡ get_or crew job.worker worker → index ≡ length (jobs_of job.worker (take i jobs)) → index < length worker.answers
+    → ((number : ℕ) (any : WorkerState) → number < length crew
+    → answers_of number (take i jobs) answers ≡ take (length (jobs_of number (take i jobs))) (get_or crew number any).answers)
+    → (number : ℕ) (any : WorkerState) → number < length crew
+    → answers_of number (take (i + 1) jobs) (answers ++ get_or worker.answers index none ∷ [])
+    ≡ take (length (jobs_of number (take (i + 1) jobs))) (get_or crew number any).answers
+answered-more jobs crew i job worker answers index none lt is long there found at within are number any below =
+    by (job.worker == number) refl
+  where
+    next : JobAnswer
+    next = get_or worker.answers index none
+
+    more : answers_of number (take (i + 1) jobs) (answers ++ next ∷ [])
+        ≡ answers_of number (take i jobs) answers ++ (if job.worker == number then next ∷ [] else [])
+    more =
+        ap (λ js. answers_of number js (answers ++ next ∷ [])) (take-more jobs i job lt is)
+        ∙ of-snoc number (take i jobs) answers job next (omega (arith, long, length-take-le i jobs (omega arith)))
+
+    by : (own : Bool) → (job.worker == number) ≡ own
+        → answers_of number (take (i + 1) jobs) (answers ++ next ∷ [])
+        ≡ take (length (jobs_of number (take (i + 1) jobs))) (get_or crew number any).answers
+    by true e =
+        let same : job.worker ≡ number = eqb-true job.worker number e in
+        let mine = ap length (ap (jobs_of number) (take-more jobs i job lt is) ∙ mine-snoc number (take i jobs) job e) in
+        let longer = mine ∙ length-append (jobs_of number (take i jobs)) (job ∷ []) in
+        let here : length (jobs_of number (take i jobs)) ≡ index = ap (λ v. length (jobs_of v (take i jobs))) (sym same) ∙ sym at in
+        let worker-is : get_or crew number any ≡ worker =
+        ap (λ v. get_or crew v any) (sym same) ∙ (get-any crew job.worker any worker there ∙ sym found) in
+        let count : length (jobs_of number (take (i + 1) jobs)) ≡ suc index = omega (arith, longer, here) in
+        more
+        ∙ (ap (λ own. answers_of number (take i jobs) answers ++ (if own then next ∷ [] else [])) e
+        ∙ (ap (λ front. front ++ next ∷ []) (are number any below)
+        ∙ (ap (λ n. take n (get_or crew number any).answers ++ next ∷ []) here
+        ∙ (ap (λ (w : WorkerState). take index w.answers ++ next ∷ []) worker-is
+        ∙ (sym (take-suc worker.answers index none within)
+        ∙ (ap (λ n. take n worker.answers) (sym count)
+        ∙ ap (λ (w : WorkerState). take (length (jobs_of number (take (i + 1) jobs))) w.answers) (sym worker-is)))))))
+    by false e =
+        let others = ap (jobs_of number) (take-more jobs i job lt is) ∙ others-snoc number (take i jobs) job e in
+        more
+        ∙ (ap (λ own. answers_of number (take i jobs) answers ++ (if own then next ∷ [] else [])) e
+        ∙ (append-nil (answers_of number (take i jobs) answers)
+        ∙ (are number any below ∙ ap (λ js. take (length js) (get_or crew number any).answers) (sym others))))
 
 -- two meetings, one after the other
 pub met-trans : (workers : ℕ) (shape : Shape) (old mid new : WorkerState) → HasMet workers shape old mid → HasMet workers shape mid new
@@ -212,18 +250,80 @@ seen-all (worker ∷ []) others first one seen = by
     by (suc k) any lt = seen k any (omega arith)
 seen-all (worker ∷ other ∷ rest) others first one seen = absurd (omega (arith, one))
 
+both-true : {A B : Type 0} (R : A → B → Type 0) (own : Bool) (x : A) (y : B) (xs : List A) (ys : List B) → own ≡ true
+    → AllZip R (if own then x ∷ xs else xs) (if own then y ∷ ys else ys) → R x y
+both-true R true x y xs ys e all = all.0
+both-true R false x y xs ys e all = absurd (cc e)
+
+both-rest : {A B : Type 0} (R : A → B → Type 0) (own : Bool) (x : A) (y : B) (xs : List A) (ys : List B)
+    → AllZip R (if own then x ∷ xs else xs) (if own then y ∷ ys else ys) → AllZip R xs ys
+both-rest R true x y xs ys all = all.1
+both-rest R false x y xs ys all = all
+
+-- where the jobs of each worker are answered, all are
+zip-all : (R : Job → JobAnswer → Type 0) (count : ℕ) (jobs : List Job) (answers : List JobAnswer) → length answers ≡ length jobs
+    → All (λ (job : Job). job.worker < count) jobs
+    → ((number : ℕ) → number < count → AllZip R (jobs_of number jobs) (answers_of number jobs answers)) → AllZip R jobs answers
+zip-all R count [] [] same there each = tt
+zip-all R count [] (answer ∷ answers) same there each = absurd (omega (arith, same))
+zip-all R count (job ∷ jobs) [] same there each = absurd (omega (arith, same))
+zip-all R count (job ∷ jobs) (answer ∷ answers) same there each = (
+  both-true R (job.worker == job.worker) job answer (jobs_of job.worker jobs) (answers_of job.worker jobs answers)
+      (eq-eqb job.worker job.worker refl) (each job.worker (there 0 job (omega arith))),
+  zip-all R count jobs answers (omega (arith, same)) (λ k any lt. there (suc k) any (omega arith))
+      (λ number lt. both-rest R (job.worker == number) job answer (jobs_of number jobs) (answers_of number jobs answers) (each number lt)),
+)
+
+-- a number that no job has has no answers
+of-none : (number count : ℕ) (jobs : List Job) (answers : List JobAnswer) → All (λ (job : Job). job.worker < count) jobs
+    → count ≤ number → answers_of number jobs answers ≡ []
+of-none number count [] answers there le = refl
+of-none number count (job ∷ jobs) [] there le = refl
+of-none number count (job ∷ jobs) (answer ∷ answers) there le =
+    ap (λ own. if own then answer ∷ answers_of number jobs answers else answers_of number jobs answers)
+    (ne_eqb job.worker number (λ same. absurd (let lt = there 0 job (omega arith) in omega (arith, same, lt, le))))
+    ∙ of-none number count jobs answers (λ k any lt. there (suc k) any (omega arith)) le
+
+-- tickets that rise from a number rise from a smaller one
+rising-below : (least last : ℕ) (answers : List JobAnswer) → least ≤ last → IsRising last answers → IsRising least answers
+rising-below least last [] le are = tt
+rising-below least last (Ticket number ∷ answers) le are = (omega (arith, le, are.0), are.1)
+rising-below least last (Conflict number ∷ answers) le are = rising-below least last answers le are
+rising-below least last (Refused ∷ answers) le are = rising-below least last answers le are
+
+pub each-rises : (workers : ℕ) (shape : Shape) (jobs : List Job) (old new : List WorkerState) (answers : List JobAnswer)
+    → length new ≡ length old → EachWorked workers shape jobs old new → All (λ (job : Job). job.worker < length old) jobs
+    → EachHasAnswered jobs new answers → (any : WorkerState) (number : ℕ) → IsRising 0 (answers_of number jobs answers)
+each-rises workers shape jobs old new answers same worked there each any number =
+    by (nat_lt number (length old)) refl
+  where
+    by : (within : Bool) → nat_lt number (length old) ≡ within → IsRising 0 (answers_of number jobs answers)
+    by false e =
+        let le = ltb-false number (length old) e in
+        subst (IsRising 0) (sym (of-none number (length old) jobs answers there le)) tt
+    by true e =
+        let lt = ltb-true number (length old) e in
+        subst (IsRising 0) (sym (each number any (omega (arith, same, lt))))
+        (rising-below 0 (get_or old number any).seat.last (get_or new number any).answers (omega arith) (worked number any lt).rising)
+
 -- what all jobs were answered, by the list of the first worker
 pub crew-answered : (workers : ℕ) (shape : Shape) (jobs : List Job) (old new : List WorkerState) (first : List Commit)
     (answers : List JobAnswer) → length new ≡ length old → EachWorked workers shape jobs old new
+    → All (λ (worker : WorkerState). worker.fault ≡ None) new → FirstHasSeenAll new
+    → All (λ (job : Job). job.worker < length old) jobs → length answers ≡ length jobs → EachHasAnswered jobs new answers
     → All (λ (worker : WorkerState). IsPrefix first worker.seat.list) old → 0 < length old
-    → AllZip (IsJobAnswer shape (length first) (first_list new)) jobs answers
     → AreAnswered workers shape first (first_list new) jobs answers
-crew-answered workers shape jobs [] new first answers same worked begins some are = absurd (omega (arith, some))
-crew-answered workers shape jobs (before ∷ old) [] first answers same worked begins some are = absurd (omega (arith, same))
-crew-answered workers shape jobs (before ∷ old) (after ∷ new) first answers same worked begins some are =
+crew-answered workers shape jobs [] new first answers same worked none seen there long each begins some = absurd (omega (arith, some))
+crew-answered workers shape jobs (before ∷ old) [] first answers same worked none seen there long each begins some =
+    absurd (omega (arith, same))
+crew-answered workers shape jobs (before ∷ old) (after ∷ new) first answers same worked none seen there long each begins some =
     let w : HasWorked workers shape 0 jobs before after = worked 0 before (omega arith) in
     record {
       legal = w.legal;
       later = prefix_trans first before.seat.list after.seat.list (begins 0 before (omega arith)) w.later;
-      answered = are;
+      answered =
+          zip-all (IsJobAnswer shape (length first) after.seat.list) (length (before ∷ old)) jobs answers long there
+          (λ number lt. each-answers workers shape jobs (before ∷ old) (after ∷ new) first answers same worked none begins seen each number
+          (omega (arith, same, lt)));
+      rising = each-rises workers shape jobs (before ∷ old) (after ∷ new) answers same worked there each before;
     }

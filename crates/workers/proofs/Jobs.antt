@@ -50,14 +50,6 @@ zip-snoc R [] (z ∷ ys) x y all r = absurd all
 zip-snoc R (z ∷ xs) [] x y all r = absurd all
 zip-snoc R (z ∷ xs) (w ∷ ys) x y all r = (all.0, zip-snoc R xs ys x y all.1 r)
 
--- the pair at the end of the first few
-pub zip-seam : {A B : Type 0} (R : A → B → Type 0) (front : List A) (x : A) (back : List A) (ys : List B) (d : B)
-    → AllZip R (front ++ x ∷ back) ys → R x (get_or ys (length front) d)
-zip-seam R [] x back [] d all = absurd all
-zip-seam R [] x back (y ∷ ys) d all = all.0
-zip-seam R (z ∷ front) x back [] d all = absurd all
-zip-seam R (z ∷ front) x back (y ∷ ys) d all = zip-seam R front x back ys d all.1
-
 -- a job of the worker is the last of its jobs, and another one is none of them
 pub mine-snoc : (number : ℕ) (jobs : List Job) (job : Job) → (job.worker == number) ≡ true
     → jobs_of number (jobs ++ job ∷ []) ≡ jobs_of number jobs ++ job ∷ []

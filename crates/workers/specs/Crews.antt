@@ -10,7 +10,7 @@ use Rattle.workers.specs.declared.faults.WorkersFault.TheVariants.{Journal, Memo
 use Rattle.workers.specs.declared.job.Job.{Job}
 use Rattle.workers.specs.declared.job_answer.JobAnswer.{JobAnswer}
 use Rattle.workers.specs.Answers.{IsJobAnswer}
-use Rattle.workers.specs.Work.{HasWorked}
+use Rattle.workers.specs.Work.{HasWorked, IsRising, answers_of}
 use Rattle.workers.specs.Worker.{WorkerState}
 
 -- each worker has worked
@@ -35,8 +35,16 @@ IsFirstFault crew Memory =
     Any (λ worker. worker.fault ≡ Some Memory) crew × All (λ worker. ¬ (worker.fault ≡ Some Journal)) crew
 IsFirstFault crew NoSeat = ⊥
 
--- what all jobs were answered, one answer each, in their order: each ticket stands in this one list
+-- the answers of each worker's jobs, among those of all jobs, are its own
+abbrev pub EachHasAnswered : List Job → List WorkerState → List JobAnswer → Type 0
+EachHasAnswered jobs crew answers =
+    (number : ℕ) (any : WorkerState) → number < length crew
+    → answers_of number jobs answers ≡ (slice_index_or crew number any).answers
+
+-- what all jobs were answered, one answer each, in their order: each ticket stands in this one list, and those of each worker rise,
+-- so that no two jobs have one ticket
 pub record AreAnswered (workers : ℕ) (shape : Shape) (first list : List Commit) (jobs : List Job) (answers : List JobAnswer) : Type 0 where
   pub legal : IsJournaled workers shape list
   pub later : IsPrefix first list
   pub answered : AllZip (IsJobAnswer shape (length first) list) jobs answers
+  pub rising : (worker : ℕ) → IsRising 0 (answers_of worker jobs answers)

@@ -1,5 +1,5 @@
 -- How far a worker came with its jobs.
-use Rattle.std.specs.Prelude.{◌≡◌, ℕ, ◌+◌, ◌<◌, ◌≤◌, List, [], ◌∷◌, length, take, Option, None, Some, ◌==◌}
+use Rattle.std.specs.Prelude.{◌≡◌, ℕ, ◌+◌, ◌<◌, ◌≤◌, List, [], ◌∷◌, length, take, Option, None, Some, ◌==◌, if◌then◌else◌}
 use Rattle.std.specs.List.{filter, AllZip}
 use mathlib.Core.List.{IsPrefix}
 use Rattle.rows.specs.Shape.{Shape}
@@ -15,6 +15,13 @@ use Rattle.workers.specs.Worker.{WorkerState}
 -- the jobs of the worker of that number, in their order
 abbrev pub jobs_of : ℕ → List Job → List Job
 jobs_of number jobs = filter (λ job. job.worker == number) jobs
+
+-- the answers of that worker's jobs, among those of all jobs
+abbrev pub answers_of : ℕ → List Job → List JobAnswer → List JobAnswer
+answers_of number [] answers = []
+answers_of number (job ∷ jobs) [] = []
+answers_of number (job ∷ jobs) (answer ∷ answers) =
+    if job.worker == number then answer ∷ answers_of number jobs answers else answers_of number jobs answers
 
 -- how many of these answers are tickets
 abbrev pub ticket_count : List JobAnswer → ℕ

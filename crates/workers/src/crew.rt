@@ -4,7 +4,7 @@ ghost use Rattle.std.specs.Prelude.{◌≡◌, ◌⊎◌, ◌<◌, ◌≤◌, Li
 ghost use mathlib.Core.List.{IsPrefix};
 ghost use Rattle.rows.specs.declared.commit.Commit.{Commit};
 ghost use Rattle.rows.specs.Shape.{shape_of};
-ghost use Rattle.workers.specs.Crews.{EachWorked, FirstHasSeenAll, IsFirstFault, AreAnswered, first_list};
+ghost use Rattle.workers.specs.Crews.{EachWorked, EachHasAnswered, FirstHasSeenAll, IsFirstFault, AreAnswered, first_list};
 ghost use Rattle.workers.specs.Work.{HasWorked};
 
 use crate::ending::{first_fault, in_job_order, meet_all, zeros};
@@ -104,6 +104,7 @@ pub fn run_crew<
     ensures answered { IfOk result (λ answers. (first : List Commit) → All (λ worker. IsPrefix first worker.seat.list) crew.old
         → 0 < length crew.old
         → AreAnswered L.workers (shape_of L.schema) first (first_list crew.new) jobs.now answers.items) }
+    ensures each { IfOk result (λ answers. EachHasAnswered jobs.now crew.new answers.items) }
     ensures seen { IfOk result (λ answers. FirstHasSeenAll crew.new) }
     ensures refused { IfErr result (λ fault. ((fault ≡ WorkersFault.Memory) × (crew.new ≡ crew.old)) ⊎ IsFirstFault crew.new fault) }
 {

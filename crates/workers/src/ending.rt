@@ -1,14 +1,12 @@
 //! What is done once all workers of a crew have ended.
 
-ghost use Rattle.std.specs.Prelude.{◌≡◌, ◌<◌, ◌≤◌, ℕ, List, [], length, All, IfOk, MatchBool, MatchOption, vec_capacity, replicate};
-ghost use Rattle.std.specs.List.{AllZip, Any};
+ghost use Rattle.std.specs.Prelude.{◌≡◌, ◌<◌, ◌≤◌, [], length, All, IfOk, MatchBool, MatchOption, vec_capacity, replicate};
+ghost use Rattle.std.specs.List.{Any};
 ghost use mathlib.Core.List.{IsPrefix};
-ghost use Rattle.rows.specs.declared.commit.Commit.{Commit};
 ghost use Rattle.rows.specs.Shape.{shape_of};
 ghost use Rattle.journal.specs.Recovery.{IsJournaled};
-ghost use Rattle.workers.specs.Answers.{IsJobAnswer};
-ghost use Rattle.workers.specs.Crews.{FirstHasSeenAll, IsFirstFault};
-ghost use Rattle.workers.specs.Inner.Steps.{HasMet, EachMet, EachIsDone, EachAnswers};
+ghost use Rattle.workers.specs.Crews.{EachHasAnswered, FirstHasSeenAll, IsFirstFault};
+ghost use Rattle.workers.specs.Inner.Steps.{HasMet, EachMet, EachIsDone};
 
 use crate::faults::WorkersFault;
 use crate::job::Job;
@@ -83,8 +81,8 @@ pub(crate) fn in_job_order<L: Origin>(
     requires next { next.items ≡ replicate (length crew.now) 0 }
     requires none { answers.items ≡ [] }
     requires room { length jobs.now ≤ vec_capacity answers }
-    ensures { (from : ℕ) (list : List Commit) → EachAnswers (shape_of L.schema) from list jobs.now crew.now
-        → AllZip (IsJobAnswer (shape_of L.schema) from list) jobs.now result.items }
+    ensures count { length result.items ≡ length jobs.now }
+    ensures each { EachHasAnswered jobs.now crew.now result.items }
 {
     let mut next = next;
     let mut answers = answers;

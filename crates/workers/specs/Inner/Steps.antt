@@ -1,8 +1,6 @@
 -- One job of a worker, meetings, and what of a crew's answers the answers of all jobs rest on.
 use Rattle.std.specs.Prelude.{◌≡◌, ℕ, ◌<◌, List, [], ◌∷◌, ◌++◌, length, slice_index_or}
-use Rattle.std.specs.List.{AllZip}
 use mathlib.Core.List.{IsPrefix}
-use Rattle.rows.specs.declared.commit.Commit.{Commit}
 use Rattle.rows.specs.Shape.{Shape}
 use Rattle.journal.specs.Recovery.{IsJournaled}
 use Rattle.workers.specs.declared.job.Job.{Job}
@@ -42,9 +40,3 @@ abbrev pub EachIsDone : List Job → List WorkerState → Type 0
 EachIsDone jobs crew =
     (number : ℕ) (any : WorkerState) → number < length crew
     → length (slice_index_or crew number any).answers ≡ length (jobs_of number jobs)
-
--- and each of its answers is one by this list
-abbrev pub EachAnswers : Shape → ℕ → List Commit → List Job → List WorkerState → Type 0
-EachAnswers shape from list jobs crew =
-    (number : ℕ) (any : WorkerState) → number < length crew
-    → AllZip (IsJobAnswer shape from list) (jobs_of number jobs) (slice_index_or crew number any).answers

@@ -1,8 +1,7 @@
 -- What each worker did stands after their seats met, and the answers are by the list of the first.
 use Rattle.std.proofs.Common.{◌≡◌, inr, ap, sym, ◌∙◌, subst, arith, length}
 use Rattle.rows.specs.Shape.{shape_of}
-use Rattle.workers.specs.Crews.{first_list}
-use Rattle.workers.proofs.Crews.{each-met, each-answers, crew-answered}
+use Rattle.workers.proofs.Crews.{each-met, crew-answered}
 use Rattle.workers.proofs.crew.run_crew.Goals as goal
 
 pub returns-in-Some-clause-worked : goal.returns-in-Some-clause-worked
@@ -25,6 +24,5 @@ returns-in-None-clause-answered g c = λ first begins some.
     let same : length new ≡ length old = c.meet_all.auto.crew ∙ c.work_at_once.auto.crew in
     let worked =
     each-met workers shape jobs old c.work_at_once.new.crew new c.work_at_once.auto.crew c.work_at_once.ensures c.meet_all.ensures.met in
-    crew-answered workers shape jobs old new first c.in_job_order.result.items same worked begins some
-    (c.in_job_order.ensures (length first) (first_list new)
-    (each-answers workers shape jobs old new first same worked c.in-None.ensures begins c.meet_all.ensures.seen))
+    crew-answered workers shape jobs old new first c.in_job_order.result.items same worked c.in-None.ensures c.meet_all.ensures.seen
+    c.requires.there c.in_job_order.ensures.count c.in_job_order.ensures.each begins some

@@ -1,10 +1,8 @@
 -- The answer of each job is the next one of its worker.
-use Rattle.std.proofs.Common.{◌≡◌, ap, sym, ◌∙◌, subst, arith, ℕ, ◌<◌, length, take, drop, Fits, w64}
-use Rattle.std.specs.List.{AllZip}
-use Rattle.rows.specs.Shape.{shape_of}
+use Rattle.std.proofs.Common.{◌≡◌, ap, sym, refl, ◌∙◌, arith, length, get_or, take}
+use Rattle.std.proofs.lemmas.List.{length_push}
 use Rattle.workers.specs.declared.job_answer.JobAnswer.TheVariants.{Ticket}
-use Rattle.workers.specs.Answers.{IsJobAnswer}
-use Rattle.workers.specs.Work.{jobs_of}
+use Rattle.workers.specs.Work.{jobs_of, answers_of}
 use Rattle.workers.proofs.Crews.{next-within, job-below, index-is, next-after, answered-more}
 use Rattle.workers.proofs.Jobs.{take-all}
 use Rattle.workers.proofs.ending.in_job_order.Goals as goal
@@ -55,20 +53,31 @@ loop-job-preserved g c =
     let at =
     index-is next job.worker index (length (jobs_of job.worker (take i jobs))) c.index-index.ensures (omega (arith, long, below))
     (inv.next job.worker below) in
+    let within =
+    next-within jobs crew i job c.index-crew-worker.result c.index-crew-worker.result.answers index c.loop-job-test.true c.job-item.is
+    c.requires.whole below c.index-crew-worker.is refl at in
     record {
       room = omega (arith, inv.room, c.push_reserved.ensures.capacity);
-      count = omega (arith, inv.count, c.push_reserved.ensures.len);
+      count = rw c.push_reserved.ensures.items (omega (arith, inv.count, length_push c.loop-job.answers.items (get_or c.answers.result.now index (Ticket 0))));
       counters = inv.counters;
       next = next-after next jobs i (length crew) job index c.loop-job-test.true c.job-item.is long below at inv.next;
-      answered = (λ from list each.
+      answered =
           rw (c.push_reserved.ensures.items, c.answers.ensures) (
-          answered-more (shape_of g.L.Line.schema) from list jobs crew i job c.index-crew-worker.result c.loop-job.answers.items index (Ticket 0)
-          c.loop-job-test.true c.job-item.is below c.index-crew-worker.is at each (inv.answered from list each)
-          ));
+          answered-more jobs crew i job c.index-crew-worker.result c.loop-job.answers.items index (Ticket 0)
+          c.loop-job-test.true c.job-item.is inv.count below c.index-crew-worker.is at within inv.answered
+          );
     }
 
-pub returns : goal.returns
-returns g c = λ from list each.
-    subst (λ js. AllZip (IsJobAnswer (shape_of g.L.Line.schema) from list) js c.loop-job.answers.items)
-    (take-all c.loop-job.job-index c.args.jobs.now (omega (arith, c.loop-job.auto.job-index-end, c.loop-job-test.false)))
-    (c.loop-job.invariant.answered from list each)
+-- the index is behind the last job
+pub returns-clause-count : goal.returns-clause-count
+returns-clause-count g c = omega (arith, c.loop-job.invariant.count, c.loop-job.auto.job-index-end, c.loop-job-test.false)
+
+pub returns-clause-each : goal.returns-clause-each
+returns-clause-each g c = λ number any below.
+    let inv = c.loop-job.invariant in
+    let all = take-all c.loop-job.job-index c.args.jobs.now (omega (arith, c.loop-job.auto.job-index-end, c.loop-job-test.false)) in
+    let mine = c.requires.whole number any below in
+    ap (λ js. answers_of number js c.loop-job.answers.items) (sym all)
+    ∙ (inv.answered number any below
+    ∙ (ap (λ js. take (length (jobs_of number js)) (get_or c.args.crew.now number any).answers) all
+    ∙ take-all (length (jobs_of number c.args.jobs.now)) (get_or c.args.crew.now number any).answers (sym mine)))
