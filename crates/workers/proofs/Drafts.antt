@@ -90,7 +90,8 @@ pub one-more : (shape : Shape) (list all : List Commit) (draft next : Transactio
     → changes_answer shape all draft (drop i changes) ≡ changes_answer shape all next (drop (i + 1) changes)
 one-more shape list all draft next changes i change begins le lt is ok =
     ap (changes_answer shape all draft) item
-    ∙ ap (and_then (λ made. changes_answer shape all made (drop (i + 1) changes))) (sym (change-begun shape list all draft change begins le) ∙ ok)
+    ∙ ap (and_then (λ made. changes_answer shape all made (drop (i + 1) changes))) (sym (change-begun shape list all draft change begins le)
+    ∙ ok)
   where
     item : drop i changes ≡ change ∷ drop (i + 1) changes
     item =

@@ -80,7 +80,8 @@ worked-more workers shape number jobs job old mid new own w none legal later don
   legal = legal;
   later = prefix_trans old.seat.list mid.seat.list new.seat.list w.later later;
   few = omega (arith, counted);
-  answered = subst (λ some. AllZip R some new.answers) (sym (take-all (length new.answers) (jobs_of number (jobs ++ job ∷ [])) counted)) full;
+  answered =
+      subst (λ some. AllZip R some new.answers) (sym (take-all (length new.answers) (jobs_of number (jobs ++ job ∷ [])) counted)) full;
   whole = (λ stays. counted);
   rising =
       rw done.kept (rising-snoc old.seat.last mid.answers done.answer w.rising

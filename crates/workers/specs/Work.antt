@@ -56,7 +56,8 @@ pub record HasWorked (workers : ℕ) (shape : Shape) (number : ℕ) (jobs : List
   pub later : IsPrefix old.seat.list new.seat.list
   -- its answers are those of its first jobs, and of all unless it ended by a fault
   pub few : length new.answers ≤ length (jobs_of number jobs)
-  pub answered : AllZip (IsJobAnswer shape (length old.seat.list) new.seat.list) (take (length new.answers) (jobs_of number jobs)) new.answers
+  pub answered : AllZip (IsJobAnswer shape (length old.seat.list) new.seat.list) (take (length new.answers) (jobs_of number jobs))
+      new.answers
   pub whole : new.fault ≡ None → length new.answers ≡ length (jobs_of number jobs)
   -- its tickets rise, and its seat got no others, but for one at most of the job that a fault ended, which is not acknowledged
   pub rising : IsRising old.seat.last new.answers

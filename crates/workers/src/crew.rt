@@ -21,8 +21,9 @@ use std::thread;
 use std::thread::Threads;
 
 /// Has each of so many workers do its jobs in a thread of its own, at a seat that the line gives out for
-/// it, and answers all jobs in their order. It may wait. The seats are used up, so that the line can no
-/// more be ended; a caller that keeps the seats hands a crew to `run_crew`.
+/// it, and answers all jobs in their order. Each job's worker has to be below that number (the test is
+/// `are_of_workers`), and that number no more than the primary's workers. It may wait. The seats are used
+/// up, so that the line can no more be ended; a caller that keeps the seats hands a crew to `run_crew`.
 ///
 /// Fails with the first of these: `Journal`, the journal failed for a worker; `Memory`, memory was refused
 /// to a worker, or before any job was begun; `NoSeat`, the line has fewer seats left than there are
@@ -76,8 +77,9 @@ fn crew_of<L: Origin, J: JournalStore, H: Wait + Drop, W: Wait>(
 }
 
 /// Has each worker of a crew do its jobs in a thread of its own, and answers all jobs in their order. A
-/// worker's number is its place in the crew. All their seats meet then. It may wait. Where no thread can
-/// be made, workers go one after the other.
+/// worker's number is its place in the crew; each job has to be of one of them (the test is
+/// `are_of_workers`), and there may be no more of them than the primary has workers. All their seats meet
+/// when all jobs are done. It may wait. Where no thread can be made, workers go one after the other.
 ///
 /// Fails with the first of these: `Journal`, the journal failed for a worker; `Memory`, memory was refused
 /// to a worker, or before any job was begun, and then the crew is as it was. A worker whom a fault ends

@@ -136,7 +136,7 @@ impl<L: Origin> Worker<L> {
     }
 
     /// Has its seat meet another worker's: both take the longer of their lists. Takes no memory.
-    pub fn meets(&mut self, other: &mut Worker<L>)
+    pub(crate) fn meets(&mut self, other: &mut Worker<L>)
         ensures one { self.new.seat.list ≡ other.new.seat.list }
         ensures mine { HasMet L.workers (shape_of L.schema) self.old self.new }
         ensures theirs { HasMet L.workers (shape_of L.schema) other.old other.new }

@@ -58,7 +58,10 @@ loop-job-preserved g c =
     c.requires.whole below c.index-crew-worker.is refl at in
     record {
       room = omega (arith, inv.room, c.push_reserved.ensures.capacity);
-      count = rw c.push_reserved.ensures.items (omega (arith, inv.count, length_push c.loop-job.answers.items (get_or c.answers.result.now index (Ticket 0))));
+      count =
+          rw c.push_reserved.ensures.items (
+          omega (arith, inv.count, length_push c.loop-job.answers.items (get_or c.answers.result.now index (Ticket 0)))
+          );
       counters = inv.counters;
       next = next-after next jobs i (length crew) job index c.loop-job-test.true c.job-item.is long below at inv.next;
       answered =
