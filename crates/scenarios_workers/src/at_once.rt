@@ -2,7 +2,7 @@
 
 ghost use Rattle.std.specs.Prelude.{◌≡◌};
 
-use crate::cores::{WORKERS, core_on};
+use crate::cores::core_on;
 use crate::gates::{Counter, Meeting, Turnstile};
 use crate::listed_jobs::{Wish, insertions, jobs_of};
 use journal::{JournalStore, MemJournal};
@@ -14,6 +14,28 @@ use std::sync::Wait;
 use std::test::Fail;
 use std::thread::Threads;
 use workers::{Gate, Job, JobAnswer, WorkersFault, are_of_workers, run_workers};
+
+/// What the jobs are answered on this line. `None` if a job is of no worker.
+fn run_checked<
+    L: Origin + Send + Sync,
+    J: JournalStore + Drop + Send,
+    R: Threads + Wait + Sync,
+    G: Gate + Sync,
+>(
+    rt: &R,
+    alloc: Global,
+    line: &Line<L, J, &R>,
+    workers: u8,
+    jobs: &[Job],
+    gate: &G,
+) -> Option<Result<Vec<JobAnswer>, WorkersFault>>
+    requires { workers ≡ L.workers }
+{
+    if workers == 0 || !are_of_workers(jobs, workers as usize) {
+        return None;
+    }
+    Some(run_workers(rt, alloc, line, workers, jobs, gate))
+}
 
 /// What the jobs are answered on a line of this primary. `None` if there is no line, or a job is of no
 /// worker.
@@ -38,11 +60,9 @@ fn ran<
     requires parts { start.blank.parts ≡ L.parts }
     requires seats { start.seats ≡ L.seats }
 {
-    if core.workers() < WORKERS || !are_of_workers(jobs, WORKERS as usize) {
-        return None;
-    }
+    let workers = core.workers();
     let line = Line::<L, J, &R>::new(alloc, rt, core, start).ok()?;
-    Some(run_workers(rt, alloc, &line, WORKERS, jobs, gate))
+    run_checked(rt, alloc, &line, workers, jobs, gate)
 }
 
 /// What the jobs are answered on a new line with so many seats.

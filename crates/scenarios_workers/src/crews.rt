@@ -54,6 +54,30 @@ fn parted<L: Origin>(alloc: Global, crew: Vec<Worker<L>>) -> Option<(Vec<Seat<L>
     Some((seats, done))
 }
 
+/// What a crew answers to these jobs. `None` if a job is of no worker of it, or it is too large.
+fn ran<
+    L: Origin + Send + Sync,
+    J: JournalStore + Drop + Send,
+    R: Threads + Wait + Sync,
+    G: Gate + Sync,
+>(
+    rt: &R,
+    alloc: Global,
+    line: &Line<L, J, &R>,
+    crew: &mut [Worker<L>],
+    workers: u8,
+    jobs: &[Job],
+    gate: &G,
+) -> Option<Result<Vec<JobAnswer>, WorkersFault>>
+    requires { workers ≡ L.workers }
+{
+    let count = crew.len();
+    if count > workers as usize || !are_of_workers(jobs, count) {
+        return None;
+    }
+    Some(run_crew(rt, alloc, line, crew, jobs, gate))
+}
+
 /// What is left once two workers have done these jobs on a line of this primary. `None` if it is out of
 /// memory before or after, or a job is of no worker.
 pub fn ended<
@@ -78,13 +102,10 @@ pub fn ended<
     requires seats { start.seats ≡ L.seats }
     requires whole { L.parts ≡ L.seats }
 {
-    let workers = core.workers() as usize;
+    let workers = core.workers();
     let line = Line::<L, J, &R>::new(alloc, rt, core, start).ok()?;
     let mut crew = crew_of(rt, alloc, &line)?;
-    if crew.len() > workers || !are_of_workers(jobs, crew.len()) {
-        return None;
-    }
-    let result = run_crew(rt, alloc, &line, &mut crew, jobs, gate);
+    let result = ran(rt, alloc, &line, &mut crew, workers, jobs, gate)?;
     let (seats, done) = parted(alloc, crew)?;
     let core = line.end(seats).ok()?;
     Some(Outcome { core, result, done })

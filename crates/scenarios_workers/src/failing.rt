@@ -26,7 +26,7 @@ const IN_THE_MIDDLE: Failure = Failure {
 };
 
 /// Jobs of each worker, more than there are appends before that one.
-const EACH: u64 = 40;
+const EACH: u32 = 40;
 
 /// A primary on a journal that fails in the middle.
 fn failing_core(alloc: Global) -> Result<PrimaryCore<FailingJournal>, Fail> {
@@ -51,14 +51,17 @@ fn are_recovered(
     let recovered = recover(alloc, outcome.core.journal().content(), &schema, WORKERS)
         .ok()
         .ok_or("the journal is refused")?;
-    for (worker, done) in outcome.done.iter().enumerate() {
+    for worker in 0..WORKERS {
+        let Some(done) = outcome.done.get(worker as usize) else {
+            return Ok(false);
+        };
         let is_so = done.fault == Some(WorkersFault::Journal)
-            && are_kept(jobs, worker as u8, &done.answers, &recovered.commits);
+            && are_kept(jobs, worker, &done.answers, &recovered.commits);
         if !is_so {
             return Ok(false);
         }
     }
-    Ok(outcome.done.len() == 2 && !recovered.commits.is_empty())
+    Ok(!recovered.commits.is_empty())
 }
 
 /// What is left once two workers have inserted rows on a new line of this primary.

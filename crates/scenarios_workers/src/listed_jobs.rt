@@ -57,11 +57,11 @@ pub fn jobs_of(alloc: Global, list: &[(u8, &[Wish])]) -> Result<Vec<Job>, AllocE
 }
 
 /// So many jobs of each of two workers, in turns, each of which inserts a row of its own.
-pub fn insertions(alloc: Global, each: u64) -> Result<Vec<Job>, AllocError> {
+pub fn insertions(alloc: Global, each: u32) -> Result<Vec<Job>, AllocError> {
     let mut jobs = Vec::new(alloc);
     for i in 0..each {
         for worker in 0..2u8 {
-            let row = i.saturating_mul(2).saturating_add(worker as u64);
+            let row = 2 * i as u64 + worker as u64;
             let wish = Wish::Insert(row, i as i64, worker as i64);
             jobs.push(job_of(alloc, worker, &[wish])?)?;
         }

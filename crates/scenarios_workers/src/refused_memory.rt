@@ -17,7 +17,7 @@ use std::thread::Threads;
 use workers::{Job, OpenGate, WorkersFault};
 
 /// Jobs of each worker.
-const EACH: u64 = 3;
+const EACH: u32 = 3;
 
 /// Whether these workers have an answer for each job, but for one at most, which was out of memory.
 fn are_whole(done: &[Done]) -> bool {
@@ -25,7 +25,7 @@ fn are_whole(done: &[Done]) -> bool {
     for worker in done {
         if worker.fault == Some(WorkersFault::Memory) {
             without = without.saturating_add(1);
-        } else if worker.fault.is_some() || worker.answers.len() as u64 != EACH {
+        } else if worker.fault.is_some() || worker.answers.len() != EACH as usize {
             return false;
         }
     }
@@ -39,9 +39,12 @@ fn are_idle(done: &[Done]) -> bool {
 
 /// Whether each answer is a ticket whose commit is durable.
 fn are_durable(outcome: &Outcome<MemJournal>, jobs: &[Job]) -> bool {
-    for (worker, done) in outcome.done.iter().enumerate() {
-        let commits = outcome.core.versions().commits();
-        if !are_kept(jobs, worker as u8, &done.answers, commits) {
+    let commits = outcome.core.versions().commits();
+    for worker in 0..WORKERS {
+        let Some(done) = outcome.done.get(worker as usize) else {
+            return false;
+        };
+        if !are_kept(jobs, worker, &done.answers, commits) {
             return false;
         }
     }
