@@ -1,5 +1,5 @@
 -- How far a worker came, after one job more.
-use Rattle.std.proofs.Common.{◌≡◌, refl, ap, sym, ◌∙◌, subst, arith, ℕ, ◌+◌, ◌<◌, ◌≤◌, Bool, true, false, ◌==◌}
+use Rattle.std.proofs.Common.{◌≡◌, refl, ap, sym, ◌∙◌, subst, arith, ℕ, ◌+◌, ◌≤◌, true, false, ◌==◌}
 use Rattle.std.proofs.Common.{List, [], ◌∷◌, ◌++◌, length, take, length-append, None, Some}
 use Rattle.std.specs.List.{AllZip}
 use Rattle.std.proofs.Math.Seq.{take-append_seam}
@@ -12,7 +12,7 @@ use Rattle.workers.specs.declared.faults.WorkersFault.{WorkersFault}
 use Rattle.workers.specs.declared.faults.WorkersFault.TheVariants.{NoSeat}
 use Rattle.workers.specs.declared.job.Job.{Job}
 use Rattle.workers.specs.declared.job_answer.JobAnswer.{JobAnswer}
-use Rattle.workers.specs.Answers.{IsJobAnswer, IsSeatLeft}
+use Rattle.workers.specs.Answers.{IsJobAnswer}
 use Rattle.workers.specs.Inner.Steps.{HasDone, HasLeft, HasMet}
 use Rattle.workers.specs.Work.{jobs_of, ticket_count, last_ticket, unanswered_max, HasWorked}
 use Rattle.workers.specs.Worker.{WorkerState}

@@ -1,5 +1,5 @@
 -- What each worker did stands after their seats met, and the answers are by the list of the first.
-use Rattle.std.proofs.Common.{◌≡◌, inr, ap, sym, ◌∙◌, subst, arith, length}
+use Rattle.std.proofs.Common.{◌≡◌, inr, ◌∙◌, length}
 use Rattle.rows.specs.Shape.{shape_of}
 use Rattle.workers.proofs.Crews.{each-met, crew-answered}
 use Rattle.workers.proofs.crew.run_crew.Goals as goal

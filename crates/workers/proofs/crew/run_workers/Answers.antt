@@ -1,11 +1,9 @@
 -- Each seat is new, and has seen what was durable when the line was made.
-use Rattle.std.proofs.Common.{◌≡◌, ap, sym, ◌∙◌, subst, arith, ℕ, ◌<◌, List, length, Result, Ok, Err, IfOk}
+use Rattle.std.proofs.Common.{◌≡◌, sym, subst, arith, ◌<◌, List, length, Result, Ok, Err, IfOk}
 use Rattle.std.specs.List.{All}
-use Rattle.std.specs.Vec.{vec_len}
 use mathlib.Core.List.{IsPrefix}
 use Rattle.rows.specs.declared.commit.Commit.{Commit}
-use Rattle.rows.specs.Shape.{Shape, shape_of}
-use Rattle.workers.specs.Crews.{AreAnswered, first_list}
+use Rattle.workers.specs.Crews.{first_list}
 use Rattle.workers.specs.Worker.{WorkerState}
 use Rattle.workers.proofs.Beginnings.{prefix_self}
 use Rattle.workers.proofs.crew.run_workers.Goals as goal

@@ -1,5 +1,5 @@
 -- The ticket is of the draft that the changes made, and stands in the longer list.
-use Rattle.std.proofs.Common.{◌≡◌, ap, sym, subst, List, length}
+use Rattle.std.proofs.Common.{ap, subst, List, length}
 use mathlib.Core.List.{IsPrefix}
 use Rattle.rows.specs.declared.commit.Commit.{Commit}
 use Rattle.rows.specs.Shape.{shape_of}

@@ -1,5 +1,5 @@
 -- Each change goes on from what those before it made.
-use Rattle.std.proofs.Common.{◌≡◌, ◌≤◌, ap, sym, ◌∙◌, arith, List, [], length}
+use Rattle.std.proofs.Common.{◌≤◌, ap, ◌∙◌, arith, [], length}
 use Rattle.std.proofs.Math.ListN.{drop_of_length-le}
 use Rattle.rows.specs.Shape.{shape_of}
 use Rattle.desk.specs.State.{SeatState}

@@ -1,5 +1,5 @@
 -- The first worker's seat has seen what those before have, and the others are as they were.
-use Rattle.std.proofs.Common.{◌≡◌, ℕ, ◌<◌, ◌≤◌, length, get_or}
+use Rattle.std.proofs.Common.{◌≡◌, ℕ, ◌<◌, ◌≤◌, get_or}
 use mathlib.Core.List.{IsPrefix}
 use Rattle.rows.specs.Shape.{shape_of}
 use Rattle.workers.specs.Inner.Steps.{HasMet}

@@ -1,9 +1,8 @@
 -- Each job of the worker is one more that is done, or ends it.
-use Rattle.std.proofs.Common.{◌≡◌, ap, sym, ◌∙◌, subst, arith, Some, None, take, drop}
+use Rattle.std.proofs.Common.{ap, sym, ◌∙◌, subst, Some, take, drop}
 use Rattle.std.proofs.lemmas.Bool.{eq-eqb, ne_eqb}
 use Rattle.std.proofs.lemmas.List.{take-append-drop}
 use Rattle.rows.specs.Shape.{shape_of}
-use Rattle.workers.specs.declared.job.Job.{Job}
 use Rattle.workers.specs.Work.{HasWorked}
 use Rattle.workers.specs.Worker.{WorkerState}
 use Rattle.workers.proofs.Jobs.{take-more}
