@@ -13,8 +13,9 @@
 //! replica that is fed and of a line's seats holds of the nodes. Not promised: that a datagram comes or
 //! goes, time, and what a socket does.
 //!
-//! It stands on `ports`, `shared`, `dispatcher` and `queue`; what has to be believed stands in
-//! `specs/Carrying.antt`, `Serving.antt`, `Replicas.antt` and `Primaries.antt`.
+//! It stands on `ports`, `shared`, `dispatcher` and `queue`, and hands on what `workers` has for programs;
+//! what has to be believed stands in `specs/Carrying.antt`, `Serving.antt`, `Replicas.antt` and
+//! `Primaries.antt`.
 #![tactic(auto)]
 
 mod faults;
@@ -26,3 +27,4 @@ pub use faults::ServeFault;
 pub use ports::{MemPort, Patience, Port, PortFault, UdpPort};
 pub use serving_primary::serve_primary;
 pub use serving_replica::serve_replica;
+pub use workers::{Change, Gate, Job, JobAnswer, OpenGate, WorkersFault, run_workers};

@@ -1,0 +1,87 @@
+//! A journal that fails while workers commit: it keeps what was answered by a ticket.
+
+ghost use Rattle.std.specs.Prelude.{◌≡◌};
+
+use crate::cores::{WORKERS, core_on};
+use crate::crews::{Outcome, ended};
+use crate::listed_jobs::{are_kept, insertions};
+use journal::{JournalStore, recover};
+use primary::PrimaryCore;
+use rows::Schema;
+use scenarios_common::wanted::NUMBERS;
+use scenarios_journal_common::failing_journal::{Failing, FailingJournal, Failure};
+use shared::Start;
+use std::alloc::Global;
+use std::marker::Brand;
+use std::sync::Wait;
+use std::test::Fail;
+use std::thread::Threads;
+use workers::{Job, OpenGate, WorkersFault};
+
+/// An append in the middle, of which so many bytes are written.
+const IN_THE_MIDDLE: Failure = Failure {
+    call: Failing::Append,
+    calls_before: 20,
+    bytes_left: 30,
+};
+
+/// Jobs of each worker, more than there are appends before that one.
+const EACH: u32 = 40;
+
+/// A primary on a journal that fails in the middle.
+fn failing_core(alloc: Global) -> Result<PrimaryCore<FailingJournal>, Fail> {
+    let journal = FailingJournal::of(Vec::new(alloc), IN_THE_MIDDLE);
+    if journal.faults() == u64::MAX {
+        return Err("too many faults".into());
+    }
+    core_on(alloc, journal)
+}
+
+/// Whether each worker found that the journal failed, after some answers, and a new start has the commit
+/// of each ticket.
+fn are_recovered(
+    alloc: Global,
+    outcome: &Outcome<FailingJournal>,
+    jobs: &[Job],
+) -> Result<bool, Fail> {
+    if outcome.core.lent() || !matches!(outcome.result, Err(WorkersFault::Journal)) {
+        return Ok(false);
+    }
+    let schema = Schema::new(alloc, &NUMBERS)?;
+    let recovered = recover(alloc, outcome.core.journal().content(), &schema, WORKERS)
+        .ok()
+        .ok_or("the journal is refused")?;
+    for worker in 0..WORKERS {
+        let Some(done) = outcome.done.get(worker as usize) else {
+            return Ok(false);
+        };
+        let is_so = done.fault == Some(WorkersFault::Journal)
+            && are_kept(jobs, worker, &done.answers, &recovered.commits);
+        if !is_so {
+            return Ok(false);
+        }
+    }
+    Ok(!recovered.commits.is_empty())
+}
+
+/// What is left once two workers have inserted rows on a new line of this primary.
+fn outcome_on<R: Threads + Wait + Sync>(
+    rt: &R,
+    alloc: Global,
+    core: PrimaryCore<FailingJournal>,
+    jobs: &[Job],
+) -> Result<Outcome<FailingJournal>, Fail> {
+    let start = Start::new(WORKERS).ok().ok_or("start")?;
+    Ok(ended::<Brand, FailingJournal, _, _>(rt, alloc, core, start, jobs, &OpenGate).ok_or(
+        "ended",
+    )?)
+}
+
+#[test]
+fn a_journal_that_fails_keeps_what_was_answered(rt: HostRuntime) -> Result<(), Fail> {
+    let core = failing_core(rt.alloc())?;
+    let jobs = insertions(rt.alloc(), EACH)?;
+    let outcome = outcome_on(&rt, rt.alloc(), core, &jobs)?;
+    assert!(rt; are_recovered(rt.alloc(), &outcome, &jobs)?);
+    Ok(())
+}

@@ -1,0 +1,18 @@
+//! Scenarios of `workers`, by its public calls: what the jobs of workers in threads are answered, and what
+//! of them a journal keeps.
+#![tactic(auto)]
+
+#[cfg(test)]
+mod at_once;
+#[cfg(test)]
+mod cores;
+#[cfg(test)]
+mod crews;
+#[cfg(test)]
+mod failing;
+#[cfg(test)]
+mod gates;
+#[cfg(test)]
+mod listed_jobs;
+#[cfg(test)]
+mod refused_memory;

@@ -1,0 +1,101 @@
+//! Jobs of constant lists, and jobs that insert a row each.
+
+use rows::{Commit, Row, RowId, Value};
+use std::alloc::{AllocError, Global};
+use workers::{Change, Job, JobAnswer};
+
+/// A change that is wanted of the accounts.
+#[derive(Clone, Copy)]
+pub enum Wish {
+    /// A row of these numbers.
+    Insert(u64, i64, i64),
+    /// Another number in a column.
+    Set(u64, usize, i64),
+    Delete(u64),
+}
+
+/// The change that is wanted.
+fn change_of(alloc: Global, wish: Wish) -> Result<Change, AllocError> {
+    match wish {
+        Wish::Insert(row, first, second) => {
+            let values = vec![in alloc; Value::Int(first), Value::Int(second)]?;
+            Ok(Change::Insert {
+                table: 0,
+                row: RowId(row),
+                values: Row::from_vec(values),
+            })
+        }
+        Wish::Set(row, column, number) => Ok(Change::Set {
+            table: 0,
+            row: RowId(row),
+            column,
+            value: Value::Int(number),
+        }),
+        Wish::Delete(row) => Ok(Change::Delete {
+            table: 0,
+            row: RowId(row),
+        }),
+    }
+}
+
+/// A job of these changes.
+fn job_of(alloc: Global, worker: u8, wishes: &[Wish]) -> Result<Job, AllocError> {
+    let mut changes = Vec::new(alloc);
+    for wish in wishes {
+        changes.push(change_of(alloc, *wish)?)?;
+    }
+    Ok(Job { worker, changes })
+}
+
+/// The jobs of a list, each a worker and its changes.
+pub fn jobs_of(alloc: Global, list: &[(u8, &[Wish])]) -> Result<Vec<Job>, AllocError> {
+    let mut jobs = Vec::new(alloc);
+    for (worker, wishes) in list {
+        jobs.push(job_of(alloc, *worker, wishes)?)?;
+    }
+    Ok(jobs)
+}
+
+/// So many jobs of each of two workers, in turns, each of which inserts a row of its own.
+pub fn insertions(alloc: Global, each: u32) -> Result<Vec<Job>, AllocError> {
+    let mut jobs = Vec::new(alloc);
+    for i in 0..each {
+        for worker in 0..2u8 {
+            let row = 2 * i as u64 + worker as u64;
+            let wish = Wish::Insert(row, i as i64, worker as i64);
+            jobs.push(job_of(alloc, worker, &[wish])?)?;
+        }
+    }
+    Ok(jobs)
+}
+
+/// Whether the commit of that number is of the job's worker, and inserts the job's row and nothing else.
+fn is_kept(job: &Job, number: u64, commits: &[Commit]) -> bool {
+    let Some(Change::Insert { row, .. }) = job.changes.get(0) else {
+        return false;
+    };
+    let Some(commit) = commits.get((number as usize).wrapping_sub(1)) else {
+        return false;
+    };
+    match commit.entries.as_slice() {
+        [entry] => commit.worker == job.worker && entry.is_of(0, *row),
+        _ => false,
+    }
+}
+
+/// Whether the first jobs of a worker have these answers, each a ticket whose commit is among these.
+pub fn are_kept(jobs: &[Job], worker: u8, answers: &[JobAnswer], commits: &[Commit]) -> bool {
+    let mut next: usize = 0;
+    for job in jobs {
+        if job.worker == worker && next < answers.len() {
+            let JobAnswer::Ticket(number) = answers[next] else {
+                return false;
+            };
+            if !is_kept(job, number, commits) {
+                return false;
+            }
+            next += 1;
+        }
+    }
+    next == answers.len()
+}

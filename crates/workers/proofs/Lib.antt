@@ -1,0 +1,5 @@
+mod Beginnings
+mod Drafts
+mod Jobs
+mod Working
+mod Crews

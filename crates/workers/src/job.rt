@@ -1,0 +1,20 @@
+//! A job.
+
+ghost use Rattle.std.specs.Prelude.{◌<◌, ◌↔◌, All, IsTrue};
+
+use crate::change::Change;
+
+/// What a worker is to commit: changes that go together, in their order.
+#[derive(Debug, Drop)]
+pub struct Job {
+    /// The worker that does the job, and that its commit is of.
+    pub worker: u8,
+    pub changes: Vec<Change>,
+}
+
+/// Whether each job is of one of so many workers. Takes no memory.
+pub fn are_of_workers(jobs: &[Job], workers: usize) -> bool
+    ensures { IsTrue result ↔ All (λ job. job.worker < workers) jobs.now }
+{
+    jobs.iter().all(|job| (job.worker as usize) < workers)
+}
