@@ -4,3 +4,4 @@ pub mod Ordered
 pub mod Beside
 pub mod Built
 pub mod Joined
+pub mod Counted

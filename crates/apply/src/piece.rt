@@ -1,15 +1,21 @@
 //! The rows of one table in one partition.
 
-ghost use Rattle.std.specs.Prelude.{◌≡◌, ◌≤◌, [], length, true, false, IfOk, OnOk, OnErr};
+ghost use Rattle.std.specs.Prelude.{◌≡◌, ◌+◌, ◌<◌, ◌≤◌, [], length, true, false, Some, IfOk, OnOk, OnErr};
 ghost use Rattle.rows.specs.Shape.{AreColumns, row_width};
 ghost use Rattle.rows.specs.Values.{values_of};
-ghost use Rattle.rows.specs.Tables.{is_present, with_row, with_patch, without_row};
+ghost use Rattle.rows.specs.Tables.{row_at, is_present, with_row, with_patch, without_row};
+ghost use Rattle.store.specs.Changes.{column_of};
+ghost use Rattle.apply.specs.Limits.{rows_max};
+ghost use Rattle.apply.specs.Orders.{AllUnder, place_in};
 
 use crate::block::Block;
-use crate::sequence::{contains, patch_row, put_row, remove_row};
-use rows::{Kind, KindList};
+use crate::sequence::{contains, greatest, patch_row, place, put_row, remove_row, value};
+use rows::{Kind, KindList, Value};
 use std::alloc::{AllocError, Global};
 use std::marker::Model;
+
+/// How many rows a piece has at most.
+const ROWS_MAX: usize = 1 << 57;
 
 /// The rows of one table, as blocks of columns. Contracts see the kinds of its columns, which a table
 /// may have, and its rows in rising identifier.
@@ -17,6 +23,8 @@ use std::marker::Model;
 pub struct Piece {
     kinds: KindList,
     blocks: Vec<Block>,
+    /// How many rows there are.
+    count: usize,
 }
 
 impl Model for Piece {
@@ -40,6 +48,7 @@ impl Piece {
         Ok(Piece {
             kinds: KindList::from_slice(alloc, kinds)?,
             blocks: Vec::new(alloc),
+            count: 0,
         })
     }
 
@@ -58,15 +67,51 @@ impl Piece {
         contains(self.blocks.as_slice(), row)
     }
 
-    /// Puts in a row that is not there, given by its bytes. Fails only when out of memory, and then the
-    /// rows are as they were.
+    /// How many rows there are: at most 2^57.
+    pub fn len(&self) -> usize
+        ensures value { result ≡ length self.now.rows }
+        ensures few { result ≤ rows_max }
+    {
+        self.count
+    }
+
+    /// How many rows have an identifier below this one.
+    pub fn place(&self, row: u64) -> usize
+        ensures { result ≡ place_in self.now.rows row }
+    {
+        place(self.blocks.as_slice(), row)
+    }
+
+    /// An identifier that none of its rows passes: the greatest, or 0 where there is no row.
+    pub fn greatest(&self) -> u64
+        ensures { AllUnder (result + 1) self.now.rows }
+    {
+        greatest(self.blocks.as_slice())
+    }
+
+    /// The value of one column of a row that is there, columns being counted from 0.
+    pub fn value(&self, row: u64, column: usize) -> Value
+        requires there { is_present self.now.rows row ≡ true }
+        requires column { column < length self.now.kinds }
+        ensures { Some result ≡ column_of (row_at self.now.rows row) column }
+    {
+        value(self.blocks.as_slice(), self.kinds.as_slice(), row, column)
+    }
+
+    /// Puts in a row that is not there, given by its bytes. Fails only when out of memory, as it says of
+    /// a piece with 2^57 rows, and then the rows are as they were.
     pub fn insert(&mut self, alloc: Global, row: u64, bytes: &[u8]) -> Result<(), AllocError>
         requires absent { is_present self.old.rows row ≡ false }
         requires wide { row_width self.old.kinds ≤ length bytes.now }
         ensures ok { OnOk result (self.new ≡ record self.old { rows = with_row self.old.rows row (values_of self.old.kinds bytes.now) }) }
         ensures err { OnErr result (self.new ≡ self.old) }
     {
-        put_row(alloc, &mut self.blocks, self.kinds.as_slice(), row, bytes)
+        if self.count == ROWS_MAX {
+            return Err(AllocError);
+        }
+        put_row(alloc, &mut self.blocks, self.kinds.as_slice(), row, bytes)?;
+        self.count += 1;
+        Ok(())
     }
 
     /// Puts bytes in the place of one column's of a row that is there. Where they are not exactly one
@@ -90,5 +135,6 @@ impl Piece {
         ensures { self.new ≡ record self.old { rows = without_row self.old.rows row } }
     {
         remove_row(&mut self.blocks, self.kinds.as_slice(), row);
+        self.count -= 1;
     }
 }

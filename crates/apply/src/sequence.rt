@@ -1,15 +1,16 @@
 //! Blocks of a table's rows, one behind the other.
 
-ghost use Rattle.std.specs.Prelude.{◌≡◌, ◌+◌, ◌<◌, ◌≤◌, length, take, drop, true, false, [], IfOk, OnOk, OnErr};
+ghost use Rattle.std.specs.Prelude.{◌≡◌, ◌+◌, ◌<◌, ◌≤◌, ◌^◌, length, take, drop, true, false, [], Some, IfOk, OnOk, OnErr};
 ghost use Rattle.std.specs.List.{list_all};
 ghost use Rattle.rows.specs.Shape.{row_width, is_good};
 ghost use Rattle.rows.specs.Values.{values_of};
-ghost use Rattle.rows.specs.Tables.{is_present, with_row, with_patch, without_row};
-ghost use Rattle.apply.specs.Orders.{AllOver, AllUnder, Rising};
+ghost use Rattle.rows.specs.Tables.{row_at, is_present, with_row, with_patch, without_row};
+ghost use Rattle.store.specs.Changes.{column_of};
+ghost use Rattle.apply.specs.Orders.{AllOver, AllUnder, Rising, place_in};
 ghost use Rattle.apply.specs.Inner.Joins.{joined, AllHaveRows, AreBlocks};
 
 use crate::block::Block;
-use rows::Kind;
+use rows::{Kind, Value};
 use std::alloc::{AllocError, Global};
 
 /// How many rows a block has at most, but for the one that it takes when it is cut.
@@ -48,6 +49,58 @@ pub fn contains(blocks: &[Block], row: u64) -> bool
         return false;
     }
     blocks[home_of(blocks, row)].contains(row)
+}
+
+/// How many rows the blocks before one have.
+fn rows_before(blocks: &[Block], home: usize) -> usize
+    requires within { home ≤ length blocks.now }
+    requires few { length (joined blocks.now) < 2 ^ 64 }
+    ensures { result ≡ length (joined (take home blocks.now)) }
+{
+    let mut rows = 0;
+    for k in 0..home {
+        rows += blocks[k].len();
+    }
+    rows
+}
+
+/// How many rows have an identifier below this one.
+pub fn place(blocks: &[Block], row: u64) -> usize
+    requires rows { AllHaveRows blocks.now }
+    requires rise { Rising (joined blocks.now) }
+    requires few { length (joined blocks.now) < 2 ^ 64 }
+    ensures { result ≡ place_in (joined blocks.now) row }
+{
+    if blocks.is_empty() {
+        return 0;
+    }
+    let home = home_of(blocks, row);
+    rows_before(blocks, home) + blocks[home].place(row)
+}
+
+/// The greatest identifier; 0 where there is no row.
+pub fn greatest(blocks: &[Block]) -> u64
+    requires rows { AllHaveRows blocks.now }
+    requires rise { Rising (joined blocks.now) }
+    ensures { AllUnder (result + 1) (joined blocks.now) }
+{
+    if blocks.is_empty() {
+        return 0;
+    }
+    let ids = blocks[blocks.len() - 1].ids();
+    ids[ids.len() - 1]
+}
+
+/// The value of one column of a row that is there.
+pub fn value(blocks: &[Block], kinds: &[Kind], row: u64, column: usize) -> Value
+    requires blocks { AreBlocks kinds.now blocks.now }
+    requires there { is_present (joined blocks.now) row ≡ true }
+    requires column { column < length kinds.now }
+    ensures { Some result ≡ column_of (row_at (joined blocks.now) row) column }
+{
+    let _ = kinds;
+    let block = &blocks[home_of(blocks, row)];
+    block.value(block.place(row), column)
 }
 
 /// Puts in a row that is not there, given by its bytes, among the rows of blocks. Fails only when out
