@@ -5,3 +5,6 @@ pub mod Beside
 pub mod Built
 pub mod Joined
 pub mod Counted
+pub mod Changed
+pub mod Gathered
+pub mod Splits
