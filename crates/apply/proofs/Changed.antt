@@ -1,5 +1,5 @@
 -- What an entry makes of tables: of each row's values, and of the order of the rows.
-use Rattle.std.proofs.Common.{◌≡◌, ◌≢◌, ℕ, suc, zero, ◌<◌, Bool, true, false, cond, not, ◌&&◌, ◌==◌, List, [], ◌∷◌, length, Option, None}
+use Rattle.std.proofs.Common.{◌≡◌, ◌≢◌, ℕ, suc, zero, ◌<◌, Bool, true, false, cond, not, ◌&&◌, ◌==◌, List, [], ◌∷◌, length, get_or, Option, None}
 use Rattle.std.proofs.Common.{Some, Ok, Err, Result, slice_get, slice_set, refl, sym, ap, subst, ◌∙◌, inl, inr, arith}
 use Rattle.std.specs.BTreeMap.{is_at, insert_entry}
 use Rattle.std.specs.List.{filter}
@@ -266,3 +266,10 @@ pub rises-change : (tables after : Tables) (entry : Entry) → Rises tables → 
 rises-change tables after entry rise h =
     let parts = apply_entry-parts tables after entry h in
     subst Rises parts.2 (rises-made tables entry parts.0 parts.1 rise)
+
+-- another table with the same kinds
+pub shape_in-set : (tables : Tables) (n : ℕ) (other new : Table) → new.kinds ≡ (get_or tables n other).kinds
+    → shape_in (slice_set tables n new) ≡ shape_in tables
+shape_in-set [] n other new same = refl
+shape_in-set (table ∷ tables) zero other new same = ap (λ kinds. kinds ∷ shape_in tables) same
+shape_in-set (table ∷ tables) (suc n) other new same = ap (λ shape. table.kinds ∷ shape) (shape_in-set tables n other new same)

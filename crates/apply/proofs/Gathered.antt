@@ -52,8 +52,11 @@ rising-gathered (one ∷ rows) others rise too apart =
 pub length-gathered : (rows others : Rows) → Rising rows → Apart rows others → length (gathered rows others) ≡ length rows + length others
 length-gathered [] others rise apart = omega arith
 length-gathered (one ∷ rows) others rise apart =
-    omega (arith, length-with_row one.0 one.1 (gathered rows others) (absent-gathered one rows others rise.0 (apart-head one rows others apart)),
-    length-gathered rows others rise.1 (apart-tail one rows others apart))
+    omega (
+      arith,
+      length-with_row one.0 one.1 (gathered rows others) (absent-gathered one rows others rise.0 (apart-head one rows others apart)),
+      length-gathered rows others rise.1 (apart-tail one rows others apart),
+    )
 
 place-put : (row : ℕ) (values : List Value) (rows : Rows) (id : ℕ) → is_present rows row ≡ false
     → place_in (with_row rows row values) id ≡ cond (nat_lt row id) 1 0 + place_in rows id

@@ -8,3 +8,5 @@ pub mod Counted
 pub mod Changed
 pub mod Gathered
 pub mod Splits
+pub mod Viewed
+pub mod Placed

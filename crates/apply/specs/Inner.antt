@@ -5,3 +5,5 @@ pub mod Parts
 pub mod Joins
 pub mod Pieces
 pub mod Gathered
+pub mod Views
+pub mod Stores

@@ -14,10 +14,15 @@
 
 mod block;
 mod cells;
+mod changing;
+mod column_store;
 mod edits;
+mod part;
+mod partitions;
 mod piece;
 mod sequence;
 
 pub use block::Block;
 pub use cells::Cells;
+pub use column_store::ColumnStore;
 pub use piece::Piece;

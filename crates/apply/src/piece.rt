@@ -77,7 +77,8 @@ impl Piece {
 
     /// How many rows have an identifier below this one.
     pub fn place(&self, row: u64) -> usize
-        ensures { result ≡ place_in self.now.rows row }
+        ensures value { result ≡ place_in self.now.rows row }
+        ensures few { result ≤ rows_max }
     {
         place(self.blocks.as_slice(), row)
     }

@@ -1,0 +1,140 @@
+//! A store of rows in columns, in partitions.
+
+ghost use Rattle.std.specs.Prelude.{◌≡◌, ◌<◌, ◌≤◌, true, IfOk};
+ghost use Rattle.rows.specs.Shape.{shape_of};
+ghost use Rattle.rows.specs.Tables.{opening};
+ghost use Rattle.apply.specs.Limits.{partitions_max};
+
+use crate::part::Part;
+use crate::partitions::{change_parts, empty_parts, id_at, len, piece_of};
+use rows::{Entry, RowId, Schema, Value, laws};
+use std::alloc::{AllocError, Global};
+use std::marker::Model;
+use store::{Store, StoreFault};
+
+/// A store of rows in columns: a row stands in the partition that its identifier leaves as a remainder
+/// when it is divided by how many there are, and there its values stand side by side with those of
+/// other rows, column by column.
+///
+/// Contracts see its tables, and whether it is whole; how many partitions there are does not show.
+#[derive(Debug, Drop)]
+pub struct ColumnStore {
+    alloc: Global,
+    parts: Vec<Part>,
+    whole: bool,
+}
+
+impl Model for ColumnStore {
+    ghost use Rattle.store.specs.State.{StoreState};
+
+    ghost Value = { StoreState };
+
+    ghost use Rattle.apply.specs.Inner.Stores.{state_of, IsColumnStore};
+
+    ghost view = { state_of };
+
+    ghost invariant = { IsColumnStore };
+}
+
+impl ColumnStore {
+    /// A store for the tables of a schema, each without rows, in 1 to 64 partitions. It is whole. Fails
+    /// only when out of memory.
+    pub fn new(alloc: Global, schema: &Schema, partitions: usize) -> Result<ColumnStore, AllocError>
+        requires some { 0 < partitions }
+        requires few { partitions ≤ partitions_max }
+        ensures { IfOk result (λ store.
+            store ≡ record { tables = opening (shape_of schema.now); whole = true }) }
+    {
+        laws::rows_are_of_kinds();
+        Ok(ColumnStore {
+            alloc,
+            parts: empty_parts(alloc, schema, partitions)?,
+            whole: true,
+        })
+    }
+}
+
+impl Store for ColumnStore {
+    ghost use Rattle.rows.specs.Tables.{rows_of, row_at};
+    ghost use Rattle.store.specs.Faults.{number_of};
+
+    /// A row's place is its identifier, which tells its partition.
+    type Place = RowId;
+
+    type Fault = StoreFault;
+
+    ghost tables = { λ s. s.tables };
+
+    ghost is_whole = { λ s. s.whole };
+
+    ghost values_at = { λ s table place. row_at (rows_of s.tables table) place.0 };
+
+    ghost kind_of = { number_of };
+
+    /// Whether no list of commits was refused.
+    fn whole(&self) -> bool {
+        self.whole
+    }
+
+    /// While it is whole, each row has a value for each of its table's columns, of the column's
+    /// kind.
+    fn keeps_kinds(&self) {
+        // A look at a field brings the invariant to the proof.
+        let _ = &self.whole;
+    }
+
+    /// The identifier of a row of a table; `None` where the row or the table is not there.
+    fn find(&self, table: u8, row: RowId) -> Option<RowId> {
+        if !self.whole {
+            return None;
+        }
+        if piece_of(self.parts.as_slice(), table, row.0)?.contains(row.0) {
+            Some(row)
+        } else {
+            None
+        }
+    }
+
+    /// The value of one column of a row, columns being counted from 0.
+    fn value(&self, table: u8, place: RowId, column: usize) -> Value {
+        let Some(piece) = piece_of(self.parts.as_slice(), table, place.0) else {
+            unreachable!();
+        };
+        piece.value(place.0, column)
+    }
+
+    /// How many rows a table has; 0 where there is no table of that number.
+    fn len(&self, table: u8) -> usize {
+        if !self.whole {
+            return 0;
+        }
+        len(self.parts.as_slice(), table)
+    }
+
+    /// The identifier of the row at an index of the table's order, counted from 0.
+    fn id_at(&self, table: u8, i: usize) -> RowId {
+        RowId(id_at(self.parts.as_slice(), table, i))
+    }
+
+    /// Makes one change, or refuses it and changes nothing: `Broken`; `Unfit`; `Exists` or
+    /// `Missing`; `Memory`, the first that stands.
+    fn change(&mut self, entry: &Entry) -> Result<(), StoreFault> {
+        if !self.whole {
+            return Err(StoreFault::Broken);
+        }
+        laws::rows_are_of_kinds();
+        laws::changes_keep_kinds();
+        change_parts(self.alloc, &mut self.parts, entry)
+    }
+
+    /// The number of a fault: 1 Exists, 2 Missing, 3 Unfit, 4 Memory, 5 Broken.
+    fn kind(fault: &StoreFault) -> u8 {
+        match fault {
+            StoreFault::Exists => 1,
+            StoreFault::Missing => 2,
+            StoreFault::Unfit => 3,
+            StoreFault::Memory => 4,
+            StoreFault::Broken => 5,
+        }
+    }
+}
