@@ -10,3 +10,4 @@ pub mod Gathered
 pub mod Splits
 pub mod Viewed
 pub mod Placed
+pub mod Each

@@ -20,6 +20,7 @@ use Rattle.apply.specs.declared.part.Part.{Part}
 use Rattle.apply.specs.Inner.Gathered.{both, tables_in, AreParts, row_of}
 use Rattle.apply.specs.Inner.Views.{views}
 use Rattle.apply.specs.Orders.{AllUnder, Rising, place_in}
+use Rattle.apply.proofs.Changed.{Leaves-change}
 use Rattle.apply.proofs.Gathered.{shape-both, length-tables, place-tables}
 use Rattle.apply.proofs.Ordered.{under-higher}
 use Rattle.apply.proofs.Splits.{from-parts, one-changes, one-leaves, refused-alike}
@@ -164,6 +165,12 @@ module _ (parts : List Part) (entry : Entry) (home : ℕ) (part new : Part) (is 
   pub own-leaves : apply_entry part.tables.items entry ≡ Ok new.tables.items → AreParts (views (slice_set parts home new))
   own-leaves change =
       subst AreParts put (one-leaves (views parts) some are entry [] new.tables.items (ap (λ tables. apply_entry tables entry) own ∙ change))
+
+  pub own-kinds : apply_entry part.tables.items entry ≡ Ok new.tables.items
+      → shape_in (tables_in (views (slice_set parts home new))) ≡ shape_in (tables_in (views parts))
+  own-kinds change =
+      (Leaves-change (shape_in (tables_in (views parts))) (tables_in (views parts)) (tables_in (views (slice_set parts home new))) entry refl
+      (own-changes change)).kinds
 
   pub own-refused : fault_kind true (apply_entry part.tables.items entry) ≡ fault_kind true (apply_entry (tables_in (views parts)) entry)
   own-refused =

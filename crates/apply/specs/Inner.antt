@@ -5,5 +5,6 @@ pub mod Parts
 pub mod Joins
 pub mod Pieces
 pub mod Gathered
+pub mod Ends
 pub mod Views
 pub mod Stores

@@ -6,3 +6,7 @@ partitions_max = 64
 
 abbrev pub rows_max : ℕ
 rows_max = 2 ^ 57
+
+-- from how many entries on commits are applied to each partition by itself
+abbrev pub together_min : ℕ
+together_min = 4096

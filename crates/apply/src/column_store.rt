@@ -1,16 +1,20 @@
 //! A store of rows in columns, in partitions.
 
-ghost use Rattle.std.specs.Prelude.{◌≡◌, ◌<◌, ◌≤◌, true, IfOk};
+ghost use Rattle.std.specs.Prelude.{◌≡◌, ◌<◌, ◌≤◌, true, false, Ok, IfOk, OnOk, OnErr, IfErr};
 ghost use Rattle.rows.specs.Shape.{shape_of};
-ghost use Rattle.rows.specs.Tables.{opening};
+ghost use Rattle.rows.specs.Tables.{opening, shape_in};
+ghost use Rattle.rows.specs.Commits.{apply_commits};
+ghost use Rattle.store.specs.Faults.{FailsAs, have_entries};
 ghost use Rattle.apply.specs.Limits.{partitions_max};
 
 use crate::part::Part;
 use crate::partitions::{change_parts, empty_parts, id_at, len, piece_of};
-use rows::{Entry, RowId, Schema, Value, laws};
+use crate::together::apply_commits;
+use rows::{Commit, Entry, RowId, Schema, Value, laws};
 use std::alloc::{AllocError, Global};
 use std::marker::Model;
-use store::{Store, StoreFault};
+use std::thread::Threads;
+use store::{ApplyFault, Store, StoreFault};
 
 /// A store of rows in columns: a row stands in the partition that its identifier leaves as a remainder
 /// when it is divided by how many there are, and there its values stand side by side with those of
@@ -51,6 +55,34 @@ impl ColumnStore {
             parts: empty_parts(alloc, schema, partitions)?,
             whole: true,
         })
+    }
+
+    /// Makes all changes of these commits, in their order. Where they have at least 4,096 entries, each
+    /// partition makes those of its own rows, in threads.
+    ///
+    /// Fails with `Broken` where the store is not whole, with `Inconsistent` where one of the changes is
+    /// refused, and with `Memory`, which comes only where there is an entry to apply. After any of them
+    /// the store is not whole, for good.
+    pub fn apply_together<R: Threads + Sync>(
+        &mut self,
+        rt: &R,
+        commits: &[Commit],
+    ) -> Result<(), ApplyFault>
+        ensures ok { OnOk result (apply_commits self.old.tables commits.now ≡ Ok self.new.tables) }
+        ensures only_whole { OnOk result (self.old.whole ≡ true) }
+        ensures stays_whole { OnOk result (self.new.whole ≡ true) }
+        ensures err { IfErr result
+            (FailsAs self.old.whole (have_entries commits.now) (apply_commits self.old.tables commits.now)) }
+        ensures broken { OnErr result (self.new.whole ≡ false) }
+        ensures kinds { shape_in self.new.tables ≡ shape_in self.old.tables }
+    {
+        if !self.whole {
+            return Err(ApplyFault::Broken);
+        }
+        laws::rows_are_of_kinds();
+        let applied = apply_commits(rt, self.alloc, &mut self.parts, commits);
+        self.whole = applied.is_ok();
+        applied
     }
 }
 

@@ -17,10 +17,12 @@ mod cells;
 mod changing;
 mod column_store;
 mod edits;
+mod own;
 mod part;
 mod partitions;
 mod piece;
 mod sequence;
+mod together;
 
 pub use block::Block;
 pub use cells::Cells;

@@ -2,15 +2,18 @@
 
 ghost use Rattle.std.specs.Prelude.{◌≡◌, ◌+◌, ◌<◌, ◌≤◌, length, [], true, Ok, OnOk, OnErr, IfOk, IfErr, IfSome, MatchOption};
 ghost use Rattle.rows.specs.Shape.{shape_of};
-ghost use Rattle.rows.specs.Tables.{opening, shape_in, kinds_of, rows_of, apply_entry};
+ghost use Rattle.rows.specs.Tables.{opening, shape_in, kinds_of, rows_of, apply_entry, apply_entries};
 ghost use Rattle.store.specs.Changes.{fault_kind};
-ghost use Rattle.store.specs.Faults.{number_of};
+ghost use Rattle.store.specs.Faults.{number_of, have_entries};
 ghost use Rattle.apply.specs.Limits.{rows_max};
+ghost use Rattle.apply.specs.Inner.Ends.{EndsAs};
+ghost use Rattle.apply.specs.Inner.Gathered.{entries_in, entries_of};
 ghost use Rattle.apply.specs.Orders.{AllUnder, place_in};
 
 use crate::changing::{change_tables, empty_tables};
+use crate::own::apply_own;
 use crate::piece::Piece;
-use rows::{Entry, Schema};
+use rows::{Commit, Entry, Schema};
 use std::alloc::{AllocError, Global};
 use store::{ApplyFault, StoreFault};
 
@@ -82,5 +85,20 @@ impl Part {
         ensures kinds { shape_in self.new.tables.items ≡ shape_in self.old.tables.items }
     {
         change_tables(alloc, &mut self.tables, entry)
+    }
+
+    /// Makes the changes of those entries of commits that are of its rows, as this one of so many
+    /// partitions, in their order, and keeps how that ended.
+    pub fn apply(&mut self, alloc: Global, commits: &[Commit], part: usize, parts: usize)
+        requires { 0 < parts }
+        ensures ends { EndsAs (have_entries commits.now)
+            (apply_entries self.old.tables.items (entries_in parts part (entries_of commits.now)))
+            self.new.tables.items self.new.fault }
+        ensures kinds { shape_in self.new.tables.items ≡ shape_in self.old.tables.items }
+    {
+        self.fault = match apply_own(alloc, &mut self.tables, commits, part, parts) {
+            Ok(()) => None,
+            Err(fault) => Some(fault),
+        };
     }
 }

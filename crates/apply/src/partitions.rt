@@ -4,7 +4,7 @@ ghost use Rattle.std.specs.Prelude.{◌≡◌, ℕ, ◌+◌, ◌<◌, ◌≤◌,
 ghost use Rattle.std.specs.Prelude.{MatchOption, IfSome, slice_index_or};
 ghost use Rattle.std.specs.List.{sum_by};
 ghost use Rattle.rows.specs.Shape.{shape_of};
-ghost use Rattle.rows.specs.Tables.{Tables, opening, kinds_of, rows_of, row_at, apply_entry};
+ghost use Rattle.rows.specs.Tables.{Tables, opening, shape_in, kinds_of, rows_of, row_at, apply_entry};
 ghost use Rattle.store.specs.Changes.{id_in, IsAboveAllBefore, fault_kind};
 ghost use Rattle.store.specs.Faults.{number_of};
 ghost use Rattle.apply.specs.Limits.{partitions_max};
@@ -64,6 +64,7 @@ pub fn change_parts(alloc: Global, parts: &mut [Part], entry: &Entry) -> Result<
     ensures err { OnErr result (views parts.new ≡ views parts.old) }
     ensures refused { IfErr result (λ fault. number_of fault ≡ fault_kind true (apply_entry (tables_in (views parts.old)) entry.now)) }
     ensures parts { AreParts (views parts.new) }
+    ensures kinds { shape_in (tables_in (views parts.new)) ≡ shape_in (tables_in (views parts.old)) }
     ensures len { length parts.new ≡ length parts.old }
 {
     let home = home_of(row_of(entry), parts.len());

@@ -1,10 +1,11 @@
 -- The entry's own partition makes its change, for all.
 use Rattle.std.proofs.Common.{◌≡◌, ◌%◌, length, get_or, slice_set, sym, ap, subst, ◌∙◌}
-use Rattle.apply.specs.Inner.Gathered.{AreParts, row_of}
+use Rattle.rows.specs.Tables.{shape_in}
+use Rattle.apply.specs.Inner.Gathered.{tables_in, AreParts, row_of}
 use Rattle.apply.specs.Inner.Views.{views}
 use Rattle.apply.specs.declared.part.Part.{Part}
 use Rattle.apply.proofs.Joined.{ok-or-err}
-use Rattle.apply.proofs.Viewed.{own-changes, own-leaves, own-refused, views-same, ok-follows, on-err-follows, err-follows}
+use Rattle.apply.proofs.Viewed.{own-changes, own-leaves, own-kinds, own-refused, views-same, ok-follows, on-err-follows, err-follows}
 use Rattle.apply.proofs.partitions.change_parts.Goals as goal
 use Rattle.apply.proofs.partitions.change_parts.Goals.{After-change}
 
@@ -41,3 +42,14 @@ returns-clause-parts c =
     (own-leaves c.args.parts.now c.args.entry.now c.home_of-home.result (was c) c.change.new.self (is c) (at c)
     c.home_of-home.ensures.within c.requires.parts)
     (λ same. subst AreParts (sym (views-same c.args.parts.now c.home_of-home.result (was c) c.change.new.self (is c) same)) c.requires.parts)
+
+pub returns-clause-kinds : goal.returns-clause-kinds
+returns-clause-kinds c =
+    ok-or-err c.change.result _ _
+    (shape_in (tables_in (views (slice_set c.args.parts.now c.home_of-home.result c.change.new.self)))
+    ≡ shape_in (tables_in (views c.args.parts.now)))
+    c.change.ensures.ok c.change.ensures.err
+    (own-kinds c.args.parts.now c.args.entry.now c.home_of-home.result (was c) c.change.new.self (is c) (at c)
+    c.home_of-home.ensures.within c.requires.parts)
+    (λ same. ap (λ parts. shape_in (tables_in parts))
+    (views-same c.args.parts.now c.home_of-home.result (was c) c.change.new.self (is c) same))
