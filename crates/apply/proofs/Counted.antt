@@ -15,7 +15,8 @@ use Rattle.apply.specs.Blocks.{cell_in}
 use Rattle.apply.specs.Orders.{AllOver, AllUnder, Rising, place_in}
 use Rattle.apply.specs.Inner.Joins.{joined}
 use Rattle.apply.proofs.Ordered.{over-parts, rising-parts, without_row-remove, there-within, there-at}
-use Rattle.apply.proofs.Joined.{IsHome, joined-at, home-present, row_at-home}
+use Rattle.apply.specs.Inner.Joins.{IsHome}
+use Rattle.apply.proofs.Joined.{joined-at, home-present, row_at-home}
 
 -- ---- one row more, one fewer
 

@@ -11,3 +11,4 @@ pub mod Splits
 pub mod Viewed
 pub mod Placed
 pub mod Each
+pub mod Ended

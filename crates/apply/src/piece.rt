@@ -9,7 +9,9 @@ ghost use Rattle.apply.specs.Limits.{rows_max};
 ghost use Rattle.apply.specs.Orders.{AllUnder, place_in};
 
 use crate::block::Block;
-use crate::sequence::{contains, greatest, patch_row, place, put_row, remove_row, value};
+use crate::sequence::{
+    contains, greatest, patch_row, place, put_row, remove_row, rows_before, value,
+};
 use rows::{Kind, KindList, Value};
 use std::alloc::{AllocError, Global};
 use std::marker::Model;
@@ -23,8 +25,8 @@ const ROWS_MAX: usize = 1 << 57;
 pub struct Piece {
     kinds: KindList,
     blocks: Vec<Block>,
-    /// How many rows there are.
-    count: usize,
+    /// How many rows there are up to the end of each block.
+    ends: Vec<usize>,
 }
 
 impl Model for Piece {
@@ -48,7 +50,7 @@ impl Piece {
         Ok(Piece {
             kinds: KindList::from_slice(alloc, kinds)?,
             blocks: Vec::new(alloc),
-            count: 0,
+            ends: Vec::new(alloc),
         })
     }
 
@@ -72,7 +74,7 @@ impl Piece {
         ensures value { result ≡ length self.now.rows }
         ensures few { result ≤ rows_max }
     {
-        self.count
+        rows_before(self.ends.as_slice(), self.ends.len())
     }
 
     /// How many rows have an identifier below this one.
@@ -80,7 +82,7 @@ impl Piece {
         ensures value { result ≡ place_in self.now.rows row }
         ensures few { result ≤ rows_max }
     {
-        place(self.blocks.as_slice(), row)
+        place(self.blocks.as_slice(), self.ends.as_slice(), row)
     }
 
     /// An identifier that none of its rows passes: the greatest, or 0 where there is no row.
@@ -107,12 +109,17 @@ impl Piece {
         ensures ok { OnOk result (self.new ≡ record self.old { rows = with_row self.old.rows row (values_of self.old.kinds bytes.now) }) }
         ensures err { OnErr result (self.new ≡ self.old) }
     {
-        if self.count == ROWS_MAX {
+        if self.len() == ROWS_MAX {
             return Err(AllocError);
         }
-        put_row(alloc, &mut self.blocks, self.kinds.as_slice(), row, bytes)?;
-        self.count += 1;
-        Ok(())
+        put_row(
+            alloc,
+            &mut self.blocks,
+            &mut self.ends,
+            self.kinds.as_slice(),
+            row,
+            bytes,
+        )
     }
 
     /// Puts bytes in the place of one column's of a row that is there. Where they are not exactly one
@@ -135,7 +142,6 @@ impl Piece {
         requires { is_present self.old.rows row ≡ true }
         ensures { self.new ≡ record self.old { rows = without_row self.old.rows row } }
     {
-        remove_row(&mut self.blocks, self.kinds.as_slice(), row);
-        self.count -= 1;
+        remove_row(&mut self.blocks, &mut self.ends, self.kinds.as_slice(), row);
     }
 }

@@ -1,6 +1,7 @@
 -- As many rows as before.
-use Rattle.std.proofs.Common.{rules, ◌≡◌, ◌++◌, length, take, drop, sym, ap, subst, ◌∙◌, arith}
-use Rattle.apply.specs.Inner.Joins.{joined, AreBlocks}
+use Rattle.std.proofs.Common.{rules, ◌≡◌, ◌≤◌, ◌++◌, length, take, drop, sym, ap, subst, ◌∙◌, arith}
+use Rattle.apply.specs.Inner.Joins.{joined, ends_from, AreBlocks}
+use Rattle.apply.specs.Limits.{rows_max}
 use Rattle.apply.proofs.Counted.{refilled}
 use Rattle.apply.proofs.Joined.{length-with_patch}
 use Rattle.apply.proofs.piece.Piece.patch.Goals as goal
@@ -17,11 +18,9 @@ invariant_of-self c =
     ∙ length-with_patch c.as_slice.result.now (joined c.as_mut_slice.result.now) c.args.row c.args.offset c.args.bytes.now
     ∙ ap (λ blocks. length (joined blocks)) c.as_mut_slice.ensures.value in
     let are : AreBlocks c.self.inside.kinds news = search rules in
-    let many : length (joined (take c.self.inside.blocks.len (news ++ drop (length news) items))) ≡ c.self.inside.count =
-    ap (λ blocks. length (joined blocks)) whole ∙ same ∙ sym c.self.invariant.count in
     record {
       columns = c.self.invariant.columns;
       blocks = subst (AreBlocks c.self.inside.kinds) (sym whole) are;
-      count = sym many;
-      few = c.self.invariant.few;
+      ends = c.self.invariant.ends ∙ sym (ap (ends_from 0) whole ∙ c.patch_row.ensures.ends ∙ ap (ends_from 0) c.as_mut_slice.ensures.value);
+      few = subst (λ blocks. length (joined blocks) ≤ rows_max) (sym whole) (omega (arith, same, c.self.invariant.few));
     }

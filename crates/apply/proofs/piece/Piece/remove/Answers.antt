@@ -1,5 +1,5 @@
 -- One row fewer.
-use Rattle.std.proofs.Common.{rules, ◌≡◌, ◌+◌, length, sym, ap, ◌∙◌, arith}
+use Rattle.std.proofs.Common.{rules, ◌≡◌, ◌+◌, length, ap, ◌∙◌, arith}
 use Rattle.rows.specs.Tables.{Table, is_present}
 use Rattle.apply.specs.Inner.Joins.{joined}
 use Rattle.apply.proofs.Counted.{length-without_row}
@@ -14,6 +14,6 @@ invariant_of-self c =
     record {
       columns = c.self.invariant.columns;
       blocks = search rules;
-      count = omega (arith, fewer, c.self.invariant.count);
-      few = omega (arith, c.self.invariant.few);
+      ends = c.remove_row.ensures.ends;
+      few = omega (arith, fewer, c.self.invariant.few);
     }
