@@ -113,39 +113,6 @@ joined-last blocks m n d e last rise some =
     append-none [] = refl
     append-none (row ∷ rows) = ap (λ rest. row ∷ rest) (append-none rows)
 
--- ---- a row's values, told at its place
-
-pub home-rises : (blocks : List Table) (m : ℕ) (d : Table) → m < length blocks → Rising (joined blocks) → Rising (get_or blocks m d).rows
-home-rises blocks m d lt rise =
-    let rows = (get_or blocks m d).rows in
-    let parts = rising-parts (joined (take m blocks)) (rows ++ joined (drop (m + 1) blocks)) (subst Rising (joined-at blocks m d lt) rise) in
-    (rising-parts rows (joined (drop (m + 1) blocks)) parts.1).0
-
-pub home-within : (blocks : List Table) (m row : ℕ) (d : Table) → IsHome blocks m row → Rising (joined blocks)
-    → is_present (joined blocks) row ≡ true → place_in (get_or blocks m d).rows row < length (get_or blocks m d).rows
-home-within blocks m row d home rise there =
-    there-within row (get_or blocks m d).rows (home-rises blocks m d home.within rise) (sym (home-present blocks m row d home) ∙ there)
-
-pub home-cell : (blocks : List Table) (m row column : ℕ) (d : Table) → IsHome blocks m row → Rising (joined blocks)
-    → is_present (joined blocks) row ≡ true
-    → cell_in (get_or blocks m d).rows (place_in (get_or blocks m d).rows row) column ≡ column_of (row_at (joined blocks) row) column
-home-cell blocks m row column d home rise there =
-    by (row_at (get_or blocks m d).rows row) refl
-  where
-    rows : Rows
-    rows = (get_or blocks m d).rows
-
-    same : row_at (joined blocks) row ≡ row_at (get_or blocks m d).rows row
-    same = row_at-home blocks m row d home.within home.front home.back
-
-    by : (found : Option (List Value)) → row_at (get_or blocks m d).rows row ≡ found
-        → cell_in (get_or blocks m d).rows (place_in (get_or blocks m d).rows row) column ≡ column_of (row_at (joined blocks) row) column
-    by None e = absurd (false≢true (ap is_some (sym (same ∙ e)) ∙ there))
-    by (Some values) e =
-        let at = there-at row (get_or blocks m d).rows values (home-rises blocks m d home.within rise) e in
-        let all : row_at (joined blocks) row ≡ Some values = same ∙ e in
-        rw (at, all) refl
-
 -- ---- as many blocks written over those of a list
 
 pub refilled : (n : ℕ) (items news : List Table) → length items ≡ n → length news ≡ length items

@@ -15,7 +15,8 @@ use Rattle.store.specs.declared.faults.ApplyFault.{ApplyFault}
 use Rattle.store.specs.declared.faults.ApplyFault.TheVariants.{Inconsistent, Memory, Broken}
 use Rattle.apply.specs.declared.part.Part.{Part}
 use Rattle.apply.specs.Inner.Ends.{EndsAs}
-use Rattle.apply.specs.Inner.Gathered.{tables_in, AreAlike, AreParts, is_in, entries_in, entries_of}
+use Rattle.apply.specs.Partitions.{tables_in}
+use Rattle.apply.specs.Inner.Gathered.{AreAlike, AreParts, is_in, entries_in, entries_of}
 use Rattle.apply.specs.Inner.Views.{views}
 use Rattle.apply.proofs.Gathered.{shape-both}
 use Rattle.apply.proofs.Splits.{parts-fold, refused-fold, entries-append, commits-entries}

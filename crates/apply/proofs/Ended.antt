@@ -1,9 +1,12 @@
 -- How many rows there are up to the end of each block.
-use Rattle.std.proofs.Common.{◌≡◌, ℕ, zero, suc, ◌+◌, ◌<◌, ◌≤◌, List, [], ◌∷◌, ◌++◌, length, get_or, take, slice_set, refl, sym, ap, ◌∙◌, arith}
+use Rattle.std.proofs.Common.{◌≡◌, ℕ, zero, suc, ◌+◌, ◌-◌, ◌<◌, ◌≤◌, List, [], ◌∷◌, ◌++◌, length, get_or, take, drop, slice_get, slice_set}
+use Rattle.std.proofs.Common.{refl, sym, ap, ◌∙◌, arith}
 use Rattle.std.proofs.lemmas.List.{length-append, length-take-le, take_more, take-take}
-use Rattle.rows.specs.Tables.{Table}
+use Rattle.rows.specs.Tables.{Rows, Table}
+use Rattle.apply.specs.Blocks.{cell_in}
 use Rattle.apply.specs.Inner.Joins.{joined, ends_from, end_before}
 use Rattle.apply.proofs.Counted.{joined-more}
+use Rattle.apply.proofs.Joined.{joined-at}
 
 pub ends-length : (before : ℕ) (blocks : List Table) → length (ends_from before blocks) ≡ length blocks
 ends-length before [] = refl
@@ -54,3 +57,31 @@ take-same k m olds news le same = sym (take-take k m news le) ∙ ap (take k) sa
 
 pub ends-front : (k : ℕ) (olds news : List Table) → take k news ≡ take k olds → take k (ends_from 0 olds) ≡ ends_from 0 (take k news)
 ends-front k olds news same = ends-take 0 k olds ∙ ap (ends_from 0) (sym same)
+
+-- the end of the block before
+pub end-is : (ends : List ℕ) (k : ℕ) → 0 < k → end_before ends k ≡ get_or ends (k - 1) 0
+end-is ends zero some = absurd (omega arith)
+end-is ends (suc k) some = let same : suc k - 1 ≡ k = omega arith in rw same refl
+
+-- ---- a row at a position of all
+
+get-skip : (front back : Rows) (i : ℕ) → slice_get (front ++ back) (length front + i) ≡ slice_get back i
+get-skip [] back i = let same : 0 + i ≡ i = omega arith in rw same refl
+get-skip (row ∷ front) back i = let same : suc (length front) + i ≡ suc (length front + i) = omega arith in rw same (get-skip front back i)
+
+get-front : (rows back : Rows) (i : ℕ) → i < length rows → slice_get (rows ++ back) i ≡ slice_get rows i
+get-front [] back i lt = absurd (omega arith)
+get-front (row ∷ rows) back zero lt = refl
+get-front (row ∷ rows) back (suc i) lt = get-front rows back i (omega arith)
+
+-- the cell of a row at a position is that of its block
+pub joined-cell : (blocks : List Table) (m at i column : ℕ) (d : Table) → m < length blocks → at ≡ length (joined (take m blocks)) + i
+    → i < length (get_or blocks m d).rows → cell_in (joined blocks) at column ≡ cell_in (get_or blocks m d).rows i column
+joined-cell blocks m at i column d lt is within =
+    let rows = (get_or blocks m d).rows in
+    let same : slice_get (joined blocks) at ≡ slice_get rows i =
+    ap (λ rows. slice_get rows at) (joined-at blocks m d lt)
+    ∙ ap (slice_get (joined (take m blocks) ++ (rows ++ joined (drop (m + 1) blocks)))) is
+    ∙ get-skip (joined (take m blocks)) (rows ++ joined (drop (m + 1) blocks)) i
+    ∙ get-front rows (joined (drop (m + 1) blocks)) i within in
+    rw same refl

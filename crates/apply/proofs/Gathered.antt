@@ -11,7 +11,7 @@ use Rattle.rows.specs.declared.value.Value.{Value}
 use Rattle.rows.specs.Shape.{Shape}
 use Rattle.rows.specs.Tables.{Rows, Table, Tables, shape_in, rows_of, row_at, is_present, with_row}
 use Rattle.apply.specs.Orders.{AllOver, AllUnder, Rising, place_in}
-use Rattle.apply.specs.Inner.Gathered.{gathered, both, tables_in}
+use Rattle.apply.specs.Partitions.{gathered, both, tables_in}
 use Rattle.apply.proofs.Changed.{row_at-put}
 use Rattle.apply.proofs.Counted.{length-with_row}
 use Rattle.apply.proofs.Ordered.{row_at-over, rising-with_row}

@@ -209,7 +209,7 @@ home-drop blocks m row d home one there =
     joined-remove blocks m
     ∙ sym (home-without blocks m row d home ∙ ap (λ rows. joined (take m blocks) ++ (rows ++ joined (drop (m + 1) blocks))) none)
 
-le_or_lt : (a b : ℕ) → (a ≤ b) ⊎ (b < a)
+pub le_or_lt : (a b : ℕ) → (a ≤ b) ⊎ (b < a)
 le_or_lt zero b = inl (omega arith)
 le_or_lt (suc a) zero = inr (omega arith)
 le_or_lt (suc a) (suc b) = elim (le_or_lt a b) [

@@ -18,7 +18,8 @@ use Rattle.rows.specs.Shape.{kinds_in}
 use Rattle.rows.specs.Tables.{Table, Tables, Refusal, shape_in, rows_of, row_at, is_fit, change_where, apply_entry, apply_entries, and_then}
 use Rattle.store.specs.Changes.{fault_kind}
 use Rattle.apply.specs.Orders.{Rising}
-use Rattle.apply.specs.Inner.Gathered.{both, tables_in, AreAlike, AreParts, row_of, is_in, entries_in, entries_of}
+use Rattle.apply.specs.Partitions.{both, tables_in}
+use Rattle.apply.specs.Inner.Gathered.{AreAlike, AreParts, row_of, is_in, entries_in, entries_of}
 use Rattle.apply.proofs.Changed.{made, refusal_of, stands, is_of-is, apply_entry-is, apply_entry-parts, apply_entry-made, row_in}
 use Rattle.apply.proofs.Changed.{Leaves, Leaves-change, Rises, rises-change}
 use Rattle.apply.proofs.Gathered.{AreFrom, row_at-tables, rising-tables, shape-both, same-tables}

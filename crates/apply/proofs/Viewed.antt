@@ -2,28 +2,31 @@
 use Rattle.std.proofs.Common.{◌≡◌, ℕ, suc, zero, ◌+◌, ◌%◌, ◌<◌, ◌≤◌, true, List, [], ◌∷◌, ◌++◌, length, get_or, take, replicate, Option, None, Some}
 use Rattle.std.proofs.Common.{slice_get, slice_set, refl, sym, ap, subst, ◌∙◌, inl, inr, MatchOption, IfSome, IfErr, OnOk, OnErr, Result, Ok, Err, arith}
 use Rattle.std.specs.List.{sum_by}
-use Rattle.std.specs.Option.{option_map, IsSome}
+use Rattle.std.specs.Option.{is_some, option_map, IsSome}
 use Rattle.std.proofs.Math.Seq.{map-set_same}
 use Rattle.std.proofs.lemmas.Bool.{false≢true, and_parts, cases_eq}
 use Rattle.std.proofs.lemmas.Bool.Decides.{nat_tests}
-use Rattle.std.proofs.lemmas.List.{length-map, get_or-map, map-set, take_all, take_more, length-replicate, get_or-replicate}
+use Rattle.std.proofs.lemmas.List.{length-map, get_or-map, map-set, take_all, take_more, length-replicate, get_or-replicate, get_or_past}
 use Rattle.std.proofs.lemmas.List.Sums.{sum_by_more, sum_by-cons}
 use Rattle.std.proofs.lemmas.Option.{slice_get-map, slice_get_within, get_or_from_slice_get}
 use Rattle.rows.specs.declared.entry.Entry.{Entry}
 use Rattle.rows.specs.declared.kind.Kind.{Kind}
 use Rattle.rows.specs.declared.value.Value.{Value}
 use Rattle.rows.specs.Shape.{Shape, kinds_in}
-use Rattle.rows.specs.Tables.{Rows, Table, Tables, opening, shape_in, rows_of, row_at, apply_entry}
+use Rattle.rows.specs.Tables.{Rows, Table, Tables, RowsAreOfKinds, opening, shape_in, rows_of, kinds_of, row_at, is_present, apply_entry}
 use Rattle.rows.specs.Values.{is_of_kind, are_of_kinds}
 use Rattle.store.specs.Changes.{column_of, fault_kind}
 use Rattle.apply.specs.declared.part.Part.{Part}
-use Rattle.apply.specs.Inner.Gathered.{both, tables_in, AreParts, row_of}
+use Rattle.apply.specs.declared.spot.Spot.{Spot}
+use Rattle.apply.specs.Partitions.{both, tables_in, values_in}
+use Rattle.apply.specs.Inner.Gathered.{AreParts, row_of}
 use Rattle.apply.specs.Inner.Views.{views}
 use Rattle.apply.specs.Orders.{AllUnder, Rising, place_in}
 use Rattle.apply.proofs.Changed.{Leaves-change}
 use Rattle.apply.proofs.Gathered.{shape-both, length-tables, place-tables}
-use Rattle.apply.proofs.Ordered.{under-higher}
-use Rattle.apply.proofs.Splits.{from-parts, one-changes, one-leaves, refused-alike}
+use Rattle.apply.proofs.Joined.{le_or_lt}
+use Rattle.apply.proofs.Ordered.{under-higher, there-at, there-from}
+use Rattle.apply.proofs.Splits.{from-parts, parts-row, one-changes, one-leaves, refused-alike}
 
 -- ---- one partition
 
@@ -222,3 +225,66 @@ opens parts shape (suc n) some is = (
   ap tables_in is ∙ tables-opening shape n,
   subst AreParts (sym is) (parts-opening shape (suc n) some),
 )
+
+-- ---- a row's place
+
+pub found-values : (result : Option ℕ) (row : ℕ) (rows : Rows) → Rising rows → is_some result ≡ is_present rows row
+    → IfSome result (λ at. at ≡ place_in rows row)
+    → IfSome result (λ at. option_map (λ found. found.1) (slice_get rows at) ≡ row_at rows row)
+found-values None row rows rise found place = place
+found-values (Some at) row rows rise found place = by (row_at rows row) refl
+  where
+    by : (values : Option (List Value)) → row_at rows row ≡ values
+        → option_map (λ found. found.1) (slice_get rows at) ≡ row_at rows row
+    by None e = absurd (false≢true (ap is_some (sym e) ∙ sym found))
+    by (Some values) e =
+        ap (λ at. option_map (λ found. found.1) (slice_get rows at)) place
+        ∙ ap (option_map (λ (found : ℕ × List Value). found.1)) (there-at row rows values rise e) ∙ sym e
+
+module _ (parts : List Tables) (table : ℕ) (spot : Spot) (column : ℕ) where
+  none-there : slice_get (rows_of (get_or parts spot.part []) table) spot.position ≡ None
+      → IsSome (column_of (values_in parts table spot) column) → ⊥
+  none-there e there =
+      false≢true (ap (λ found. is_some (column_of (option_map (λ (row : ℕ × List Value). row.1) found) column)) (sym e) ∙ there)
+
+  pub spot-position : IsSome (column_of (values_in parts table spot) column)
+      → spot.position < length (rows_of (get_or parts spot.part []) table)
+  spot-position there = by (slice_get (rows_of (get_or parts spot.part []) table) spot.position) refl
+    where
+      by : (found : Option (ℕ × List Value)) → slice_get (rows_of (get_or parts spot.part []) table) spot.position ≡ found
+          → spot.position < length (rows_of (get_or parts spot.part []) table)
+      by None e = absurd (none-there e there)
+      by (Some row) e = slice_get_within (rows_of (get_or parts spot.part []) table) spot.position row e
+
+  pub spot-part : IsSome (column_of (values_in parts table spot) column) → spot.part < length parts
+  spot-part there = elim (le_or_lt (length parts) spot.part) [
+    | inl past ↦
+        (let few = spot-position there in
+        absurd (omega (arith, few, ap (λ (tables : Tables). length (rows_of tables table)) (get_or_past parts spot.part [] past))))
+    | inr lt ↦ lt
+  ]
+
+  pub spot-columns : AreParts parts → RowsAreOfKinds (tables_in parts) → IsSome (column_of (values_in parts table spot) column)
+      → column < length (kinds_of (tables_in parts) table)
+  spot-columns are kinds there = by (slice_get (rows_of (get_or parts spot.part []) table) spot.position) refl
+    where
+      by : (found : Option (ℕ × List Value)) → slice_get (rows_of (get_or parts spot.part []) table) spot.position ≡ found
+          → column < length (kinds_of (tables_in parts) table)
+      by None e = absurd (none-there e there)
+      by (Some (id, values)) e =
+          let rows = rows_of (get_or parts spot.part []) table in
+          let lt = spot-part there in
+          let own = there-from id rows spot.position values (are.rise spot.part table [] lt) e in
+          let of : id % length parts ≡ spot.part = home id values own in
+          let all : row_at (rows_of (tables_in parts) table) id ≡ Some values = parts-row parts table id spot.part [] are of lt ∙ own in
+          column-within (Some values) (kinds_of (tables_in parts) table) column
+          (subst (λ found. IfSome found (λ values. are_of_kinds values (kinds_of (tables_in parts) table) ≡ true)) all (kinds table id))
+          (subst (λ found. IsSome (column_of (option_map (λ (row : ℕ × List Value). row.1) found) column)) e there)
+        where
+          home : (id : ℕ) (values : List Value) → row_at (rows_of (get_or parts spot.part []) table) id ≡ Some values
+              → id % length parts ≡ spot.part
+          home id values own = elim (cases_eq (id % length parts) spot.part) [
+            | inl same ↦ same
+            | inr other ↦ absurd (false≢true
+                (ap is_some (sym (are.home spot.part table id [] (spot-part there) other)) ∙ ap is_some own))
+          ]

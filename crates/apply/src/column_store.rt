@@ -1,14 +1,16 @@
 //! A store of rows in columns, in partitions.
 
-ghost use Rattle.std.specs.Prelude.{◌≡◌, ◌<◌, ◌≤◌, true, false, Ok, IfOk, OnOk, OnErr, IfErr};
+ghost use Rattle.std.specs.Prelude.{◌≡◌, ◌<◌, ◌≤◌, length, true, false, Ok, IfOk, OnOk, OnErr, IfErr};
 ghost use Rattle.rows.specs.Shape.{shape_of};
 ghost use Rattle.rows.specs.Tables.{opening, shape_in};
 ghost use Rattle.rows.specs.Commits.{apply_commits};
 ghost use Rattle.store.specs.Faults.{FailsAs, have_entries};
 ghost use Rattle.apply.specs.Limits.{partitions_max};
+ghost use Rattle.apply.specs.Partitions.{tables_in};
 
 use crate::part::Part;
-use crate::partitions::{change_parts, empty_parts, id_at, len, piece_of};
+use crate::partitions::{change_parts, empty_parts, find, id_at, len, value};
+use crate::spot::Spot;
 use crate::together::apply_commits;
 use rows::{Commit, Entry, RowId, Schema, Value, laws};
 use std::alloc::{AllocError, Global};
@@ -20,7 +22,8 @@ use store::{ApplyFault, Store, StoreFault};
 /// when it is divided by how many there are, and there its values stand side by side with those of
 /// other rows, column by column.
 ///
-/// Contracts see its tables, and whether it is whole; how many partitions there are does not show.
+/// Contracts see the tables of each partition, and whether the store is whole. What it answers is told
+/// from all partitions' tables together: how many there are does not show.
 #[derive(Debug, Drop)]
 pub struct ColumnStore {
     alloc: Global,
@@ -29,9 +32,9 @@ pub struct ColumnStore {
 }
 
 impl Model for ColumnStore {
-    ghost use Rattle.store.specs.State.{StoreState};
+    ghost use Rattle.apply.specs.Partitions.{ColumnState};
 
-    ghost Value = { StoreState };
+    ghost Value = { ColumnState };
 
     ghost use Rattle.apply.specs.Inner.Stores.{state_of, IsColumnStore};
 
@@ -46,8 +49,9 @@ impl ColumnStore {
     pub fn new(alloc: Global, schema: &Schema, partitions: usize) -> Result<ColumnStore, AllocError>
         requires some { 0 < partitions }
         requires few { partitions ≤ partitions_max }
-        ensures { IfOk result (λ store.
-            store ≡ record { tables = opening (shape_of schema.now); whole = true }) }
+        ensures tables { IfOk result (λ store. tables_in store.parts ≡ opening (shape_of schema.now)) }
+        ensures parts { IfOk result (λ store. length store.parts ≡ partitions) }
+        ensures whole { IfOk result (λ store. store.whole ≡ true) }
     {
         laws::rows_are_of_kinds();
         Ok(ColumnStore {
@@ -68,13 +72,13 @@ impl ColumnStore {
         rt: &R,
         commits: &[Commit],
     ) -> Result<(), ApplyFault>
-        ensures ok { OnOk result (apply_commits self.old.tables commits.now ≡ Ok self.new.tables) }
+        ensures ok { OnOk result (apply_commits (tables_in self.old.parts) commits.now ≡ Ok (tables_in self.new.parts)) }
         ensures only_whole { OnOk result (self.old.whole ≡ true) }
         ensures stays_whole { OnOk result (self.new.whole ≡ true) }
         ensures err { IfErr result
-            (FailsAs self.old.whole (have_entries commits.now) (apply_commits self.old.tables commits.now)) }
+            (FailsAs self.old.whole (have_entries commits.now) (apply_commits (tables_in self.old.parts) commits.now)) }
         ensures broken { OnErr result (self.new.whole ≡ false) }
-        ensures kinds { shape_in self.new.tables ≡ shape_in self.old.tables }
+        ensures kinds { shape_in (tables_in self.new.parts) ≡ shape_in (tables_in self.old.parts) }
     {
         if !self.whole {
             return Err(ApplyFault::Broken);
@@ -87,19 +91,19 @@ impl ColumnStore {
 }
 
 impl Store for ColumnStore {
-    ghost use Rattle.rows.specs.Tables.{rows_of, row_at};
     ghost use Rattle.store.specs.Faults.{number_of};
+    ghost use Rattle.apply.specs.Partitions.{tables_in, values_in};
 
-    /// A row's place is its identifier, which tells its partition.
-    type Place = RowId;
+    /// A row's place is a partition, and a position there.
+    type Place = Spot;
 
     type Fault = StoreFault;
 
-    ghost tables = { λ s. s.tables };
+    ghost tables = { λ s. tables_in s.parts };
 
     ghost is_whole = { λ s. s.whole };
 
-    ghost values_at = { λ s table place. row_at (rows_of s.tables table) place.0 };
+    ghost values_at = { λ s table place. values_in s.parts table place };
 
     ghost kind_of = { number_of };
 
@@ -115,24 +119,17 @@ impl Store for ColumnStore {
         let _ = &self.whole;
     }
 
-    /// The identifier of a row of a table; `None` where the row or the table is not there.
-    fn find(&self, table: u8, row: RowId) -> Option<RowId> {
+    /// Where a row of a table stands; `None` where the row or the table is not there.
+    fn find(&self, table: u8, row: RowId) -> Option<Spot> {
         if !self.whole {
             return None;
         }
-        if piece_of(self.parts.as_slice(), table, row.0)?.contains(row.0) {
-            Some(row)
-        } else {
-            None
-        }
+        find(self.parts.as_slice(), table, row.0)
     }
 
-    /// The value of one column of a row, columns being counted from 0.
-    fn value(&self, table: u8, place: RowId, column: usize) -> Value {
-        let Some(piece) = piece_of(self.parts.as_slice(), table, place.0) else {
-            unreachable!();
-        };
-        piece.value(place.0, column)
+    /// The value of one column of the row that stands there, columns being counted from 0.
+    fn value(&self, table: u8, place: Spot, column: usize) -> Value {
+        value(self.parts.as_slice(), table, place, column)
     }
 
     /// How many rows a table has; 0 where there is no table of that number.

@@ -1,8 +1,9 @@
 //! One partition of a store.
 
-ghost use Rattle.std.specs.Prelude.{◌≡◌, ◌+◌, ◌<◌, ◌≤◌, length, [], true, Ok, OnOk, OnErr, IfOk, IfErr, IfSome, MatchOption};
+ghost use Rattle.std.specs.Prelude.{◌≡◌, ◌+◌, ◌<◌, ◌≤◌, length, [], true, Ok, OnOk, OnErr, IfOk, IfErr, IfSome, MatchOption, is_some, slice_get};
+ghost use Rattle.std.specs.Option.{option_map};
 ghost use Rattle.rows.specs.Shape.{shape_of};
-ghost use Rattle.rows.specs.Tables.{opening, shape_in, kinds_of, rows_of, apply_entry, apply_entries};
+ghost use Rattle.rows.specs.Tables.{opening, shape_in, kinds_of, rows_of, row_at, is_present, apply_entry, apply_entries};
 ghost use Rattle.store.specs.Changes.{fault_kind};
 ghost use Rattle.store.specs.Faults.{number_of, have_entries};
 ghost use Rattle.apply.specs.Limits.{rows_max};
@@ -42,6 +43,18 @@ impl Part {
         ensures kinds { IfSome result (λ piece. piece.now.kinds ≡ kinds_of self.now.tables.items table) }
     {
         self.tables.get(table as usize)
+    }
+
+    /// The position of a row of a table among those that it has; `None` where it has no such row.
+    pub fn find(&self, table: u8, row: u64) -> Option<usize>
+        ensures found { is_some result ≡ is_present (rows_of self.now.tables.items table) row }
+        ensures values { IfSome result (λ at. option_map (λ found. found.1) (slice_get (rows_of self.now.tables.items table) at)
+            ≡ row_at (rows_of self.now.tables.items table) row) }
+    {
+        match self.piece(table) {
+            Some(piece) => piece.find(row),
+            None => None,
+        }
     }
 
     /// How many rows it has of a table.

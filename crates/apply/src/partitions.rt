@@ -1,21 +1,22 @@
 //! All partitions of a store.
 
-ghost use Rattle.std.specs.Prelude.{◌≡◌, ℕ, ◌+◌, ◌<◌, ◌≤◌, ◌%◌, length, replicate, true, Ok, None, Some, OnOk, OnErr, IfOk, IfErr};
-ghost use Rattle.std.specs.Prelude.{MatchOption, IfSome, slice_index_or};
+ghost use Rattle.std.specs.Prelude.{◌≡◌, ℕ, ◌+◌, ◌<◌, ◌≤◌, ◌%◌, length, replicate, true, Ok, Some, OnOk, OnErr, IfOk, IfErr};
+ghost use Rattle.std.specs.Prelude.{IfSome, IsSome, is_some, slice_index_or};
 ghost use Rattle.std.specs.List.{sum_by};
 ghost use Rattle.rows.specs.Shape.{shape_of};
-ghost use Rattle.rows.specs.Tables.{Tables, opening, shape_in, kinds_of, rows_of, row_at, apply_entry};
-ghost use Rattle.store.specs.Changes.{id_in, IsAboveAllBefore, fault_kind};
+ghost use Rattle.rows.specs.Tables.{Tables, RowsAreOfKinds, opening, shape_in, rows_of, row_at, is_row_at, apply_entry};
+ghost use Rattle.store.specs.Changes.{column_of, id_in, IsAboveAllBefore, fault_kind};
 ghost use Rattle.store.specs.Faults.{number_of};
 ghost use Rattle.apply.specs.Limits.{partitions_max};
 ghost use Rattle.apply.specs.Orders.{AllUnder, place_in};
-ghost use Rattle.apply.specs.Inner.Gathered.{tables_in, AreParts};
+ghost use Rattle.apply.specs.Partitions.{tables_in, values_in};
+ghost use Rattle.apply.specs.Inner.Gathered.{AreParts};
 ghost use Rattle.apply.specs.Inner.Views.{views};
 
 use crate::changing::row_of;
 use crate::part::Part;
-use crate::piece::Piece;
-use rows::{Entry, Schema};
+use crate::spot::Spot;
+use rows::{Entry, Schema, Value};
 use std::alloc::{AllocError, Global};
 use store::StoreFault;
 
@@ -43,15 +44,31 @@ fn home_of(row: u64, parts: usize) -> usize
     (row % parts as u64) as usize
 }
 
-/// The piece of a row, lent; `None` where there is no table of that number.
-pub fn piece_of(parts: &[Part], table: u8, row: u64) -> Option<&Piece>
+/// Where a row of a table stands; `None` where the row or the table is not there.
+pub fn find(parts: &[Part], table: u8, row: u64) -> Option<Spot>
     requires some { 0 < length parts.now }
     requires parts { AreParts (views parts.now) }
-    ensures row { MatchOption result (row_at (rows_of (tables_in (views parts.now)) table) row ≡ None)
-        (λ piece. row_at piece.now.rows row ≡ row_at (rows_of (tables_in (views parts.now)) table) row) }
-    ensures kinds { IfSome result (λ piece. piece.now.kinds ≡ kinds_of (tables_in (views parts.now)) table) }
+    ensures found { is_some result ≡ is_row_at (tables_in (views parts.now)) table row }
+    ensures values { IfSome result (λ spot. values_in (views parts.now) table spot ≡ row_at (rows_of (tables_in (views parts.now)) table) row) }
 {
-    parts[home_of(row, parts.len())].piece(table)
+    let part = home_of(row, parts.len());
+    match parts[part].find(table, row) {
+        Some(position) => Some(Spot { part, position }),
+        None => None,
+    }
+}
+
+/// The value of one column of the row that stands there, columns being counted from 0.
+pub fn value(parts: &[Part], table: u8, spot: Spot, column: usize) -> Value
+    requires parts { AreParts (views parts.now) }
+    requires kinds { RowsAreOfKinds (tables_in (views parts.now)) }
+    requires there { IsSome (column_of (values_in (views parts.now) table spot) column) }
+    ensures { Some result ≡ column_of (values_in (views parts.now) table spot) column }
+{
+    let Some(piece) = parts[spot.part].piece(table) else {
+        unreachable!();
+    };
+    piece.value(spot.position, column)
 }
 
 /// Makes the change of one entry, or refuses it and changes nothing.

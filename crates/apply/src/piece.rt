@@ -1,16 +1,17 @@
 //! The rows of one table in one partition.
 
-ghost use Rattle.std.specs.Prelude.{◌≡◌, ◌+◌, ◌<◌, ◌≤◌, [], length, true, false, Some, IfOk, OnOk, OnErr};
+ghost use Rattle.std.specs.Prelude.{◌≡◌, ◌+◌, ◌<◌, ◌≤◌, [], length, true, false, Some, IfOk, IfSome, OnOk, OnErr, is_some, slice_get};
+ghost use Rattle.std.specs.Option.{option_map};
 ghost use Rattle.rows.specs.Shape.{AreColumns, row_width};
 ghost use Rattle.rows.specs.Values.{values_of};
 ghost use Rattle.rows.specs.Tables.{row_at, is_present, with_row, with_patch, without_row};
-ghost use Rattle.store.specs.Changes.{column_of};
+ghost use Rattle.apply.specs.Blocks.{cell_in};
 ghost use Rattle.apply.specs.Limits.{rows_max};
 ghost use Rattle.apply.specs.Orders.{AllUnder, place_in};
 
 use crate::block::Block;
 use crate::sequence::{
-    contains, greatest, patch_row, place, put_row, remove_row, rows_before, value,
+    contains, find, greatest, patch_row, place, put_row, remove_row, rows_before, value,
 };
 use rows::{Kind, KindList, Value};
 use std::alloc::{AllocError, Global};
@@ -92,13 +93,27 @@ impl Piece {
         greatest(self.blocks.as_slice())
     }
 
-    /// The value of one column of a row that is there, columns being counted from 0.
-    pub fn value(&self, row: u64, column: usize) -> Value
-        requires there { is_present self.now.rows row ≡ true }
-        requires column { column < length self.now.kinds }
-        ensures { Some result ≡ column_of (row_at self.now.rows row) column }
+    /// The position of a row among those that there are; `None` where it is not there.
+    pub fn find(&self, row: u64) -> Option<usize>
+        ensures found { is_some result ≡ is_present self.now.rows row }
+        ensures values { IfSome result (λ at. option_map (λ found. found.1) (slice_get self.now.rows at) ≡ row_at self.now.rows row) }
     {
-        value(self.blocks.as_slice(), self.kinds.as_slice(), row, column)
+        find(self.blocks.as_slice(), self.ends.as_slice(), row)
+    }
+
+    /// The value of one column of the row at a position, columns being counted from 0.
+    pub fn value(&self, at: usize, column: usize) -> Value
+        requires within { at < length self.now.rows }
+        requires column { column < length self.now.kinds }
+        ensures { Some result ≡ cell_in self.now.rows at column }
+    {
+        value(
+            self.blocks.as_slice(),
+            self.ends.as_slice(),
+            self.kinds.as_slice(),
+            at,
+            column,
+        )
     }
 
     /// Puts in a row that is not there, given by its bytes. Fails only when out of memory, as it says of

@@ -1,11 +1,12 @@
 //! Blocks of a table's rows, one behind the other.
 
-ghost use Rattle.std.specs.Prelude.{◌≡◌, ◌+◌, ◌<◌, ◌≤◌, ◌^◌, length, take, true, false, [], Some, IfOk, OnOk, OnErr, vec_capacity};
+ghost use Rattle.std.specs.Prelude.{◌≡◌, ◌+◌, ◌<◌, ◌≤◌, ◌^◌, length, take, true, false, [], Some, IfOk, IfSome, OnOk, OnErr, is_some, slice_index_or};
+ghost use Rattle.std.specs.Prelude.{vec_capacity};
 ghost use Rattle.std.specs.List.{list_all};
 ghost use Rattle.rows.specs.Shape.{row_width, is_good};
 ghost use Rattle.rows.specs.Values.{values_of};
-ghost use Rattle.rows.specs.Tables.{row_at, is_present, with_row, with_patch, without_row};
-ghost use Rattle.store.specs.Changes.{column_of};
+ghost use Rattle.rows.specs.Tables.{is_present, with_row, with_patch, without_row};
+ghost use Rattle.apply.specs.Blocks.{cell_in};
 ghost use Rattle.apply.specs.Orders.{AllUnder, Rising, place_in};
 ghost use Rattle.apply.specs.Inner.Joins.{joined, ends_from, end_before, AllHaveRows, AreBlocks, IsHome};
 ghost use Rattle.apply.specs.Limits.{rows_max};
@@ -102,16 +103,59 @@ pub fn greatest(blocks: &[Block]) -> u64
     ids[ids.len() - 1]
 }
 
-/// The value of one column of a row that is there.
-pub fn value(blocks: &[Block], kinds: &[Kind], row: u64, column: usize) -> Value
+/// The position of a row among all rows, by how many there are up to the end of each block; `None` where
+/// it is not there.
+pub fn find(blocks: &[Block], ends: &[usize], row: u64) -> Option<usize>
+    requires rows { AllHaveRows blocks.now }
+    requires rise { Rising (joined blocks.now) }
+    requires ends { ends.now ≡ ends_from 0 blocks.now }
+    requires few { length (joined blocks.now) < 2 ^ 64 }
+    ensures found { is_some result ≡ is_present (joined blocks.now) row }
+    ensures place { IfSome result (λ at. at ≡ place_in (joined blocks.now) row) }
+{
+    if blocks.is_empty() {
+        return None;
+    }
+    let home = home_of(blocks, row);
+    match blocks[home].find(row) {
+        Some(at) => Some(rows_before(ends, home) + at),
+        None => None,
+    }
+}
+
+/// The index of the block that has the row at a position, by how many rows there are up to the end of
+/// each.
+fn block_at(ends: &[usize], at: usize) -> usize
+    requires { at < end_before ends.now (length ends.now) }
+    ensures within { result < length ends.now }
+    ensures below { end_before ends.now result ≤ at }
+    ensures above { at < slice_index_or ends.now result 0 }
+{
+    let mut low = 0;
+    let mut high = ends.len();
+    while low + 1 < high {
+        let middle = low + (high - low) / 2;
+        if ends[middle - 1] <= at {
+            low = middle;
+        } else {
+            high = middle;
+        }
+    }
+    low
+}
+
+/// The value of one column of the row at a position, by how many rows there are up to the end of each
+/// block.
+pub fn value(blocks: &[Block], ends: &[usize], kinds: &[Kind], at: usize, column: usize) -> Value
     requires blocks { AreBlocks kinds.now blocks.now }
-    requires there { is_present (joined blocks.now) row ≡ true }
+    requires ends { ends.now ≡ ends_from 0 blocks.now }
+    requires within { at < length (joined blocks.now) }
     requires column { column < length kinds.now }
-    ensures { Some result ≡ column_of (row_at (joined blocks.now) row) column }
+    ensures { Some result ≡ cell_in (joined blocks.now) at column }
 {
     let _ = kinds;
-    let block = &blocks[home_of(blocks, row)];
-    block.value(block.place(row), column)
+    let block = block_at(ends, at);
+    blocks[block].value(at - rows_before(ends, block), column)
 }
 
 /// Puts in a row that is not there, given by its bytes, in its block. Fails only when out of memory, and

@@ -8,7 +8,8 @@ ghost use Rattle.rows.specs.Commits.{apply_commits};
 ghost use Rattle.store.specs.Faults.{FailsAs, have_entries};
 ghost use Rattle.apply.specs.Limits.{together_min};
 ghost use Rattle.apply.specs.Inner.Ends.{EndsAs};
-ghost use Rattle.apply.specs.Inner.Gathered.{tables_in, AreAlike, AreParts, entries_in, entries_of};
+ghost use Rattle.apply.specs.Partitions.{tables_in};
+ghost use Rattle.apply.specs.Inner.Gathered.{AreAlike, AreParts, entries_in, entries_of};
 ghost use Rattle.apply.specs.Inner.Views.{views};
 
 use crate::part::Part;

@@ -1,27 +1,12 @@
--- The tables of all partitions, and which rows stand in which of them.
-use Rattle.std.specs.Prelude.{◌≡◌, ◌≢◌, ℕ, ◌%◌, ◌<◌, ◌==◌, List, [], ◌∷◌, map, length, None, Bool, slice_index_or}
+-- Which rows stand in which partition, and which entries are a partition's.
+use Rattle.std.specs.Prelude.{◌≡◌, ◌≢◌, ℕ, ◌%◌, ◌<◌, ◌==◌, List, length, None, Bool, slice_index_or}
 use Rattle.std.specs.List.{filter, flat_map}
 use Rattle.rows.specs.declared.commit.Commit.{Commit}
 use Rattle.rows.specs.declared.entry.Entry.{Entry}
 use Rattle.rows.specs.declared.entry.Entry.TheVariants.{Insert, Patch, Delete}
-use Rattle.rows.specs.Tables.{Rows, Tables, shape_in, rows_of, row_at, with_row}
+use Rattle.rows.specs.Tables.{Tables, shape_in, rows_of, row_at}
 use Rattle.apply.specs.Orders.{Rising}
-
--- rows, put in among others
-abbrev pub gathered : Rows → Rows → Rows
-gathered [] others = others
-gathered (row ∷ rows) others = with_row (gathered rows others) row.0 row.1
-
--- the tables of one partition, with the rows of as many others put in
-abbrev pub both : Tables → Tables → Tables
-both [] others = []
-both (one ∷ these) [] = record { kinds = one.kinds; rows = gathered one.rows [] } ∷ both these []
-both (one ∷ these) (other ∷ others) = record { kinds = one.kinds; rows = gathered one.rows other.rows } ∷ both these others
-
--- the tables of all partitions
-abbrev pub tables_in : List Tables → Tables
-tables_in [] = []
-tables_in (part ∷ parts) = both part (tables_in parts)
+use Rattle.apply.specs.Partitions.{tables_in}
 
 -- each partition has tables of the same kinds
 abbrev pub AreAlike : List Tables → Type 0

@@ -1,14 +1,14 @@
 -- How the parts of a store of columns are seen, and what holds of them.
 use Rattle.std.specs.Prelude.{◌≡◌, ◌<◌, ◌≤◌, length, true}
 use Rattle.rows.specs.Tables.{RowsAreOfKinds}
-use Rattle.store.specs.State.{StoreState}
 use Rattle.apply.specs.Limits.{partitions_max}
-use Rattle.apply.specs.Inner.Gathered.{tables_in, AreAlike, AreParts}
+use Rattle.apply.specs.Partitions.{ColumnState, tables_in}
+use Rattle.apply.specs.Inner.Gathered.{AreAlike, AreParts}
 use Rattle.apply.specs.Inner.Views.{views}
 use Rattle.apply.specs.declared.column_store.ColumnStore.TheInside.{Inside}
 
-abbrev pub state_of : Inside → StoreState
-state_of s = record { tables = tables_in (views s.parts.items); whole = s.whole }
+abbrev pub state_of : Inside → ColumnState
+state_of s = record { parts = views s.parts.items; whole = s.whole }
 
 pub record IsColumnStore (s : Inside) : Type 0 where
   pub some : 0 < length s.parts.items

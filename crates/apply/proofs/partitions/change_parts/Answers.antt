@@ -1,7 +1,8 @@
 -- The entry's own partition makes its change, for all.
 use Rattle.std.proofs.Common.{◌≡◌, ◌%◌, length, get_or, slice_set, sym, ap, subst, ◌∙◌}
 use Rattle.rows.specs.Tables.{shape_in}
-use Rattle.apply.specs.Inner.Gathered.{tables_in, AreParts, row_of}
+use Rattle.apply.specs.Partitions.{tables_in}
+use Rattle.apply.specs.Inner.Gathered.{AreParts, row_of}
 use Rattle.apply.specs.Inner.Views.{views}
 use Rattle.apply.specs.declared.part.Part.{Part}
 use Rattle.apply.proofs.Joined.{ok-or-err}

@@ -3,7 +3,7 @@ use Rattle.std.proofs.Common.{◌≡◌, ◌+◌, ◌<◌, Some, subst, arith}
 use Rattle.rows.specs.Tables.{rows_of}
 use Rattle.store.specs.Changes.{id_in}
 use Rattle.apply.specs.Orders.{place_in}
-use Rattle.apply.specs.Inner.Gathered.{tables_in}
+use Rattle.apply.specs.Partitions.{tables_in}
 use Rattle.apply.specs.Inner.Views.{views}
 use Rattle.apply.proofs.Placed.{place-none, id-between, above-before}
 use Rattle.apply.proofs.Splits.{parts-rise}

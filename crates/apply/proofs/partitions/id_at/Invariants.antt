@@ -2,7 +2,7 @@
 use Rattle.std.proofs.Common.{◌+◌, ◌-◌, ◌<◌, ◌≤◌}
 use Rattle.rows.specs.Tables.{rows_of}
 use Rattle.apply.specs.Orders.{place_in}
-use Rattle.apply.specs.Inner.Gathered.{tables_in}
+use Rattle.apply.specs.Partitions.{tables_in}
 use Rattle.apply.specs.Inner.Views.{views}
 use Rattle.apply.proofs.partitions.id_at.Given as goal
 

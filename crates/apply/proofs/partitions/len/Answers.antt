@@ -1,7 +1,7 @@
 -- Each partition adds its own.
 use Rattle.std.proofs.Common.{◌≡◌, ◌+◌, ◌%◌, length, take, sym, ◌∙◌, arith}
 use Rattle.rows.specs.Tables.{Tables, rows_of}
-use Rattle.apply.specs.Inner.Gathered.{tables_in}
+use Rattle.apply.specs.Partitions.{tables_in}
 use Rattle.apply.specs.Inner.Views.{views}
 use Rattle.apply.proofs.Gathered.{length-tables}
 use Rattle.apply.proofs.Splits.{from-parts}

@@ -2,7 +2,7 @@
 use Rattle.std.proofs.Common.{◌≡◌, ◌+◌, ◌%◌, length, take, sym, ◌∙◌, arith}
 use Rattle.rows.specs.Tables.{Tables, rows_of}
 use Rattle.apply.specs.Orders.{place_in}
-use Rattle.apply.specs.Inner.Gathered.{tables_in}
+use Rattle.apply.specs.Partitions.{tables_in}
 use Rattle.apply.specs.Inner.Views.{views}
 use Rattle.apply.proofs.Gathered.{place-tables}
 use Rattle.apply.proofs.Splits.{from-parts}

@@ -1,7 +1,8 @@
 -- What is left of the entries makes of the tables so far what all of them make of the first.
 use Rattle.std.proofs.Common.{◌≡◌, length, drop}
 use Rattle.rows.specs.Tables.{shape_in, apply_entries}
-use Rattle.apply.specs.Inner.Gathered.{tables_in, AreParts}
+use Rattle.apply.specs.Partitions.{tables_in}
+use Rattle.apply.specs.Inner.Gathered.{AreParts}
 use Rattle.apply.specs.Inner.Views.{views}
 use Rattle.apply.proofs.together.apply_entries.Given as goal
 

@@ -2,7 +2,8 @@
 use Rattle.std.proofs.Common.{◌≡◌, length, drop}
 use Rattle.rows.specs.Tables.{shape_in}
 use Rattle.rows.specs.Commits.{apply_commits}
-use Rattle.apply.specs.Inner.Gathered.{tables_in, AreParts}
+use Rattle.apply.specs.Partitions.{tables_in}
+use Rattle.apply.specs.Inner.Gathered.{AreParts}
 use Rattle.apply.specs.Inner.Views.{views}
 use Rattle.apply.proofs.together.apply_in_order.Given as goal
 

@@ -20,8 +20,12 @@ invariant_of-result c =
       kinds = λ whole. subst RowsAreOfKinds (sym at.1) (c.rows_are_of_kinds.ensures.versions shape [] 0);
     }
 
-pub returns : goal.returns
-returns c =
-    let parts = c.in_ok-empty_parts.field-0.items in
-    let at = opens (views parts) (shape_of c.args.schema.now) c.args.partitions c.requires.some c.in_ok-empty_parts.ensures in
-    λ i. record { tables = at.1 i; whole = true }
+pub returns-clause-tables : goal.returns-clause-tables
+returns-clause-tables c =
+    (opens (views c.in_ok-empty_parts.field-0.items) (shape_of c.args.schema.now) c.args.partitions c.requires.some
+    c.in_ok-empty_parts.ensures).1
+
+pub returns-clause-parts : goal.returns-clause-parts
+returns-clause-parts c =
+    (opens (views c.in_ok-empty_parts.field-0.items) (shape_of c.args.schema.now) c.args.partitions c.requires.some
+    c.in_ok-empty_parts.ensures).0
