@@ -1,22 +1,18 @@
 -- How many rows there are, how many of them are below one, and the greatest.
 use Rattle.std.proofs.Common.{◌≡◌, ℕ, zero, suc, ◌+◌, ◌<◌, ◌≤◌, true, false, List, [], ◌∷◌, ◌++◌, length, get_or, take, drop}
-use Rattle.std.proofs.Common.{Option, None, Some, nat_lt, slice_get, refl, sym, ap, subst, ◌∙◌, arith}
+use Rattle.std.proofs.Common.{refl, sym, ap, subst, ◌∙◌, arith}
 use Rattle.std.specs.Map.{keys_of}
-use Rattle.std.specs.Option.{is_some}
-use Rattle.std.proofs.lemmas.Bool.{false≢true}
 use Rattle.std.proofs.lemmas.Bool.Decides.{nat_tests}
 use Rattle.std.proofs.lemmas.Grind.{flat_map-append}
 use Rattle.std.proofs.lemmas.List.{take_more, length-append}
 use Rattle.std.proofs.lemmas.List.Edits.{length-remove}
 use Rattle.rows.specs.declared.value.Value.{Value}
-use Rattle.rows.specs.Tables.{Rows, Table, row_at, is_present, with_row, without_row}
-use Rattle.store.specs.Changes.{column_of}
-use Rattle.apply.specs.Blocks.{cell_in}
+use Rattle.rows.specs.Tables.{Rows, Table, is_present, with_row, without_row}
 use Rattle.apply.specs.Orders.{AllOver, AllUnder, Rising, place_in}
 use Rattle.apply.specs.Inner.Joins.{joined}
-use Rattle.apply.proofs.Ordered.{over-parts, rising-parts, without_row-remove, there-within, there-at}
+use Rattle.apply.proofs.Ordered.{over-parts, without_row-remove, there-within}
 use Rattle.apply.specs.Inner.Joins.{IsHome}
-use Rattle.apply.proofs.Joined.{joined-at, home-present, row_at-home}
+use Rattle.apply.proofs.Joined.{joined-at}
 
 -- ---- one row more, one fewer
 

@@ -1,13 +1,11 @@
 -- Commits that each partition applied by itself: all are applied, or one is refused, or memory was.
-use Rattle.std.proofs.Common.{◌≡◌, ℕ, suc, zero, ◌+◌, ◌<◌, ◌≤◌, Bool, true, false, List, [], ◌∷◌, ◌++◌, length, get_or, take, drop}
-use Rattle.std.proofs.Common.{Option, None, Some, Result, Ok, Err, nat_lt, refl, sym, ap, subst, ◌∙◌, arith}
-use Rattle.std.specs.List.{list_any}
+use Rattle.std.proofs.Common.{◌≡◌, ℕ, suc, zero, ◌+◌, ◌<◌, Bool, true, List, [], ◌∷◌, length, get_or, drop}
+use Rattle.std.proofs.Common.{None, Some, Result, Ok, Err, nat_lt, refl, sym, ap, subst, ◌∙◌, arith}
 use Rattle.std.specs.Result.{IsErr}
 use Rattle.std.proofs.lemmas.List.{get_or-map, drop_more}
 use Rattle.std.proofs.lemmas.List.Elements.{filter-append}
 use Rattle.std.proofs.lemmas.List.Folds.{list_any_at}
 use Rattle.rows.specs.declared.commit.Commit.{Commit}
-use Rattle.rows.specs.declared.entry.Entry.{Entry}
 use Rattle.rows.specs.Commits.{apply_commits}
 use Rattle.rows.specs.Tables.{Tables, Refusal, shape_in, apply_entries, and_then}
 use Rattle.store.specs.Faults.{FailsAs, have_entries}

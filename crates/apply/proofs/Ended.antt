@@ -1,11 +1,10 @@
 -- How many rows there are up to the end of each block.
 use Rattle.std.proofs.Common.{◌≡◌, ℕ, zero, suc, ◌+◌, ◌-◌, ◌<◌, ◌≤◌, List, [], ◌∷◌, ◌++◌, length, get_or, take, drop, slice_get, slice_set}
 use Rattle.std.proofs.Common.{refl, sym, ap, ◌∙◌, arith}
-use Rattle.std.proofs.lemmas.List.{length-append, length-take-le, take_more, take-take}
+use Rattle.std.proofs.lemmas.List.{length-append, take_more, take-take}
 use Rattle.rows.specs.Tables.{Rows, Table}
 use Rattle.apply.specs.Blocks.{cell_in}
 use Rattle.apply.specs.Inner.Joins.{joined, ends_from, end_before}
-use Rattle.apply.proofs.Counted.{joined-more}
 use Rattle.apply.proofs.Joined.{joined-at}
 
 pub ends-length : (before : ℕ) (blocks : List Table) → length (ends_from before blocks) ≡ length blocks

@@ -1,6 +1,6 @@
 -- The tables of all partitions: each row is that of its own partition, and rows are as many as theirs together.
 use Rattle.std.proofs.Common.{◌≡◌, ◌≢◌, ℕ, suc, zero, ◌+◌, ◌<◌, ◌≤◌, Bool, true, false, cond, ◌==◌, List, [], ◌∷◌, length, get_or, Option}
-use Rattle.std.proofs.Common.{None, Some, nat_lt, refl, sym, ap, subst, ◌∙◌, inl, inr, ◌⊎◌, arith}
+use Rattle.std.proofs.Common.{None, Some, nat_lt, refl, sym, ap, subst, ◌∙◌, arith}
 use Rattle.std.specs.List.{sum_by}
 use Rattle.std.specs.Option.{is_some}
 use Rattle.std.proofs.lemmas.Bool.{false≢true}
@@ -8,9 +8,8 @@ use Rattle.std.proofs.lemmas.Bool.Decides.{nat_tests}
 use Rattle.std.proofs.lemmas.List.{length-map}
 use Rattle.std.proofs.lemmas.List.Sums.{sum_by-cons}
 use Rattle.rows.specs.declared.value.Value.{Value}
-use Rattle.rows.specs.Shape.{Shape}
 use Rattle.rows.specs.Tables.{Rows, Table, Tables, shape_in, rows_of, row_at, is_present, with_row}
-use Rattle.apply.specs.Orders.{AllOver, AllUnder, Rising, place_in}
+use Rattle.apply.specs.Orders.{AllOver, Rising, place_in}
 use Rattle.apply.specs.Partitions.{gathered, both, tables_in}
 use Rattle.apply.proofs.Changed.{row_at-put}
 use Rattle.apply.proofs.Counted.{length-with_row}

@@ -1,10 +1,9 @@
 -- The row at an index of rows that rise: that below which as many stand.
-use Rattle.std.proofs.Common.{◌≡◌, ℕ, suc, zero, ◌+◌, ◌<◌, ◌≤◌, Bool, true, false, ◌==◌, [], ◌∷◌, length, None, Some, nat_lt, refl, sym, ap, ◌∙◌, arith}
-use Rattle.std.proofs.lemmas.Bool.{false≢true}
+use Rattle.std.proofs.Common.{◌≡◌, ℕ, suc, zero, ◌+◌, ◌<◌, ◌≤◌, Bool, true, false, [], ◌∷◌, Some, nat_lt, refl, ap, arith}
 use Rattle.std.proofs.lemmas.Bool.Decides.{nat_tests}
 use Rattle.rows.specs.Tables.{Rows}
 use Rattle.store.specs.Changes.{id_in, IsAboveAllBefore}
-use Rattle.apply.specs.Orders.{AllOver, AllUnder, Rising, place_in}
+use Rattle.apply.specs.Orders.{AllOver, Rising, place_in}
 
 past : (low id : ℕ) (rows : Rows) → AllOver low rows → id ≤ low + 1 → place_in rows id ≡ 0
 past low id [] over le = refl

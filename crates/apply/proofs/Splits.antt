@@ -1,13 +1,11 @@
 -- An entry that one partition takes all partitions take together; and so lists of them, split by partition.
-use Rattle.std.proofs.Common.{◌≡◌, ◌≢◌, ℕ, suc, zero, ◌+◌, ◌%◌, ◌<◌, Bool, true, false, cond, ◌&&◌, ◌==◌, List, [], ◌∷◌, ◌++◌, length, get_or}
+use Rattle.std.proofs.Common.{◌≡◌, ◌≢◌, ℕ, suc, zero, ◌%◌, ◌<◌, Bool, true, false, cond, ◌==◌, List, [], ◌∷◌, ◌++◌, length, get_or}
 use Rattle.std.proofs.Common.{slice_set, None, Result, Ok, Err, refl, sym, ap, subst, ◌∙◌, inl, inr, ◌⊎◌, arith}
-use Rattle.std.specs.List.{filter}
 use Rattle.std.specs.Option.{is_some}
-use Rattle.std.specs.Result.{is_ok, is_err, IsErr}
+use Rattle.std.specs.Result.{is_ok, IsErr}
 use Rattle.std.proofs.lemmas.Bool.{false≢true, eqb-true, eq-eqb, and_parts, cases_eq}
 use Rattle.std.proofs.lemmas.Bool.Decides.{nat_tests}
 use Rattle.std.proofs.lemmas.List.{length-map, length-set, get_or-set_same, get_or-set_other, same_lists, get_or_default}
-use Rattle.std.proofs.lemmas.List.Elements.{filter-append}
 use Rattle.rows.specs.declared.commit.Commit.{Commit}
 use Rattle.rows.specs.declared.entry.Entry.{Entry}
 use Rattle.rows.specs.Commits.{is_of, apply_commits}
@@ -17,9 +15,8 @@ use Rattle.rows.specs.RowAfter.{row_after_one, row_after_entry}
 use Rattle.rows.specs.Shape.{kinds_in}
 use Rattle.rows.specs.Tables.{Table, Tables, Refusal, shape_in, rows_of, row_at, is_fit, change_where, apply_entry, apply_entries, and_then}
 use Rattle.store.specs.Changes.{fault_kind}
-use Rattle.apply.specs.Orders.{Rising}
-use Rattle.apply.specs.Partitions.{both, tables_in}
-use Rattle.apply.specs.Inner.Gathered.{AreAlike, AreParts, row_of, is_in, entries_in, entries_of}
+use Rattle.apply.specs.Partitions.{tables_in}
+use Rattle.apply.specs.Inner.Gathered.{AreParts, row_of, is_in, entries_in, entries_of}
 use Rattle.apply.proofs.Changed.{made, refusal_of, stands, is_of-is, apply_entry-is, apply_entry-parts, apply_entry-made, row_in}
 use Rattle.apply.proofs.Changed.{Leaves, Leaves-change, Rises, rises-change}
 use Rattle.apply.proofs.Gathered.{AreFrom, row_at-tables, rising-tables, shape-both, same-tables}

@@ -12,7 +12,7 @@ use Rattle.std.proofs.lemmas.Option.{slice_get-map, slice_get_within, get_or_fro
 use Rattle.rows.specs.declared.entry.Entry.{Entry}
 use Rattle.rows.specs.declared.kind.Kind.{Kind}
 use Rattle.rows.specs.declared.value.Value.{Value}
-use Rattle.rows.specs.Shape.{Shape, kinds_in}
+use Rattle.rows.specs.Shape.{Shape}
 use Rattle.rows.specs.Tables.{Rows, Table, Tables, RowsAreOfKinds, opening, shape_in, rows_of, kinds_of, row_at, is_present, apply_entry}
 use Rattle.rows.specs.Values.{is_of_kind, are_of_kinds}
 use Rattle.store.specs.Changes.{column_of, fault_kind}
@@ -23,7 +23,7 @@ use Rattle.apply.specs.Inner.Gathered.{AreParts, row_of}
 use Rattle.apply.specs.Inner.Views.{views}
 use Rattle.apply.specs.Orders.{AllUnder, Rising, place_in}
 use Rattle.apply.proofs.Changed.{Leaves-change}
-use Rattle.apply.proofs.Gathered.{shape-both, length-tables, place-tables}
+use Rattle.apply.proofs.Gathered.{length-tables, place-tables}
 use Rattle.apply.proofs.Joined.{le_or_lt}
 use Rattle.apply.proofs.Ordered.{under-higher, there-at, there-from}
 use Rattle.apply.proofs.Splits.{from-parts, parts-row, one-changes, one-leaves, refused-alike}

@@ -1,8 +1,8 @@
 -- A commit's own entries, and those behind them.
-use Rattle.std.proofs.Common.{◌≡◌, ◌+◌, drop, sym, ap, ◌∙◌}
+use Rattle.std.proofs.Common.{sym, ap, ◌∙◌}
 use Rattle.std.proofs.lemmas.Result.{err_from_is_err_and}
 use Rattle.rows.specs.Tables.{apply_entries}
-use Rattle.apply.specs.Inner.Gathered.{entries_in, entries_of}
+use Rattle.apply.specs.Inner.Gathered.{entries_in}
 use Rattle.apply.proofs.Each.{own-step, own-fails}
 use Rattle.apply.proofs.own.apply_own.Goals as goal
 

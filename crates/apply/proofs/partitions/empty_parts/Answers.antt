@@ -1,8 +1,8 @@
 -- One more.
-use Rattle.std.proofs.Common.{◌≡◌, ◌∷◌, [], ◌++◌, replicate, sym, ap, ◌∙◌, arith}
+use Rattle.std.proofs.Common.{◌∷◌, [], ◌++◌, replicate, ap, ◌∙◌, arith}
 use Rattle.std.proofs.lemmas.List.{replicate_more, map-append}
 use Rattle.rows.specs.Shape.{shape_of}
-use Rattle.rows.specs.Tables.{Tables, opening}
+use Rattle.rows.specs.Tables.{opening}
 use Rattle.apply.specs.declared.part.Part.{Part}
 use Rattle.apply.specs.Inner.Views.{views}
 use Rattle.apply.proofs.partitions.empty_parts.Goals as goal

@@ -1,5 +1,5 @@
 -- The row's partition has what all have of it.
-use Rattle.std.proofs.Common.{◌≡◌, ◌%◌, ◌<◌, length, [], sym, ap, ◌∙◌, get_or, slice_get, arith}
+use Rattle.std.proofs.Common.{◌≡◌, ◌%◌, length, [], sym, ap, ◌∙◌, get_or, slice_get, arith}
 use Rattle.std.specs.Option.{is_some, option_map}
 use Rattle.rows.specs.Tables.{Tables, rows_of, row_at}
 use Rattle.apply.specs.Partitions.{tables_in}

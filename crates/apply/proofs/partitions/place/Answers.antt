@@ -1,5 +1,5 @@
 -- Each partition adds its own.
-use Rattle.std.proofs.Common.{◌≡◌, ◌+◌, ◌%◌, length, take, sym, ◌∙◌, arith}
+use Rattle.std.proofs.Common.{◌%◌, length, sym, ◌∙◌, arith}
 use Rattle.rows.specs.Tables.{Tables, rows_of}
 use Rattle.apply.specs.Orders.{place_in}
 use Rattle.apply.specs.Partitions.{tables_in}

@@ -1,5 +1,5 @@
 -- The end of the block before the one in the middle tells.
-use Rattle.std.proofs.Common.{◌≡◌, ◌+◌, ◌-◌, ◌/◌, ◌<◌, ◌≤◌, suc, ap, subst, arith}
+use Rattle.std.proofs.Common.{◌≡◌, ◌+◌, ◌-◌, ◌/◌, ◌<◌, suc, subst, arith}
 use Rattle.apply.specs.Inner.Joins.{end_before}
 use Rattle.apply.proofs.Ended.{end-is}
 use Rattle.apply.proofs.sequence.block_at.Goals as goal

@@ -1,5 +1,5 @@
 -- The row's home has it, behind the rows of the blocks before.
-use Rattle.std.proofs.Common.{◌≡◌, ◌≤◌, length, take, ap, sym, ◌∙◌, arith}
+use Rattle.std.proofs.Common.{◌≡◌, length, take, ap, sym, ◌∙◌, arith}
 use Rattle.rows.specs.Tables.{Table, is_present}
 use Rattle.apply.specs.Orders.{place_in}
 use Rattle.apply.specs.Inner.Joins.{joined, end_before}

@@ -1,5 +1,5 @@
 -- The rows of the blocks before its home are below it, and none behind it.
-use Rattle.std.proofs.Common.{◌≡◌, ◌≤◌, length, take, ap, sym, ◌∙◌, arith}
+use Rattle.std.proofs.Common.{◌≡◌, length, take, ap, ◌∙◌, arith}
 use Rattle.rows.specs.Tables.{Table}
 use Rattle.apply.specs.Orders.{place_in}
 use Rattle.apply.specs.Inner.Joins.{joined, end_before}

@@ -1,8 +1,8 @@
 -- The blocks before the one that changed stay, and there is room for one more.
-use Rattle.std.proofs.Common.{◌≡◌, ◌+◌, ◌<◌, ◌≤◌, false, length, take, sym, ap, ◌∙◌, arith}
+use Rattle.std.proofs.Common.{◌≡◌, ◌+◌, ◌≤◌, length, take, sym, ap, ◌∙◌, arith}
 use Rattle.rows.specs.Tables.{Rows, is_present}
 use Rattle.rows.specs.Values.{values_of}
-use Rattle.apply.specs.Inner.Joins.{joined, ends_from}
+use Rattle.apply.specs.Inner.Joins.{joined}
 use Rattle.apply.proofs.Counted.{refilled, length-with_row}
 use Rattle.apply.proofs.Ended.{ends-length, ends-front, take-same}
 use Rattle.apply.proofs.Joined.{ok-or-err}

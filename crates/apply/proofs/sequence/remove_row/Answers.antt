@@ -1,5 +1,5 @@
 -- The blocks before the one that changed stay.
-use Rattle.std.proofs.Common.{◌≡◌, ◌+◌, ◌<◌, ◌≤◌, length, take, sym, ap, ◌∙◌, arith}
+use Rattle.std.proofs.Common.{length, take, ap, ◌∙◌, arith}
 use Rattle.apply.specs.Inner.Joins.{joined}
 use Rattle.apply.proofs.Counted.{length-without_row}
 use Rattle.apply.proofs.Ended.{ends-length, ends-front}

@@ -1,8 +1,8 @@
 -- The next block's rows stand behind those before it.
-use Rattle.std.proofs.Common.{◌≡◌, ◌+◌, ◌<◌, ◌≤◌, [], ◌∷◌, ◌++◌, length, take, get_or, ap, sym, ◌∙◌, arith}
+use Rattle.std.proofs.Common.{◌≡◌, ◌+◌, ◌<◌, [], ◌∷◌, ◌++◌, length, take, get_or, ap, sym, ◌∙◌, arith}
 use Rattle.std.proofs.lemmas.List.{length-take-le, take-take}
 use Rattle.rows.specs.Tables.{Table}
-use Rattle.apply.specs.Inner.Joins.{joined, ends_from, end_before}
+use Rattle.apply.specs.Inner.Joins.{joined, end_before}
 use Rattle.apply.proofs.Counted.{joined-more, joined-within}
 use Rattle.apply.proofs.Ended.{end-before, ends-length, ends-more}
 use Rattle.apply.proofs.sequence.renew_ends.Goals as goal

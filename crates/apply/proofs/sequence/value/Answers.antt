@@ -1,7 +1,6 @@
 -- The block has the row at what is left of the position.
-use Rattle.std.proofs.Common.{rules, ◌≡◌, suc, ◌+◌, ◌-◌, ◌<◌, length, take, get_or, ap, sym, subst, ◌∙◌, arith}
+use Rattle.std.proofs.Common.{rules, ◌≡◌, suc, ◌+◌, ◌-◌, ◌<◌, length, take, get_or, ap, sym, ◌∙◌, arith}
 use Rattle.std.proofs.lemmas.List.{take_all}
-use Rattle.rows.specs.declared.kind.Kind.{Kind}
 use Rattle.rows.specs.Tables.{Table}
 use Rattle.apply.specs.Blocks.{cell_in}
 use Rattle.apply.specs.Inner.Joins.{joined, end_before}

@@ -1,5 +1,5 @@
 -- What is left of the entries makes of the tables so far what all of them make of the first.
-use Rattle.std.proofs.Common.{◌≡◌, length, drop}
+use Rattle.std.proofs.Common.{◌≡◌, drop}
 use Rattle.rows.specs.Tables.{shape_in, apply_entries}
 use Rattle.apply.specs.Partitions.{tables_in}
 use Rattle.apply.specs.Inner.Gathered.{AreParts}

@@ -1,5 +1,5 @@
 -- What is left of the commits makes of the tables so far what all of them make of the first.
-use Rattle.std.proofs.Common.{◌≡◌, length, drop}
+use Rattle.std.proofs.Common.{◌≡◌, drop}
 use Rattle.rows.specs.Tables.{shape_in}
 use Rattle.rows.specs.Commits.{apply_commits}
 use Rattle.apply.specs.Partitions.{tables_in}

@@ -1,5 +1,5 @@
 -- Where no partition has a fault, all changes were made; else one that has it tells why not.
-use Rattle.std.proofs.Common.{refl, ◌<◌, length, arith}
+use Rattle.std.proofs.Common.{refl}
 use Rattle.store.specs.Faults.{have_entries}
 use Rattle.apply.proofs.Each.{together-kinds, together-alike, together-ok, together-err}
 use Rattle.apply.proofs.together.apply_in_threads.Goals as goal

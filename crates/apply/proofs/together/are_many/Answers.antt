@@ -1,5 +1,5 @@
 -- The commits so far, and one more.
-use Rattle.std.proofs.Common.{◌≡◌, ◌+◌, ◌≤◌, length, take, nat_le, true, sym, ap, ◌∙◌, arith}
+use Rattle.std.proofs.Common.{◌≤◌, length, ap, arith}
 use Rattle.std.proofs.lemmas.Bool.Decides.{nat_tests}
 use Rattle.std.proofs.lemmas.List.Folds.{length-flat_map-take}
 use Rattle.rows.specs.declared.commit.Commit.{Commit}

@@ -1,5 +1,5 @@
 -- Partitions without rows.
-use Rattle.std.proofs.Common.{◌≡◌, [], length, true, sym, ap, subst, arith}
+use Rattle.std.proofs.Common.{◌≡◌, [], length, sym, subst, arith}
 use Rattle.rows.specs.Shape.{shape_of}
 use Rattle.rows.specs.Tables.{RowsAreOfKinds}
 use Rattle.apply.specs.Inner.Views.{views}

@@ -1,5 +1,5 @@
 -- One row more, or none.
-use Rattle.std.proofs.Common.{rules, ◌≡◌, ◌+◌, ◌≤◌, length, ap, ◌∙◌, arith}
+use Rattle.std.proofs.Common.{rules, ◌≤◌, length, ap, ◌∙◌, arith}
 use Rattle.rows.specs.Tables.{Table, is_present}
 use Rattle.rows.specs.Values.{values_of}
 use Rattle.apply.specs.Inner.Joins.{joined}

@@ -1,5 +1,5 @@
 -- No more than there are.
-use Rattle.std.proofs.Common.{◌≡◌, length, ap, arith}
+use Rattle.std.proofs.Common.{length, ap, arith}
 use Rattle.apply.specs.Inner.Joins.{joined}
 use Rattle.apply.proofs.Ordered.{place-within}
 use Rattle.apply.proofs.piece.Piece.place.Goals as goal
