@@ -52,7 +52,8 @@ module _ (parts part : ℕ) (tables : Tables) (commits : List Commit) (i : ℕ) 
       → apply_entries tables (entries_in parts part (entries_of (drop i commits))) ≡ changes
       → FailsAs true (nat_lt 0 (length commit.entries)) (apply_entries tables (entries_in parts part commit.entries)) fault
       → FailsAs true (have_entries commits) changes fault
-  own-fails changes Inconsistent all h = (refl, subst IsErr (sym own-next ∙ all) (stops (apply_entries tables (entries_in parts part commit.entries)) h.1))
+  own-fails changes Inconsistent all h =
+      (refl, subst IsErr (sym own-next ∙ all) (stops (apply_entries tables (entries_in parts part commit.entries)) h.1))
     where
       stops : (first : Result Tables Refusal) → IsErr first
           → IsErr (and_then (λ after. apply_entries after (entries_in parts part (entries_of (drop (i + 1) commits)))) first)

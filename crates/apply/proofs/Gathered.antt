@@ -238,9 +238,11 @@ same-rows (one ∷ rows) (other ∷ others) rise too finds =
       where
         by : (less more : Bool) → nat_lt one.0 other.0 ≡ less → nat_lt other.0 one.0 ≡ more → one.0 ≡ other.0
         by true more e f =
-            absurd (let h = sym (found-head one rows) ∙ finds one.0 ∙ below-head one.0 other others too.0 (grind (arith, nat_tests, e)) in cc)
+            let none = below-head one.0 other others too.0 (grind (arith, nat_tests, e)) in
+            absurd (let h = sym (found-head one rows) ∙ finds one.0 ∙ none in cc)
         by false true e f =
-            absurd (let h = sym (found-head other others) ∙ sym (finds other.0) ∙ below-head other.0 one rows rise.0 (grind (arith, nat_tests, f)) in cc)
+            let none = below-head other.0 one rows rise.0 (grind (arith, nat_tests, f)) in
+            absurd (let h = sym (found-head other others) ∙ sym (finds other.0) ∙ none in cc)
         by false false e f = grind (arith, nat_tests, e, f)
 
 pub same-tables : (these others : Tables) → shape_in these ≡ shape_in others → ((t : ℕ) → Rising (rows_of these t))

@@ -92,7 +92,8 @@ stays : (shape : _) (n : ℕ) (entry : Entry) (tables after : Tables) (t row : �
     → Leaves tables after (λ t r. row_after_entry shape t r entry) → row % n ≢ row_of entry % n → row_in after t row ≡ row_in tables t row
 stays shape n entry tables after t row leaves other =
     leaves.rows t row
-    ∙ ap (λ here. cond here (row_after_one (kinds_in shape t) entry (row_in tables t row)) (row_in tables t row)) (not-of n entry t row other)
+    ∙ ap (λ here. cond here (row_after_one (kinds_in shape t) entry (row_in tables t row)) (row_in tables t row))
+    (not-of n entry t row other)
 
 module _ (parts : List Tables) (some : 0 < length parts) (are : AreParts parts) (entry : Entry) (d : Tables) where
   within : row_of entry % length parts < length parts
@@ -187,7 +188,8 @@ module _ (parts : List Tables) (some : 0 < length parts) (are : AreParts parts) 
           | inr other ↦
               own ∙ ap (λ tables. row_in tables t row) (get_or-set_other parts h k left d other)
               ∙ sym (parts-row parts t row k d are refl lt)
-              ∙ sym (stays (shape_in (tables_in parts)) (length parts) entry (tables_in parts) (made (tables_in parts) entry) t row of-all other)
+              ∙ sym (stays (shape_in (tables_in parts)) (length parts) entry (tables_in parts) (made (tables_in parts) entry) t row
+              of-all other)
         ]
 
     pub one-changes : apply_entry (tables_in parts) entry ≡ Ok (tables_in (slice_set parts (row_of entry % length parts) left))
@@ -286,11 +288,13 @@ refused-fold (entry ∷ entries) parts n k d is some are lt err =
         (rest (slice_set parts h left) (is ∙ sym size) (one-leaves parts few are entry d left one.1)
         (omega (arith, lt, size)) (step h within left refl one.1 (cases_eq k h)))
       where
-        step : (h : ℕ) → h < length parts → (left : Tables) → h ≡ row_of entry % length parts → apply_entry (get_or parts h d) entry ≡ Ok left
+        step : (h : ℕ) → h < length parts → (left : Tables) → h ≡ row_of entry % length parts
+            → apply_entry (get_or parts h d) entry ≡ Ok left
             → (k ≡ h) ⊎ (k ≢ h) → IsErr (apply_entries (get_or (slice_set parts h left) k d) (entries_in n k entries))
         step h within left of change (inl here) =
             let mine : is_in n k entry ≡ true = eq-eqb (row_of entry % n) k (ap (λ n. row_of entry % n) is ∙ sym of ∙ sym here) in
-            let own = subst (λ b. IsErr (apply_entries (get_or parts k d) (cond b (entry ∷ entries_in n k entries) (entries_in n k entries))))
+            let own = subst
+            (λ b. IsErr (apply_entries (get_or parts k d) (cond b (entry ∷ entries_in n k entries) (entries_in n k entries))))
             mine err in
             let at : apply_entry (get_or parts k d) entry ≡ Ok left = ap (λ k. apply_entry (get_or parts k d) entry) here ∙ change in
             rw (here, get_or-set_same parts h left d within)
@@ -299,7 +303,8 @@ refused-fold (entry ∷ entries) parts n k d is some are lt err =
         step h within left of change (inr other) =
             let away : is_in n k entry ≡ false = grind (arith, nat_tests, of, other, ap (λ n. row_of entry % n) is) in
             rw (get_or-set_other parts h k left d other)
-            (subst (λ b. IsErr (apply_entries (get_or parts k d) (cond b (entry ∷ entries_in n k entries) (entries_in n k entries)))) away err)
+            (subst (λ b. IsErr (apply_entries (get_or parts k d) (cond b (entry ∷ entries_in n k entries) (entries_in n k entries))))
+            away err)
 
 -- ---- commits
 

@@ -1,6 +1,8 @@
 -- The tables of each partition, when one of these is read or changed, and what all have together.
-use Rattle.std.proofs.Common.{◌≡◌, ℕ, suc, zero, ◌+◌, ◌%◌, ◌<◌, ◌≤◌, true, List, [], ◌∷◌, ◌++◌, length, get_or, take, replicate, Option, None, Some}
-use Rattle.std.proofs.Common.{slice_get, slice_set, refl, sym, ap, subst, ◌∙◌, inl, inr, MatchOption, IfSome, IfErr, OnOk, OnErr, Result, Ok, Err, arith}
+use Rattle.std.proofs.Common.{◌≡◌, ℕ, suc, zero, ◌+◌, ◌%◌, ◌<◌, ◌≤◌, true, List, [], ◌∷◌, ◌++◌, length, get_or, take, replicate, Option}
+use Rattle.std.proofs.Common.{None, Some}
+use Rattle.std.proofs.Common.{slice_get, slice_set, refl, sym, ap, subst, ◌∙◌, inl, inr, MatchOption, IfSome, IfErr, OnOk, OnErr, Result}
+use Rattle.std.proofs.Common.{Ok, Err, arith}
 use Rattle.std.specs.List.{sum_by}
 use Rattle.std.specs.Option.{is_some, option_map, IsSome}
 use Rattle.std.proofs.Math.Seq.{map-set_same}
@@ -112,7 +114,8 @@ parts-opening shape (suc n) some =
     let many = length-replicate (suc n) (opening shape) in
     record {
       alike = λ k d lt. ap shape_in (get_or-replicate (suc n) k (opening shape) d (omega (arith, lt, many)) ∙ sym (tables-opening shape n));
-      rise = λ k t d lt. subst (λ tables. Rising (rows_of tables t)) (sym (get_or-replicate (suc n) k (opening shape) d (omega (arith, lt, many))))
+      rise = λ k t d lt. subst (λ tables. Rising (rows_of tables t))
+          (sym (get_or-replicate (suc n) k (opening shape) d (omega (arith, lt, many))))
           (subst Rising (sym (opening-rows shape t)) tt);
       home = λ k t row d lt other.
           ap (λ tables. row_at (rows_of tables t) row) (get_or-replicate (suc n) k (opening shape) d (omega (arith, lt, many)))
@@ -167,12 +170,14 @@ module _ (parts : List Part) (entry : Entry) (home : ℕ) (part new : Part) (is 
 
   pub own-leaves : apply_entry part.tables.items entry ≡ Ok new.tables.items → AreParts (views (slice_set parts home new))
   own-leaves change =
-      subst AreParts put (one-leaves (views parts) some are entry [] new.tables.items (ap (λ tables. apply_entry tables entry) own ∙ change))
+      subst AreParts put
+      (one-leaves (views parts) some are entry [] new.tables.items (ap (λ tables. apply_entry tables entry) own ∙ change))
 
   pub own-kinds : apply_entry part.tables.items entry ≡ Ok new.tables.items
       → shape_in (tables_in (views (slice_set parts home new))) ≡ shape_in (tables_in (views parts))
   own-kinds change =
-      (Leaves-change (shape_in (tables_in (views parts))) (tables_in (views parts)) (tables_in (views (slice_set parts home new))) entry refl
+      (Leaves-change (shape_in (tables_in (views parts))) (tables_in (views parts)) (tables_in (views (slice_set parts home new)))
+      entry refl
       (own-changes change)).kinds
 
   pub own-refused : fault_kind true (apply_entry part.tables.items entry) ≡ fault_kind true (apply_entry (tables_in (views parts)) entry)
@@ -191,7 +196,8 @@ pub most-more : (parts : List Part) (t i most other new : ℕ) (part : Part) →
     → AllUnder (other + 1) (rows_of part.tables.items t)
     → (k : ℕ) (d : Tables) → k < i + 1 → AllUnder (new + 1) (rows_of (get_or (views parts) k d) t)
 most-more parts t i most other new part lt is le too before one k d few = elim (cases_eq k i) [
-  | inl here ↦ subst (λ tables. AllUnder (new + 1) (rows_of tables t)) (sym (ap (λ k. get_or (views parts) k d) here ∙ views-get parts i part d lt is))
+  | inl here ↦ subst (λ tables. AllUnder (new + 1) (rows_of tables t))
+      (sym (ap (λ k. get_or (views parts) k d) here ∙ views-get parts i part d lt is))
       (under-higher (other + 1) (new + 1) (rows_of part.tables.items t) (omega arith) one)
   | inr apart ↦ under-higher (most + 1) (new + 1) (rows_of (get_or (views parts) k d) t) (omega arith) (before k d (omega arith))
 ]
@@ -205,7 +211,8 @@ columns-many (value ∷ values) [] h = absurd (false≢true h)
 columns-many (value ∷ values) (kind ∷ kinds) h =
     ap suc (columns-many values kinds (and_parts (is_of_kind value kind) (are_of_kinds values kinds) h).1)
 
-pub column-within : (found : Option (List Value)) (kinds : List Kind) (column : ℕ) → IfSome found (λ values. are_of_kinds values kinds ≡ true)
+pub column-within : (found : Option (List Value)) (kinds : List Kind) (column : ℕ)
+    → IfSome found (λ values. are_of_kinds values kinds ≡ true)
     → IsSome (column_of found column) → column < length kinds
 column-within None kinds column h there = absurd (false≢true there)
 column-within (Some values) kinds column h there =

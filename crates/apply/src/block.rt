@@ -1,6 +1,7 @@
 //! Some rows of a table, as columns.
 
-ghost use Rattle.std.specs.Prelude.{◌≡◌, ◌<◌, ◌≤◌, [], length, take, drop, true, false, Some, IfOk, IfSome, OnOk, OnErr, is_some, slice_get, nat_lt};
+ghost use Rattle.std.specs.Prelude.{◌≡◌, ◌<◌, ◌≤◌, [], length, take, drop, true, false, Some, IfOk, IfSome, OnOk, OnErr, is_some};
+ghost use Rattle.std.specs.Prelude.{slice_get, nat_lt};
 ghost use Rattle.std.specs.Prelude.{vec_len, vec_capacity};
 ghost use Rattle.std.specs.List.{list_all, prefix_len, insert};
 ghost use Rattle.std.specs.List.Sorted.{IsStrictlySortedBy};

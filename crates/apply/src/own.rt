@@ -22,7 +22,8 @@ fn change_own(
 ) -> Result<(), ApplyFault>
     requires { 0 < parts }
     ensures ok { OnOk result (apply_entries tables.old (entries_in parts part entries.now) ≡ Ok tables.new) }
-    ensures err { IfErr result (FailsAs true (nat_lt 0 (length entries.now)) (apply_entries tables.old (entries_in parts part entries.now))) }
+    ensures err { IfErr result (FailsAs true (nat_lt 0 (length entries.now))
+        (apply_entries tables.old (entries_in parts part entries.now))) }
     ensures kinds { shape_in tables.new ≡ shape_in tables.old }
 {
     for entry in entries {

@@ -1,6 +1,7 @@
 //! One partition of a store.
 
-ghost use Rattle.std.specs.Prelude.{◌≡◌, ◌+◌, ◌<◌, ◌≤◌, length, [], true, Ok, OnOk, OnErr, IfOk, IfErr, IfSome, MatchOption, is_some, slice_get};
+ghost use Rattle.std.specs.Prelude.{◌≡◌, ◌+◌, ◌<◌, ◌≤◌, length, [], true, Ok, OnOk, OnErr, IfOk, IfErr, IfSome, MatchOption, is_some};
+ghost use Rattle.std.specs.Prelude.{slice_get};
 ghost use Rattle.std.specs.Option.{option_map};
 ghost use Rattle.rows.specs.Shape.{shape_of};
 ghost use Rattle.rows.specs.Tables.{opening, shape_in, kinds_of, rows_of, row_at, is_present, apply_entry, apply_entries};

@@ -49,7 +49,8 @@ pub fn find(parts: &[Part], table: u8, row: u64) -> Option<Spot>
     requires some { 0 < length parts.now }
     requires parts { AreParts (views parts.now) }
     ensures found { is_some result ≡ is_row_at (tables_in (views parts.now)) table row }
-    ensures values { IfSome result (λ spot. values_in (views parts.now) table spot ≡ row_at (rows_of (tables_in (views parts.now)) table) row) }
+    ensures values { IfSome result
+        (λ spot. values_in (views parts.now) table spot ≡ row_at (rows_of (tables_in (views parts.now)) table) row) }
 {
     let part = home_of(row, parts.len());
     match parts[part].find(table, row) {

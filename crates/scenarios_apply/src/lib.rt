@@ -6,4 +6,6 @@ mod blocks;
 #[cfg(test)]
 mod column_stores;
 #[cfg(test)]
+mod column_values;
+#[cfg(test)]
 mod pieces;

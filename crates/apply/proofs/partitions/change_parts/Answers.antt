@@ -28,7 +28,8 @@ returns-clause-ok c =
 
 pub returns-clause-err : goal.returns-clause-err
 returns-clause-err c =
-    on-err-follows c.change.result _ _ c.change.ensures.err (views-same c.args.parts.now c.home_of-home.result (was c) c.change.new.self (is c))
+    on-err-follows c.change.result _ _ c.change.ensures.err
+    (views-same c.args.parts.now c.home_of-home.result (was c) c.change.new.self (is c))
 
 pub returns-clause-refused : goal.returns-clause-refused
 returns-clause-refused c =
@@ -42,7 +43,8 @@ returns-clause-parts c =
     c.change.ensures.ok c.change.ensures.err
     (own-leaves c.args.parts.now c.args.entry.now c.home_of-home.result (was c) c.change.new.self (is c) (at c)
     c.home_of-home.ensures.within c.requires.parts)
-    (λ same. subst AreParts (sym (views-same c.args.parts.now c.home_of-home.result (was c) c.change.new.self (is c) same)) c.requires.parts)
+    (λ same. subst AreParts (sym (views-same c.args.parts.now c.home_of-home.result (was c) c.change.new.self (is c) same))
+    c.requires.parts)
 
 pub returns-clause-kinds : goal.returns-clause-kinds
 returns-clause-kinds c =

@@ -11,7 +11,8 @@ use Rattle.apply.proofs.partitions.place.Goals as goal
 
 pub loop-part-preserved : goal.loop-part-preserved
 loop-part-preserved c =
-    let more = sum-more (λ (part : Tables). place_in (rows_of part c.args.table) c.args.row) c.args.parts.now c.loop-part.part-index c.part-item.result
+    let more = sum-more (λ (part : Tables). place_in (rows_of part c.args.table) c.args.row) c.args.parts.now
+    c.loop-part.part-index c.part-item.result
     c.loop-part-test.true c.part-item.is in
     record {
       value = omega (arith, more, c.loop-part.invariant.value, c.place-rows.ensures.value);
@@ -22,5 +23,7 @@ pub returns : goal.returns
 returns c =
     let parts = views c.args.parts.now in
     c.loop-part.invariant.value
-    ∙ sum-whole (λ (part : Tables). place_in (rows_of part c.args.table) c.args.row) c.args.parts.now c.loop-part.part-index c.loop-part-test.false
-    ∙ sym (place-tables (λ row. row % length parts) (length (tables_in parts)) 0 parts c.args.table c.args.row (from-parts parts c.requires.parts))
+    ∙ sum-whole (λ (part : Tables). place_in (rows_of part c.args.table) c.args.row) c.args.parts.now
+    c.loop-part.part-index c.loop-part-test.false
+    ∙ sym (place-tables (λ row. row % length parts) (length (tables_in parts)) 0 parts c.args.table c.args.row
+    (from-parts parts c.requires.parts))

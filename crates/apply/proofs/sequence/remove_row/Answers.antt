@@ -21,4 +21,10 @@ pub renew_ends-requires-clause-few : goal.renew_ends-requires-clause-few
 renew_ends-requires-clause-few c =
     let many = ap (λ blocks. length (joined blocks)) c.as_slice-2.ensures.value in
     let fewer = ap length c.take_row.ensures.rows in
-    omega (arith, many, fewer, length-without_row c.args.row (joined c.args.blocks.now.items) c.requires.blocks.rise c.requires.there, c.requires.few)
+    omega (
+      arith,
+      many,
+      fewer,
+      c.requires.few,
+      length-without_row c.args.row (joined c.args.blocks.now.items) c.requires.blocks.rise c.requires.there,
+    )

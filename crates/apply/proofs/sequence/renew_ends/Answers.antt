@@ -39,7 +39,15 @@ pub push_reserved-requires : goal.push_reserved-requires
 push_reserved-requires c =
     let same = ap length c.loop-k.invariant.ends in
     let front = length-take-le c.loop-k.k c.args.blocks.now (omega (arith, c.loop-k-test.true)) in
-    omega (arith, same, ends-length 0 (take c.loop-k.k c.args.blocks.now), front, c.loop-k.ends.ok.0, c.loop-k.invariant.room, c.loop-k-test.true)
+    omega (
+      arith,
+      same,
+      ends-length 0 (take c.loop-k.k c.args.blocks.now),
+      front,
+      c.loop-k.ends.ok.0,
+      c.loop-k.invariant.room,
+      c.loop-k-test.true,
+    )
 
 pub loop-k-preserved : goal.loop-k-preserved
 loop-k-preserved c =

@@ -40,7 +40,8 @@ before c =
     ∙ end-before c.block_at-block.result c.args.blocks.now (omega (arith, within c))
 
 -- the position is among the block's
-behind : (c : After-rows_before) → c.args.at - c.rows_before.result < length (get_or c.args.blocks.now c.block_at-block.result c.index-blocks-block.result).rows
+behind : (c : After-rows_before) → c.args.at - c.rows_before.result
+    < length (get_or c.args.blocks.now c.block_at-block.result c.index-blocks-block.result).rows
 behind c =
     let blocks = c.args.blocks.now in
     let b = c.block_at-block.result in

@@ -11,7 +11,13 @@ counted : (c : After-rows_before) → c.rows_before.result ≡ length (joined c.
 counted c =
     let blocks = c.self.inside.blocks.items in
     let many : c.len.result ≡ length blocks =
-    omega (arith, c.len.ensures, c.as_slice.ensures.len, ap length (c.as_slice.ensures.value ∙ c.self.invariant.ends), ends-length 0 blocks) in
+    omega (
+      arith,
+      c.len.ensures,
+      c.as_slice.ensures.len,
+      ap length (c.as_slice.ensures.value ∙ c.self.invariant.ends),
+      ends-length 0 blocks,
+    ) in
     c.rows_before.ensures
     ∙ ap (λ ends. end_before ends c.len.result) (c.as_slice.ensures.value ∙ c.self.invariant.ends)
     ∙ end-before c.len.result blocks (omega (arith, many))

@@ -21,6 +21,7 @@ invariant_of-self c =
     record {
       columns = c.self.invariant.columns;
       blocks = subst (AreBlocks c.self.inside.kinds) (sym whole) are;
-      ends = c.self.invariant.ends ∙ sym (ap (ends_from 0) whole ∙ c.patch_row.ensures.ends ∙ ap (ends_from 0) c.as_mut_slice.ensures.value);
+      ends = c.self.invariant.ends
+          ∙ sym (ap (ends_from 0) whole ∙ c.patch_row.ensures.ends ∙ ap (ends_from 0) c.as_mut_slice.ensures.value);
       few = subst (λ blocks. length (joined blocks) ≤ rows_max) (sym whole) (omega (arith, same, c.self.invariant.few));
     }
