@@ -20,7 +20,7 @@ use Rattle.std.proofs.lemmas.List.{set_split, length-set, get_or-set_same, get_o
 use Rattle.rows.specs.declared.value.Value.{Value}
 use Rattle.rows.specs.Tables.{Rows, Table, row_at, is_present, with_row, with_patch, without_row, patched_row}
 use Rattle.apply.specs.Orders.{AllOver, AllUnder, Rising, place_in}
-use Rattle.apply.specs.Inner.Joins.{joined, AreBlocks}
+use Rattle.apply.specs.Inner.Joins.{joined, AreBlocks, IsHome}
 use Rattle.apply.proofs.Ordered.{rising-parts, under-before, under-higher, over-lower, row_at-front, row_at-back, with_row-front}
 use Rattle.apply.proofs.Ordered.{with_row-back, set-front, set-back, rising-set, without_row-append, without_row-under}
 use Rattle.apply.proofs.Ordered.{without_row-over, without_row-remove, there-within}
@@ -78,12 +78,6 @@ joined-set blocks m new lt =
     ap joined (set_split blocks m new lt)
     ∙ flat_map-append (λ (block : Table). block.rows) (take m blocks) (new ∷ drop (suc m) blocks)
     ∙ ap (λ n. joined (take m blocks) ++ (new.rows ++ joined (drop n blocks))) next
-
--- where a row stands or goes
-pub record IsHome (blocks : List Table) (m row : ℕ) : Type 0 where
-  pub within : m < length blocks
-  pub front : AllUnder row (joined (take m blocks))
-  pub back : AllOver row (joined (drop (m + 1) blocks))
 
 module _ (blocks : List Table) (m row : ℕ) (d : Table) (home : IsHome blocks m row) where
   pub home-present : is_present (joined blocks) row ≡ is_present (get_or blocks m d).rows row
@@ -215,7 +209,7 @@ home-drop blocks m row d home one there =
     joined-remove blocks m
     ∙ sym (home-without blocks m row d home ∙ ap (λ rows. joined (take m blocks) ++ (rows ++ joined (drop (m + 1) blocks))) none)
 
-le_or_lt : (a b : ℕ) → (a ≤ b) ⊎ (b < a)
+pub le_or_lt : (a b : ℕ) → (a ≤ b) ⊎ (b < a)
 le_or_lt zero b = inl (omega arith)
 le_or_lt (suc a) zero = inr (omega arith)
 le_or_lt (suc a) (suc b) = elim (le_or_lt a b) [
@@ -276,6 +270,13 @@ each-set P blocks m new lt each one k d few = elim (cases_eq k m) [
   | inr other ↦ rw (get_or-set_other blocks m k new d other) (each k d few)
 ]
 
+-- the blocks before one stay
+pub front-insert : (blocks : List Table) (m : ℕ) (new : Table) → m < length blocks → take m (insert blocks (m + 1) new) ≡ take m blocks
+front-insert blocks m new lt =
+    let le : m + 1 ≤ length blocks = omega arith in
+    take-append-le m (take (m + 1) blocks) (new ∷ drop (m + 1) blocks) (omega (arith, length-take-le (m + 1) blocks le))
+    ∙ take-take m (m + 1) blocks (omega arith)
+
 pub joined-cut : (blocks : List Table) (m : ℕ) (d head tail : Table) → m < length blocks
     → head.rows ++ tail.rows ≡ (get_or blocks m d).rows
     → joined (slice_set (insert blocks (m + 1) tail) m head) ≡ joined blocks
@@ -283,9 +284,7 @@ joined-cut blocks m d head tail lt both =
     let whole = blocks in
     let le : m + 1 ≤ length blocks = omega arith in
     let many = length-insert blocks (m + 1) tail le in
-    let front : take m (insert blocks (m + 1) tail) ≡ take m blocks =
-    take-append-le m (take (m + 1) blocks) (tail ∷ drop (m + 1) blocks) (omega (arith, length-take-le (m + 1) blocks le))
-    ∙ take-take m (m + 1) blocks (omega arith) in
+    let front = front-insert blocks m tail lt in
     let back : drop (m + 1) (insert blocks (m + 1) tail) ≡ tail ∷ drop (m + 1) blocks =
     drop_at (take (m + 1) blocks) (tail ∷ drop (m + 1) blocks) (m + 1) (length-take-le (m + 1) blocks le) in
     joined-set (insert blocks (m + 1) tail) m head (omega (arith, many))

@@ -4,3 +4,11 @@ pub mod Ordered
 pub mod Beside
 pub mod Built
 pub mod Joined
+pub mod Counted
+pub mod Changed
+pub mod Gathered
+pub mod Splits
+pub mod Viewed
+pub mod Placed
+pub mod Each
+pub mod Ended

@@ -1,6 +1,7 @@
 //! Some rows of a table, as columns.
 
-ghost use Rattle.std.specs.Prelude.{◌≡◌, ◌<◌, ◌≤◌, [], length, take, drop, true, false, Some, IfOk, OnOk, OnErr, slice_get, nat_lt};
+ghost use Rattle.std.specs.Prelude.{◌≡◌, ◌<◌, ◌≤◌, [], length, take, drop, true, false, Some, IfOk, IfSome, OnOk, OnErr, is_some};
+ghost use Rattle.std.specs.Prelude.{slice_get, nat_lt};
 ghost use Rattle.std.specs.Prelude.{vec_len, vec_capacity};
 ghost use Rattle.std.specs.List.{list_all, prefix_len, insert};
 ghost use Rattle.std.specs.List.Sorted.{IsStrictlySortedBy};
@@ -81,7 +82,23 @@ impl Block {
     pub fn contains(&self, row: u64) -> bool
         ensures { result ≡ is_present self.now.rows row }
     {
+        self.is_at(self.place(row), row)
+    }
+
+    /// The index of a row; `None` where it is not there.
+    pub fn find(&self, row: u64) -> Option<usize>
+        ensures found { is_some result ≡ is_present self.now.rows row }
+        ensures place { IfSome result (λ at. at ≡ place_in self.now.rows row) }
+    {
         let at = self.place(row);
+        if self.is_at(at, row) { Some(at) } else { None }
+    }
+
+    /// Whether the row is there, told at its place.
+    fn is_at(&self, at: usize, row: u64) -> bool
+        requires { at ≡ place_in self.now.rows row }
+        ensures { result ≡ is_present self.now.rows row }
+    {
         at < self.ids.len() && self.ids[at] == row
     }
 

@@ -1,15 +1,24 @@
 //! The rows of one table in one partition.
 
-ghost use Rattle.std.specs.Prelude.{◌≡◌, ◌≤◌, [], length, true, false, IfOk, OnOk, OnErr};
+ghost use Rattle.std.specs.Prelude.{◌≡◌, ◌+◌, ◌<◌, ◌≤◌, [], length, true, false, Some, IfOk, IfSome, OnOk, OnErr, is_some, slice_get};
+ghost use Rattle.std.specs.Option.{option_map};
 ghost use Rattle.rows.specs.Shape.{AreColumns, row_width};
 ghost use Rattle.rows.specs.Values.{values_of};
-ghost use Rattle.rows.specs.Tables.{is_present, with_row, with_patch, without_row};
+ghost use Rattle.rows.specs.Tables.{row_at, is_present, with_row, with_patch, without_row};
+ghost use Rattle.apply.specs.Blocks.{cell_in};
+ghost use Rattle.apply.specs.Limits.{rows_max};
+ghost use Rattle.apply.specs.Orders.{AllUnder, place_in};
 
 use crate::block::Block;
-use crate::sequence::{contains, patch_row, put_row, remove_row};
-use rows::{Kind, KindList};
+use crate::sequence::{
+    contains, find, greatest, patch_row, place, put_row, remove_row, rows_before, value,
+};
+use rows::{Kind, KindList, Value};
 use std::alloc::{AllocError, Global};
 use std::marker::Model;
+
+/// How many rows a piece has at most.
+const ROWS_MAX: usize = 1 << 57;
 
 /// The rows of one table, as blocks of columns. Contracts see the kinds of its columns, which a table
 /// may have, and its rows in rising identifier.
@@ -17,6 +26,8 @@ use std::marker::Model;
 pub struct Piece {
     kinds: KindList,
     blocks: Vec<Block>,
+    /// How many rows there are up to the end of each block.
+    ends: Vec<usize>,
 }
 
 impl Model for Piece {
@@ -40,6 +51,7 @@ impl Piece {
         Ok(Piece {
             kinds: KindList::from_slice(alloc, kinds)?,
             blocks: Vec::new(alloc),
+            ends: Vec::new(alloc),
         })
     }
 
@@ -58,15 +70,71 @@ impl Piece {
         contains(self.blocks.as_slice(), row)
     }
 
-    /// Puts in a row that is not there, given by its bytes. Fails only when out of memory, and then the
-    /// rows are as they were.
+    /// How many rows there are: at most 2^57.
+    pub fn len(&self) -> usize
+        ensures value { result ≡ length self.now.rows }
+        ensures few { result ≤ rows_max }
+    {
+        rows_before(self.ends.as_slice(), self.ends.len())
+    }
+
+    /// How many rows have an identifier below this one.
+    pub fn place(&self, row: u64) -> usize
+        ensures value { result ≡ place_in self.now.rows row }
+        ensures few { result ≤ rows_max }
+    {
+        place(self.blocks.as_slice(), self.ends.as_slice(), row)
+    }
+
+    /// An identifier that none of its rows passes: the greatest, or 0 where there is no row.
+    pub fn greatest(&self) -> u64
+        ensures { AllUnder (result + 1) self.now.rows }
+    {
+        greatest(self.blocks.as_slice())
+    }
+
+    /// The position of a row among those that there are; `None` where it is not there.
+    pub fn find(&self, row: u64) -> Option<usize>
+        ensures found { is_some result ≡ is_present self.now.rows row }
+        ensures values { IfSome result (λ at. option_map (λ found. found.1) (slice_get self.now.rows at) ≡ row_at self.now.rows row) }
+    {
+        find(self.blocks.as_slice(), self.ends.as_slice(), row)
+    }
+
+    /// The value of one column of the row at a position, columns being counted from 0.
+    pub fn value(&self, at: usize, column: usize) -> Value
+        requires within { at < length self.now.rows }
+        requires column { column < length self.now.kinds }
+        ensures { Some result ≡ cell_in self.now.rows at column }
+    {
+        value(
+            self.blocks.as_slice(),
+            self.ends.as_slice(),
+            self.kinds.as_slice(),
+            at,
+            column,
+        )
+    }
+
+    /// Puts in a row that is not there, given by its bytes. Fails only when out of memory, as it says of
+    /// a piece with 2^57 rows, and then the rows are as they were.
     pub fn insert(&mut self, alloc: Global, row: u64, bytes: &[u8]) -> Result<(), AllocError>
         requires absent { is_present self.old.rows row ≡ false }
         requires wide { row_width self.old.kinds ≤ length bytes.now }
         ensures ok { OnOk result (self.new ≡ record self.old { rows = with_row self.old.rows row (values_of self.old.kinds bytes.now) }) }
         ensures err { OnErr result (self.new ≡ self.old) }
     {
-        put_row(alloc, &mut self.blocks, self.kinds.as_slice(), row, bytes)
+        if self.len() == ROWS_MAX {
+            return Err(AllocError);
+        }
+        put_row(
+            alloc,
+            &mut self.blocks,
+            &mut self.ends,
+            self.kinds.as_slice(),
+            row,
+            bytes,
+        )
     }
 
     /// Puts bytes in the place of one column's of a row that is there. Where they are not exactly one
@@ -89,6 +157,6 @@ impl Piece {
         requires { is_present self.old.rows row ≡ true }
         ensures { self.new ≡ record self.old { rows = without_row self.old.rows row } }
     {
-        remove_row(&mut self.blocks, self.kinds.as_slice(), row);
+        remove_row(&mut self.blocks, &mut self.ends, self.kinds.as_slice(), row);
     }
 }

@@ -1,15 +1,19 @@
 //! Blocks of a table's rows, one behind the other.
 
-ghost use Rattle.std.specs.Prelude.{◌≡◌, ◌+◌, ◌<◌, ◌≤◌, length, take, drop, true, false, [], IfOk, OnOk, OnErr};
+ghost use Rattle.std.specs.Prelude.{◌≡◌, ◌+◌, ◌<◌, ◌≤◌, ◌^◌, length, take, true, false, [], Some, IfOk, IfSome, OnOk, OnErr, is_some};
+ghost use Rattle.std.specs.Prelude.{slice_index_or};
+ghost use Rattle.std.specs.Prelude.{vec_capacity};
 ghost use Rattle.std.specs.List.{list_all};
 ghost use Rattle.rows.specs.Shape.{row_width, is_good};
 ghost use Rattle.rows.specs.Values.{values_of};
 ghost use Rattle.rows.specs.Tables.{is_present, with_row, with_patch, without_row};
-ghost use Rattle.apply.specs.Orders.{AllOver, AllUnder, Rising};
-ghost use Rattle.apply.specs.Inner.Joins.{joined, AllHaveRows, AreBlocks};
+ghost use Rattle.apply.specs.Blocks.{cell_in};
+ghost use Rattle.apply.specs.Orders.{AllUnder, Rising, place_in};
+ghost use Rattle.apply.specs.Inner.Joins.{joined, ends_from, end_before, AllHaveRows, AreBlocks, IsHome};
+ghost use Rattle.apply.specs.Limits.{rows_max};
 
 use crate::block::Block;
-use rows::Kind;
+use rows::{Kind, Value};
 use std::alloc::{AllocError, Global};
 
 /// How many rows a block has at most, but for the one that it takes when it is cut.
@@ -21,9 +25,7 @@ pub fn home_of(blocks: &[Block], row: u64) -> usize
     requires some { 0 < length blocks.now }
     requires rows { AllHaveRows blocks.now }
     requires rise { Rising (joined blocks.now) }
-    ensures within { result < length blocks.now }
-    ensures front { AllUnder row (joined (take result blocks.now)) }
-    ensures back { AllOver row (joined (drop (result + 1) blocks.now)) }
+    ensures { IsHome blocks.now result row }
 {
     let mut low = 0;
     let mut high = blocks.len();
@@ -50,25 +52,133 @@ pub fn contains(blocks: &[Block], row: u64) -> bool
     blocks[home_of(blocks, row)].contains(row)
 }
 
-/// Puts in a row that is not there, given by its bytes, among the rows of blocks. Fails only when out
-/// of memory, and then the rows are as they were.
-pub fn insert_row(
+/// How many rows the blocks before one have, by how many there are up to the end of each.
+pub fn rows_before(ends: &[usize], block: usize) -> usize
+    requires { block ≤ length ends.now }
+    ensures { result ≡ end_before ends.now block }
+{
+    if block == 0 { 0 } else { ends[block - 1] }
+}
+
+/// Brings up to date how many rows there are up to the end of each block, from one of them on.
+fn renew_ends(ends: &mut Vec<usize>, blocks: &[Block], from: usize)
+    requires within { from ≤ length blocks.now }
+    requires before { take from ends.old.items ≡ ends_from 0 (take from blocks.now) }
+    requires room { length blocks.now ≤ vec_capacity ends.old }
+    requires few { length (joined blocks.now) < 2 ^ 64 }
+    ensures { ends.new.items ≡ ends_from 0 blocks.now }
+{
+    ends.truncate(from);
+    let mut rows = rows_before(ends.as_slice(), from);
+    for k in from..blocks.len() {
+        rows += blocks[k].len();
+        ends.push_reserved(rows);
+    }
+}
+
+/// How many rows have an identifier below this one, by how many there are up to the end of each block.
+pub fn place(blocks: &[Block], ends: &[usize], row: u64) -> usize
+    requires rows { AllHaveRows blocks.now }
+    requires rise { Rising (joined blocks.now) }
+    requires ends { ends.now ≡ ends_from 0 blocks.now }
+    requires few { length (joined blocks.now) < 2 ^ 64 }
+    ensures { result ≡ place_in (joined blocks.now) row }
+{
+    if blocks.is_empty() {
+        return 0;
+    }
+    let home = home_of(blocks, row);
+    rows_before(ends, home) + blocks[home].place(row)
+}
+
+/// The greatest identifier; 0 where there is no row.
+pub fn greatest(blocks: &[Block]) -> u64
+    requires rows { AllHaveRows blocks.now }
+    requires rise { Rising (joined blocks.now) }
+    ensures { AllUnder (result + 1) (joined blocks.now) }
+{
+    if blocks.is_empty() {
+        return 0;
+    }
+    let ids = blocks[blocks.len() - 1].ids();
+    ids[ids.len() - 1]
+}
+
+/// The position of a row among all rows, by how many there are up to the end of each block; `None` where
+/// it is not there.
+pub fn find(blocks: &[Block], ends: &[usize], row: u64) -> Option<usize>
+    requires rows { AllHaveRows blocks.now }
+    requires rise { Rising (joined blocks.now) }
+    requires ends { ends.now ≡ ends_from 0 blocks.now }
+    requires few { length (joined blocks.now) < 2 ^ 64 }
+    ensures found { is_some result ≡ is_present (joined blocks.now) row }
+    ensures place { IfSome result (λ at. at ≡ place_in (joined blocks.now) row) }
+{
+    if blocks.is_empty() {
+        return None;
+    }
+    let home = home_of(blocks, row);
+    match blocks[home].find(row) {
+        Some(at) => Some(rows_before(ends, home) + at),
+        None => None,
+    }
+}
+
+/// The index of the block that has the row at a position, by how many rows there are up to the end of
+/// each.
+fn block_at(ends: &[usize], at: usize) -> usize
+    requires { at < end_before ends.now (length ends.now) }
+    ensures within { result < length ends.now }
+    ensures below { end_before ends.now result ≤ at }
+    ensures above { at < slice_index_or ends.now result 0 }
+{
+    let mut low = 0;
+    let mut high = ends.len();
+    while low + 1 < high {
+        let middle = low + (high - low) / 2;
+        if ends[middle - 1] <= at {
+            low = middle;
+        } else {
+            high = middle;
+        }
+    }
+    low
+}
+
+/// The value of one column of the row at a position, by how many rows there are up to the end of each
+/// block.
+pub fn value(blocks: &[Block], ends: &[usize], kinds: &[Kind], at: usize, column: usize) -> Value
+    requires blocks { AreBlocks kinds.now blocks.now }
+    requires ends { ends.now ≡ ends_from 0 blocks.now }
+    requires within { at < length (joined blocks.now) }
+    requires column { column < length kinds.now }
+    ensures { Some result ≡ cell_in (joined blocks.now) at column }
+{
+    let _ = kinds;
+    let block = block_at(ends, at);
+    blocks[block].value(at - rows_before(ends, block), column)
+}
+
+/// Puts in a row that is not there, given by its bytes, in its block. Fails only when out of memory, and
+/// then the blocks are as they were.
+fn insert_row(
     blocks: &mut [Block],
     kinds: &[Kind],
+    home: usize,
     row: u64,
     bytes: &[u8],
 ) -> Result<(), AllocError>
     requires blocks { AreBlocks kinds.now blocks.old }
-    requires some { 0 < length blocks.old }
+    requires home { IsHome blocks.old home row }
     requires absent { is_present (joined blocks.old) row ≡ false }
     requires wide { row_width kinds.now ≤ length bytes.now }
     ensures ok { OnOk result (joined blocks.new ≡ with_row (joined blocks.old) row (values_of kinds.now bytes.now)) }
     ensures err { OnErr result (joined blocks.new ≡ joined blocks.old) }
     ensures blocks { AreBlocks kinds.now blocks.new }
+    ensures front { take home blocks.new ≡ take home blocks.old }
     ensures len { length blocks.new ≡ length blocks.old }
 {
     let _ = kinds;
-    let home = home_of(blocks, row);
     blocks[home].insert(row, bytes)
 }
 
@@ -77,27 +187,37 @@ pub fn insert_row(
 pub fn put_row(
     alloc: Global,
     blocks: &mut Vec<Block>,
+    ends: &mut Vec<usize>,
     kinds: &[Kind],
     row: u64,
     bytes: &[u8],
 ) -> Result<(), AllocError>
     requires blocks { AreBlocks kinds.now blocks.old.items }
+    requires ends { ends.old.items ≡ ends_from 0 blocks.old.items }
+    requires few { length (joined blocks.old.items) < rows_max }
     requires good { list_all is_good kinds.now ≡ true }
     requires absent { is_present (joined blocks.old.items) row ≡ false }
     requires wide { row_width kinds.now ≤ length bytes.now }
     ensures ok { OnOk result (joined blocks.new.items ≡ with_row (joined blocks.old.items) row (values_of kinds.now bytes.now)) }
     ensures err { OnErr result (joined blocks.new.items ≡ joined blocks.old.items) }
     ensures blocks { AreBlocks kinds.now blocks.new.items }
+    ensures ends { ends.new.items ≡ ends_from 0 blocks.new.items }
 {
+    ends.reserve(1)?;
     if blocks.is_empty() {
         let block = block_of(alloc, kinds, row, bytes)?;
         if blocks.push(block).is_err() {
             return Err(AllocError);
         }
+        ends.push_reserved(1);
         return Ok(());
     }
-    make_room(alloc, blocks, kinds, row)?;
-    insert_row(blocks.as_mut_slice(), kinds, row, bytes)
+    let home = home_of(blocks.as_slice(), row);
+    make_room(alloc, blocks, kinds, home, row)?;
+    let at = home_of(blocks.as_slice(), row);
+    let put = insert_row(blocks.as_mut_slice(), kinds, at, row, bytes);
+    renew_ends(ends, blocks.as_slice(), home.min(at));
+    put
 }
 
 /// A block of one row, given by its bytes. Fails only when out of memory.
@@ -118,21 +238,25 @@ pub fn patch_row(blocks: &mut [Block], kinds: &[Kind], row: u64, offset: u16, by
     requires there { is_present (joined blocks.old) row ≡ true }
     ensures rows { joined blocks.new ≡ with_patch kinds.now (joined blocks.old) row offset bytes.now }
     ensures blocks { AreBlocks kinds.now blocks.new }
+    ensures ends { ends_from 0 blocks.new ≡ ends_from 0 blocks.old }
     ensures len { length blocks.new ≡ length blocks.old }
 {
     let home = home_of(blocks, row);
     blocks[home].patch(kinds, row, offset, bytes);
 }
 
-/// Takes out a row that is there, from the rows of blocks; a block that it leaves empty is dropped.
-pub fn remove_row(blocks: &mut Vec<Block>, kinds: &[Kind], row: u64)
+/// Takes out a row that is there, from its block, which is dropped if it leaves it empty.
+fn take_row(blocks: &mut Vec<Block>, kinds: &[Kind], home: usize, row: u64)
     requires blocks { AreBlocks kinds.now blocks.old.items }
+    requires home { IsHome blocks.old.items home row }
     requires there { is_present (joined blocks.old.items) row ≡ true }
     ensures rows { joined blocks.new.items ≡ without_row (joined blocks.old.items) row }
     ensures blocks { AreBlocks kinds.now blocks.new.items }
+    ensures front { take home blocks.new.items ≡ take home blocks.old.items }
+    ensures within { home ≤ length blocks.new.items }
+    ensures fewer { length blocks.new.items ≤ length blocks.old.items }
 {
     let _ = kinds;
-    let home = home_of(blocks.as_slice(), row);
     if blocks[home].len() == 1 {
         let _ = blocks.remove(home);
     } else {
@@ -140,24 +264,42 @@ pub fn remove_row(blocks: &mut Vec<Block>, kinds: &[Kind], row: u64)
     }
 }
 
-/// Makes room for a row among the rows of blocks: where the block that it goes into is full, its last
-/// rows become a block of their own. Behind all its rows, or before them, one row is parted from the
-/// others, so that rows which come in order leave full blocks; else half of them. The rows stay. Fails
-/// only when out of memory, and then the rows are as they were.
-pub fn make_room(
+/// Takes out a row that is there, from the rows of blocks; a block that it leaves empty is dropped.
+pub fn remove_row(blocks: &mut Vec<Block>, ends: &mut Vec<usize>, kinds: &[Kind], row: u64)
+    requires blocks { AreBlocks kinds.now blocks.old.items }
+    requires ends { ends.old.items ≡ ends_from 0 blocks.old.items }
+    requires few { length (joined blocks.old.items) ≤ rows_max }
+    requires there { is_present (joined blocks.old.items) row ≡ true }
+    ensures rows { joined blocks.new.items ≡ without_row (joined blocks.old.items) row }
+    ensures blocks { AreBlocks kinds.now blocks.new.items }
+    ensures ends { ends.new.items ≡ ends_from 0 blocks.new.items }
+{
+    let home = home_of(blocks.as_slice(), row);
+    take_row(blocks, kinds, home, row);
+    renew_ends(ends, blocks.as_slice(), home);
+}
+
+/// Makes room for a row in the block that it goes into: where that is full, its last rows become a block
+/// of their own. Behind all its rows, or before them, one row is parted from the others, so that rows
+/// which come in order leave full blocks; else half of them. The rows stay. Fails only when out of
+/// memory, and then the blocks are as they were.
+fn make_room(
     alloc: Global,
     blocks: &mut Vec<Block>,
     kinds: &[Kind],
+    home: usize,
     row: u64,
 ) -> Result<(), AllocError>
     requires blocks { AreBlocks kinds.now blocks.old.items }
-    requires some { 0 < length blocks.old.items }
+    requires within { home < length blocks.old.items }
     ensures rows { joined blocks.new.items ≡ joined blocks.old.items }
     ensures blocks { AreBlocks kinds.now blocks.new.items }
-    ensures some { 0 < length blocks.new.items }
+    ensures front { take home blocks.new.items ≡ take home blocks.old.items }
+    ensures some { length blocks.old.items ≤ length blocks.new.items }
+    ensures more { length blocks.new.items ≤ length blocks.old.items + 1 }
+    ensures err { OnErr result (blocks.new.items ≡ blocks.old.items) }
 {
     let _ = kinds;
-    let home = home_of(blocks.as_slice(), row);
     let rows = blocks[home].len();
     if rows < BLOCK_ROWS {
         return Ok(());

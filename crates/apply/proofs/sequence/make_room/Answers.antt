@@ -3,26 +3,26 @@ use Rattle.std.proofs.Common.{rules, ◌≡◌, ◌+◌, ◌<◌, length, get_or
 use Rattle.std.specs.List.{insert}
 use Rattle.rows.specs.Tables.{Table}
 use Rattle.apply.specs.Inner.Joins.{joined, AreBlocks}
-use Rattle.apply.proofs.Joined.{joined-cut, blocks-cut}
-use Rattle.std.proofs.lemmas.List.{get_or_default, take-append-drop, length-take-le, length-drop}
-use Rattle.std.proofs.lemmas.List.Edits.{get_or-insert_below}
+use Rattle.apply.proofs.Joined.{joined-cut, blocks-cut, front-insert}
+use Rattle.std.proofs.lemmas.List.{get_or_default, take-append-drop, length-take-le, length-drop, take-set, length-set}
+use Rattle.std.proofs.lemmas.List.Edits.{get_or-insert_below, length-insert}
 use Rattle.apply.proofs.sequence.make_room.Goals as goal
 use Rattle.apply.proofs.sequence.make_room.Goals.{After-truncate}
 
 -- the two blocks
 made : (c : After-truncate)
-    → (joined (slice_set c.insert.new.self.items c.home_of-home.result c.truncate.new.self) ≡ joined c.args.blocks.now.items)
-    × AreBlocks c.args.kinds.now (slice_set c.insert.new.self.items c.home_of-home.result c.truncate.new.self)
+    → (joined (slice_set c.insert.new.self.items c.args.home c.truncate.new.self) ≡ joined c.args.blocks.now.items)
+    × AreBlocks c.args.kinds.now (slice_set c.insert.new.self.items c.args.home c.truncate.new.self)
 made c =
     let blocks = c.args.blocks.now.items in
-    let m = c.home_of-home.result in
+    let m = c.args.home in
     let d = c.index-3.result.now in
     let e = c.index_mut.result.now in
     let f = c.index.result.now in
     let cut = c.cut_at-cut.result in
     let tail = c.in_ok-tail.tail in
     let head = c.truncate.new.self in
-    let lt : m < length blocks = omega (arith, c.home_of-home.ensures.within, ap length c.as_slice.ensures.value) in
+    let lt : m < length blocks = c.requires.within in
     let put : c.insert.new.self.items ≡ insert blocks (m + 1) tail = search rules in
     let read : d ≡ get_or blocks m d = search rules in
     let seen : f ≡ get_or blocks m f = search rules in
@@ -57,3 +57,27 @@ returns-clause-rows c = (made (goal.at.returns-clause-rows c).After-truncate).0
 
 pub returns-clause-blocks : goal.returns-clause-blocks
 returns-clause-blocks c = (made (goal.at.returns-clause-blocks c).After-truncate).1
+
+-- one block more, behind the others
+grown : (c : After-truncate)
+    → (take c.args.home (slice_set c.insert.new.self.items c.args.home c.truncate.new.self) ≡ take c.args.home c.args.blocks.now.items)
+    × (length (slice_set c.insert.new.self.items c.args.home c.truncate.new.self) ≡ length c.args.blocks.now.items + 1)
+grown c =
+    let blocks = c.args.blocks.now.items in
+    let m = c.args.home in
+    let tail = c.in_ok-tail.tail in
+    let head = c.truncate.new.self in
+    let lt : m < length blocks = c.requires.within in
+    let put : c.insert.new.self.items ≡ insert blocks (m + 1) tail = search rules in (
+      take-set c.insert.new.self.items m head ∙ ap (take m) put ∙ front-insert blocks m tail lt,
+      length-set c.insert.new.self.items m head ∙ ap length put ∙ length-insert blocks (m + 1) tail (omega (arith, lt)),
+    )
+
+pub returns-clause-front : goal.returns-clause-front
+returns-clause-front c = (grown (goal.at.returns-clause-front c).After-truncate).0
+
+pub returns-clause-some : goal.returns-clause-some
+returns-clause-some c = omega (arith, (grown (goal.at.returns-clause-some c).After-truncate).1)
+
+pub returns-clause-more : goal.returns-clause-more
+returns-clause-more c = omega (arith, (grown (goal.at.returns-clause-more c).After-truncate).1)

@@ -3,13 +3,15 @@ use Rattle.std.proofs.Common.{◌≡◌, length, get_or, sym, ap, subst, ◌∙�
 use Rattle.rows.specs.Tables.{Table, with_patch}
 use Rattle.apply.specs.Orders.{Rising}
 use Rattle.apply.specs.Inner.Joins.{joined}
-use Rattle.apply.proofs.Joined.{IsHome, home-present, home-patch, blocks-set, length-with_patch, rising-with_patch}
+use Rattle.apply.specs.Inner.Joins.{IsHome}
+use Rattle.apply.proofs.Joined.{home-present, home-patch, blocks-set, length-with_patch, rising-with_patch}
+use Rattle.apply.proofs.Ended.{ends-set}
 use Rattle.apply.proofs.sequence.patch_row.Goals as goal
 
 pub patch-requires-clause-there : goal.patch-requires-clause-there
 patch-requires-clause-there c =
     let home : IsHome c.args.blocks.now c.home_of-home.result c.args.row =
-    record { within = c.home_of-home.ensures.within; front = c.home_of-home.ensures.front; back = c.home_of-home.ensures.back } in
+    c.home_of-home.ensures in
     sym (home-present c.args.blocks.now c.home_of-home.result c.args.row c.index-blocks-home.result home) ∙ c.requires.there
 
 pub returns-clause-rows : goal.returns-clause-rows
@@ -18,7 +20,7 @@ returns-clause-rows c =
     let m = c.home_of-home.result in
     let d = c.index-blocks-home.result in
     let home : IsHome blocks m c.args.row =
-    record { within = c.home_of-home.ensures.within; front = c.home_of-home.ensures.front; back = c.home_of-home.ensures.back } in
+    c.home_of-home.ensures in
     let kinds : (get_or blocks m d).kinds ≡ c.args.kinds.now = c.requires.blocks.alike m d home.within in
     home-patch blocks m c.args.row d home c.patch.new.self c.args.kinds.now c.args.offset c.args.bytes.now c.requires.there
     (ap (λ (block : Table). block.rows) c.patch.ensures
@@ -32,7 +34,7 @@ returns-clause-blocks c =
     let new = c.patch.new.self in
     let kinds = c.args.kinds.now in
     let home : IsHome blocks m c.args.row =
-    record { within = c.home_of-home.ensures.within; front = c.home_of-home.ensures.front; back = c.home_of-home.ensures.back } in
+    c.home_of-home.ensures in
     let same : (get_or blocks m d).kinds ≡ kinds = c.requires.blocks.alike m d home.within in
     let rows : new.rows ≡ with_patch kinds (get_or blocks m d).rows c.args.row c.args.offset c.args.bytes.now =
     ap (λ (block : Table). block.rows) c.patch.ensures
@@ -43,3 +45,12 @@ returns-clause-blocks c =
     blocks-set kinds blocks m new home.within c.requires.blocks (ap (λ (block : Table). block.kinds) c.patch.ensures ∙ same)
     (omega (arith, some, many))
     (subst Rising (sym made) (rising-with_patch kinds (joined blocks) c.args.row c.args.offset c.args.bytes.now c.requires.blocks.rise))
+
+pub returns-clause-ends : goal.returns-clause-ends
+returns-clause-ends c =
+    let blocks = c.args.blocks.now in
+    let m = c.home_of-home.result in
+    let d = c.index-blocks-home.result in
+    let many = ap (λ (block : Table). length block.rows) c.patch.ensures
+    ∙ length-with_patch (get_or blocks m d).kinds (get_or blocks m d).rows c.args.row c.args.offset c.args.bytes.now in
+    ends-set 0 m blocks d c.patch.new.self many

@@ -1,0 +1,9 @@
+-- No row of the partitions so far is above it.
+use Rattle.std.proofs.Common.{ℕ, ◌+◌, ◌<◌, get_or}
+use Rattle.rows.specs.Tables.{Tables, rows_of}
+use Rattle.apply.specs.Orders.{AllUnder}
+use Rattle.apply.specs.Inner.Views.{views}
+use Rattle.apply.proofs.partitions.greatest.Given as goal
+
+abbrev pub invariant-loop-part : goal.invariant-loop-part
+invariant-loop-part l = (k : ℕ) (d : Tables) → k < l.part-index → AllUnder (l.most + 1) (rows_of (get_or (views l.parts) k d) l.table)

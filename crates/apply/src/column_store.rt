@@ -1,0 +1,169 @@
+//! A store of rows in columns, in partitions.
+
+ghost use Rattle.std.specs.Prelude.{◌≡◌, ◌<◌, ◌≤◌, length, true, false, Ok, IfOk, OnOk, OnErr, IfErr};
+ghost use Rattle.rows.specs.Shape.{shape_of};
+ghost use Rattle.rows.specs.Tables.{opening, shape_in};
+ghost use Rattle.rows.specs.Commits.{apply_commits};
+ghost use Rattle.store.specs.Faults.{FailsAs, have_entries};
+ghost use Rattle.apply.specs.Limits.{partitions_max};
+ghost use Rattle.apply.specs.Partitions.{tables_in};
+
+use crate::part::Part;
+use crate::partitions::{change_parts, empty_parts, find, id_at, len, value};
+use crate::spot::Spot;
+use crate::together::apply_commits;
+use rows::{Commit, Entry, RowId, Schema, Value, laws};
+use std::alloc::{AllocError, Global};
+use std::marker::Model;
+use std::thread::Threads;
+use store::{ApplyFault, Store, StoreFault};
+
+/// A store of rows in columns: a row stands in the partition that its identifier leaves as a remainder
+/// when it is divided by how many there are, and there its values stand side by side with those of
+/// other rows, column by column.
+///
+/// Contracts see the tables of each partition, and whether the store is whole. What it answers is told
+/// from all partitions' tables together: how many there are does not show.
+#[derive(Debug, Drop)]
+pub struct ColumnStore {
+    alloc: Global,
+    parts: Vec<Part>,
+    whole: bool,
+}
+
+impl Model for ColumnStore {
+    ghost use Rattle.apply.specs.Partitions.{ColumnState};
+
+    ghost Value = { ColumnState };
+
+    ghost use Rattle.apply.specs.Inner.Stores.{state_of, IsColumnStore};
+
+    ghost view = { state_of };
+
+    ghost invariant = { IsColumnStore };
+}
+
+impl ColumnStore {
+    /// A store for the tables of a schema, each without rows, in 1 to 64 partitions. It is whole. Fails
+    /// only when out of memory.
+    pub fn new(alloc: Global, schema: &Schema, partitions: usize) -> Result<ColumnStore, AllocError>
+        requires some { 0 < partitions }
+        requires few { partitions ≤ partitions_max }
+        ensures tables { IfOk result (λ store. tables_in store.parts ≡ opening (shape_of schema.now)) }
+        ensures parts { IfOk result (λ store. length store.parts ≡ partitions) }
+        ensures whole { IfOk result (λ store. store.whole ≡ true) }
+    {
+        laws::rows_are_of_kinds();
+        Ok(ColumnStore {
+            alloc,
+            parts: empty_parts(alloc, schema, partitions)?,
+            whole: true,
+        })
+    }
+
+    /// Makes all changes of these commits, in their order. Where they have at least 4,096 entries, each
+    /// partition makes those of its own rows, in threads.
+    ///
+    /// Fails with `Broken` where the store is not whole, with `Inconsistent` where one of the changes is
+    /// refused, and with `Memory`, which comes only where there is an entry to apply. After any of them
+    /// the store is not whole, for good.
+    pub fn apply_together<R: Threads + Sync>(
+        &mut self,
+        rt: &R,
+        commits: &[Commit],
+    ) -> Result<(), ApplyFault>
+        ensures ok { OnOk result (apply_commits (tables_in self.old.parts) commits.now ≡ Ok (tables_in self.new.parts)) }
+        ensures only_whole { OnOk result (self.old.whole ≡ true) }
+        ensures stays_whole { OnOk result (self.new.whole ≡ true) }
+        ensures err { IfErr result
+            (FailsAs self.old.whole (have_entries commits.now) (apply_commits (tables_in self.old.parts) commits.now)) }
+        ensures broken { OnErr result (self.new.whole ≡ false) }
+        ensures kinds { shape_in (tables_in self.new.parts) ≡ shape_in (tables_in self.old.parts) }
+    {
+        if !self.whole {
+            return Err(ApplyFault::Broken);
+        }
+        laws::rows_are_of_kinds();
+        let applied = apply_commits(rt, self.alloc, &mut self.parts, commits);
+        self.whole = applied.is_ok();
+        applied
+    }
+}
+
+impl Store for ColumnStore {
+    ghost use Rattle.store.specs.Faults.{number_of};
+    ghost use Rattle.apply.specs.Partitions.{tables_in, values_in};
+
+    /// A row's place is a partition, and a position there.
+    type Place = Spot;
+
+    type Fault = StoreFault;
+
+    ghost tables = { λ s. tables_in s.parts };
+
+    ghost is_whole = { λ s. s.whole };
+
+    ghost values_at = { λ s table place. values_in s.parts table place };
+
+    ghost kind_of = { number_of };
+
+    /// Whether no list of commits was refused.
+    fn whole(&self) -> bool {
+        self.whole
+    }
+
+    /// While it is whole, each row has a value for each of its table's columns, of the column's
+    /// kind.
+    fn keeps_kinds(&self) {
+        // A look at a field brings the invariant to the proof.
+        let _ = &self.whole;
+    }
+
+    /// Where a row of a table stands; `None` where the row or the table is not there.
+    fn find(&self, table: u8, row: RowId) -> Option<Spot> {
+        if !self.whole {
+            return None;
+        }
+        find(self.parts.as_slice(), table, row.0)
+    }
+
+    /// The value of one column of the row that stands there, columns being counted from 0.
+    fn value(&self, table: u8, place: Spot, column: usize) -> Value {
+        value(self.parts.as_slice(), table, place, column)
+    }
+
+    /// How many rows a table has; 0 where there is no table of that number.
+    fn len(&self, table: u8) -> usize {
+        if !self.whole {
+            return 0;
+        }
+        len(self.parts.as_slice(), table)
+    }
+
+    /// The identifier of the row at an index of the table's order, counted from 0.
+    fn id_at(&self, table: u8, i: usize) -> RowId {
+        RowId(id_at(self.parts.as_slice(), table, i))
+    }
+
+    /// Makes one change, or refuses it and changes nothing: `Broken`; `Unfit`; `Exists` or
+    /// `Missing`; `Memory`, the first that stands.
+    fn change(&mut self, entry: &Entry) -> Result<(), StoreFault> {
+        if !self.whole {
+            return Err(StoreFault::Broken);
+        }
+        laws::rows_are_of_kinds();
+        laws::changes_keep_kinds();
+        change_parts(self.alloc, &mut self.parts, entry)
+    }
+
+    /// The number of a fault: 1 Exists, 2 Missing, 3 Unfit, 4 Memory, 5 Broken.
+    fn kind(fault: &StoreFault) -> u8 {
+        match fault {
+            StoreFault::Exists => 1,
+            StoreFault::Missing => 2,
+            StoreFault::Unfit => 3,
+            StoreFault::Memory => 4,
+            StoreFault::Broken => 5,
+        }
+    }
+}

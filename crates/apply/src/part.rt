@@ -1,0 +1,118 @@
+//! One partition of a store.
+
+ghost use Rattle.std.specs.Prelude.{◌≡◌, ◌+◌, ◌<◌, ◌≤◌, length, [], true, Ok, OnOk, OnErr, IfOk, IfErr, IfSome, MatchOption, is_some};
+ghost use Rattle.std.specs.Prelude.{slice_get};
+ghost use Rattle.std.specs.Option.{option_map};
+ghost use Rattle.rows.specs.Shape.{shape_of};
+ghost use Rattle.rows.specs.Tables.{opening, shape_in, kinds_of, rows_of, row_at, is_present, apply_entry, apply_entries};
+ghost use Rattle.store.specs.Changes.{fault_kind};
+ghost use Rattle.store.specs.Faults.{number_of, have_entries};
+ghost use Rattle.apply.specs.Limits.{rows_max};
+ghost use Rattle.apply.specs.Inner.Ends.{EndsAs};
+ghost use Rattle.apply.specs.Inner.Gathered.{entries_in, entries_of};
+ghost use Rattle.apply.specs.Orders.{AllUnder, place_in};
+
+use crate::changing::{change_tables, empty_tables};
+use crate::own::apply_own;
+use crate::piece::Piece;
+use rows::{Commit, Entry, Schema};
+use std::alloc::{AllocError, Global};
+use store::{ApplyFault, StoreFault};
+
+/// What one partition has of each table, and how the last list of commits ended there.
+#[derive(Debug, Drop)]
+pub struct Part {
+    pub tables: Vec<Piece>,
+    pub fault: Option<ApplyFault>,
+}
+
+impl Part {
+    /// The tables of a schema, without rows. Fails only when out of memory.
+    pub fn new(alloc: Global, schema: &Schema) -> Result<Part, AllocError>
+        ensures { IfOk result (λ part. part.tables.items ≡ opening (shape_of schema.now)) }
+    {
+        Ok(Part {
+            tables: empty_tables(alloc, schema)?,
+            fault: None,
+        })
+    }
+
+    /// What it has of a table, lent; `None` where there is no table of that number.
+    pub fn piece(&self, table: u8) -> Option<&Piece>
+        ensures rows { MatchOption result (rows_of self.now.tables.items table ≡ [])
+            (λ piece. piece.now.rows ≡ rows_of self.now.tables.items table) }
+        ensures kinds { IfSome result (λ piece. piece.now.kinds ≡ kinds_of self.now.tables.items table) }
+    {
+        self.tables.get(table as usize)
+    }
+
+    /// The position of a row of a table among those that it has; `None` where it has no such row.
+    pub fn find(&self, table: u8, row: u64) -> Option<usize>
+        ensures found { is_some result ≡ is_present (rows_of self.now.tables.items table) row }
+        ensures values { IfSome result (λ at. option_map (λ found. found.1) (slice_get (rows_of self.now.tables.items table) at)
+            ≡ row_at (rows_of self.now.tables.items table) row) }
+    {
+        match self.piece(table) {
+            Some(piece) => piece.find(row),
+            None => None,
+        }
+    }
+
+    /// How many rows it has of a table.
+    pub fn len(&self, table: u8) -> usize
+        ensures value { result ≡ length (rows_of self.now.tables.items table) }
+        ensures few { result ≤ rows_max }
+    {
+        match self.piece(table) {
+            Some(piece) => piece.len(),
+            None => 0,
+        }
+    }
+
+    /// How many of its rows of a table have an identifier below this one.
+    pub fn place(&self, table: u8, row: u64) -> usize
+        ensures value { result ≡ place_in (rows_of self.now.tables.items table) row }
+        ensures few { result ≤ rows_max }
+    {
+        match self.piece(table) {
+            Some(piece) => piece.place(row),
+            None => 0,
+        }
+    }
+
+    /// An identifier that none of its rows of a table passes.
+    pub fn greatest(&self, table: u8) -> u64
+        ensures { AllUnder (result + 1) (rows_of self.now.tables.items table) }
+    {
+        match self.piece(table) {
+            Some(piece) => piece.greatest(),
+            None => 0,
+        }
+    }
+
+    /// Makes the change of one entry, or refuses it and changes nothing.
+    pub fn change(&mut self, alloc: Global, entry: &Entry) -> Result<(), StoreFault>
+        ensures ok { OnOk result (apply_entry self.old.tables.items entry.now ≡ Ok self.new.tables.items) }
+        ensures err { OnErr result (self.new.tables.items ≡ self.old.tables.items) }
+        ensures refused { IfErr result
+            (λ fault. number_of fault ≡ fault_kind true (apply_entry self.old.tables.items entry.now)) }
+        ensures kinds { shape_in self.new.tables.items ≡ shape_in self.old.tables.items }
+    {
+        change_tables(alloc, &mut self.tables, entry)
+    }
+
+    /// Makes the changes of those entries of commits that are of its rows, as this one of so many
+    /// partitions, in their order, and keeps how that ended.
+    pub fn apply(&mut self, alloc: Global, commits: &[Commit], part: usize, parts: usize)
+        requires { 0 < parts }
+        ensures ends { EndsAs (have_entries commits.now)
+            (apply_entries self.old.tables.items (entries_in parts part (entries_of commits.now)))
+            self.new.tables.items self.new.fault }
+        ensures kinds { shape_in self.new.tables.items ≡ shape_in self.old.tables.items }
+    {
+        self.fault = match apply_own(alloc, &mut self.tables, commits, part, parts) {
+            Ok(()) => None,
+            Err(fault) => Some(fault),
+        };
+    }
+}

@@ -1,0 +1,6 @@
+/// Where a row of a table stands: in a partition, at a position among the rows of the table there.
+#[derive(Clone, Copy, Debug)]
+pub struct Spot {
+    pub part: usize,
+    pub position: usize,
+}
