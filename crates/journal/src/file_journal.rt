@@ -39,7 +39,8 @@ impl<D: Disk> Model for FileJournal<D> {
 
     ghost view = { λ j. record { bytes = take j.len (D.content j.disk); left_behind = drop j.len (D.content j.disk); faults = j.faults } };
 
-    ghost invariant = { λ j. (D.is_honest ≡ true → StandsIn j.len j.unsettled (D.content j.disk)) × (is_some j.last_fault ≡ nat_lt 0 j.faults) };
+    ghost invariant = { λ j. (D.is_honest ≡ true → StandsIn j.len j.unsettled (D.content j.disk))
+        × (is_some j.last_fault ≡ nat_lt 0 j.faults) };
 }
 
 impl FileJournal<File> {

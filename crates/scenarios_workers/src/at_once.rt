@@ -8,12 +8,12 @@ use crate::listed_jobs::{Wish, insertions, jobs_of};
 use journal::{JournalStore, MemJournal};
 use primary::PrimaryCore;
 use shared::{Line, Origin, Start};
+use sockets::{Gate, Job, JobAnswer, WorkersFault, are_of_workers, run_workers};
 use std::alloc::Global;
 use std::marker::Brand;
 use std::sync::Wait;
 use std::test::Fail;
 use std::thread::Threads;
-use workers::{Gate, Job, JobAnswer, WorkersFault, are_of_workers, run_workers};
 
 /// What the jobs are answered on this line. `None` if a job is of no worker.
 fn run_checked<

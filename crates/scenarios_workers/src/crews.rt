@@ -6,10 +6,10 @@ use crate::cores::WORKERS;
 use journal::JournalStore;
 use primary::PrimaryCore;
 use shared::{Line, Origin, Seat, Start};
+use sockets::{Gate, Job, JobAnswer, Worker, WorkersFault, are_of_workers, run_crew};
 use std::alloc::Global;
 use std::sync::Wait;
 use std::thread::Threads;
-use workers::{Gate, Job, JobAnswer, Worker, WorkersFault, are_of_workers, run_crew};
 
 /// How far a worker came.
 #[derive(Drop)]

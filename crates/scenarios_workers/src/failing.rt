@@ -11,12 +11,12 @@ use rows::Schema;
 use scenarios_common::wanted::NUMBERS;
 use scenarios_journal_common::failing_journal::{Failing, FailingJournal, Failure};
 use shared::Start;
+use sockets::{Job, OpenGate, WorkersFault};
 use std::alloc::Global;
 use std::marker::Brand;
 use std::sync::Wait;
 use std::test::Fail;
 use std::thread::Threads;
-use workers::{Job, OpenGate, WorkersFault};
 
 /// An append in the middle, of which so many bytes are written.
 const IN_THE_MIDDLE: Failure = Failure {

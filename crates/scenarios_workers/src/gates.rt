@@ -1,8 +1,8 @@
 //! Gates of the scenarios.
 
+use sockets::Gate;
 use std::sync::atomic::{AtomicU64, Ordering};
 use std::thread;
-use workers::Gate;
 
 /// Turns that a worker is held, at most.
 const TURNS: u32 = 1_000_000;
@@ -24,6 +24,7 @@ pub struct Turnstile {
     held: u8,
     answered: AtomicU64,
     used_up: AtomicU64,
+    /// The sum of the places of the jobs that it was told of.
     told: AtomicU64,
 }
 
@@ -38,23 +39,30 @@ impl Turnstile {
         }
     }
 
-    /// Whether it was told of so many commits, before each and after it, and the turns of none ran out.
-    pub fn was_passed(&self, commits: u64) -> bool {
-        self.used_up.load(Ordering::SeqCst) == 0
-            && self.told.load(Ordering::SeqCst) == commits.wrapping_mul(2)
+    /// Whether it was told of the commits of so many jobs, of each before and after it and by its index, and
+    /// the turns of none ran out.
+    pub fn was_passed(&self, jobs: u64) -> bool {
+        let places = jobs.wrapping_mul(jobs.wrapping_add(1));
+        self.used_up.load(Ordering::SeqCst) == 0 && self.told.load(Ordering::SeqCst) == places
+    }
+
+    /// Counts that it was told of this job, by its place from 1 on.
+    fn note(&self, job: usize) {
+        self.told
+            .fetch_add((job as u64).wrapping_add(1), Ordering::SeqCst);
     }
 }
 
 impl Gate for Turnstile {
-    fn before(&self, worker: u8, _job: usize) {
-        self.told.fetch_add(1, Ordering::SeqCst);
+    fn before(&self, worker: u8, job: usize) {
+        self.note(job);
         if worker == self.held && !is_raised(&self.answered) {
             self.used_up.store(1, Ordering::SeqCst);
         }
     }
 
-    fn answered(&self, worker: u8, _job: usize) {
-        self.told.fetch_add(1, Ordering::SeqCst);
+    fn answered(&self, worker: u8, job: usize) {
+        self.note(job);
         if worker != self.held {
             self.answered.store(1, Ordering::SeqCst);
         }

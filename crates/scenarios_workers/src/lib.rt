@@ -1,4 +1,4 @@
-//! Scenarios of `workers`, by its public calls: what the jobs of workers in threads are answered, and what
+//! Scenarios of workers of `sockets`, by its public calls: what the jobs of workers in threads are answered, and what
 //! of them a journal keeps.
 #![tactic(auto)]
 

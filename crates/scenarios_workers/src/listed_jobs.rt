@@ -1,8 +1,8 @@
 //! Jobs of constant lists, and jobs that insert a row each.
 
 use rows::{Commit, Row, RowId, Value};
+use sockets::{Change, Job, JobAnswer};
 use std::alloc::{AllocError, Global};
-use workers::{Change, Job, JobAnswer};
 
 /// A change that is wanted of the accounts.
 #[derive(Clone, Copy)]

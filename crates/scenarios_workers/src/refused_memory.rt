@@ -9,12 +9,12 @@ use crate::listed_jobs::{are_kept, insertions};
 use journal::MemJournal;
 use primary::PrimaryCore;
 use shared::Start;
+use sockets::{Job, OpenGate, WorkersFault};
 use std::alloc::Global;
 use std::marker::Brand;
 use std::sync::Wait;
 use std::test::Fail;
 use std::thread::Threads;
-use workers::{Job, OpenGate, WorkersFault};
 
 /// Jobs of each worker.
 const EACH: u32 = 3;

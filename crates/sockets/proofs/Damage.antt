@@ -17,7 +17,8 @@ use Rattle.wire.specs.Reading.{reading}
 use Rattle.dispatcher.specs.State.{Replica, Batch, Fetched}
 use Rattle.dispatcher.specs.declared.outcome.Got.{Got}
 use Rattle.dispatcher.specs.declared.outcome.Got.TheVariants as got
-use Rattle.dispatcher.specs.Steps.{received, datagram_comes, frame_comes, got_of, goes_on, own_head_comes, head_by_batch, taken_head, MayTake}
+use Rattle.dispatcher.specs.Steps.{received, datagram_comes, frame_comes, got_of}
+use Rattle.dispatcher.specs.Steps.{goes_on, own_head_comes, head_by_batch, taken_head, MayTake}
 
 -- an answer that is not `Broken`
 abbrev IsOther : Got → Type 0

@@ -1,5 +1,6 @@
 -- What the steps of a primary's turn do, one after the other.
-use Rattle.std.proofs.Common.{◌≡◌, ◌==◌, ◌<◌, ◌+◌, ℕ, zero, suc, List, [], ◌∷◌, ◌++◌, length, Bool, true, false, cond, refl, sym, ap, subst, ◌∙◌, map}
+use Rattle.std.proofs.Common.{◌≡◌, ◌==◌, ◌<◌, ◌+◌, ℕ, zero, suc, List, [], ◌∷◌, ◌++◌}
+use Rattle.std.proofs.Common.{length, Bool, true, false, cond, refl, sym, ap, subst, ◌∙◌, map}
 use Rattle.std.proofs.Common.{Result, Ok, Some, OnOk, OnErr, arith, slice_index, slice_set, ◌⊎◌, inl, inr, ◌≢◌}
 use Rattle.std.proofs.lemmas.List.{append-nil, map-append, get_or-set_same, get_or-set_other}
 use Rattle.std.proofs.lemmas.Grind.{flat_map-append}
@@ -42,7 +43,8 @@ same_or_other m n = by (m == n) refl
     by false is = inr (eqb-false m n is)
 
 -- a range that goes on
-pub range-append : (from count more : ℕ) → range_with_len from (count + more) ≡ range_with_len from count ++ range_with_len (from + count) more
+pub range-append : (from count more : ℕ)
+    → range_with_len from (count + more) ≡ range_with_len from count ++ range_with_len (from + count) more
 range-append from zero more =
     let none : zero + more ≡ more = omega arith in
     let same : from ≡ from + zero = omega arith in
@@ -156,7 +158,8 @@ module _ {P : Type 0} (honest : Bool) (came : P → List (List ℕ)) (sent : P �
   }
 
   -- a receive that failed
-  pub deeds_fail : (a b : P) (r : List Commit) → faults a < faults_max → (honest ≡ true → came b ≡ came a) → (honest ≡ true → sent b ≡ sent a)
+  pub deeds_fail : (a b : P) (r : List Commit) → faults a < faults_max → (honest ≡ true → came b ≡ came a)
+      → (honest ≡ true → sent b ≡ sent a)
       → faults b ≡ faults a + 1 → Deeds schema workers honest came sent faults a b r r 1 (λ _. [])
   deeds_fail a b r below same sends counts = record {
     acts = [];
@@ -201,7 +204,8 @@ module _ {P : Type 0} (honest : Bool) (came : P → List (List ℕ)) (sent : P �
   }
 
   -- frames of one worker, none yet
-  pub pushes_nothing : (a : P) (r : List Commit) (pusher from : ℕ) → inner.Pushes schema workers honest came sent faults a a r r pusher from from
+  pub pushes_nothing : (a : P) (r : List Commit) (pusher from : ℕ)
+      → inner.Pushes schema workers honest came sent faults a a r r pusher from from
   pushes_nothing a r pusher from = record {
     count = 0;
     up_to = omega arith;
@@ -225,7 +229,8 @@ module _ {P : Type 0} (honest : Bool) (came : P → List (List ℕ)) (sent : P �
         (λ worker. one_more (pusher == worker)) x.deeds y;
   }
     where
-      one_more : (own : Bool) → cond own (range_with_len from x.count) [] ++ cond own (to ∷ []) [] ≡ cond own (range_with_len from (x.count + 1)) []
+      one_more : (own : Bool) → cond own (range_with_len from x.count) [] ++ cond own (to ∷ []) []
+          ≡ cond own (range_with_len from (x.count + 1)) []
       one_more true =
           ap (λ (n : ℕ). range_with_len from x.count ++ n ∷ []) x.up_to ∙ sym (range-append from x.count 1)
       one_more false = refl

@@ -3,3 +3,8 @@ pub mod Served
 pub mod Stepping
 pub mod Damage
 pub mod Deeding
+mod Beginnings
+mod Drafts
+mod Jobs
+mod Working
+mod Crews

@@ -299,7 +299,9 @@ module _ {P : Type 0} (honest : Bool) (came : P → List (List ℕ)) (sent : P �
       (record { offered = []; opens = opens_nothing s s refl; takes = taken_nothing m (Ok tt); no_failure = refl }) y
 
   pub serves_none : (a : P) (r : Replica) (m : Moves) → ServesReplica honest came sent faults a a r r m m (Ok None)
-  serves_none a r m = turn_goes a a a r r r m (Ok None) (steps_nothing honest came sent faults a r r refl) (steps_nothing honest came sent faults a r r refl)
+  serves_none a r m =
+      let none = steps_nothing honest came sent faults a r r refl in
+      turn_goes a a a r r r m (Ok None) none none
 
   -- turns without a report, and then a turn
   pub turns_then : (a b c : P) (r s t : Replica) (l m n : Moves) (result : Result (Option (List ℕ)) ServeFault)

@@ -1,3 +1,4 @@
--- Only for proofs: what the steps of a turn do. No public clause names these.
+-- Only for proofs: what the steps of a turn and of a job do. No public clause names these.
 pub mod Steps
 pub mod Deeds
+pub mod Jobs

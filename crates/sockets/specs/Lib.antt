@@ -1,5 +1,12 @@
+pub mod Ports
+pub mod State
 pub mod Carrying
 pub mod Serving
 pub mod Replicas
 pub mod Primaries
+pub mod Changes
+pub mod Answers
+pub mod Worker
+pub mod Work
+pub mod Crews
 pub mod Inner

@@ -8,9 +8,9 @@ ghost use Rattle.sockets.specs.Replicas.{failures};
 ghost use Rattle.sockets.specs.declared.faults.ServeFault.TheVariants.{Socket};
 
 use crate::faults::ServeFault;
+use crate::port::{Patience, Port};
 use crate::turns::{BUFFER_LEN, ROUND_DATAGRAMS, TURN_ROUNDS, take_turn};
 use journal::JournalStore;
-use ports::{Patience, Port};
 use shared::{Line, Origin, Seat};
 use std::sync::Wait;
 use wire::{Out, To};

@@ -10,10 +10,10 @@ ghost use Rattle.sockets.specs.Inner.Steps.{Steps, report_in, OpensOf, OpensTake
 ghost use Rattle.sockets.specs.declared.faults.ServeFault.TheVariants.{Broken};
 
 use crate::faults::ServeFault;
+use crate::port::{Patience, Port};
 use crate::turns::{BUFFER_LEN, ROUND_DATAGRAMS, TURN_ROUNDS, take_turn};
 use dispatcher::{AskFault, Got, OpenFault, ReplicaCore, Run};
 use plans::Plan;
-use ports::{Patience, Port};
 use queue::{Pass, QueryQueue};
 use rows::ByteList;
 use std::alloc::Global;

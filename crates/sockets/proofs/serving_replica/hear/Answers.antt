@@ -11,7 +11,8 @@ returns-in-Broken-clause-steps g c =
     (rw c.in-Ok-Some.is at c.recv.ensures.faults)
 
 pub returns-in-Broken-clause-broken : goal.returns-in-Broken-clause-broken
-returns-in-Broken-clause-broken g c = λ _. heard_is_broken _ _ (take c.in-Ok-Some.len c.recv.new.buffer) (rw c.in-Broken.is at c.on_bytes.ensures)
+returns-in-Broken-clause-broken g c = λ _.
+    heard_is_broken _ _ (take c.in-Ok-Some.len c.recv.new.buffer) (rw c.in-Broken.is at c.on_bytes.ensures)
 
 pub returns-in_default : goal.returns-in_default
 returns-in_default g c = record {

@@ -4,7 +4,8 @@ use Rattle.std.proofs.lemmas.List.{append-nil}
 use Rattle.plans.specs.declared.plan.Plan.{Plan}
 use Rattle.plans.specs.declared.faults.PlanFault.{PlanFault}
 use Rattle.dispatcher.specs.declared.faults.OpenFault.TheVariants as opens
-use Rattle.sockets.proofs.Stepping.{opens_nothing, opens_then, offer_opens, opened_is_offer, dropped_is_offer, opens_as, own_fault, none_left, left_behind}
+use Rattle.sockets.proofs.Stepping.{opens_nothing, opens_then, offer_opens, opened_is_offer}
+use Rattle.sockets.proofs.Stepping.{dropped_is_offer, opens_as, own_fault, none_left, left_behind}
 use Rattle.sockets.proofs.serving_replica.offer_all.Goals as goal
 
 pub loop-plan-init : goal.loop-plan-init

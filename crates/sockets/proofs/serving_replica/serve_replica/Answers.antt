@@ -17,7 +17,8 @@ loop-preserved g c = record {
   ends = tt;
   pass = c.turn.ensures.same;
   serves =
-      turns_then _ _ _ _ _ _ _ _ _ _ _ _ _ _ c.loop.invariant.serves (rw (c.in-Ok-None.is, c.in-Ok-None.field-0-is) at c.turn.ensures.serves);
+      turns_then _ _ _ _ _ _ _ _ _ _ _ _ _ _ c.loop.invariant.serves
+      (rw (c.in-Ok-None.is, c.in-Ok-None.field-0-is) at c.turn.ensures.serves);
 }
 
 pub returns-in-Ok-Some-clause-serves : goal.returns-in-Ok-Some-clause-serves

@@ -11,7 +11,8 @@ pub returns-clause-serves : goal.returns-clause-serves
 returns-clause-serves g c =
     elim c.match-ask.branch [
       | in-Ok w ↦ rw w.pass-is (turn_goes _ _ _ _ _ _ _ _ _ _ _ _ c.ask.ensures.steps (rw w.replica-is at c.run_and_hear.ensures.steps))
-      | in-Err-Busy w ↦ rw w.pass-is (turn_goes _ _ _ _ _ _ _ _ _ _ _ _ c.ask.ensures.steps (rw w.replica-is at c.run_and_hear.ensures.steps))
+      | in-Err-Busy w ↦
+          rw w.pass-is (turn_goes _ _ _ _ _ _ _ _ _ _ _ _ c.ask.ensures.steps (rw w.replica-is at c.run_and_hear.ensures.steps))
       | in-Err-Empty+in-Ok-open_batch w ↦
           rw w.pass-is
           (turn_serves _ _ _ _ _ _ _ _ _ _ _ _ _ _ c.ask.ensures.steps (rw w.in-Ok-open_batch.is at w.open_batch.ensures.opens)

@@ -1,0 +1,107 @@
+//! One job at a seat.
+
+ghost use Rattle.std.specs.Prelude.{◌≡◌, ◌<◌, length, IfOk, IfErr, OnErr, MatchResult};
+ghost use mathlib.Core.List.{IsPrefix};
+ghost use Rattle.rows.specs.Shape.{shape_of};
+ghost use Rattle.journal.specs.Recovery.{IsJournaled};
+ghost use Rattle.desk.specs.Answers.{Stands};
+ghost use Rattle.sockets.specs.Answers.{IsJobAnswer, IsSeatAfter, IsSeatLeft};
+
+use crate::drafting::{Stop, drafted};
+use crate::faults::WorkersFault;
+use crate::gate::Gate;
+use crate::job::Job;
+use crate::job_answer::JobAnswer;
+use journal::JournalStore;
+use primary::{CommitFault, FlushFault, Ticket};
+use shared::{Line, Origin, Seat, Settled};
+use std::alloc::Global;
+use std::sync::Wait;
+
+/// Does one job at a seat: begins a transaction, makes the job's changes in their order, commits it for
+/// the job's worker, makes all that is pending durable, and settles the ticket. The gate is told of the
+/// commit before and after it; `index` is what it is told of the job. It may wait.
+///
+/// `Ticket`: the commit is durable, and the seat has seen it under that number. `Conflict`: the commit is
+/// refused for the last one above its snapshot that touches one of its rows. `Refused`: a change is
+/// refused, the commit is for any other reason (no changes, or a number used up), or a call could not
+/// read what is published, and could not when it was tried again 1000 times; nothing is committed then.
+///
+/// Fails with `Journal` if the journal failed, before or while this commit was written, or with `Memory`
+/// if memory was refused, also to publish what is durable. The job may have been committed then, and may
+/// be durable or become so, but nobody was told: only a ticket is acknowledged. `NoSeat` never comes.
+pub fn do_job<L: Origin, J: JournalStore + Drop, R: Wait + Drop, W: Wait, G: Gate>(
+    rt: &W,
+    alloc: Global,
+    line: &Line<L, J, R>,
+    seat: &mut Seat<L>,
+    index: usize,
+    job: &Job,
+    gate: &G,
+) -> Result<JobAnswer, WorkersFault>
+    requires { job.now.worker < L.workers }
+    ensures legal { IsJournaled L.workers (shape_of L.schema) seat.new.list }
+    ensures later { IsPrefix seat.old.list seat.new.list }
+    ensures answer { IfOk result (IsJobAnswer (shape_of L.schema) (length seat.old.list) seat.new.list job.now) }
+    ensures seat { MatchResult result (IsSeatAfter seat.old seat.new) (λ fault. IsSeatLeft seat.old seat.new) }
+    ensures fault { IfErr result (λ fault. ¬ (fault ≡ WorkersFault.NoSeat)) }
+{
+    let transaction = match drafted(alloc, seat, &job.changes) {
+        Ok(transaction) => transaction,
+        Err(Stop::Refused) => return Ok(JobAnswer::Refused),
+        Err(Stop::Memory) => return Err(WorkersFault::Memory),
+    };
+    gate.before(job.worker, index);
+    let committed = line.commit(rt, seat, transaction, job.worker);
+    gate.answered(job.worker, index);
+    match committed {
+        Ok(ticket) => acknowledged(rt, alloc, line, seat, &ticket),
+        Err((_, CommitFault::Conflict(number))) => Ok(JobAnswer::Conflict(number)),
+        Err((_, CommitFault::Failed)) => Err(WorkersFault::Journal),
+        Err((_, CommitFault::Memory)) => Err(WorkersFault::Memory),
+        Err(_) => Ok(JobAnswer::Refused),
+    }
+}
+
+/// Makes all that is pending durable, and acknowledges the ticket if its commit is settled.
+///
+/// A commit that is `Lost`, or `NotYet` durable, after a flush of all that was pending is one that the
+/// journal did not take as it should have: no schedule meets that, and it is told as `Journal`.
+fn acknowledged<L: Origin, J: JournalStore + Drop, R: Wait + Drop, W: Wait>(
+    rt: &W,
+    alloc: Global,
+    line: &Line<L, J, R>,
+    seat: &mut Seat<L>,
+    ticket: &Ticket,
+) -> Result<JobAnswer, WorkersFault>
+    requires { IsJournaled L.workers (shape_of L.schema) seat.old.list }
+    ensures legal { IsJournaled L.workers (shape_of L.schema) seat.new.list }
+    ensures later { IsPrefix seat.old.list seat.new.list }
+    ensures same { seat.new ≡ record seat.old { list = seat.new.list } }
+    ensures answer { IfOk result (λ answer. (answer ≡ JobAnswer.Ticket ticket.now.number) × Stands seat.new.list ticket.now) }
+    ensures fault { IfErr result (λ fault. ¬ (fault ≡ WorkersFault.NoSeat)) }
+{
+    match line.flush(rt, seat, usize::MAX) {
+        Ok(_) => {}
+        Err(FlushFault::Memory) => return Err(WorkersFault::Memory),
+        Err(_) => return Err(WorkersFault::Journal),
+    }
+    let settled = line.settle(rt, seat, ticket);
+    look(alloc, seat);
+    match settled {
+        Settled::Settled(number) => Ok(JobAnswer::Ticket(number)),
+        Settled::Unpublished => Err(WorkersFault::Memory),
+        Settled::Lost => Err(WorkersFault::Journal),
+        Settled::NotYet => Err(WorkersFault::Journal),
+    }
+}
+
+/// Has a seat look at what is published: what it has seen then is known to be legal.
+pub(crate) fn look<L: Origin>(alloc: Global, seat: &mut Seat<L>)
+    ensures legal { IsJournaled L.workers (shape_of L.schema) seat.new.list }
+    ensures later { IsPrefix seat.old.list seat.new.list }
+    ensures same { seat.new ≡ record seat.old { list = seat.new.list } }
+{
+    // A seat tells of its list where it begins a transaction.
+    let _ = seat.begin(alloc);
+}

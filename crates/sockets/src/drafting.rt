@@ -1,0 +1,123 @@
+//! The transaction of a job.
+
+ghost use Rattle.std.specs.Prelude.{◌≡◌, [], length, IfOk, OnOk};
+ghost use mathlib.Core.List.{IsPrefix};
+ghost use Rattle.rows.specs.Shape.{shape_of};
+ghost use Rattle.journal.specs.Recovery.{IsJournaled};
+ghost use Rattle.published.specs.Answers.{IsChange};
+ghost use Rattle.sockets.specs.Answers.{IsDraft};
+ghost use Rattle.sockets.specs.Changes.{change_answer};
+
+use crate::change::Change;
+use mvcc::{Transaction, TxFault};
+use shared::{LineFault, Origin, Seat};
+use std::alloc::Global;
+use std::thread;
+
+/// How often a call that could not read what is published is tried again, at most.
+pub const TRIES_AGAIN: u32 = 1000;
+
+/// Why a job comes to no commit.
+#[derive(Clone, Copy)]
+pub(crate) enum Stop {
+    /// A change is refused, or what is published could not be read.
+    Refused,
+    Memory,
+}
+
+/// The transaction that these changes make, on the newest version that is published or a newer one that
+/// the seat has seen.
+pub(crate) fn drafted<L: Origin>(
+    alloc: Global,
+    seat: &mut Seat<L>,
+    changes: &[Change],
+) -> Result<Transaction, Stop>
+    ensures legal { IsJournaled L.workers (shape_of L.schema) seat.new.list }
+    ensures later { IsPrefix seat.old.list seat.new.list }
+    ensures same { seat.new ≡ record seat.old { list = seat.new.list } }
+    ensures ok { IfOk result (IsDraft (shape_of L.schema) (length seat.old.list) seat.new.list changes.now) }
+{
+    let mut transaction = begun(alloc, seat)?;
+    for change in changes {
+        make(seat, &mut transaction, change)?;
+    }
+    Ok(transaction)
+}
+
+/// Begins a transaction, and tries again if what is published cannot be entered.
+fn begun<L: Origin>(alloc: Global, seat: &mut Seat<L>) -> Result<Transaction, Stop>
+    ensures legal { IsJournaled L.workers (shape_of L.schema) seat.new.list }
+    ensures later { IsPrefix seat.old.list seat.new.list }
+    ensures same { seat.new ≡ record seat.old { list = seat.new.list } }
+    ensures begun { IfOk result (λ t. t ≡ record { snapshot = length seat.new.list; entries = [] }) }
+{
+    for _ in 0..TRIES_AGAIN {
+        if let Ok(transaction) = seat.begin(alloc) {
+            return Ok(transaction);
+        }
+        thread::yield_now();
+    }
+    match seat.begin(alloc) {
+        Ok(transaction) => Ok(transaction),
+        Err(_) => Err(Stop::Refused),
+    }
+}
+
+/// Makes a change, and tries again if what is published cannot be read. A refusal leaves the transaction
+/// as it was.
+fn make<L: Origin>(
+    seat: &mut Seat<L>,
+    transaction: &mut Transaction,
+    change: &Change,
+) -> Result<(), Stop>
+    ensures legal { IsJournaled L.workers (shape_of L.schema) seat.new.list }
+    ensures later { IsPrefix seat.old.list seat.new.list }
+    ensures same { seat.new ≡ record seat.old { list = seat.new.list } }
+    ensures ok { OnOk result (change_answer (shape_of L.schema) seat.new.list transaction.old change.now ≡ Ok transaction.new) }
+{
+    for _ in 0..TRIES_AGAIN {
+        let made = make_once(seat, transaction, change);
+        if !matches!(made, Err(LineFault::Unread)) {
+            return told(made);
+        }
+        thread::yield_now();
+    }
+    told(make_once(seat, transaction, change))
+}
+
+/// Makes a change, if what is published can be read.
+fn make_once<L: Origin>(
+    seat: &mut Seat<L>,
+    transaction: &mut Transaction,
+    change: &Change,
+) -> Result<(), LineFault>
+    ensures legal { IsJournaled L.workers (shape_of L.schema) seat.new.list }
+    ensures later { IsPrefix seat.old.list seat.new.list }
+    ensures same { seat.new ≡ record seat.old { list = seat.new.list } }
+    ensures answer { IsChange (length seat.new.list) (change_answer (shape_of L.schema) seat.new.list transaction.old change.now)
+        transaction.old transaction.new result }
+{
+    match change {
+        Change::Insert { table, row, values } => {
+            seat.insert(transaction, *table, *row, values.as_slice())
+        }
+        Change::Set {
+            table,
+            row,
+            column,
+            value,
+        } => seat.set(transaction, *table, *row, *column, *value),
+        Change::Delete { table, row } => seat.delete(transaction, *table, *row),
+    }
+}
+
+/// What a change that is not tried again means for its job.
+fn told(made: Result<(), LineFault>) -> Result<(), Stop>
+    ensures { OnOk result (made ≡ Ok tt) }
+{
+    match made {
+        Ok(()) => Ok(()),
+        Err(LineFault::Tx(TxFault::Memory)) => Err(Stop::Memory),
+        Err(_) => Err(Stop::Refused),
+    }
+}

@@ -1,0 +1,222 @@
+//! A port on a UDP socket.
+
+ghost use Rattle.std.specs.Prelude.{◌≡◌, ◌<◌, ◌+◌, length, is_some, nat_lt, IfOk};
+ghost use Rattle.journal.specs.Storing.{faults_max};
+ghost use Rattle.sockets.specs.Ports.{IsWithin};
+
+use crate::faults::PortFault;
+use crate::port::{Patience, Port};
+use mio::net::UdpSocket;
+use mio::{Events, Interest, Poll, Token};
+use std::alloc::Global;
+use std::io::{self, ErrorKind};
+use std::marker::Model;
+use std::net::{Net, SocketAddr};
+use std::time::Duration;
+use wire::{Out, To};
+
+/// How long a receive waits, at most, in milliseconds.
+const WAIT_MILLIS: u64 = 10;
+
+/// A UDP socket, the addresses that datagrams go to, and what waits for the socket.
+///
+/// Contracts see how many faults there were. No contract says which datagrams come or go, nor to which
+/// addresses.
+#[derive(Drop)]
+pub struct UdpPort {
+    socket: UdpSocket,
+    poll: Poll,
+    events: Events,
+    primary: Option<SocketAddr>,
+    replicas: Vec<SocketAddr>,
+    faults: u64,
+    /// The newest of them, as the system said it.
+    last_fault: Option<io::Error>,
+}
+
+impl Model for UdpPort {
+    ghost use Rattle.std.specs.Prelude.{◌≡◌, ℕ, is_some, nat_lt};
+
+    ghost Value = { ℕ };
+
+    ghost view = { λ p. p.faults };
+
+    ghost invariant = { λ p. is_some p.last_fault ≡ nat_lt 0 p.faults };
+}
+
+impl UdpPort {
+    /// A socket on an address, and where the primary is and each replica, in the order of their numbers;
+    /// what is to go where no address is known is dropped. Port 0 has the system choose one.
+    ///
+    /// Fails where the system refuses the socket, and when out of memory.
+    pub fn bind<N: Net>(
+        net: &N,
+        alloc: Global,
+        listen: SocketAddr,
+        primary: Option<SocketAddr>,
+        replicas: Vec<SocketAddr>,
+    ) -> io::Result<UdpPort>
+        ensures { IfOk result (λ port. port ≡ 0) }
+    {
+        // The socket is never connected to an address: a connected one would fail at a receive where
+        // nobody listens at the other end.
+        let mut socket = UdpSocket::bind(net, listen)?;
+        let poll = Poll::new(net)?;
+        let events = Events::with_capacity(alloc, 1)?;
+        poll.registry()
+            .register(&mut socket, Token(0), Interest::READABLE)?;
+        Ok(UdpPort {
+            socket,
+            poll,
+            events,
+            primary,
+            replicas,
+            faults: 0,
+            last_fault: None,
+        })
+    }
+
+    /// The address that the socket is bound to: its port is known only now where 0 was asked for. Fails
+    /// where the system does not tell.
+    pub fn local_addr(&self) -> io::Result<SocketAddr> {
+        self.socket.local_addr()
+    }
+
+    /// Names the addresses of the replicas anew, in the order of their numbers. Takes no memory.
+    pub fn set_replicas(&mut self, replicas: Vec<SocketAddr>)
+        ensures { self.new ≡ self.old }
+    {
+        self.replicas = replicas;
+    }
+
+    /// Why the newest call that failed did, in the system's words; `None` exactly while none has failed.
+    /// Takes no memory.
+    pub fn last_fault(&self) -> Option<io::Error>
+        ensures { is_some result ≡ nat_lt 0 self.now }
+    {
+        self.last_fault
+    }
+
+    /// Counts a fault, and keeps it.
+    fn count(&mut self, error: io::Error)
+        requires { self.old < faults_max }
+        ensures { self.new ≡ self.old + 1 }
+    {
+        self.faults += 1;
+        self.last_fault = Some(error);
+    }
+
+    /// Sends bytes to each address that a datagram is for; to none where none is known. One address that
+    /// fails keeps it from no other; the last error is told.
+    fn send_to_all(&self, out: &Out) -> io::Result<()> {
+        let bytes = out.packet.bytes();
+        match out.to {
+            To::Primary => match self.primary {
+                Some(address) => send_to(&self.socket, bytes, address),
+                None => Ok(()),
+            },
+            To::Replica(number) => match self.replicas.get(number as usize) {
+                Some(address) => send_to(&self.socket, bytes, *address),
+                None => Ok(()),
+            },
+            To::Replicas => send_to_each(&self.socket, bytes, self.replicas.as_slice()),
+        }
+    }
+}
+
+/// Sends bytes to an address.
+fn send_to(socket: &UdpSocket, bytes: &[u8], address: SocketAddr) -> io::Result<()> {
+    socket.send_to(bytes, address)?;
+    Ok(())
+}
+
+/// Sends bytes to all of these addresses, and tells the last error.
+fn send_to_each(socket: &UdpSocket, bytes: &[u8], addresses: &[SocketAddr]) -> io::Result<()> {
+    let mut ended = Ok(());
+    for address in addresses {
+        if let Err(error) = send_to(socket, bytes, *address) {
+            ended = Err(error);
+        }
+    }
+    ended
+}
+
+/// Takes a datagram that is there. That an earlier datagram was refused on its way is no fault of a
+/// receive, and tells nothing.
+fn take(socket: &UdpSocket, buffer: &mut [u8]) -> io::Result<Option<usize>>
+    ensures { IfOk result (IsWithin (length buffer.new)) }
+{
+    match socket.recv_from(buffer) {
+        Ok((len, _)) => Ok(Some(len)),
+        Err(error) => match error.kind() {
+            ErrorKind::WouldBlock | ErrorKind::Interrupted | ErrorKind::ConnectionRefused => Ok(
+                None,
+            ),
+            _ => Err(error),
+        },
+    }
+}
+
+/// Takes a datagram, for which it may wait. It waits only where none is there, since what waits is told
+/// of changes alone.
+fn take_or_wait(
+    socket: &UdpSocket,
+    poll: &mut Poll,
+    events: &mut Events,
+    buffer: &mut [u8],
+    patience: Patience,
+) -> io::Result<Option<usize>>
+    ensures { IfOk result (IsWithin (length buffer.new)) }
+{
+    let len = take(socket, buffer)?;
+    if len.is_some() || patience == Patience::Takes {
+        return Ok(len);
+    }
+    poll.poll(events, Some(Duration::from_millis(WAIT_MILLIS)))?;
+    take(socket, buffer)
+}
+
+impl Port for UdpPort {
+    ghost use Rattle.std.specs.Prelude.{[], false};
+
+    ghost came = { λ _. [] };
+
+    ghost sent = { λ _. [] };
+
+    ghost fault_count = { λ p. p };
+
+    ghost is_honest = { false };
+
+    /// Receives a datagram from any address.
+    fn recv(&mut self, buffer: &mut [u8], patience: Patience) -> Result<Option<usize>, PortFault> {
+        match take_or_wait(
+            &self.socket,
+            &mut self.poll,
+            &mut self.events,
+            buffer,
+            patience,
+        ) {
+            Ok(len) => Ok(len),
+            Err(error) => {
+                self.count(error);
+                Err(PortFault::Receive)
+            }
+        }
+    }
+
+    /// Sends a datagram to each address that it is for. One that has no address is dropped, which is no
+    /// fault.
+    fn send(&mut self, out: Out) -> Result<(), PortFault> {
+        match self.send_to_all(&out) {
+            Ok(()) => Ok(()),
+            Err(error) => {
+                self.count(error);
+                Err(PortFault::Send)
+            }
+        }
+    }
+
+    fn faults(&self) -> u64 {
+        self.faults
+    }
+}

@@ -1,5 +1,0 @@
-mod Beginnings
-mod Drafts
-mod Jobs
-mod Working
-mod Crews

@@ -1,2 +1,0 @@
--- What only helps proofs; no public clause rests on it.
-pub mod Steps
