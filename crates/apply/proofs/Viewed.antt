@@ -1,7 +1,7 @@
 -- The tables of each partition, when one of these is read or changed, and what all have together.
 use Rattle.std.proofs.Common.{◌≡◌, ℕ, suc, zero, ◌+◌, ◌%◌, ◌<◌, ◌≤◌, true, List, [], ◌∷◌, ◌++◌, length, get_or, take, replicate, Option}
 use Rattle.std.proofs.Common.{None, Some}
-use Rattle.std.proofs.Common.{slice_get, slice_set, refl, sym, ap, subst, ◌∙◌, inl, inr, MatchOption, IfSome, IfErr, OnOk, OnErr, Result}
+use Rattle.std.proofs.Common.{slice_get, slice_set, refl, sym, ap, subst, ◌∙◌, inl, inr, IfSome, IfErr, OnOk, OnErr, Result}
 use Rattle.std.proofs.Common.{Ok, Err, arith}
 use Rattle.std.specs.List.{sum_by}
 use Rattle.std.specs.Option.{is_some, option_map, IsSome}
@@ -123,15 +123,6 @@ parts-opening shape (suc n) some =
     }
 
 -- ---- what follows of an outcome
-
-pub match-then : {T : Type 0} (found : Option T) (P R : Type 0) (Q S : T → Type 0) → MatchOption found P Q → (P → R)
-    → ((value : T) → Q value → S value) → MatchOption found R S
-match-then None P R Q S h none some = none h
-match-then (Some value) P R Q S h none some = some value h
-
-pub some-then : {T : Type 0} (found : Option T) (Q S : T → Type 0) → IfSome found Q → ((value : T) → Q value → S value) → IfSome found S
-some-then None Q S h then = h
-some-then (Some value) Q S h then = then value h
 
 pub ok-follows : {T E : Type 0} (result : Result T E) (P Q : Type 0) → OnOk result P → (P → Q) → OnOk result Q
 ok-follows (Ok value) P Q h then = then h
