@@ -1,0 +1,268 @@
+//! Ports in memory of which one call fails: each receive ends the serve call, each send is a lost datagram,
+//! and nothing else is lost.
+
+ghost use Rattle.std.specs.Prelude.{◌≡◌, ◌<◌};
+
+use crate::cores::{core_of, replica_of};
+use crate::ledger::COUNT_AND_SUM;
+use crate::nodes::{put_one, report_of};
+use dispatcher::ReplicaCore;
+use journal::MemJournal;
+use primary::PrimaryCore;
+use queue::QueryQueue;
+use rows::{ByteList, RowId, Value};
+use scenarios_common::worker_datagrams::{ASK, FRAME, HEAD_OF_TWO, WANT};
+use shared::{Line, Origin, Seat, Start};
+use sockets::{MemPort, Port, ServeFault, serve_primary};
+use std::alloc::Global;
+use std::marker::Brand;
+use std::sync::Wait;
+use std::test::Fail;
+use store::PlainStore;
+use wire::{Out, To};
+
+/// How a node ended whose port failed once: how many of its calls failed, how many datagrams it sent, and
+/// how many faults the port counted.
+type Ending = (usize, usize, u64);
+
+/// The report of one row of 5 and -1.
+const REPORT: &[u8] = b"version 1 queries 1\nquery 0 rows 1\n1 -1\n";
+
+/// Puts a datagram into a port.
+fn deliver(alloc: Global, port: &mut MemPort, datagram: &[u8]) -> Option<()> {
+    if datagram.len() > 1201 {
+        return None;
+    }
+    let bytes = ByteList::from_vec(Vec::from_slice(alloc, datagram).ok()?);
+    port.deliver(bytes).ok()
+}
+
+/// What one turn of a node came to.
+enum Turned {
+    Answered,
+    Quiet,
+    Failed,
+}
+
+/// One turn of a replica. `None` where it answers with another report than that of its row, or fails
+/// otherwise than at a receive.
+fn turn_of<R: Wait>(
+    rt: &R,
+    alloc: Global,
+    replica: &mut ReplicaCore<PlainStore>,
+    queue: &QueryQueue,
+    port: &mut MemPort,
+) -> Option<Turned> {
+    match report_of(rt, alloc, replica, queue, port, 1) {
+        Ok(Some(report)) => {
+            if report.as_slice() == REPORT {
+                Some(Turned::Answered)
+            } else {
+                None
+            }
+        }
+        Ok(None) => Some(Turned::Quiet),
+        Err(ServeFault::Socket) => Some(Turned::Failed),
+        Err(_) => None,
+    }
+}
+
+/// How many calls of a node with one query fail until it answers: the first opens the query, and what comes
+/// then is a frame and the Head of its Ask.
+fn failures_of<R: Wait>(
+    rt: &R,
+    alloc: Global,
+    replica: &mut ReplicaCore<PlainStore>,
+    queue: &QueryQueue,
+    port: &mut MemPort,
+) -> Option<usize> {
+    let mut failed: usize = 0;
+    for call in 0..8usize {
+        if call == 1 {
+            deliver(alloc, port, &FRAME)?;
+            deliver(alloc, port, &HEAD_OF_TWO)?;
+        }
+        match turn_of(rt, alloc, replica, queue, port)? {
+            Turned::Answered => return Some(failed),
+            Turned::Quiet => {}
+            Turned::Failed => failed = failed.saturating_add(1),
+        }
+    }
+    None
+}
+
+/// How many calls of a new replica's node fail until it answers one query.
+fn failures_over<R: Wait>(rt: &R, alloc: Global, port: &mut MemPort) -> Option<usize> {
+    let mut replica = replica_of(alloc, 0)?;
+    let queue = QueryQueue::new(alloc, 1).ok()?;
+    put_one(rt, alloc, &queue, &COUNT_AND_SUM)?;
+    failures_of(rt, alloc, &mut replica, &queue, port)
+}
+
+/// How a replica ends whose port fails at the call that comes after so many.
+fn ending_of_replica<R: Wait>(rt: &R, alloc: Global, calls: u64) -> Option<Ending> {
+    let mut port = MemPort::new(alloc);
+    port.fail_after(calls);
+    let failed = failures_over(rt, alloc, &mut port)?;
+    Some((failed, port.sent().len(), port.faults()))
+}
+
+/// How a replica ends whose port fails at its first call, its second, and so on; the last does not fail.
+/// Its calls are: nothing comes; the Ask is sent; the frame comes; the Head comes; nothing comes.
+const REPLICA_ENDINGS: [Ending; 6] = [
+    (1, 1, 1),
+    (0, 0, 1),
+    (1, 2, 1),
+    (1, 2, 1),
+    (1, 1, 1),
+    (0, 1, 0),
+];
+
+#[test]
+fn a_replica_goes_on_after_a_fault_of_its_port(rt: HostRuntime) -> Result<(), Fail> {
+    let mut calls: u64 = 0;
+    for ending in &REPLICA_ENDINGS {
+        assert_eq!(rt; ending_of_replica(&rt, rt.alloc(), calls), Some(*ending));
+        calls = calls.saturating_add(1);
+    }
+    Ok(())
+}
+
+/// Makes row 7 with 5 and -1 durable, by worker 0.
+fn insert_seven<L: Origin, R: Wait>(
+    rt: &R,
+    alloc: Global,
+    line: &Line<L, MemJournal, &R>,
+    seat: &mut Seat<L>,
+) -> Option<()>
+    requires { 1 < L.workers }
+{
+    let mut transaction = seat.begin(alloc).ok()?;
+    let values = [Value::Int(5), Value::Int(-1)];
+    seat.insert(&mut transaction, 0, RowId(7), &values).ok()?;
+    line.commit(rt, seat, transaction, 0).ok()?;
+    line.flush(rt, seat, usize::MAX).ok()?;
+    Some(())
+}
+
+/// Whether a datagram that was sent is this one: P, the frame, which is pushed; H, the Head for replica 0;
+/// W, the frame that it wants.
+fn is_named(out: &Out, name: u8) -> bool {
+    let bytes = out.packet.bytes();
+    match name {
+        b'P' => out.to == To::Replicas && bytes == FRAME.as_slice(),
+        b'H' => out.to == To::Replica(0) && bytes == HEAD_OF_TWO.as_slice(),
+        _ => out.to == To::Replica(0) && bytes == FRAME.as_slice(),
+    }
+}
+
+/// Whether the datagrams that were sent are these, by their names.
+fn are_named(sent: &[Out], names: &[u8]) -> bool {
+    if sent.len() != names.len() {
+        return false;
+    }
+    for k in 0..sent.len() {
+        if !is_named(&sent[k], names[k]) {
+            return false;
+        }
+    }
+    true
+}
+
+/// What a primary is to send whose port fails once, and how many calls of the node fail.
+type Sending = (&'static [u8], usize);
+
+/// What a primary sends whose port fails at its first call, its second, and so on; the last does not fail.
+/// Its calls are: the frame is pushed; the Ask comes; the Head is sent; the Want comes; the frame is sent;
+/// nothing comes.
+const SENDINGS: [Sending; 7] = [
+    (b"HW", 0),
+    (b"PHW", 1),
+    (b"PW", 0),
+    (b"PHW", 1),
+    (b"PH", 0),
+    (b"PHW", 1),
+    (b"PHW", 0),
+];
+
+/// How many calls of a primary's node fail until one ends well. `None` where one fails otherwise than at a
+/// receive, or none of two ends well.
+fn failures_of_primary<L: Origin, R: Wait>(
+    rt: &R,
+    line: &Line<L, MemJournal, &R>,
+    seat: &mut Seat<L>,
+    port: &mut MemPort,
+) -> Option<usize> {
+    let mut counters = [0u64; 2];
+    let mut failed: usize = 0;
+    for _ in 0..2usize {
+        let mut turns = Some(1);
+        match serve_primary(rt, line, seat, port, &mut counters, &mut turns) {
+            Ok(()) => return Some(failed),
+            Err(ServeFault::Socket) => failed = failed.saturating_add(1),
+            Err(_) => return None,
+        }
+    }
+    None
+}
+
+/// Whether a primary with one frame sends what it is to send, over a port that fails at the call that comes
+/// after so many, and to which an Ask and a Want come. It is called again after a call that failed.
+fn sends_as<L: Origin, R: Wait>(
+    rt: &R,
+    alloc: Global,
+    line: &Line<L, MemJournal, &R>,
+    seat: &mut Seat<L>,
+    calls: u64,
+    sending: Sending,
+) -> Option<bool> {
+    let mut port = MemPort::new(alloc);
+    port.fail_after(calls);
+    deliver(alloc, &mut port, &ASK)?;
+    deliver(alloc, &mut port, &WANT)?;
+    let failed = failures_of_primary(rt, line, seat, &mut port)?;
+    let faults = if calls < 6 { 1 } else { 0 };
+    Some(are_named(port.sent(), sending.0) && failed == sending.1 && port.faults() == faults)
+}
+
+/// Whether a primary of one row sends what it is to send, whichever call of its port fails.
+fn sends_all<L: Origin, R: Wait>(
+    rt: &R,
+    alloc: Global,
+    core: PrimaryCore<MemJournal>,
+    start: Start,
+) -> Option<bool>
+    requires book { start.opened.seen.book ≡ L.book }
+    requires schema { core.primary.schema ≡ L.schema }
+    requires workers { core.primary.workers ≡ L.workers }
+    requires first { core.primary ≡ L.first }
+    requires name { start.blank.name ≡ L.name }
+    requires parts { start.blank.parts ≡ L.parts }
+    requires seats { start.seats ≡ L.seats }
+{
+    if core.workers() < 2 {
+        return None;
+    }
+    let line = Line::<L, MemJournal, &R>::new(alloc, rt, core, start).ok()?;
+    let mut seat = line.seat(rt)?;
+    insert_seven(rt, alloc, &line, &mut seat)?;
+    let mut calls: u64 = 0;
+    for sending in &SENDINGS {
+        if !sends_as(rt, alloc, &line, &mut seat, calls, *sending)? {
+            return Some(false);
+        }
+        calls = calls.saturating_add(1);
+    }
+    Some(true)
+}
+
+#[test]
+fn a_primary_goes_on_after_a_fault_of_its_port(rt: HostRuntime) -> Result<(), Fail> {
+    let core = core_of(rt.alloc())?;
+    let start = Start::new(1).ok().ok_or("start")?;
+    assert_eq!(rt;
+        sends_all::<Brand, _>(&rt, rt.alloc(), core, start),
+        Some(true)
+    );
+    Ok(())
+}
