@@ -85,9 +85,10 @@ pub fn puts<R: Wait>(rt: &R, alloc: Global, queue: &QueryQueue, count: usize) ->
     true
 }
 
-/// Puts a query, and tries again where the queue is full.
+/// Puts a query, and tries again where the queue is full: far more often than a busy machine lets a batch
+/// take.
 fn puts_at_last<R: Wait>(rt: &R, alloc: Global, queue: &QueryQueue) -> bool {
-    for _ in 0..1_000_000 {
+    for _ in 0..1_000_000_000u64 {
         if put_one(rt, alloc, queue, &COUNT_AND_SUM).is_some() {
             return true;
         }
