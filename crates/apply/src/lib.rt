@@ -8,10 +8,10 @@
 //! `Cells`: numbers of 64 bits side by side, or bytes of one width side by side.
 //!
 //! Promised: a store of columns is a `store::Store`, and the number of its partitions does not show in
-//! what it answers; `apply_together` makes of it what the commits make of its tables, with each partition
-//! in a thread of its own where there are many entries, or breaks it. Contracts see a piece and a block as
-//! a table of `rows`, and each change makes of it what the definitions there say, or leaves it as it was
-//! where it is out of memory. What has to be believed stands in `specs/Partitions.antt`,
+//! what it answers; `apply_together` makes of it what the commits make of its tables, or breaks it.
+//! Contracts see a piece and a block as a table of `rows`, and each change makes of it what the definitions
+//! there say, or leaves it as it was where it is out of memory. Not promised: that the partitions of a
+//! store are changed at once. What has to be believed stands in `specs/Partitions.antt`,
 //! `specs/Columns.antt` and `specs/Blocks.antt`. It stands on `rows` and `store`, on `byteorder` for
 //! numbers in a row's bytes, and on `rayon` for threads.
 #![tactic(auto)]

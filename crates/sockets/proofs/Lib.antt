@@ -3,6 +3,7 @@ pub mod Served
 pub mod Stepping
 pub mod Damage
 pub mod Deeding
+mod TurnsLeft
 mod Beginnings
 mod Drafts
 mod Jobs

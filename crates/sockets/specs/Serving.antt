@@ -1,5 +1,5 @@
 -- What a node has done while it served: acts on its state, one after the other, each with the datagrams that it was to send.
-use Rattle.std.specs.Prelude.{◌≡◌, ℕ, List, [], ◌∷◌, map, Bool}
+use Rattle.std.specs.Prelude.{◌≡◌, ◌≤◌, ℕ, List, [], ◌∷◌, map, Bool, Option, None, Some}
 use Rattle.std.specs.List.{flat_map}
 use Rattle.wire.specs.declared.out.Out.{Out}
 use Rattle.sockets.specs.Carrying.{Sending, out_of, Carried}
@@ -22,6 +22,13 @@ heard_in hears acts = flat_map (λ act. hears act.call) acts
 
 abbrev pub sendings_in : {C : Type 0} → List (Act C) → List Sending
 sendings_in acts = flat_map (λ act. act.sendings) acts
+
+-- the turns of a call, and those that are left: no more; where they have no end, none is used up
+abbrev pub TurnsLeft : Option ℕ → Option ℕ → Type 0
+TurnsLeft None None = Unit {0}
+TurnsLeft None (Some left) = ⊥
+TurnsLeft (Some turns) None = ⊥
+TurnsLeft (Some turns) (Some left) = left ≤ turns
 
 -- a node has done these acts, and its port has carried just what they took in and were to send; so many receives have failed
 pub record Serves {S C P : Type 0} (Makes : S → C → S → Type 0) (hears : C → List (List ℕ)) (says : C → List Out)

@@ -7,6 +7,7 @@ pub enum JobAnswer {
     Ticket(u64),
     /// It is not committed: the commit of this number, which is above its snapshot, touches one of its rows.
     Conflict(u64),
-    /// It is not committed: a change of it is refused, or its commit is, for any other reason than a conflict.
+    /// It is not committed: a change of it is refused, or its commit is, for any other reason than a
+    /// conflict, or what is published could not be read.
     Refused,
 }

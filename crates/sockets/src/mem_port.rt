@@ -80,12 +80,12 @@ impl MemPort {
     }
 
     /// Whether this call is to fail.
-    fn is_turn(&mut self) -> bool
+    fn is_to_fail(&mut self) -> bool
         ensures { self.new ≡ self.old }
     {
-        let is_turn = self.calls_before_fault == 0;
+        let is_to_fail = self.calls_before_fault == 0;
         self.calls_before_fault = self.calls_before_fault.checked_sub(1).unwrap_or(u64::MAX);
-        is_turn
+        is_to_fail
     }
 }
 
@@ -101,7 +101,7 @@ impl Port for MemPort {
     ghost is_honest = { true };
 
     fn recv(&mut self, buffer: &mut [u8], _patience: Patience) -> Result<Option<usize>, PortFault> {
-        if self.is_turn() {
+        if self.is_to_fail() {
             self.faults += 1;
             return Err(PortFault::Receive);
         }
@@ -117,7 +117,7 @@ impl Port for MemPort {
 
     /// Keeps the datagram. It also fails when out of memory for that.
     fn send(&mut self, out: Out) -> Result<(), PortFault> {
-        if self.is_turn() || self.sent.push(out).is_err() {
+        if self.is_to_fail() || self.sent.push(out).is_err() {
             self.faults += 1;
             return Err(PortFault::Send);
         }

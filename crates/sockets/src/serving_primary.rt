@@ -2,6 +2,7 @@
 
 ghost use Rattle.std.specs.Prelude.{◌≡◌, ◌<◌, ◌≤◌, ◌⊎◌, [], length, Some, IfOk, IfErr, IsTrue};
 ghost use Rattle.rows.specs.Limits.{datagram_max, workers_max};
+ghost use Rattle.sockets.specs.Serving.{TurnsLeft};
 ghost use Rattle.sockets.specs.Primaries.{ServesPrimary};
 ghost use Rattle.sockets.specs.Inner.Deeds.{Deeds, Pushes, PushesAll, SendsAll, pushes_if};
 ghost use Rattle.sockets.specs.Replicas.{failures};
@@ -43,6 +44,7 @@ pub fn serve_primary<L: Origin, J: JournalStore, H: Wait + Drop, P: Port, R: Wai
         seat.old.list seat.new.list counters.old counters.new result }
     ensures seat { seat.new ≡ record seat.old { list = seat.new.list } }
     ensures counters { length counters.new ≡ length counters.old }
+    ensures turns { TurnsLeft turns.old turns.new }
     ensures ended { IfOk result (λ _. (turns.new ≡ Some 0) ⊎ (P.fault_count port.new ≡ u64.MAX)) }
     ensures failed { IfErr result (λ fault. fault ≡ Socket) }
 {

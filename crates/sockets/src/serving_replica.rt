@@ -5,6 +5,7 @@ ghost use Rattle.rows.specs.Limits.{datagram_max};
 ghost use Rattle.journal.specs.Storing.{faults_max};
 ghost use Rattle.queue.specs.Passes.{moves_of, IsPassOf};
 ghost use Rattle.dispatcher.specs.declared.faults.AskFault.TheVariants as asks;
+ghost use Rattle.sockets.specs.Serving.{TurnsLeft};
 ghost use Rattle.sockets.specs.Replicas.{ServesReplica, failures, handed};
 ghost use Rattle.sockets.specs.Inner.Steps.{Steps, report_in, OpensOf, OpensTaken};
 ghost use Rattle.sockets.specs.declared.faults.ServeFault.TheVariants.{Broken};
@@ -47,6 +48,7 @@ pub fn serve_replica<S: ApplyStore + Sync, P: Port, R: Wait>(
     ensures same { IsPassOf queue.now pass.new }
     ensures serves { ServesReplica P.is_honest P.came P.sent P.fault_count port.old port.new replica.old replica.new
         (moves_of pass.old) (moves_of pass.new) result }
+    ensures turns { TurnsLeft turns.old turns.new }
     ensures ended { IfOk result (λ report. report ≡ None
         → (turns.new ≡ Some 0) ⊎ (replica.new.request ≡ u64.MAX) ⊎ (P.fault_count port.new ≡ u64.MAX)) }
     ensures broken { IfErr result (λ fault. fault ≡ Broken → replica.new.broken ≡ true) }

@@ -1,6 +1,7 @@
 //! The turns of a serve call, and how much one does.
 
 ghost use Rattle.std.specs.Prelude.{◌≡◌, Some, false};
+ghost use Rattle.sockets.specs.Serving.{TurnsLeft};
 
 use rows::limits::DATAGRAM_MAX;
 
@@ -17,7 +18,8 @@ pub const TURN_ROUNDS: usize = 4;
 
 /// Uses up one turn, if one is left; `None` is no limit.
 pub fn take_turn(turns: &mut Option<u64>) -> bool
-    ensures { result ≡ false → turns.new ≡ Some 0 }
+    ensures ended { result ≡ false → turns.new ≡ Some 0 }
+    ensures left { TurnsLeft turns.old turns.new }
 {
     match turns {
         None => true,

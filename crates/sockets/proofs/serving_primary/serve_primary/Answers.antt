@@ -1,10 +1,11 @@
 -- Each turn is deeds behind those of the turns before.
 use Rattle.std.proofs.Common.{refl, Ok, Err}
+use Rattle.sockets.proofs.TurnsLeft.{turns_same, turns_on}
 use Rattle.sockets.proofs.Deeding.{all_nothing, all_then, all_serve, primary_serves, serves_all, seat_then}
 use Rattle.sockets.proofs.serving_primary.serve_primary.Goals as goal
 
 pub loop-init : goal.loop-init
-loop-init g c = record { can = tt; ends = tt; pushes = all_nothing _ _ _ _ _ _ _ _ _; seat = refl }
+loop-init g c = record { can = tt; ends = tt; turns = turns_same c.args.turns.now; pushes = all_nothing _ _ _ _ _ _ _ _ _; seat = refl }
 
 pub returns-then-faults-eq18446744073709551615-clause-serves : goal.returns-then-faults-eq18446744073709551615-clause-serves
 returns-then-faults-eq18446744073709551615-clause-serves g c = all_serve _ _ _ _ _ _ _ _ _ _ _ _ tt c.loop.invariant.pushes
@@ -27,6 +28,7 @@ pub loop-preserved : goal.loop-preserved
 loop-preserved g c = record {
   can = tt;
   ends = tt;
+  turns = turns_on c.args.turns.now c.loop.turns c.take_turn.new.turns c.loop.invariant.turns c.take_turn.ensures.left;
   pushes =
       serves_all _ _ _ _ _ _ _ _ _ _ _ _ (tt {0})
       (primary_serves _ _ _ _ _ _ _ _ _ _ _ _ _ _ (Ok (tt {0}))

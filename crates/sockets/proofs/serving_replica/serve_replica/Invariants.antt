@@ -2,6 +2,7 @@
 use Rattle.std.proofs.Common.{Ok, None}
 use Rattle.queue.specs.Passes.{moves_of, IsPassOf}
 use Rattle.sockets.specs.Replicas.{ServesReplica}
+use Rattle.sockets.specs.Serving.{TurnsLeft}
 use Rattle.sockets.proofs.serving_replica.serve_replica.Given as goal
 
 abbrev pub invariant-loop : goal.invariant-loop
@@ -11,4 +12,5 @@ invariant-loop g l = record {
   pass : IsPassOf l.queue l.pass;
   serves : ServesReplica {P = g.row.P.Denot} g.P.Port.is_honest g.P.Port.came g.P.Port.sent g.P.Port.fault_count l.fn.port l.port
       l.fn.replica l.replica (moves_of l.fn.pass) (moves_of l.pass) (Ok None);
+  turns : TurnsLeft l.fn.turns l.turns;
 }
