@@ -10,7 +10,11 @@ use std::alloc::AllocError;
 use std::fs::{File, Files, OpenOptions, TryLockError};
 use std::io::{self, ErrorKind};
 use std::marker::Model;
+use std::os::unix::fs::OpenOptionsExt;
 use std::path::Path;
+
+/// Who may read and write a file that is made for a journal: its owner alone, since it has all the data.
+const FILE_MODE: u32 = 0o600;
 
 /// A journal in a file: in one of the operating system, which it has locked, or in another `Disk`.
 ///
@@ -44,8 +48,8 @@ impl<D: Disk> Model for FileJournal<D> {
 }
 
 impl FileJournal<File> {
-    /// Opens the journal at a path, and makes the file where there is none. What it holds is then
-    /// synced, and so is the folder that has its name.
+    /// Opens the journal at a path, and makes the file where there is none, which its owner alone may read
+    /// and write. What it holds is then synced, and so is the folder that has its name.
     ///
     /// Fails with `Locked` where another journal has the file open, and with `System` where the
     /// system refuses to make, open, lock or sync it.
@@ -102,6 +106,7 @@ fn open_file<R: Files<File = File>>(files: &R, path: &str) -> io::Result<File> {
         .read(true)
         .write(true)
         .create(true)
+        .mode(FILE_MODE)
         .open(files, path)
 }
 

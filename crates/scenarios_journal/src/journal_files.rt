@@ -7,6 +7,7 @@ use scenarios_journal_common::journal_cases::{JOURNAL, Outcome};
 use std::alloc::Global;
 use std::env::temp_dir;
 use std::fs;
+use std::os::unix::fs::PermissionsExt;
 use std::test::Fail;
 
 /// Appends bytes to a journal in a file.
@@ -137,6 +138,22 @@ fn a_file_keeps_a_journal(rt: HostRuntime) -> Result<(), Fail> {
     let path = fresh_path(&rt, "kept")?;
     let found = found_at(&rt, path.as_str())?;
     assert_eq!(rt; found, (Ok((1, 52)), (true, false), None));
+    Ok(())
+}
+
+/// Who may do what with the file of a new journal, as the system's number of it.
+fn new_mode(rt: &HostRuntime, path: &str) -> Result<u32, Fail> {
+    let _journal = FileJournal::open(rt, path)?;
+    let mode = fs::metadata(rt, path)?.permissions().mode();
+    fs::remove_file(rt, path)?;
+    Ok(mode & 0o777)
+}
+
+#[test]
+fn a_new_file_is_its_owners_alone(rt: HostRuntime) -> Result<(), Fail> {
+    let path = fresh_path(&rt, "owned")?;
+    let mode = new_mode(&rt, path.as_str())?;
+    assert_eq!(rt; mode, 0o600);
     Ok(())
 }
 

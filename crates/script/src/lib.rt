@@ -3,8 +3,8 @@
 //! `read_script` reads the settings and the events of a script, or says which line is the first
 //! that does not read, and why; `read_settings` reads a text that has settings alone.
 //! `write_text_of` writes the text of what events answer, and `write_echoed_text_of` puts the line
-//! of each event before it; both do so in pieces. `read_plan` and `read_value` read what stands
-//! within lines. `specs/` says how events and outputs are written (`EventText.antt`,
+//! of each event before it; both do so in pieces. `read_event_line` reads the line of one event, `read_plan` and
+//! `read_value` what stands within lines. `specs/` says how events and outputs are written (`EventText.antt`,
 //! `OutputText.antt`), what a writer took (`Writing.antt`), which events may be asked for
 //! (`Events.antt`), which bytes are text and which words names (`Text.antt`), which values have words
 //! (`Values.antt`), how tables are named and plans written (`Tables.antt`, `PlanText.antt`), which
@@ -38,7 +38,7 @@ mod writing;
 pub use event::{Event, Node};
 pub use faults::{Reason, ScriptFault, WriteFault};
 pub use output::Output;
-pub use parts::read_plan;
+pub use parts::{read_event_line, read_plan};
 pub use reading::{read_script, read_settings};
 pub use sent::{Sent, SentList};
 pub use setup::Setup;
