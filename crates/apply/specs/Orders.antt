@@ -19,6 +19,6 @@ abbrev pub Rising : Rows → Type 0
 Rising [] = Unit {0}
 Rising (row ∷ rows) = AllOver row.0 rows × Rising rows
 
--- how many rows stand before a row: its place, where the identifiers rise
+-- how many rows stand before a row: its place, if the identifiers rise
 abbrev pub place_in : Rows → ℕ → ℕ
 place_in rows row = prefix_len (λ id. nat_lt id row) (keys_of rows)

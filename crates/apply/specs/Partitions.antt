@@ -25,6 +25,7 @@ tables_in (part ∷ parts) = both part (tables_in parts)
 abbrev pub values_in : List Tables → ℕ → Spot → Option (List Value)
 values_in parts table spot = option_map (λ row. row.1) (slice_get (rows_of (slice_index_or parts spot.part []) table) spot.position)
 
+-- a store of columns as its callers see it: the tables of each partition, and whether it is whole
 pub record ColumnState : Type 0 where
   -- the tables of each partition
   pub parts : List Tables

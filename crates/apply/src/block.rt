@@ -19,11 +19,11 @@ use rows::{Kind, Value, column_at};
 use std::alloc::{AllocError, Global};
 use std::marker::Model;
 
-/// For how many rows a block asks for memory at a time.
+/// How many rows a block reserves memory for at a time.
 const STEP: usize = 128;
 
-/// Some rows of a table that stand one behind the other: their identifiers, and a column of values
-/// for each column of the table. Contracts see a table of these rows.
+/// Consecutive rows of a table: their identifiers, and a column of values for each column of the
+/// table. Contracts see a table of these rows.
 #[derive(Debug, Drop)]
 pub struct Block {
     ids: Vec<u64>,
@@ -44,7 +44,7 @@ impl Model for Block {
 }
 
 impl Block {
-    /// A block without rows, whose columns are of these kinds. Fails only when out of memory.
+    /// A block without rows, whose columns are of these kinds. Fails only if out of memory.
     pub fn new(alloc: Global, kinds: &[Kind]) -> Result<Block, AllocError>
         requires { list_all is_good kinds.now ≡ true }
         ensures { IfOk result (λ block. block ≡ record { kinds = kinds.now; rows = [] }) }
@@ -85,7 +85,7 @@ impl Block {
         self.is_at(self.place(row), row)
     }
 
-    /// The index of a row; `None` where it is not there.
+    /// The index of a row; `None` if it is not there.
     pub fn find(&self, row: u64) -> Option<usize>
         ensures found { is_some result ≡ is_present self.now.rows row }
         ensures place { IfSome result (λ at. at ≡ place_in self.now.rows row) }
@@ -94,7 +94,7 @@ impl Block {
         if self.is_at(at, row) { Some(at) } else { None }
     }
 
-    /// Whether the row is there, told at its place.
+    /// Whether the row is there, given its place.
     fn is_at(&self, at: usize, row: u64) -> bool
         requires { at ≡ place_in self.now.rows row }
         ensures { result ≡ is_present self.now.rows row }
@@ -111,8 +111,7 @@ impl Block {
         self.columns[column].get(self.ids.len(), at)
     }
 
-    /// Puts in a row that is not there, given by its bytes. Fails only when out of memory, and then
-    /// nothing has changed.
+    /// Inserts a row that is not there, given by its bytes. Fails only if out of memory.
     pub fn insert(&mut self, row: u64, bytes: &[u8]) -> Result<(), AllocError>
         requires absent { is_present self.old.rows row ≡ false }
         requires wide { row_width self.old.kinds ≤ length bytes.now }
@@ -128,7 +127,7 @@ impl Block {
         Ok(())
     }
 
-    /// Takes out a row that is there.
+    /// Deletes a row that is there.
     pub fn remove(&mut self, row: u64)
         requires { is_present self.old.rows row ≡ true }
         ensures { self.new ≡ record self.old { rows = without_row self.old.rows row } }
@@ -139,8 +138,8 @@ impl Block {
         remove_row(self.columns.as_mut_slice(), rows, at);
     }
 
-    /// Puts bytes in the place of one column's of a row that is there, in a table with columns of these
-    /// kinds. Where they are not exactly one column's nothing changes.
+    /// Puts bytes in place of one column's of a row that is there, in a table with columns of these
+    /// kinds. If they are not exactly one column's bytes, nothing changes.
     pub fn patch(&mut self, kinds: &[Kind], row: u64, offset: u16, bytes: &[u8])
         requires there { is_present self.old.rows row ≡ true }
         requires kinds { kinds.now ≡ self.old.kinds }
@@ -152,7 +151,7 @@ impl Block {
         }
     }
 
-    /// A block of the rows from an index on, copied. Fails only when out of memory.
+    /// A block of the rows from an index on, copied. Fails only if out of memory.
     pub fn tail(&self, alloc: Global, at: usize) -> Result<Block, AllocError>
         requires { at ≤ length self.now.rows }
         ensures { IfOk result (λ block. block ≡ record self.now { rows = drop at self.now.rows }) }
@@ -175,7 +174,7 @@ impl Block {
     }
 }
 
-/// Makes room for one more identifier. Fails only when out of memory. The identifiers stay.
+/// Makes room for one more identifier. Fails only if out of memory. The identifiers do not change.
 fn reserve_id(ids: &mut Vec<u64>) -> Result<(), AllocError>
     ensures items { ids.new.items ≡ ids.old.items }
     ensures ok { OnOk result (vec_len ids.new < vec_capacity ids.new) }
@@ -186,7 +185,7 @@ fn reserve_id(ids: &mut Vec<u64>) -> Result<(), AllocError>
     Ok(())
 }
 
-/// Puts an identifier in, where there is room.
+/// Inserts an identifier, if there is room.
 fn insert_id(ids: &mut Vec<u64>, at: usize, row: u64)
     requires within { at ≤ length ids.old.items }
     requires room { vec_len ids.old < vec_capacity ids.old }

@@ -11,12 +11,12 @@ use byteorder::{BigEndian, ByteOrder};
 use rows::{Kind, Octets, Value};
 use std::alloc::{AllocError, Global};
 
-/// For how many rows a column asks for memory at a time.
+/// How many rows a column reserves memory for at a time.
 const STEP: usize = 128;
 
 /// The values of one column, side by side: numbers of 64 bits, or bytes of one width.
 ///
-/// How many values there are the identifiers beside it tell, as many as `rows` below.
+/// The identifiers beside it determine how many values there are, as many as `rows` below.
 #[derive(Debug, Drop)]
 pub enum Cells {
     Numbers(Vec<i64>),
@@ -59,7 +59,7 @@ impl Cells {
         }
     }
 
-    /// Makes room for one more value. Fails only when out of memory. The values stay.
+    /// Makes room for one more value. Fails only if out of memory. The values do not change.
     pub fn reserve(&mut self) -> Result<(), AllocError>
         ensures keeps { Keeps self.old self.new }
         ensures ok { OnOk result (HasRoom self.new) }
@@ -79,7 +79,7 @@ impl Cells {
         Ok(())
     }
 
-    /// Puts in the value at the front of these bytes, where there is room. Those from that row on
+    /// Inserts the value at the front of these bytes, if there is room. The values from that row on
     /// move up.
     pub fn insert(&mut self, rows: usize, at: usize, value: &[u8])
         requires cells { AreCells rows self.old }
@@ -100,7 +100,7 @@ impl Cells {
         let _ = rows;
     }
 
-    /// Takes a row's value out. Those behind it move down.
+    /// Removes a row's value. Those after it move down.
     pub fn remove(&mut self, rows: usize, at: usize)
         requires cells { AreCells rows self.old }
         requires within { at < rows }
@@ -120,7 +120,7 @@ impl Cells {
         let _ = rows;
     }
 
-    /// Puts the value at the front of these bytes in the place of a row's.
+    /// Replaces a row's value by the one at the front of these bytes.
     pub fn set(&mut self, rows: usize, at: usize, value: &[u8])
         requires cells { AreCells rows self.old }
         requires within { at < rows }
@@ -161,7 +161,7 @@ impl Cells {
         }
     }
 
-    /// A copy of the values from that row on. Fails only when out of memory.
+    /// A copy of the values from that row on. Fails only if out of memory.
     pub fn tail(&self, alloc: Global, rows: usize, at: usize) -> Result<Cells, AllocError>
         requires cells { AreCells rows self.now }
         requires within { at ≤ rows }
@@ -199,7 +199,7 @@ impl Cells {
     }
 }
 
-/// Puts a number in, where there is room.
+/// Inserts a number, if there is room.
 fn insert_number(numbers: &mut Vec<i64>, at: usize, number: i64)
     requires within { at ≤ length numbers.old.items }
     requires room { vec_len numbers.old < vec_capacity numbers.old }
@@ -210,8 +210,7 @@ fn insert_number(numbers: &mut Vec<i64>, at: usize, number: i64)
     }
 }
 
-/// Puts bytes in, where there is room: they are written behind all others, and then turned round
-/// with those that they go before.
+/// Inserts bytes, if there is room: they are appended, and then rotated to their place.
 fn insert_bytes(bytes: &mut Vec<u8>, at: usize, value: &[u8])
     requires within { at ≤ length bytes.old.items }
     requires room { vec_len bytes.old + length value.now ≤ vec_capacity bytes.old }
@@ -223,7 +222,7 @@ fn insert_bytes(bytes: &mut Vec<u8>, at: usize, value: &[u8])
     bytes[at..].rotate_right(value.len());
 }
 
-/// Takes bytes out.
+/// Removes bytes.
 fn remove_bytes(bytes: &mut Vec<u8>, at: usize, width: usize)
     requires within { at + width ≤ length bytes.old.items }
     ensures { bytes.new.items ≡ take at bytes.old.items ++ drop (at + width) bytes.old.items }
@@ -233,7 +232,7 @@ fn remove_bytes(bytes: &mut Vec<u8>, at: usize, width: usize)
     bytes.truncate(left);
 }
 
-/// Puts bytes in the place of others.
+/// Puts bytes in place of others.
 fn write_bytes(bytes: &mut Vec<u8>, at: usize, value: &[u8])
     requires within { at + length value.now ≤ length bytes.old.items }
     ensures { bytes.new.items ≡ take at bytes.old.items ++ (value.now ++ drop (at + length value.now) bytes.old.items) }

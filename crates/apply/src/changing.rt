@@ -15,7 +15,7 @@ use rows::{Entry, Schema, fits_columns};
 use std::alloc::{AllocError, Global};
 use store::StoreFault;
 
-/// The tables of a schema, without rows. Fails only when out of memory.
+/// The tables of a schema, without rows. Fails only if out of memory.
 pub fn empty_tables(alloc: Global, schema: &Schema) -> Result<Vec<Piece>, AllocError>
     ensures { IfOk result (λ tables. tables.items ≡ opening (shape_of schema.now)) }
 {
@@ -40,7 +40,7 @@ pub fn row_of(entry: &Entry) -> u64
 
 /// Makes the change of one entry, or refuses it and changes nothing.
 ///
-/// The fault is the first of these that stands: `Unfit`; `Exists` or `Missing`; `Memory`.
+/// The fault is the first of these that applies: `Unfit`; `Exists` or `Missing`; `Memory`.
 pub fn change_tables(alloc: Global, tables: &mut [Piece], entry: &Entry) -> Result<(), StoreFault>
     ensures ok { OnOk result (apply_entry tables.old entry.now ≡ Ok tables.new) }
     ensures err { OnErr result (tables.new ≡ tables.old) }
@@ -78,8 +78,7 @@ fn change_table(alloc: Global, table: &mut Piece, entry: &Entry) -> Result<(), S
     }
 }
 
-/// Puts a row into a table that has no such row; where it has one, it is refused, and nothing has
-/// changed.
+/// Inserts a row into a table; if the row is there, the insert is refused, and nothing has changed.
 fn insert_row(alloc: Global, table: &mut Piece, row: u64, bytes: &[u8]) -> Result<(), StoreFault>
     requires { row_width table.old.kinds ≤ length bytes.now }
     ensures ok { OnOk result ((is_present table.old.rows row ≡ false)
@@ -96,8 +95,8 @@ fn insert_row(alloc: Global, table: &mut Piece, row: u64, bytes: &[u8]) -> Resul
         .map_err(|_| StoreFault::Memory)
 }
 
-/// Puts bytes in the place of one column's of a row; where it is not there, that is refused, and nothing
-/// has changed.
+/// Puts bytes in place of one column's of a row; if the row is not there, this is refused, and
+/// nothing has changed.
 fn patch_row(table: &mut Piece, row: u64, offset: u16, bytes: &[u8]) -> Result<(), StoreFault>
     ensures ok { OnOk result ((is_present table.old.rows row ≡ true)
         × (table.new ≡ record table.old { rows = with_patch table.old.kinds table.old.rows row offset bytes.now })) }
@@ -112,7 +111,7 @@ fn patch_row(table: &mut Piece, row: u64, offset: u16, bytes: &[u8]) -> Result<(
     Ok(())
 }
 
-/// Takes a row out; where it is not there, that is refused, and nothing has changed.
+/// Deletes a row; if it is not there, this is refused, and nothing has changed.
 fn delete_row(table: &mut Piece, row: u64) -> Result<(), StoreFault>
     ensures ok { OnOk result ((is_present table.old.rows row ≡ true)
         × (table.new ≡ record table.old { rows = without_row table.old.rows row })) }

@@ -18,12 +18,12 @@ use std::marker::Model;
 use std::thread::Threads;
 use store::{ApplyFault, Store, StoreFault};
 
-/// A store of rows in columns: a row stands in the partition that its identifier leaves as a remainder
-/// when it is divided by how many there are, and there its values stand side by side with those of
+/// A store of rows in columns. A row is in the partition whose number is the remainder of its
+/// identifier, divided by the number of partitions; there its values are side by side with those of
 /// other rows, column by column.
 ///
-/// Contracts see the tables of each partition, and whether the store is whole. What it answers is told
-/// from all partitions' tables together: how many there are does not show.
+/// Contracts see the tables of each partition, and whether the store is whole. Its answers are
+/// those of all partitions' tables together, and do not depend on the number of partitions.
 #[derive(Debug, Drop)]
 pub struct ColumnStore {
     alloc: Global,
@@ -44,8 +44,8 @@ impl Model for ColumnStore {
 }
 
 impl ColumnStore {
-    /// A store for the tables of a schema, each without rows, in 1 to 64 partitions. It is whole. Fails
-    /// only when out of memory.
+    /// A store for the tables of a schema, each without rows, in 1 to 64 partitions. It is whole.
+    /// Fails only if out of memory.
     pub fn new(alloc: Global, schema: &Schema, partitions: usize) -> Result<ColumnStore, AllocError>
         requires some { 0 < partitions }
         requires few { partitions ≤ partitions_max }
@@ -61,12 +61,12 @@ impl ColumnStore {
         })
     }
 
-    /// Makes all changes of these commits, in their order. Where they have at least 4,096 entries, each
-    /// partition makes those of its own rows, in threads.
+    /// Makes all changes of these commits, in their order. If they have at least 4,096 entries,
+    /// each partition makes those of its own rows, in threads.
     ///
-    /// Fails with `Broken` where the store is not whole, with `Inconsistent` where one of the changes is
-    /// refused, and with `Memory`, which comes only where there is an entry to apply. After any of them
-    /// the store is not whole, for good.
+    /// Fails with `Broken` if the store is not whole, with `Inconsistent` if one of the changes is
+    /// refused, or with `Memory`, only if there is an entry to apply. After any failure the store
+    /// is never whole again.
     pub fn apply_together<R: Threads + Sync>(
         &mut self,
         rt: &R,
@@ -119,7 +119,7 @@ impl Store for ColumnStore {
         let _ = &self.whole;
     }
 
-    /// Where a row of a table stands; `None` where the row or the table is not there.
+    /// Where a row of a table is; `None` if the row or the table is not there.
     fn find(&self, table: u8, row: RowId) -> Option<Spot> {
         if !self.whole {
             return None;
@@ -127,12 +127,12 @@ impl Store for ColumnStore {
         find(self.parts.as_slice(), table, row.0)
     }
 
-    /// The value of one column of the row that stands there, columns being counted from 0.
+    /// The value of one column of the row at that place, columns being counted from 0.
     fn value(&self, table: u8, place: Spot, column: usize) -> Value {
         value(self.parts.as_slice(), table, place, column)
     }
 
-    /// How many rows a table has; 0 where there is no table of that number.
+    /// How many rows a table has; 0 if there is no table of that number.
     fn len(&self, table: u8) -> usize {
         if !self.whole {
             return 0;
@@ -146,7 +146,7 @@ impl Store for ColumnStore {
     }
 
     /// Makes one change, or refuses it and changes nothing: `Broken`; `Unfit`; `Exists` or
-    /// `Missing`; `Memory`, the first that stands.
+    /// `Missing`; `Memory`; the first that applies.
     fn change(&mut self, entry: &Entry) -> Result<(), StoreFault> {
         if !self.whole {
             return Err(StoreFault::Broken);

@@ -11,7 +11,7 @@ use crate::cells::Cells;
 use rows::Kind;
 use std::alloc::{AllocError, Global};
 
-/// Columns of these kinds, without values. Fails only when out of memory.
+/// Columns of these kinds, without values. Fails only if out of memory.
 pub fn empty_columns(alloc: Global, kinds: &[Kind]) -> Result<Vec<Cells>, AllocError>
     requires { list_all is_good kinds.now ≡ true }
     ensures kinds { IfOk result (λ columns. kinds_with columns.items ≡ kinds.now) }
@@ -24,7 +24,7 @@ pub fn empty_columns(alloc: Global, kinds: &[Kind]) -> Result<Vec<Cells>, AllocE
     Ok(columns)
 }
 
-/// Makes room for one more row. Fails only when out of memory. The values stay.
+/// Makes room for one more row. Fails only if out of memory. The values do not change.
 pub fn reserve_row(columns: &mut [Cells]) -> Result<(), AllocError>
     ensures len { length columns.new ≡ length columns.old }
     ensures keeps { Each (λ k. Keeps) (length columns.old) columns.old columns.new }
@@ -36,7 +36,7 @@ pub fn reserve_row(columns: &mut [Cells]) -> Result<(), AllocError>
     Ok(())
 }
 
-/// Puts in a row, given by its bytes, where there is room.
+/// Inserts a row, given by its bytes, if there is room.
 pub fn insert_row(columns: &mut [Cells], rows: usize, at: usize, bytes: &[u8])
     requires cells { AllCells rows columns.old }
     requires room { (k : ℕ) (d : _) → k < length columns.old → HasRoom (slice_index_or columns.old k d) }
@@ -53,7 +53,7 @@ pub fn insert_row(columns: &mut [Cells], rows: usize, at: usize, bytes: &[u8])
     }
 }
 
-/// Takes a row out.
+/// Removes a row.
 pub fn remove_row(columns: &mut [Cells], rows: usize, at: usize)
     requires cells { AllCells rows columns.old }
     requires within { at < rows }
@@ -77,7 +77,7 @@ pub fn truncate_rows(columns: &mut [Cells], rows: usize, at: usize)
     }
 }
 
-/// A copy of the rows from one on. Fails only when out of memory.
+/// A copy of the rows from one on. Fails only if out of memory.
 pub fn rows_from(
     alloc: Global,
     columns: &[Cells],

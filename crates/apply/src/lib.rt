@@ -1,19 +1,22 @@
 //! Rows as columns: one list of values for each column, beside the rows' identifiers.
 //!
-//! A `ColumnStore` has the rows of a schema's tables in 1 to 64 partitions, by the remainder of their
-//! identifiers. A partition has a `Piece` for each table: its rows in blocks of at most some thousand,
-//! so that a row which is put in or taken out moves a block's values and no others; a full block is cut
-//! in two, behind its last row or before its first where rows come in order, and else in half. A `Block`
-//! has the identifiers of its rows, which rise, and a column for each of the table's. A column is
-//! `Cells`: numbers of 64 bits side by side, or bytes of one width side by side.
+//! A `ColumnStore` keeps the rows of a schema's tables in 1 to 64 partitions, by the remainder of
+//! their identifiers. A partition has a `Piece` for each table: its rows in blocks of about a
+//! thousand at most, so that inserting or deleting a row moves only the values of its block. A full
+//! block is cut in two: after its last row or before its first if rows arrive in order, otherwise
+//! in half. A `Block` has the identifiers of its rows, in rising order, and a column for each
+//! column of the table. A column is `Cells`: numbers of 64 bits side by side, or bytes of one width
+//! side by side.
 //!
-//! Promised: a store of columns is a `store::Store`, and the number of its partitions does not show in
-//! what it answers; `apply_together` makes of it what the commits make of its tables, or breaks it.
-//! Contracts see a piece and a block as a table of `rows`, and each change makes of it what the definitions
-//! there say, or leaves it as it was where it is out of memory. Not promised: that the partitions of a
-//! store are changed at once. What has to be believed stands in `specs/Partitions.antt`,
-//! `specs/Columns.antt` and `specs/Blocks.antt`. It stands on `rows` and `store`, on `byteorder` for
-//! numbers in a row's bytes, and on `rayon` for threads.
+//! Promised: a store of columns is a `store::Store`, and its answers do not depend on the number of
+//! its partitions; `apply_together` applies the commits to its tables, or breaks the store.
+//! Contracts see a piece and a block as a table of `rows`, and each change does to it what the
+//! definitions there specify, or leaves it unchanged if out of memory. Not promised: that the
+//! partitions of a store change at once. The definitions to review are `specs/Partitions.antt`,
+//! `specs/Columns.antt` and `specs/Blocks.antt`.
+//!
+//! It uses `rows` and `store`, `byteorder` for numbers in a row's bytes, and `rayon` for threads.
+//! If a call fails for lack of memory, its value is unchanged unless the call says otherwise.
 #![tactic(auto)]
 
 mod block;

@@ -11,8 +11,8 @@ use rows::{Commit, Entry};
 use std::alloc::Global;
 use store::{ApplyFault, StoreFault};
 
-/// Makes the changes of those entries that are of a partition's rows, of so many partitions, in their
-/// order, up to the first that is refused.
+/// Makes the changes of those entries that belong to one partition's rows, of this many partitions,
+/// in their order, up to the first that is refused.
 fn change_own(
     alloc: Global,
     tables: &mut [Piece],
@@ -38,8 +38,8 @@ fn change_own(
     Ok(())
 }
 
-/// Makes the changes of those entries of commits that are of a partition's rows, of so many partitions, in
-/// their order, up to the first that is refused.
+/// Makes the changes of those entries of commits that belong to one partition's rows, of this many
+/// partitions, in their order, up to the first that is refused.
 pub fn apply_own(
     alloc: Global,
     tables: &mut [Piece],

@@ -19,7 +19,7 @@ use rows::{Commit, Entry, Schema};
 use std::alloc::{AllocError, Global};
 use store::{ApplyFault, StoreFault};
 
-/// What one partition has of each table, and how the last list of commits ended there.
+/// The part of each table in one partition, and how the last list of commits ended there.
 #[derive(Debug, Drop)]
 pub struct Part {
     pub tables: Vec<Piece>,
@@ -27,7 +27,7 @@ pub struct Part {
 }
 
 impl Part {
-    /// The tables of a schema, without rows. Fails only when out of memory.
+    /// The tables of a schema, without rows. Fails only if out of memory.
     pub fn new(alloc: Global, schema: &Schema) -> Result<Part, AllocError>
         ensures { IfOk result (λ part. part.tables.items ≡ opening (shape_of schema.now)) }
     {
@@ -37,7 +37,7 @@ impl Part {
         })
     }
 
-    /// What it has of a table, lent; `None` where there is no table of that number.
+    /// Its part of a table, lent; `None` if there is no table of that number.
     pub fn piece(&self, table: u8) -> Option<&Piece>
         ensures rows { MatchOption result (rows_of self.now.tables.items table ≡ [])
             (λ piece. piece.now.rows ≡ rows_of self.now.tables.items table) }
@@ -46,7 +46,7 @@ impl Part {
         self.tables.get(table as usize)
     }
 
-    /// The position of a row of a table among those that it has; `None` where it has no such row.
+    /// The position of a row of a table among its own rows; `None` if it has no such row.
     pub fn find(&self, table: u8, row: u64) -> Option<usize>
         ensures found { is_some result ≡ is_present (rows_of self.now.tables.items table) row }
         ensures values { IfSome result (λ at. option_map (λ found. found.1) (slice_get (rows_of self.now.tables.items table) at)
@@ -58,7 +58,7 @@ impl Part {
         }
     }
 
-    /// How many rows it has of a table.
+    /// How many rows of a table it has.
     pub fn len(&self, table: u8) -> usize
         ensures value { result ≡ length (rows_of self.now.tables.items table) }
         ensures few { result ≤ rows_max }
@@ -80,7 +80,7 @@ impl Part {
         }
     }
 
-    /// An identifier that none of its rows of a table passes.
+    /// An upper bound of the identifiers of its rows of a table.
     pub fn greatest(&self, table: u8) -> u64
         ensures { AllUnder (result + 1) (rows_of self.now.tables.items table) }
     {
@@ -101,8 +101,8 @@ impl Part {
         change_tables(alloc, &mut self.tables, entry)
     }
 
-    /// Makes the changes of those entries of commits that are of its rows, as this one of so many
-    /// partitions, in their order, and keeps how that ended.
+    /// As partition `part` of this many, makes the changes of those entries of commits that belong
+    /// to its rows, in their order, and keeps how that ended.
     pub fn apply(&mut self, alloc: Global, commits: &[Commit], part: usize, parts: usize)
         requires { 0 < parts }
         ensures ends { EndsAs (have_entries commits.now)

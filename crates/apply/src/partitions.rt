@@ -20,7 +20,7 @@ use rows::{Entry, Schema, Value};
 use std::alloc::{AllocError, Global};
 use store::StoreFault;
 
-/// So many partitions of the tables of a schema, without rows. Fails only when out of memory.
+/// This many partitions of the tables of a schema, without rows. Fails only if out of memory.
 pub fn empty_parts(
     alloc: Global,
     schema: &Schema,
@@ -44,7 +44,7 @@ fn home_of(row: u64, parts: usize) -> usize
     (row % parts as u64) as usize
 }
 
-/// Where a row of a table stands; `None` where the row or the table is not there.
+/// Where a row of a table is; `None` if the row or the table is not there.
 pub fn find(parts: &[Part], table: u8, row: u64) -> Option<Spot>
     requires some { 0 < length parts.now }
     requires parts { AreParts (views parts.now) }
@@ -59,7 +59,7 @@ pub fn find(parts: &[Part], table: u8, row: u64) -> Option<Spot>
     }
 }
 
-/// The value of one column of the row that stands there, columns being counted from 0.
+/// The value of one column of the row at that place, columns being counted from 0.
 pub fn value(parts: &[Part], table: u8, spot: Spot, column: usize) -> Value
     requires parts { AreParts (views parts.now) }
     requires kinds { RowsAreOfKinds (tables_in (views parts.now)) }
@@ -74,7 +74,7 @@ pub fn value(parts: &[Part], table: u8, spot: Spot, column: usize) -> Value
 
 /// Makes the change of one entry, or refuses it and changes nothing.
 ///
-/// The fault is the first of these that stands: `Unfit`; `Exists` or `Missing`; `Memory`.
+/// The fault is the first of these that applies: `Unfit`; `Exists` or `Missing`; `Memory`.
 pub fn change_parts(alloc: Global, parts: &mut [Part], entry: &Entry) -> Result<(), StoreFault>
     requires some { 0 < length parts.old }
     requires parts { AreParts (views parts.old) }
@@ -115,7 +115,7 @@ fn place(parts: &[Part], table: u8, row: u64) -> usize
     rows
 }
 
-/// An identifier that no row of a table passes.
+/// An upper bound of the identifiers of a table's rows.
 fn greatest(parts: &[Part], table: u8) -> u64
     ensures { (k : ℕ) (d : Tables) → k < length parts.now
         → AllUnder (result + 1) (rows_of (slice_index_or (views parts.now) k d) table) }
@@ -130,8 +130,8 @@ fn greatest(parts: &[Part], table: u8) -> u64
     most
 }
 
-/// The identifier of the row at an index of a table's order: that below which as many rows stand, found by
-/// halving the identifiers up to the greatest.
+/// The identifier of the row at an index of a table's order, found by binary search: the one below
+/// which as many rows are.
 pub fn id_at(parts: &[Part], table: u8, i: usize) -> u64
     requires few { length parts.now ≤ partitions_max }
     requires parts { AreParts (views parts.now) }

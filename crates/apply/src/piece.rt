@@ -20,8 +20,8 @@ use std::marker::Model;
 /// How many rows a piece has at most.
 const ROWS_MAX: usize = 1 << 57;
 
-/// The rows of one table, as blocks of columns. Contracts see the kinds of its columns, which a table
-/// may have, and its rows in rising identifier.
+/// The rows of one table, as blocks of columns. Contracts see the kinds of its columns, which are
+/// allowed for a table, and its rows in rising identifier.
 #[derive(Debug, Drop)]
 pub struct Piece {
     kinds: KindList,
@@ -43,7 +43,7 @@ impl Model for Piece {
 }
 
 impl Piece {
-    /// A table with columns of these kinds, and without rows. Fails only when out of memory.
+    /// A table with columns of these kinds, and without rows. Fails only if out of memory.
     pub fn new(alloc: Global, kinds: &[Kind]) -> Result<Piece, AllocError>
         requires { AreColumns kinds.now }
         ensures { IfOk result (λ piece. piece ≡ record { kinds = kinds.now; rows = [] }) }
@@ -86,14 +86,14 @@ impl Piece {
         place(self.blocks.as_slice(), self.ends.as_slice(), row)
     }
 
-    /// An identifier that none of its rows passes: the greatest, or 0 where there is no row.
+    /// An upper bound of the identifiers of its rows: the greatest, or 0 if there is no row.
     pub fn greatest(&self) -> u64
         ensures { AllUnder (result + 1) self.now.rows }
     {
         greatest(self.blocks.as_slice())
     }
 
-    /// The position of a row among those that there are; `None` where it is not there.
+    /// The position of a row among its rows; `None` if it is not there.
     pub fn find(&self, row: u64) -> Option<usize>
         ensures found { is_some result ≡ is_present self.now.rows row }
         ensures values { IfSome result (λ at. option_map (λ found. found.1) (slice_get self.now.rows at) ≡ row_at self.now.rows row) }
@@ -116,8 +116,8 @@ impl Piece {
         )
     }
 
-    /// Puts in a row that is not there, given by its bytes. Fails only when out of memory, as it says of
-    /// a piece with 2^57 rows, and then the rows are as they were.
+    /// Inserts a row that is not there, given by its bytes. Fails only if out of memory, which it
+    /// also reports for a piece with 2^57 rows; the rows are then unchanged.
     pub fn insert(&mut self, alloc: Global, row: u64, bytes: &[u8]) -> Result<(), AllocError>
         requires absent { is_present self.old.rows row ≡ false }
         requires wide { row_width self.old.kinds ≤ length bytes.now }
@@ -137,8 +137,8 @@ impl Piece {
         )
     }
 
-    /// Puts bytes in the place of one column's of a row that is there. Where they are not exactly one
-    /// column's nothing changes. Takes no memory.
+    /// Puts bytes in place of one column's of a row that is there. If they are not exactly one
+    /// column's bytes, nothing changes. Takes no memory.
     pub fn patch(&mut self, row: u64, offset: u16, bytes: &[u8])
         requires { is_present self.old.rows row ≡ true }
         ensures { self.new ≡ record self.old { rows = with_patch self.old.kinds self.old.rows row offset bytes.now } }
@@ -152,7 +152,7 @@ impl Piece {
         );
     }
 
-    /// Takes out a row that is there. Takes no memory.
+    /// Deletes a row that is there. Takes no memory.
     pub fn remove(&mut self, row: u64)
         requires { is_present self.old.rows row ≡ true }
         ensures { self.new ≡ record self.old { rows = without_row self.old.rows row } }

@@ -1,4 +1,4 @@
-//! Blocks of a table's rows, one behind the other.
+//! The blocks of a table's rows, in order.
 
 ghost use Rattle.std.specs.Prelude.{◌≡◌, ◌+◌, ◌<◌, ◌≤◌, ◌^◌, length, take, true, false, [], Some, IfOk, IfSome, OnOk, OnErr, is_some};
 ghost use Rattle.std.specs.Prelude.{slice_index_or};
@@ -16,11 +16,11 @@ use crate::block::Block;
 use rows::{Kind, Value};
 use std::alloc::{AllocError, Global};
 
-/// How many rows a block has at most, but for the one that it takes when it is cut.
+/// How many rows a block has at most, apart from the one that it takes when it is cut.
 const BLOCK_ROWS: usize = 1024;
 
-/// The index of the block that a row stands in, if it is there, and that it goes into, if it is not:
-/// the last that begins at or below it, or else the first.
+/// The index of the block that contains a row, or into which it would be inserted: the last one
+/// that begins at or below it, or else the first.
 pub fn home_of(blocks: &[Block], row: u64) -> usize
     requires some { 0 < length blocks.now }
     requires rows { AllHaveRows blocks.now }
@@ -52,7 +52,8 @@ pub fn contains(blocks: &[Block], row: u64) -> bool
     blocks[home_of(blocks, row)].contains(row)
 }
 
-/// How many rows the blocks before one have, by how many there are up to the end of each.
+/// How many rows there are before a block, computed from the number of rows up to the end of each
+/// block.
 pub fn rows_before(ends: &[usize], block: usize) -> usize
     requires { block ≤ length ends.now }
     ensures { result ≡ end_before ends.now block }
@@ -60,7 +61,7 @@ pub fn rows_before(ends: &[usize], block: usize) -> usize
     if block == 0 { 0 } else { ends[block - 1] }
 }
 
-/// Brings up to date how many rows there are up to the end of each block, from one of them on.
+/// Updates the number of rows up to the end of each block, from one block on.
 fn renew_ends(ends: &mut Vec<usize>, blocks: &[Block], from: usize)
     requires within { from ≤ length blocks.now }
     requires before { take from ends.old.items ≡ ends_from 0 (take from blocks.now) }
@@ -76,7 +77,8 @@ fn renew_ends(ends: &mut Vec<usize>, blocks: &[Block], from: usize)
     }
 }
 
-/// How many rows have an identifier below this one, by how many there are up to the end of each block.
+/// How many rows have an identifier below this one, computed from the number of rows up to the end
+/// of each block.
 pub fn place(blocks: &[Block], ends: &[usize], row: u64) -> usize
     requires rows { AllHaveRows blocks.now }
     requires rise { Rising (joined blocks.now) }
@@ -91,7 +93,7 @@ pub fn place(blocks: &[Block], ends: &[usize], row: u64) -> usize
     rows_before(ends, home) + blocks[home].place(row)
 }
 
-/// The greatest identifier; 0 where there is no row.
+/// The greatest identifier; 0 if there is no row.
 pub fn greatest(blocks: &[Block]) -> u64
     requires rows { AllHaveRows blocks.now }
     requires rise { Rising (joined blocks.now) }
@@ -104,8 +106,8 @@ pub fn greatest(blocks: &[Block]) -> u64
     ids[ids.len() - 1]
 }
 
-/// The position of a row among all rows, by how many there are up to the end of each block; `None` where
-/// it is not there.
+/// The position of a row among all rows, computed from the number of rows up to the end of each
+/// block; `None` if it is not there.
 pub fn find(blocks: &[Block], ends: &[usize], row: u64) -> Option<usize>
     requires rows { AllHaveRows blocks.now }
     requires rise { Rising (joined blocks.now) }
@@ -124,8 +126,8 @@ pub fn find(blocks: &[Block], ends: &[usize], row: u64) -> Option<usize>
     }
 }
 
-/// The index of the block that has the row at a position, by how many rows there are up to the end of
-/// each.
+/// The index of the block that has the row at a position, computed from the number of rows up to
+/// the end of each block.
 fn block_at(ends: &[usize], at: usize) -> usize
     requires { at < end_before ends.now (length ends.now) }
     ensures within { result < length ends.now }
@@ -145,8 +147,8 @@ fn block_at(ends: &[usize], at: usize) -> usize
     low
 }
 
-/// The value of one column of the row at a position, by how many rows there are up to the end of each
-/// block.
+/// The value of one column of the row at a position, computed from the number of rows up to the end
+/// of each block.
 pub fn value(blocks: &[Block], ends: &[usize], kinds: &[Kind], at: usize, column: usize) -> Value
     requires blocks { AreBlocks kinds.now blocks.now }
     requires ends { ends.now ≡ ends_from 0 blocks.now }
@@ -159,8 +161,8 @@ pub fn value(blocks: &[Block], ends: &[usize], kinds: &[Kind], at: usize, column
     blocks[block].value(at - rows_before(ends, block), column)
 }
 
-/// Puts in a row that is not there, given by its bytes, in its block. Fails only when out of memory, and
-/// then the blocks are as they were.
+/// Inserts a row that is not there, given by its bytes, in its block. Fails only if out of memory,
+/// and then the blocks are unchanged.
 fn insert_row(
     blocks: &mut [Block],
     kinds: &[Kind],
@@ -182,8 +184,8 @@ fn insert_row(
     blocks[home].insert(row, bytes)
 }
 
-/// Puts in a row that is not there, given by its bytes, in blocks that may be none; a full block is cut
-/// first. Fails only when out of memory, and then the rows are as they were.
+/// Inserts a row that is not there, given by its bytes; there may be no blocks yet, and a full
+/// block is cut first. Fails only if out of memory, and then the rows are unchanged.
 pub fn put_row(
     alloc: Global,
     blocks: &mut Vec<Block>,
@@ -220,7 +222,7 @@ pub fn put_row(
     put
 }
 
-/// A block of one row, given by its bytes. Fails only when out of memory.
+/// A block of one row, given by its bytes. Fails only if out of memory.
 fn block_of(alloc: Global, kinds: &[Kind], row: u64, bytes: &[u8]) -> Result<Block, AllocError>
     requires good { list_all is_good kinds.now ≡ true }
     requires wide { row_width kinds.now ≤ length bytes.now }
@@ -231,8 +233,8 @@ fn block_of(alloc: Global, kinds: &[Kind], row: u64, bytes: &[u8]) -> Result<Blo
     Ok(block)
 }
 
-/// Puts bytes in the place of one column's of a row that is there, among the rows of blocks. Where
-/// they are not exactly one column's nothing changes.
+/// Puts bytes in place of one column's of a row that is there, in these blocks. If they are not
+/// exactly one column's bytes, nothing changes.
 pub fn patch_row(blocks: &mut [Block], kinds: &[Kind], row: u64, offset: u16, bytes: &[u8])
     requires blocks { AreBlocks kinds.now blocks.old }
     requires there { is_present (joined blocks.old) row ≡ true }
@@ -245,7 +247,7 @@ pub fn patch_row(blocks: &mut [Block], kinds: &[Kind], row: u64, offset: u16, by
     blocks[home].patch(kinds, row, offset, bytes);
 }
 
-/// Takes out a row that is there, from its block, which is dropped if it leaves it empty.
+/// Deletes a row that is there from its block; the block is dropped if it becomes empty.
 fn take_row(blocks: &mut Vec<Block>, kinds: &[Kind], home: usize, row: u64)
     requires blocks { AreBlocks kinds.now blocks.old.items }
     requires home { IsHome blocks.old.items home row }
@@ -264,7 +266,7 @@ fn take_row(blocks: &mut Vec<Block>, kinds: &[Kind], home: usize, row: u64)
     }
 }
 
-/// Takes out a row that is there, from the rows of blocks; a block that it leaves empty is dropped.
+/// Deletes a row that is there; a block that becomes empty is dropped.
 pub fn remove_row(blocks: &mut Vec<Block>, ends: &mut Vec<usize>, kinds: &[Kind], row: u64)
     requires blocks { AreBlocks kinds.now blocks.old.items }
     requires ends { ends.old.items ≡ ends_from 0 blocks.old.items }
@@ -279,10 +281,10 @@ pub fn remove_row(blocks: &mut Vec<Block>, ends: &mut Vec<usize>, kinds: &[Kind]
     renew_ends(ends, blocks.as_slice(), home);
 }
 
-/// Makes room for a row in the block that it goes into: where that is full, its last rows become a block
-/// of their own. Behind all its rows, or before them, one row is parted from the others, so that rows
-/// which come in order leave full blocks; else half of them. The rows stay. Fails only when out of
-/// memory, and then the blocks are as they were.
+/// Makes room for a row in its block: if the block is full, its last rows become a block of their
+/// own. If the row is after all rows of the block, or before them, one row is separated from the
+/// others, so that rows which arrive in order leave full blocks; otherwise half of them are. The
+/// rows do not change. Fails only if out of memory, and then the blocks are unchanged.
 fn make_room(
     alloc: Global,
     blocks: &mut Vec<Block>,
@@ -313,7 +315,7 @@ fn make_room(
     Ok(())
 }
 
-/// Where a full block is cut, for a row that is to stand at a place in it.
+/// Where to cut a full block, for a row that is to be at a given place in it.
 fn cut_at(rows: usize, place: usize) -> usize
     requires { 1 < rows }
     ensures { (0 < result) × (result < rows) }

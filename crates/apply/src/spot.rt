@@ -1,4 +1,4 @@
-/// Where a row of a table stands: in a partition, at a position among the rows of the table there.
+/// Where a row of a table is: in a partition, at a position among the rows of the table there.
 #[derive(Clone, Copy, Debug)]
 pub struct Spot {
     pub part: usize,

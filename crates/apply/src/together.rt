@@ -1,5 +1,5 @@
-//! Lists of commits, applied to all partitions: one after the other, or each partition by itself in
-//! threads.
+//! Applying lists of commits to all partitions: one entry after the other, or each partition by
+//! itself in threads.
 
 ghost use Rattle.std.specs.Prelude.{◌≡◌, ℕ, ◌<◌, length, true, Ok, None, Some, OnOk, IfErr, IfSome, IsNone, nat_lt, nat_le};
 ghost use Rattle.std.specs.Prelude.{slice_index_or};
@@ -20,10 +20,11 @@ use std::alloc::Global;
 use std::thread::Threads;
 use store::{ApplyFault, StoreFault};
 
-/// From how many entries on each partition works by itself.
+/// The number of entries from which each partition works by itself.
 const TOGETHER_MIN: usize = 4096;
 
-/// Makes all changes of these commits, up to the first that is refused: in threads, where they are many.
+/// Makes all changes of these commits, up to the first that is refused; in threads, if there are
+/// many.
 pub fn apply_commits<R: Threads + Sync>(
     rt: &R,
     alloc: Global,
@@ -97,7 +98,7 @@ fn apply_in_order(alloc: Global, parts: &mut [Part], commits: &[Commit]) -> Resu
     Ok(())
 }
 
-/// Makes the changes of these commits, each partition those of its own rows, and keeps how that ended.
+/// Makes the changes of these commits, each partition those of its own rows, and keeps the outcome.
 fn change_each<R: Threads + Sync>(rt: &R, alloc: Global, parts: &mut [Part], commits: &[Commit])
     ensures ends { (k : ℕ) (d : _) → k < length parts.old → EndsAs (have_entries commits.now)
         (apply_entries (slice_index_or parts.old k d).tables.items (entries_in (length parts.old) k (entries_of commits.now)))

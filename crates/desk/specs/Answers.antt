@@ -32,7 +32,7 @@ abbrev pub IsFlushed : List Commit → List Commit → Flushed → Type 0
 IsFlushed old new (Published durable) = (length old ≤ durable) × (durable ≤ length new)
 IsFlushed old new (Unpublished durable) = length old ≤ durable
 
--- and by the durable list: it tells how many commits are durable, and after all was published the seat has seen them
+-- and by the durable list: it reports how many commits are durable, and after all was published the seat has seen them
 abbrev pub TellsDurable : List Commit → List Commit → Flushed → Type 0
 TellsDurable durable seen (Published number) = (number ≡ length durable) × (seen ≡ durable)
 TellsDurable durable seen (Unpublished number) = number ≡ length durable

@@ -14,7 +14,7 @@ last_carried seat last before [] = last
 last_carried seat last before (carried ∷ seats) =
     last_carried seat (if carried == seat then before + 1 else last) (before + 1) seats
 
--- the last number of a seat, 0 for none, where the line was made with this primary
+-- the last number of a seat, 0 for none, of a line that was made with this primary
 abbrev pub last_number : Primary → List ℕ → ℕ → ℕ
 last_number first seats seat = last_carried seat 0 (commit_count first) seats
 

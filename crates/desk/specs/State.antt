@@ -3,6 +3,8 @@ use Rattle.std.specs.Prelude.{◌≡◌, ℕ, List}
 use Rattle.rows.specs.declared.commit.Commit.{Commit}
 use Rattle.primary.specs.State.{Primary, Core}
 
+-- a seat of a line as its callers see it: the list that it has seen, the number that its commits carry, its last ticket's number,
+-- and its share
 pub record SeatState : Type 0 where
   -- the list of commits that it has seen
   pub list : List Commit
@@ -19,6 +21,7 @@ pub record IsNew (first : Primary) (seat : SeatState) : Type 0 where
   pub last : seat.last ≡ 0
   pub share : seat.share ≡ 0
 
+-- what is under a line's lock: the core, what of the durable list is told and published, and the seat of each commit
 pub record OnDesk (J : Type 0) : Type 0 where
   pub core : Core J
   -- the durable commits that are in the line's history, all that a seat can have seen

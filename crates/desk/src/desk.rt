@@ -28,11 +28,12 @@ use std::sync::Wait;
 use std::sync::ledger::{Blank, Share};
 use wire::{Out, Packet};
 
-/// What lies under the lock of a line.
+/// What is under the lock of a line.
 ///
-/// Contracts see the primary's core, what of the durable list is told and published, the seat of each
-/// commit since the line was made, the last number of each seat, the sum of all shares, and how many
-/// seats are not given out; what holds of them whenever the lock is taken is `IsKept`.
+/// Contracts see the primary's core, what of the durable list is told and published, the seat of
+/// each commit since the line was made, the last number of each seat, the sum of all shares, and
+/// how many seats are not given out. `IsKept` specifies what holds of them whenever the lock is
+/// taken.
 #[derive(Drop)]
 pub struct Desk<L: Origin, J: JournalStore, R: Wait + Drop> {
     core: PrimaryCore<J>,
@@ -76,8 +77,8 @@ impl<L: Origin, J: JournalStore, R: Wait + Drop> Model for Desk<L, J, R> {
 }
 
 impl<L: Origin, J: JournalStore, R: Wait + Drop> Desk<L, J, R> {
-    /// A desk for this primary, with so many seats; what is durable is told and published. It hands the
-    /// primary back if it is out of memory.
+    /// A desk for this primary, with this many seats; what is durable is told and published. If out
+    /// of memory, it hands the primary back.
     pub fn new(
         alloc: Global,
         rt: R,
@@ -122,12 +123,12 @@ impl<L: Origin, J: JournalStore, R: Wait + Drop> Desk<L, J, R> {
     pub fn keeps(&self)
         ensures { IsKept L.first L.seats self.now }
     {
-        // A look at a field brings the invariant to the proof.
+        // A look at a field makes the invariant known to the proof.
         let _ = &self.core;
     }
 
-    /// A seat that is not given out yet; `None` if all are. It has seen what was durable when the line
-    /// was made. Takes no memory.
+    /// A seat that is not given out yet; `None` if all are. It has seen what was durable when the
+    /// line was made. Takes no memory.
     pub fn seat(&mut self) -> Option<Seat<L>>
         ensures { MatchOption result ((self.old.free ≡ 0) × (self.new ≡ self.old))
             (λ seat. IsNew L.first seat × (self.old.free ≡ self.new.free + 1) × (self.new ≡ record self.old { free = self.new.free })) }
@@ -150,7 +151,8 @@ impl<L: Origin, J: JournalStore, R: Wait + Drop> Desk<L, J, R> {
         telling.publish(durable)
     }
 
-    /// Publishes what is durable, and has the seat see it; answers whether there was memory for it.
+    /// Publishes what is durable, and shows it to the seat; answers whether there was memory for
+    /// it.
     fn catch_up(&mut self, seat: &mut Seat<L>) -> bool
         ensures same { self.new ≡ record self.old { told = self.new.told; shown = self.new.shown } }
         ensures seat { seat.new ≡ record seat.old { list = seat.new.list } }
@@ -167,10 +169,11 @@ impl<L: Origin, J: JournalStore, R: Wait + Drop> Desk<L, J, R> {
         true
     }
 
-    /// Commits a transaction for a worker, as the core does; the commit carries the seat's number, and
-    /// the seat's share grows by it. Room to note it is taken first.
+    /// Commits a transaction for a worker, as the core does. The commit is recorded under the
+    /// seat's number, and the seat's share grows by it. Memory to record it is taken first.
     ///
-    /// Fails as the core does, or with `Memory`, hands the transaction back, and nothing has changed.
+    /// Fails as the core does, or with `Memory`; it then hands the transaction back, and nothing
+    /// has changed.
     pub fn commit(
         &mut self,
         seat: &mut Seat<L>,
@@ -191,7 +194,8 @@ impl<L: Origin, J: JournalStore, R: Wait + Drop> Desk<L, J, R> {
         ensures kept { (self.new.told ≡ self.old.told) × (self.new.shown ≡ self.old.shown) × (self.new.free ≡ self.old.free) }
     {
         self.telling.confirm(&seat.reading);
-        // The number that is kept of a seat is the seat's own, since no two seats have one number.
+        // The number that is recorded for a seat is the seat's own, since no two seats have the
+        // same number.
         if !self.roster.reserve() || self.roster.last(seat.number) != seat.last {
             return Err((transaction, CommitFault::Memory));
         }
@@ -204,11 +208,12 @@ impl<L: Origin, J: JournalStore, R: Wait + Drop> Desk<L, J, R> {
         }
     }
 
-    /// What has become of a ticket's commit, after what is durable was published and the seat has seen it.
+    /// The state of a ticket's commit, after what is durable was published and the seat has seen
+    /// it.
     ///
-    /// `Settled`: it stands in the seat's list, at its number; `Lost`: another one does; `NotYet`: the
-    /// list is the whole durable one, and shorter than the number; `Unpublished`: it is shorter, and
-    /// there was no memory to publish what is durable.
+    /// `Settled`: the commit is in the seat's list, at its number; `Lost`: another one is;
+    /// `NotYet`: the list is the whole durable one, and shorter than the number; `Unpublished`: the
+    /// list is shorter, and there was no memory to publish what is durable.
     pub fn settle(&mut self, seat: &mut Seat<L>, ticket: &Ticket) -> Settled
         ensures later { IsPrefix seat.old.list seat.new.list }
         ensures seat { seat.new ≡ record seat.old { list = seat.new.list } }
@@ -231,7 +236,7 @@ impl<L: Origin, J: JournalStore, R: Wait + Drop> Desk<L, J, R> {
         }
     }
 
-    /// Whether the ticket's commit stands at its number, which is one of a durable commit.
+    /// Whether the ticket's commit is the durable commit of its number; there is one.
     fn stands(&self, ticket: &Ticket) -> bool
         requires { ticket.now.number ≤ length self.now.core.primary.durable }
         ensures { MatchBool result (Stands self.now.core.primary.durable ticket.now) (¬ Stands self.now.core.primary.durable ticket.now) }
@@ -243,8 +248,8 @@ impl<L: Origin, J: JournalStore, R: Wait + Drop> Desk<L, J, R> {
         }
     }
 
-    /// The packet of that `seq` of the worker's stream of the durable list, after that was published and
-    /// the seat has seen it. Fails only when out of memory.
+    /// The packet of that `seq` of the worker's stream of the durable list, after that was
+    /// published and the seat has seen it. Fails only if out of memory.
     pub fn push(
         &mut self,
         seat: &mut Seat<L>,
@@ -264,8 +269,8 @@ impl<L: Origin, J: JournalStore, R: Wait + Drop> Desk<L, J, R> {
         Ok(self.core.push(worker, seq))
     }
 
-    /// What the primary sends for bytes that came, after what is durable was published and the seat has
-    /// seen it. Fails only when out of memory.
+    /// What the primary sends for bytes that arrived, after what is durable was published and the
+    /// seat has seen it. Fails only if out of memory.
     pub fn on_bytes(&mut self, seat: &mut Seat<L>, bytes: &[u8]) -> Result<Vec<Out>, AllocError>
         ensures ok { IfOk result (λ outs. (seat.new.list ≡ self.new.core.primary.durable)
             × (outs.items ≡ answers (primary_of L.schema L.workers seat.new.list) bytes.now)) }
@@ -279,8 +284,9 @@ impl<L: Origin, J: JournalStore, R: Wait + Drop> Desk<L, J, R> {
         self.core.on_bytes(bytes)
     }
 
-    /// The core, if every seat that was given out is handed in: beyond the commits with which the line
-    /// was made it then has as many as the shares of these seats together. Otherwise all is handed back.
+    /// The core, if every seat that was given out is handed in: beyond the commits with which the
+    /// line was made, it then has as many as the shares of these seats together. Otherwise
+    /// everything is handed back.
     pub fn end(self, seats: Vec<Seat<L>>) -> Result<PrimaryCore<J>, (Desk<L, J, R>, Vec<Seat<L>>)>
         requires { L.parts ≡ L.seats }
         ensures ok { IfOk result (λ core. (core ≡ self.core) × (length seats.items + self.free ≡ L.seats)
@@ -304,8 +310,8 @@ impl<L: Origin, J: JournalStore, R: Wait + Drop> Desk<L, J, R> {
         Ok(core)
     }
 
-    /// How many commits are durable once the first `count` pending ones are (all, if there are fewer):
-    /// what a flush that is asked for now is to bring about. Takes no memory.
+    /// How many commits are durable after the first `count` pending ones are (all, if there are
+    /// fewer): the target of a flush that is asked for now. Takes no memory.
     pub fn flush_target(&self, count: usize) -> u64
         ensures { result ≡ length self.now.core.primary.durable + length (take count self.now.core.primary.pending) }
     {
@@ -313,17 +319,17 @@ impl<L: Origin, J: JournalStore, R: Wait + Drop> Desk<L, J, R> {
         self.core.durable() + count.min(self.core.pending()) as u64
     }
 
-    /// Whether a flush that is to bring about so many durable commits has to wait: another flush has the
-    /// journal, and they are not durable yet.
+    /// Whether a flush with this target has to wait: another flush has the journal, and that many
+    /// commits are not durable yet.
     pub fn must_wait(&self, target: u64) -> bool
         ensures { result ≡ (is_none self.now.core.journal && nat_lt (length self.now.core.primary.durable) target) }
     {
         self.core.lent() && self.core.durable() < target
     }
 
-    /// Begins a flush of the first `count` pending commits, as the core does, or of none if as many are
-    /// durable by now as it was to bring about: another flush has done that. The lock can be let go while
-    /// the records are written.
+    /// Begins a flush of the first `count` pending commits, as the core does, or of none if the
+    /// target has been reached meanwhile by another flush. The lock can be released while the
+    /// records are written.
     pub fn begin_flush(&mut self, target: u64, count: usize) -> Result<Work<J>, FlushFault>
         ensures ok { IfOk result
             (IsLentBy J.is_honest J.standing J.fault_count self.old.core (left_to_flush self.old.core.primary target count)) }
@@ -343,7 +349,7 @@ impl<L: Origin, J: JournalStore, R: Wait + Drop> Desk<L, J, R> {
 }
 
 impl<L: Origin, J: JournalStore + Drop, R: Wait + Drop> Desk<L, J, R> {
-    /// Publishes what is durable, so many commits, and has the seat see it.
+    /// Publishes what is durable, this many commits, and shows it to the seat.
     fn flushed(&mut self, seat: &mut Seat<L>, durable: u64) -> Flushed
         requires { durable ≡ length self.old.core.primary.durable }
         ensures answer { IsFlushed seat.old.list seat.new.list result }
@@ -359,8 +365,9 @@ impl<L: Origin, J: JournalStore + Drop, R: Wait + Drop> Desk<L, J, R> {
         }
     }
 
-    /// What a flush is answered whose commits became durable before it could begin, while another flush has
-    /// the journal: what is durable is published. `None` if there is no such flush, or they are not durable.
+    /// The answer of a flush whose commits became durable before it could begin, while another
+    /// flush has the journal: what is durable is published. `None` if no flush has the journal, or
+    /// the commits are not durable.
     pub fn flushed_before(&mut self, seat: &mut Seat<L>, target: u64) -> Option<Flushed>
         ensures flushed { IfSome result (IsFlushed seat.old.list seat.new.list) }
         ensures all { IfSome result (TellsDurable self.new.core.primary.durable seat.new.list) }
@@ -379,7 +386,7 @@ impl<L: Origin, J: JournalStore + Drop, R: Wait + Drop> Desk<L, J, R> {
         }
     }
 
-    /// Ends the flush that this desk began, as the core does, and publishes what is durable then.
+    /// Ends the flush that this desk began, as the core does, and publishes what is then durable.
     pub fn end_flush(&mut self, seat: &mut Seat<L>, done: Done<J>) -> Result<Flushed, FlushFault>
         ensures not_lent { is_some self.old.core.journal ≡ true
             → (result ≡ Err FlushFault.NotLent) × (self.new ≡ self.old) }

@@ -1,10 +1,11 @@
-//! With what a line was made.
+//! What a line was made with.
 
 use published::Line;
 use std::marker::Brand;
 use std::sync::ledger::Ledger;
 
-/// With what a line was made: the primary, and for how many seats. Each call of a program picks it.
+/// What a line was made with: the primary, and the number of seats. Each call of a program
+/// determines it.
 pub trait Origin: Line + Ledger {
     ghost use Rattle.std.specs.Prelude.{ℕ};
     ghost use Rattle.primary.specs.State.{Primary};

@@ -1,4 +1,4 @@
-//! What a desk has beside its core: how it is made, and how its shares come together.
+//! The parts of a desk besides its core: how they are made, and how the shares are merged.
 
 ghost use Rattle.std.specs.Prelude.{◌≡◌, ◌+◌, ◌<◌, ◌≤◌, [], length, map, sum, IfSome};
 ghost use Rattle.std.specs.List.{AllByRecursion};
@@ -15,7 +15,8 @@ use std::alloc::Global;
 use std::sync::Wait;
 use std::sync::ledger::{Book, Share};
 
-/// What a desk has beside its core: `rest` is what is left of the ledger once each seat has its share.
+/// The parts of a desk besides its core; `rest` is what is left of the ledger after each seat has
+/// its share.
 #[derive(Drop)]
 pub(crate) struct Parts<L: Origin, R: Wait + Drop> {
     pub telling: Telling<L, R>,
@@ -24,8 +25,8 @@ pub(crate) struct Parts<L: Origin, R: Wait + Drop> {
     pub rest: Share<L>,
 }
 
-/// The parts of a desk for this primary and so many seats, with all that is durable published; `None` if
-/// it is out of memory.
+/// The parts of a desk for this primary and this many seats, with everything that is durable
+/// published; `None` if out of memory.
 pub(crate) fn open_parts<L: Origin, J: JournalStore, R: Wait + Drop>(
     alloc: Global,
     rt: R,
@@ -59,7 +60,7 @@ pub(crate) fn open_parts<L: Origin, J: JournalStore, R: Wait + Drop>(
     })
 }
 
-/// A telling of all that is durable, which is published; `None` if it is out of memory.
+/// A telling of everything that is durable, which is published; `None` if out of memory.
 fn told<L: Origin, J: JournalStore, R: Wait + Drop>(
     alloc: Global,
     rt: R,
@@ -88,8 +89,8 @@ fn told<L: Origin, J: JournalStore, R: Wait + Drop>(
     }
 }
 
-/// So many seats, which have seen all that is told; each takes one part of the ledger. `None` if it is
-/// out of memory.
+/// This many seats, which have seen everything that is told; each takes one part of the ledger.
+/// `None` if out of memory.
 fn manned<L: Origin, R: Wait + Drop>(
     alloc: Global,
     telling: &Telling<L, R>,
@@ -116,7 +117,7 @@ fn manned<L: Origin, R: Wait + Drop>(
     Some(free)
 }
 
-/// A share with those of these seats.
+/// A share merged with those of these seats.
 pub(crate) fn merged<L: Origin>(rest: Share<L>, seats: Vec<Seat<L>>) -> Share<L>
     ensures parts { result.parts ≡ rest.parts + length seats.items }
     ensures within { result.parts ≤ L.parts }
@@ -127,7 +128,7 @@ pub(crate) fn merged<L: Origin>(rest: Share<L>, seats: Vec<Seat<L>>) -> Share<L>
         let Seat { share, .. } = seat;
         all.merge(share);
     }
-    // A merge tells that a share has no more than all parts, also where no seat came.
+    // A merge shows that a share has no more than all parts, also if there is no seat.
     let none = all.empty();
     all.merge(none);
     all

@@ -1,4 +1,4 @@
-//! Which seat each commit is of.
+//! The seat of each commit.
 
 ghost use Rattle.std.specs.Prelude.{◌≡◌, ◌+◌, ◌<◌, ◌≤◌, [], ◌∷◌, ◌++◌, length, IfOk, MatchBool};
 ghost use Rattle.desk.specs.Keeping.{commit_count, last_number};
@@ -10,8 +10,8 @@ use std::alloc::{AllocError, Global};
 use std::marker::Model;
 use std::sync::ledger::{Book, Share};
 
-/// The seat of each commit since the line was made, the last number of each seat, and the book of the
-/// ledger that counts these commits.
+/// The seat of each commit since the line was made, the last number of each seat, and the book of
+/// the ledger that counts these commits.
 #[derive(Drop)]
 pub(crate) struct Roster<L: Origin> {
     book: Book<L>,
@@ -41,7 +41,7 @@ impl<L: Origin> Model for Roster<L> {
 }
 
 impl<L: Origin> Roster<L> {
-    /// No commit is noted yet, of so many seats. Fails only when out of memory.
+    /// A roster of this many seats, without commits. Fails only if out of memory.
     pub fn new(alloc: Global, book: Book<L>, count: u8) -> Result<Roster<L>, AllocError>
         requires count { count ≡ L.seats }
         requires none { book.total ≡ 0 }
@@ -59,7 +59,7 @@ impl<L: Origin> Roster<L> {
         })
     }
 
-    /// Takes room for one more commit; answers whether there was memory for it.
+    /// Takes memory for one more commit; answers whether there was any.
     pub fn reserve(&mut self) -> bool
         ensures same { (self.new.seats ≡ self.old.seats) × (self.new.lasts ≡ self.old.lasts) × (self.new.total ≡ self.old.total) }
         ensures room { MatchBool result (0 < self.new.room) (Unit {0}) }
@@ -76,7 +76,8 @@ impl<L: Origin> Roster<L> {
         self.lasts[seat as usize]
     }
 
-    /// Notes that the next commit, of this number, is of the seat, whose share it adds to. Takes no memory.
+    /// Records that the next commit, of this number, belongs to the seat, whose share grows by it.
+    /// Takes no memory.
     pub fn note(&mut self, seat: &mut Seat<L>, number: u64)
         requires room { 0 < self.old.room }
         requires next { number ≡ commit_count L.first + length self.old.seats + 1 }
@@ -91,7 +92,7 @@ impl<L: Origin> Roster<L> {
         seat.last = number;
     }
 
-    /// Finds that the shares of all seats together have the number of commits. Nothing changes.
+    /// Confirms that the shares of all seats together are the number of commits. Nothing changes.
     pub fn audit(&mut self, all: &mut Share<L>)
         requires { all.old.parts ≡ L.parts }
         ensures same { self.new ≡ self.old }

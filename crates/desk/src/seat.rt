@@ -16,12 +16,12 @@ use std::alloc::Global;
 use std::marker::Model;
 use std::sync::ledger::Share;
 
-/// A seat of a line: a reader of what is published, with the number that its commits carry, the number
-/// of its newest ticket, and its share of the line's commits. One thread at a time uses it. None of its
-/// own calls waits or takes a lock.
+/// A seat of a line: a reader of what is published, with the number under which its commits are
+/// recorded, the number of its newest ticket, and its share of the line's commits. One thread at a
+/// time uses it. None of its own calls waits or takes a lock.
 ///
-/// Contracts see these, and the list of commits that it has seen: one that a journal may be of, which
-/// only grows.
+/// Contracts see these, and the list of commits that it has seen: one that a journal may be of,
+/// which only grows.
 #[derive(Drop)]
 pub struct Seat<L: Origin> {
     pub(crate) reading: published::Seat<L>,
@@ -56,8 +56,8 @@ impl<L: Origin> Seat<L> {
         self.reading.front().is_empty()
     }
 
-    /// Begins a transaction. Its snapshot is the newest version that is published, or a newer one that
-    /// the seat has seen. Takes no memory.
+    /// Begins a transaction. Its snapshot is the newest published version, or a newer one that the
+    /// seat has seen. Takes no memory.
     ///
     /// Fails with `Unread` if what is published cannot be entered.
     pub fn begin(&mut self, alloc: Global) -> Result<Transaction, LineFault>
@@ -91,10 +91,9 @@ impl<L: Origin> Seat<L> {
         self.reading.value(transaction, table, row, column)
     }
 
-    /// Puts a new row into a table of the transaction.
+    /// Inserts a row into a table of the transaction.
     ///
-    /// Fails as `value` does, and also where the transaction is out of memory. The transaction is then
-    /// as it was.
+    /// Fails as `value` does, or if out of memory; the transaction is then unchanged.
     pub fn insert(
         &mut self,
         transaction: &mut Transaction,
@@ -112,10 +111,9 @@ impl<L: Origin> Seat<L> {
         self.reading.insert(transaction, table, row, values)
     }
 
-    /// Gives one column of a row another value in the transaction.
+    /// Sets one column of a row to another value in the transaction.
     ///
-    /// Fails as `value` does, and also where the transaction is out of memory. The transaction is then
-    /// as it was.
+    /// Fails as `value` does, or if out of memory; the transaction is then unchanged.
     pub fn set(
         &mut self,
         transaction: &mut Transaction,
@@ -134,10 +132,9 @@ impl<L: Origin> Seat<L> {
         self.reading.set(transaction, table, row, column, value)
     }
 
-    /// Takes a row out of a table of the transaction.
+    /// Deletes a row from a table of the transaction.
     ///
-    /// Fails as `value` does, and also where the transaction is out of memory. The transaction is then
-    /// as it was.
+    /// Fails as `value` does, or if out of memory; the transaction is then unchanged.
     pub fn delete(
         &mut self,
         transaction: &mut Transaction,

@@ -1,4 +1,5 @@
-//! What a line has told of its durable list: the history that seats know beginnings of, and what is published.
+//! The part of the durable list that a line has told: the history that seats know beginnings of,
+//! and what is published.
 
 ghost use Rattle.std.specs.Prelude.{◌≡◌, ◌+◌, ◌<◌, ◌^◌, [], ◌∷◌, ◌++◌, length, IfOk, IfSome, MatchBool};
 ghost use mathlib.Core.List.{IsPrefix};
@@ -12,9 +13,9 @@ use std::alloc::{AllocError, Global};
 use std::marker::Model;
 use std::sync::Wait;
 
-/// Who tells the durable commits, one after the other: each is added to the history, and then to what
-/// will be published. A commit that is in the history and found no memory to be published waits, and is
-/// the first of the next publication.
+/// It tells the durable commits one after the other: adds each to the history, and then to what
+/// will be published. A commit that is in the history, but for which there was no memory in what
+/// will be published, waits, and is the first of the next publication.
 #[derive(Drop)]
 pub(crate) struct Telling<L: Line, R: Wait + Drop> {
     keeper: Keeper<L>,
@@ -41,7 +42,7 @@ impl<L: Line, R: Wait + Drop> Model for Telling<L, R> {
 }
 
 impl<L: Line, R: Wait + Drop> Telling<L, R> {
-    /// Nothing is told yet. Fails only when out of memory.
+    /// Nothing is told yet. Fails only if out of memory.
     pub fn new(
         alloc: Global,
         rt: R,
@@ -66,7 +67,8 @@ impl<L: Line, R: Wait + Drop> Telling<L, R> {
         })
     }
 
-    /// A seat that has seen all that is told; `None` if each place of a reader is in use, or out of memory.
+    /// A seat that has seen everything that is told; `None` if each place of a reader is in use, or
+    /// if out of memory.
     pub fn seat(&self) -> Option<published::Seat<L>>
         ensures { IfSome result (λ seat. seat ≡ self.now.all) }
     {
@@ -74,7 +76,7 @@ impl<L: Line, R: Wait + Drop> Telling<L, R> {
         Some(published::Seat::new(reader, self.keeper.front(self.told)))
     }
 
-    /// Publishes these commits, which are all that are durable, as far as they are not published yet,
+    /// Publishes these commits, which are all durable ones, as far as they are not published yet,
     /// and answers whether there was memory for it.
     pub fn publish(&mut self, durable: &[Commit]) -> bool
         requires begins { IsPrefix self.old.all durable.now }
@@ -92,7 +94,8 @@ impl<L: Line, R: Wait + Drop> Telling<L, R> {
         self.show()
     }
 
-    /// Publishes all that is told, where no commit waits; answers whether there was memory for it.
+    /// Publishes everything that is told, if no commit waits; answers whether there was memory for
+    /// it.
     fn show(&mut self) -> bool
         requires { self.old.queued ≡ self.old.all }
         ensures same { (self.new.all ≡ self.old.all) × (self.new.queued ≡ self.old.queued) }
@@ -133,7 +136,7 @@ impl<L: Line, R: Wait + Drop> Telling<L, R> {
         true
     }
 
-    /// Has the commit that waits published next; answers whether there was memory for it.
+    /// Adds the waiting commit to what will be published; answers whether there was memory for it.
     fn push_waiting(&mut self) -> bool
         ensures same { (self.new.all ≡ self.old.all) × (self.new.shown ≡ self.old.shown) }
         ensures none { MatchBool result (self.new.queued ≡ self.new.all) (Unit {0}) }
@@ -174,7 +177,7 @@ impl<L: Line, R: Wait + Drop> Telling<L, R> {
         }
     }
 
-    /// Finds that a seat's list is a beginning of what is told. Nothing changes.
+    /// Confirms that a seat's list is a beginning of what is told. Nothing changes.
     pub fn confirm(&mut self, seat: &published::Seat<L>)
         ensures same { self.new ≡ self.old }
         ensures begins { IsPrefix seat.now self.new.all }
@@ -182,7 +185,7 @@ impl<L: Line, R: Wait + Drop> Telling<L, R> {
         self.keeper.confirm(seat.front());
     }
 
-    /// Has a seat see all that is told.
+    /// Shows a seat everything that is told.
     pub fn teach(&self, seat: &mut published::Seat<L>)
         requires { IsPrefix seat.old self.now.all }
         ensures { seat.new ≡ self.now.all }
@@ -191,7 +194,7 @@ impl<L: Line, R: Wait + Drop> Telling<L, R> {
     }
 }
 
-/// A copy of a commit; `None` if it is out of memory.
+/// A copy of a commit; `None` if out of memory.
 fn copied(commit: &Commit) -> Option<Commit>
     ensures { IfSome result (λ copy. copy ≡ commit.now) }
 {

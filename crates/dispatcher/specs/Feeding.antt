@@ -35,6 +35,8 @@ pub record IsFetchedFrom (commits : List Commit) (r : Replica) (fetched : Fetche
   pub counted : length fetched.counts ≡ r.workers
   pub counts_are : AreFrameCounts commits fetched.version fetched.counts
 
+-- a replica is fed from a legal list: its frames are of the list's streams, its tables are those of the list at its version, and
+-- what it fetched is of the list
 pub record IsFedFrom (shape : Shape) (commits : List Commit) (r : Replica) : Type 0 where
   pub legal : IsLegal shape r.workers commits
   -- the received frames of each worker are those of its stream

@@ -14,6 +14,8 @@ pub record Batch : Type 0 where
   pub plans : List Plan
   pub fetched : Option Fetched
 
+-- a replica: the frames that it received of each worker, how many are applied, its tables at one version, the queries that wait,
+-- and its batch
 pub record Replica : Type 0 where
   -- the tables' names, in the schema's order
   pub names : List (List ℕ)

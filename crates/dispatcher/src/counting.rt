@@ -8,7 +8,7 @@ ghost use Rattle.intake.specs.Steps.{lacking};
 use intake::Intake;
 use wire::Counts;
 
-/// The count 0 of so many workers.
+/// The count 0 for each of this many workers.
 pub fn no_counts(workers: u8) -> Counts
     requires { workers ≤ workers_max }
     ensures { result ≡ replicate workers 0 }
@@ -20,7 +20,7 @@ pub fn no_counts(workers: u8) -> Counts
     counts
 }
 
-/// The same counts once more. Takes no memory.
+/// A copy of the counts. Takes no memory.
 pub fn copy_of(counts: &Counts) -> Counts
     ensures { result ≡ counts.now }
 {

@@ -1,23 +1,23 @@
 use plans::PlanFault;
 use thiserror::Error;
 
-/// Why a query is not taken: the first that stands, in the order `Broken`, `BatchFull`,
-/// `BadPlan`, `Memory`.
+/// Why a query is not taken: the first that applies, in the order `Broken`, `BatchFull`, `BadPlan`,
+/// `Memory`.
 #[derive(Clone, Copy, Debug, PartialEq, Eq, Error)]
 pub enum OpenFault {
-    /// As many queries wait as may.
+    /// As many queries wait as are allowed.
     #[error("too many queries wait")]
     BatchFull,
     #[error("a bad plan: {0}")]
     BadPlan(PlanFault),
-    /// The replica is broken; it has to be started again.
+    /// The replica is broken; it has to be restarted.
     #[error("the replica is broken")]
     Broken,
     #[error("out of memory")]
     Memory,
 }
 
-/// Why no version is asked for: the first that stands, in the order `Broken`, `Busy`, `Empty`.
+/// Why no version is asked for: the first that applies, in the order `Broken`, `Busy`, `Empty`.
 #[derive(Clone, Copy, Debug, PartialEq, Eq, Error)]
 pub enum AskFault {
     /// The batch has its version already.
@@ -26,23 +26,22 @@ pub enum AskFault {
     /// There is no batch, and no query waits.
     #[error("no query waits")]
     Empty,
-    /// The replica is broken; it has to be started again.
+    /// The replica is broken; it has to be restarted.
     #[error("the replica is broken")]
     Broken,
 }
 
-/// Why the text of a replica's tables is not told: the first that stands, in the order `Broken`,
-/// `Memory`.
+/// Why a dump fails: the first that applies, in the order `Broken`, `Memory`.
 #[derive(Clone, Copy, Debug, PartialEq, Eq, Error)]
 pub enum DumpFault {
-    /// The replica is broken; it has to be started again.
+    /// The replica is broken; it has to be restarted.
     #[error("the replica is broken")]
     Broken,
     #[error("out of memory")]
     Memory,
 }
 
-/// Why a replica did not catch up with the version that was fetched.
+/// Why a replica did not catch up to the fetched version.
 #[derive(Clone, Copy, Debug, PartialEq, Eq)]
 pub enum CatchUpFault {
     /// The frames are not those of one list of commits; the replica is broken.

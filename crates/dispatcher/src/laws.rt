@@ -8,13 +8,13 @@ use intake::{arrivals_stay_of_streams, known_frames_stay_kept};
 use ordering::one_merge;
 use rows::laws::changes_keep_kinds;
 
-/// A replica is fed from a legal list of commits where all that it knows is of that list: its
-/// frames, its tables, and the version that it fetched. A fresh one is, each step keeps it so where
-/// what comes is true of the list, and its runs report on rows of the list. A frame of the list is
-/// never ignored while the replica is not broken: the intake takes it. Two of them at one
-/// version hold the same tables, and while one is not broken its dump is the text of the tables after
-/// exactly the commits up to its version. Each step leaves the names of the tables. It does nothing:
-/// its contract is the laws.
+/// A replica is fed from a legal list of commits if everything that it knows belongs to that list:
+/// its frames, its tables, and the version that it fetched. A fresh replica is fed; each step keeps
+/// it fed if what arrives is true of the list; and its runs report on rows of the list. While the
+/// replica is not broken, it never ignores a frame of the list: the intake takes it. Two fed
+/// replicas at one version hold the same tables. While a replica is not broken, its dump is the
+/// text of the tables after exactly the commits up to its version. No step changes the names of the
+/// tables. It does nothing: its contract is the laws.
 pub fn fed_replicas_stay_fed()
     ensures fresh { FreshIsFed }
     ensures commits { CommitsKeepFed }

@@ -1,18 +1,22 @@
-//! An analytic replica: it collects frames in any order, takes queries in batches, and answers
-//! each batch on the rows after exactly the version that it fetched for it.
+//! An analytic replica: it collects frames in any order, takes queries in batches, and answers each
+//! batch on the rows after exactly the version that it fetched for it.
 //!
-//! Its state is what it knows: the frames that came of each worker, its tables at one version, the
-//! queries that wait, and at most one batch. Its tables stand in a store that its caller gives it, of
-//! any kind to which lists of commits can be applied. `specs/` says what each call answers and leaves
-//! (`Steps.antt`), the report of a batch (`Report.antt`), the text of tables (`TableText.antt`), and
-//! when all that a replica knows is of one list of commits (`Feeding.antt`). What a query is, when it
-//! fits, and what its answer is, stands in `plans`. `Inner` only helps proofs.
+//! Its state is what it knows: the frames that have arrived from each worker, its tables at one
+//! version, the waiting queries, and at most one batch. Its caller gives it the store for its
+//! tables, of any kind to which lists of commits can be applied. `specs/` defines what each call
+//! answers and leaves (`Steps.antt`), the report of a batch (`Report.antt`), the text of tables
+//! (`TableText.antt`), and when everything that a replica knows belongs to one list of commits
+//! (`Feeding.antt`). `plans` defines what a query is, when it fits, and what its answer is. `Inner`
+//! only helps proofs.
 //!
-//! Promised: each call is exact, out of memory aside. `fed_replicas_stay_fed` says that a replica
-//! to which only what is true of a legal list of commits comes reports on rows of that list, and that
-//! its dump is the text of the tables after exactly the commits up to its version. It stands on
-//! `intake` for the frames that come, on `ordering` for the commits that they hold, on `plans` for the
-//! answers of queries, on `rows` for the text of values, on `wire`, and on `store`.
+//! Promised: each call is exact, except that it may run out of memory. `fed_replicas_stay_fed` is
+//! about replicas whose arriving datagrams are all true of one legal list of commits: such a
+//! replica reports on rows of that list, and its dump is the text of the tables after exactly the
+//! commits up to its version.
+//!
+//! It uses `intake` for the frames that arrive, `ordering` for the commits that they hold, `plans`
+//! for the answers of queries, `rows` for the text of values, `wire`, and `store`. If a call fails
+//! for lack of memory, its value is unchanged unless the call says otherwise.
 #![tactic(auto)]
 
 mod batch;

@@ -5,14 +5,14 @@ use intake::Taken;
 use rows::ByteList;
 use wire::Out;
 
-/// What became of bytes that came.
+/// What was done with bytes that arrived.
 #[derive(Clone, Copy, Debug, PartialEq, Eq)]
 pub enum Got {
     /// A frame that was not known; it is now.
     Stored,
     /// A frame that was known.
     Repeat,
-    /// A frame too far past the first that is missing of its worker; it was not kept.
+    /// A frame too far ahead of its worker's first missing one; it was not kept.
     Ahead,
     /// The Head that the batch waits for, with its version.
     Head(u64),
@@ -24,7 +24,7 @@ pub enum Got {
     Broken,
 }
 
-/// What became of a run of the batch.
+/// What a run of the batch did.
 #[derive(Debug, Drop)]
 pub enum Run {
     /// There is no batch.
@@ -35,15 +35,15 @@ pub enum Run {
     Waiting { worker: u8, seq: u64, want: Out },
     /// The report; the batch has ended.
     Answered(ByteList),
-    /// The frames are not those of one list of commits; the replica is broken from now on.
+    /// The frames are not those of one list of commits; the replica is now broken.
     Inconsistent,
     /// The replica is broken.
     Broken,
-    /// Out of memory; the batch stands and may be run again.
+    /// Out of memory; the batch is still there and may be run again.
     Memory,
 }
 
-/// What became of bytes that hold a frame, by what the intake made of it.
+/// The outcome of bytes that hold a frame, by the answer of the intake.
 pub fn got_of(taken: Taken) -> Got
     ensures { result ≡ got_of_taken taken }
 {

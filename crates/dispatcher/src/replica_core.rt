@@ -31,8 +31,8 @@ use wire::{Counts, Datagram, LentEntries, Out, read};
 
 /// A replica of one primary, on a store of its own.
 ///
-/// Contracts see what has come of each worker, the tables of its store and their version, the queries that
-/// wait, and its batch; of the tables of a broken replica they see nothing.
+/// Contracts see what has arrived from each worker, the tables of its store and their version, the
+/// waiting queries, and its batch; they see nothing of the tables of a broken replica.
 #[derive(Debug, Drop)]
 pub struct ReplicaCore<S: ApplyStore + Sync> {
     alloc: Global,
@@ -44,7 +44,7 @@ pub struct ReplicaCore<S: ApplyStore + Sync> {
     request: u64,
     intake: Intake,
 
-    /// How many frames of each worker the tables have.
+    /// How many frames of each worker have been applied to the tables.
     applied: Counts,
     version: u64,
     waiting: Vec<Plan>,
@@ -65,9 +65,9 @@ impl<S: ApplyStore + Sync> Model for ReplicaCore<S> {
 }
 
 impl<S: ApplyStore + Sync> ReplicaCore<S> {
-    /// A replica without frames or queries, at version 0, for so many workers, on a whole store
-    /// whose tables are those of the schema and have no rows. Fails only when out of memory; the
-    /// store is dropped then.
+    /// A replica without frames or queries, at version 0, for this many workers, on a whole store
+    /// whose tables are those of the schema and have no rows. Fails only if out of memory; the
+    /// store is then dropped.
     pub fn start(
         alloc: Global,
         store: S,
@@ -110,7 +110,7 @@ impl<S: ApplyStore + Sync> ReplicaCore<S> {
         self.request
     }
 
-    /// The version of its tables; of a broken replica the last at which they were whole.
+    /// The version of its tables; for a broken replica the last version at which they were whole.
     pub fn version(&self) -> u64
         ensures { result ≡ self.now.version }
     {
@@ -119,7 +119,7 @@ impl<S: ApplyStore + Sync> ReplicaCore<S> {
 
     /// Whether `open` would take this query now. Takes no memory.
     ///
-    /// Fails with the fault that `open` would fail with when there is enough memory.
+    /// Fails with the fault with which `open` would fail if there is enough memory.
     pub fn may_open(&self, plan: &Plan) -> Result<(), OpenFault>
         ensures ok { OnOk result (IsOk (opened self.now plan.now)) }
         ensures refused { IfErr result (λ fault. opened self.now plan.now ≡ Err fault) }
@@ -136,7 +136,7 @@ impl<S: ApplyStore + Sync> ReplicaCore<S> {
         }
     }
 
-    /// Takes a query for the next batch, and answers how many wait now.
+    /// Takes a query for the next batch, and answers how many now wait.
     ///
     /// Fails with the first of these, and changes nothing: `Broken`; `BatchFull`, 64 wait;
     /// `BadPlan`, the plan does not fit the schema, with its first fault; `Memory`.
@@ -153,7 +153,7 @@ impl<S: ApplyStore + Sync> ReplicaCore<S> {
 
     /// Whether `ask` would ask now. Takes no memory.
     ///
-    /// Fails with the fault that `ask` would fail with.
+    /// Fails with the fault with which `ask` would fail.
     pub fn may_ask(&self) -> Result<(), AskFault>
         ensures ok { OnOk result (IsOk (asked self.now)) }
         ensures refused { IfErr result (λ fault. asked self.now ≡ Err fault) }
@@ -176,9 +176,9 @@ impl<S: ApplyStore + Sync> ReplicaCore<S> {
         Ok(())
     }
 
-    /// Asks for the newest durable version. With no batch it makes one of all queries that wait
-    /// and counts the request up; while nothing was fetched for the batch it asks the same again.
-    /// Takes no memory.
+    /// Asks for the newest durable version. Without a batch, it makes one of all waiting queries
+    /// and increments the request number; while nothing is fetched for the batch, it repeats the
+    /// same Ask. Takes no memory.
     ///
     /// Fails with the first of these, and changes nothing: `Broken`; `Busy`, the batch has its
     /// version; `Empty`, there is no batch and no query waits.
@@ -199,11 +199,11 @@ impl<S: ApplyStore + Sync> ReplicaCore<S> {
         Ok(ask_out(self.number, self.boot, self.request))
     }
 
-    /// Takes bytes that came. A frame of a worker that is there, whose entries fit, is kept where
-    /// it is not known and not 4096 or more past the first that is missing of its worker; otherwise
-    /// no copy of it is made. A Head is taken where the batch waits for one, replica, boot, request
-    /// and the number of workers are its own, and neither its version nor a count goes back. All
-    /// else is ignored. `Memory` is answered only where a frame would be kept.
+    /// Takes bytes that arrived. A frame of an existing worker, whose entries fit, is kept if it is
+    /// not known and not 4096 or more past its worker's first missing frame; otherwise it is not
+    /// copied. A Head is taken if the batch waits for one; if its replica, boot, request and number
+    /// of workers are the replica's own; and if neither its version nor a count goes back.
+    /// Everything else is ignored. `Memory` is answered only if a frame would be kept.
     pub fn on_bytes(&mut self, bytes: &[u8]) -> Got
         ensures { MayTake self.old (received self.old bytes.now) result self.new }
     {
@@ -238,12 +238,12 @@ impl<S: ApplyStore + Sync> ReplicaCore<S> {
         }
     }
 
-    /// Runs the batch: applies every commit up to the version that was fetched for it, and
-    /// answers all its queries on those rows. Frames that were applied are kept no longer.
+    /// Runs the batch: applies every commit up to the version that was fetched for it, and answers
+    /// all its queries on those rows. Frames that have been applied are no longer kept.
     ///
-    /// Out of memory the answer is `Memory`, and the batch and the known frames stand, the tables
-    /// at the old version or at the fetched one; or `Broken`, where changes were being applied.
-    /// After `Inconsistent` or `Broken` the replica is broken for good.
+    /// If out of memory, it answers `Memory`: the batch and the known frames are unchanged, and the
+    /// tables are at the old version or at the fetched one. If changes were being applied, it
+    /// answers `Broken` instead. After `Inconsistent` or `Broken` the replica is broken for good.
     pub fn run(&mut self) -> Run
         ensures { MayRun self.old result self.new }
     {
@@ -274,10 +274,11 @@ impl<S: ApplyStore + Sync> ReplicaCore<S> {
         }
     }
 
-    /// The text of its tables at its version: a line `version V rows N`, N being the rows of all
-    /// tables; then for each table in the schema's order, and for each of its rows in rising
-    /// identifier, a line of the table's name, the row's identifier and its values, parted by one
-    /// space. Numbers are decimal, octets `x` and lower-case hexadecimal. Each line is ended by 0a.
+    /// The text of its tables at its version: a line `version V rows N`, N being the number of rows
+    /// of all tables; then for each table in the schema's order, and for each of its rows in rising
+    /// identifier, a line of the table's name, the row's identifier and its values, separated by
+    /// one space. Numbers are decimal, octets `x` and lower-case hexadecimal. Each line ends with
+    /// 0a.
     ///
     /// Fails with the first of these: `Broken`; `Memory`.
     pub fn dump(&self) -> Result<Vec<u8>, DumpFault>
@@ -330,7 +331,7 @@ impl<S: ApplyStore + Sync> ReplicaCore<S> {
         got_of(self.intake.take_owned(frame))
     }
 
-    /// Takes a Head of its own replica, boot and request.
+    /// Takes a Head for its own replica, boot and request.
     fn take_head(&mut self, version: u64, counts: Counts) -> Got
         requires { self.old.broken ≡ false }
         ensures { own_head_comes self.old version counts ≡ (result, self.new) }
@@ -354,8 +355,8 @@ impl<S: ApplyStore + Sync> ReplicaCore<S> {
     }
 
     /// Applies the commits above its version, of whose frames none below the counts is missing, and
-    /// is at `version` then. They are merged before the first change: where it is out of memory for
-    /// that nothing has changed.
+    /// is then at `version`. The commits are merged before the first change: if that runs out of
+    /// memory, nothing has changed.
     fn catch_up(&mut self, version: u64, counts: Counts) -> Result<(), CatchUpFault>
         requires { ready_of self.old ≡ Some (record { version = version; counts = counts }) }
         ensures { CatchesUp self.old (record { version = version; counts = counts }) result self.new }
@@ -379,8 +380,8 @@ impl<S: ApplyStore + Sync> ReplicaCore<S> {
         }
     }
 
-    /// Applies the commits that its frames hold, and is at `version` then, with these frames applied
-    /// and kept no longer. Where that fails, it is broken.
+    /// Applies the commits that its frames hold, and is then at `version`, with these frames
+    /// applied and no longer kept. If that fails, it is broken.
     fn apply(
         &mut self,
         commits: &[Commit],

@@ -6,7 +6,7 @@ ghost use Rattle.rows.specs.Limits.{replicas_max, workers_max};
 
 use wire::{Datagram, Out, Packet, To};
 
-/// The Ask of a request, on its way to the primary.
+/// The Ask of a request, addressed to the primary.
 pub fn ask_out(replica: u8, boot: u64, request: u64) -> Out
     requires { replica < replicas_max }
     ensures { result ≡ ask_for replica boot request }
@@ -21,7 +21,7 @@ pub fn ask_out(replica: u8, boot: u64, request: u64) -> Out
     }
 }
 
-/// The Want of a worker's frames from a seq on, on its way to the primary.
+/// The Want of a worker's frames from a seq on, addressed to the primary.
 pub fn want_out(replica: u8, worker: u8, from: u64) -> Out
     requires replica { replica < replicas_max }
     requires worker { worker < workers_max }

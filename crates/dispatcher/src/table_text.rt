@@ -11,11 +11,11 @@ use rows::{Schema, append_number, append_value};
 use std::alloc::{AllocError, Global};
 use store::{Store, rows_stand_in_order};
 
-/// The text of a whole store's tables at this version: a line `version V rows N`, N being the rows
-/// of all tables; then for each table in the schema's order, and for each of its rows in rising
-/// identifier, a line of the table's name, the row's identifier and its values, parted by one space.
-/// Numbers are decimal, octets `x` and lower-case hexadecimal. Each line is ended by 0a. Fails only
-/// when out of memory.
+/// The text of a whole store's tables at this version: a line `version V rows N`, N being the
+/// number of rows of all tables; then for each table in the schema's order, and for each of its
+/// rows in rising identifier, a line of the table's name, the row's identifier and its values,
+/// separated by one space. Numbers are decimal, octets `x` and lower-case hexadecimal. Each line
+/// ends with 0a. Fails only if out of memory.
 pub fn table_text<S: Store>(
     alloc: Global,
     store: &S,
@@ -47,8 +47,8 @@ fn table_count(schema: &Schema) -> u8
     schema.len() as u8
 }
 
-/// How many rows the tables of a store have together, of which there are so many. It is summed in
-/// 128 bits, since each table may have as many rows as a `usize` counts.
+/// How many rows all tables of a store have together; there are `tables` of them. The sum has 128
+/// bits, since each table may have as many rows as a `usize` counts.
 fn row_count<S: Store>(store: &S, tables: u8) -> u128
     requires whole { S.is_whole store.now ≡ true }
     requires all { tables ≡ length (S.tables store.now) }
@@ -61,7 +61,7 @@ fn row_count<S: Store>(store: &S, tables: u8) -> u128
     count
 }
 
-/// Appends the lines of a table's rows, in rising identifier; nothing where there is no table of that
+/// Appends the lines of a table's rows, in rising identifier; nothing if there is no table of that
 /// number.
 fn append_table<S: Store>(
     text: &mut Vec<u8>,
@@ -83,7 +83,7 @@ fn append_table<S: Store>(
     Ok(())
 }
 
-/// How many columns a table of a schema has; 0 where there is no table of that number.
+/// How many columns a table of a schema has; 0 if there is no table of that number.
 fn column_count(schema: &Schema, table: usize) -> usize
     ensures { result ≡ length (kinds_in (shape_of schema.now) table) }
 {
@@ -93,8 +93,8 @@ fn column_count(schema: &Schema, table: usize) -> usize
     }
 }
 
-/// Appends the line of the row at an index of a table's order, whose name and whose number of columns
-/// these are.
+/// Appends the line of the row at an index of a table's order, with this table name and this number
+/// of columns.
 fn append_row<S: Store>(
     text: &mut Vec<u8>,
     store: &S,
@@ -122,7 +122,7 @@ fn append_row<S: Store>(
     Ok(())
 }
 
-/// Appends the values of the row at a place, each behind a space. They are read in their place.
+/// Appends the values of the row at a place, each after a space. They are read in place.
 fn append_columns<S: Store>(
     text: &mut Vec<u8>,
     store: &S,

@@ -30,7 +30,8 @@ impl<J: Naming> Front<J> {
     ghost use mathlib.Core.List.{IsPrefix};
     ghost use Rattle.history.specs.Told.{told};
 
-    /// What was seen of a history, by the number of its commits (its log has one stamp more).
+    /// A front from a token of the history, by the number of its commits (its log has one stamp
+    /// more).
     pub fn of(seen: &SeenHistory, len: u64) -> Front<J>
         requires book { seen.now.book ≡ J.book }
         requires len { length seen.now.log ≡ len + 1 }
@@ -57,7 +58,7 @@ impl<J: Naming> Front<J> {
         self.len == 0
     }
 
-    /// The same front once more.
+    /// A copy of the front.
     pub fn again(&self) -> Front<J>
         ensures { result ≡ self.now }
     {
@@ -68,7 +69,7 @@ impl<J: Naming> Front<J> {
         }
     }
 
-    /// Becomes the other where that is no shorter, and answers whether it did.
+    /// Becomes the other front if that is no shorter, and answers whether it did.
     pub fn follow(&mut self, other: Front<J>) -> bool
         ensures { MatchBool result
             ((self.new ≡ other) × IsPrefix self.old self.new)

@@ -1,4 +1,4 @@
-//! Who adds to a history.
+//! The one who adds to a history.
 
 use crate::front::Front;
 use crate::law::{Asked, Head, Law, NoTrade, SeenHistory};
@@ -11,7 +11,7 @@ use rows::Commit;
 use std::marker::{Model, PhantomData};
 use std::snapshot::Snapshot;
 
-/// The one who adds to the history. Contracts see it as the list of its commits, all of them.
+/// The one who adds to the history. Contracts see all commits of the history as a list.
 #[derive(Drop)]
 pub struct Keeper<J: Naming> {
     pub(crate) head: Head,
@@ -60,7 +60,7 @@ impl<J: Naming> Keeper<J> {
         *pen = next;
     }
 
-    /// All of the history, as what was seen of it: to lie in what is published with its last commit.
+    /// A token of all of the history: it is published with the history's last commit.
     pub fn seen(&self) -> SeenHistory
         ensures book { result.book ≡ J.book }
         ensures commits { told result.log ≡ self.now }

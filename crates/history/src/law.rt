@@ -1,4 +1,4 @@
-//! The rule of the log, and what its callers have of it.
+//! The rule of the log, and what its callers get from it.
 
 use crate::stamp::Stamp;
 use logbook::{Gain, Offer, Rule, Seen, Word};
@@ -24,8 +24,8 @@ impl Rule<Stamp, u64> for Law {
     ghost moves = { λ asked before after answer. Unit {0} };
 }
 
-/// What was seen of a history: a token without bytes, which any thread may copy (`again`). Contracts
-/// see the `book` that it is of and the `log` that was reached, whose commits are `told log`.
+/// What was seen of a history: a token without bytes, which any thread may copy (`again`).
+/// Contracts see its `book` and the `log` that was reached, whose commits are `told log`.
 pub type SeenHistory = Seen<Stamp, u64, Law>;
 
 /// The first word of a history, on which every step is made.
@@ -34,7 +34,7 @@ pub(crate) type Head = Word<Stamp, u64, Law>;
 /// What a step asks for.
 pub(crate) type Asked = Offer<Stamp, u64, Law, NoTrade>;
 
-/// A step hands nothing out beside what it tells.
+/// A step hands out nothing besides what its contract states.
 pub(crate) struct NoTrade;
 
 impl Gain<Stamp, u64> for NoTrade {

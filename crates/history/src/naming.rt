@@ -2,9 +2,9 @@
 
 use std::marker::Brand;
 
-/// Which history something is of. It exists for contracts alone: what is generic in one `Naming` is of
-/// one history, and where a program or a test calls a function that is generic in it, that call picks
-/// the name (of a history that was opened, its `seen.book`).
+/// Which history something belongs to. It exists for contracts alone: everything that is generic in
+/// one `Naming` belongs to one history. When a program or a test calls a function that is generic
+/// in it, that call determines the name (for a history that was opened, its `seen.book`).
 pub trait Naming {
     ghost use Rattle.logbook.specs.Pages.{Book};
 

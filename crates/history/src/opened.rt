@@ -26,8 +26,9 @@ pub struct Opened {
 }
 
 impl Opened {
-    /// A history without commits. It is always there: `None` would need another thread that began it
-    /// in the same moment, and no other knows of it. No contract says so.
+    /// A history without commits. It is always `Some`: for `None`, another thread would have to
+    /// begin the same history at the same moment, and no other thread knows of it. No contract
+    /// states this.
     pub fn new() -> Option<Opened>
         ensures { IfSome result (λ opened. told opened.seen.log ≡ []) }
     {

@@ -17,7 +17,8 @@ pub(crate) fn new_pen(head: &Head, seen: &SeenHistory) -> Pen
     let mut pen = seen.no_pen();
     let mut asked: Asked = seen.plain::<NoTrade, (), MakePen>(&());
     let _ = head.compare_exchange::<MakePen, NoTrade>(1, 1, &mut seen, &mut asked, &mut pen);
-    // The pen may make a word; once that is made, it may write it. The word itself is of no use.
+    // The pen may make a word; once that is made, the pen may write it. The word itself is not
+    // used.
     let _word: Head = Word::tracked(0, &mut pen);
     pen
 }

@@ -1,11 +1,11 @@
-//! The steps on the first word: what each asks for, and what it tells.
+//! The steps on the first word: what each asks for, and what it shows.
 
 use crate::stamp::Stamp;
 use logbook::{Pen, Plain, Play};
 use rows::Commit;
 use std::snapshot::Snapshot;
 
-/// What is to be added: this commit, in a stamp that names this pen.
+/// What to add: this commit, in a stamp that names this pen.
 #[derive(Drop)]
 pub(crate) struct Addition {
     pub(crate) commit: Snapshot<Commit>,
@@ -63,7 +63,7 @@ impl Plain<Addition, Stamp, u64> for Add {
     ghost state = { λ addition. None };
 }
 
-/// A step that changes nothing, and finds that the keeper has seen all.
+/// A step that changes nothing, and shows that the keeper has seen everything.
 pub(crate) struct Check;
 
 impl Play<Stamp, u64> for Check {

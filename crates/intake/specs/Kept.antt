@@ -1,4 +1,4 @@
--- Frames that are kept one behind the other: a worker's frames from one seq to before another.
+-- Frames that are kept one after the other: a worker's frames from one seq to before another.
 use Rattle.std.specs.Prelude.{◌≡◌, ℕ, zero, suc, ◌+◌, ◌-◌, ◌<◌, ◌≤◌, List, [], ◌++◌, true, IsSome, slice_index}
 use Rattle.std.specs.Option.{option_to_list}
 use Rattle.update_log.specs.declared.frame.Frame.{Frame}

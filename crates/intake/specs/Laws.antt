@@ -11,7 +11,7 @@ use Rattle.intake.specs.Steps.{no_arrivals, taken, lacking, dropped}
 use Rattle.intake.specs.Kept.{frames_between, AreKept, AreKeptFrom}
 use Rattle.intake.specs.Streams.{AreFrom}
 
--- where nothing has come, all of it is of any list
+-- if nothing has come, all of it is of any list
 abbrev pub NothingIsFrom : Type 0
 NothingIsFrom = (commits : List Commit) (workers : ℕ) → AreFrom commits (no_arrivals workers)
 
@@ -19,17 +19,17 @@ NothingIsFrom = (commits : List Commit) (workers : ℕ) → AreFrom commits (no_
 abbrev pub CommitsKeepFrom : Type 0
 CommitsKeepFrom = (commits more : List Commit) (all : List Arrivals) → AreFrom commits all → AreFrom (commits ++ more) all
 
--- and where a frame of the list comes
+-- and if a frame of the list comes
 abbrev pub FramesKeepFrom : Type 0
 FramesKeepFrom =
     (commits : List Commit) (all : List Arrivals) (frame : Frame) → slice_get (stream_of commits frame.worker) frame.seq ≡ Some frame
     → AreFrom commits all → AreFrom commits (taken all frame).1
 
--- and where frames are dropped
+-- and if frames are dropped
 abbrev pub DropsKeepFrom : Type 0
 DropsKeepFrom = (commits : List Commit) (all : List Arrivals) (counts : List ℕ) → AreFrom commits all → AreFrom commits (dropped all counts)
 
--- frames that are kept one behind the other are those of the stream
+-- frames that are kept one after the other are those of the stream
 abbrev pub KeptAreOfStream : Type 0
 KeptAreOfStream =
     (commits : List Commit) (all : List Arrivals) (worker low high : ℕ) → AreFrom commits all → AreKept all worker low high
@@ -37,25 +37,25 @@ KeptAreOfStream =
 
 -- ---- what is known, and kept
 
--- there are as many workers where a frame comes
+-- there are as many workers if a frame comes
 abbrev pub FramesLeaveWorkers : Type 0
 FramesLeaveWorkers = (all : List Arrivals) (frame : Frame) → length (taken all frame).1 ≡ length all
 
--- and where frames are dropped
+-- and if frames are dropped
 abbrev pub DropsLeaveWorkers : Type 0
 DropsLeaveWorkers = (all : List Arrivals) (counts : List ℕ) → length (dropped all counts) ≡ length all
 
--- what is known stays known where a frame comes
+-- what is known stays known if a frame comes
 abbrev pub FramesStayKnown : Type 0
 FramesStayKnown =
     (all : List Arrivals) (frame : Frame) (worker seq : ℕ) → is_known (known_of all worker) seq ≡ true
     → is_known (known_of (taken all frame).1 worker) seq ≡ true
 
--- and nothing else is known where frames are dropped
+-- and nothing else is known if frames are dropped
 abbrev pub DropsLeaveKnown : Type 0
 DropsLeaveKnown = (all : List Arrivals) (counts : List ℕ) (worker : ℕ) → known_of (dropped all counts) worker ≡ known_of all worker
 
--- where each known frame from its worker's low on is kept, so it is once a frame has come
+-- if each known frame from its worker's low on is kept, so it is once a frame has come
 abbrev pub FramesStayKept : Type 0
 FramesStayKept =
     (all : List Arrivals) (lows : List ℕ) (frame : Frame) → AreKeptFrom all lows → AreKeptFrom (taken all frame).1 lows
@@ -91,12 +91,12 @@ pub record IsLeastLacking (all : List Arrivals) (counts : List ℕ) (missing : �
   pub lower_known : (seq : ℕ) → seq < missing.1 → is_known (known_of all missing.0) seq ≡ true
   pub lesser_complete : (worker : ℕ) → worker < missing.0 → IsComplete all counts worker
 
--- what is named where a frame is lacking is that
+-- the frame that is named, if one is lacking, is that
 abbrev pub LackingIsLeast : Type 0
 LackingIsLeast =
     (all : List Arrivals) (counts : List ℕ) (missing : ℕ × ℕ) → lacking all counts ≡ Some missing → IsLeastLacking all counts missing
 
--- and none is named exactly where no worker that is there lacks one
+-- and none is named exactly if no worker that is there lacks one
 abbrev pub NoneLackingIsComplete : Type 0
 NoneLackingIsComplete =
     (all : List Arrivals) (counts : List ℕ)

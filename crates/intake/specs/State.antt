@@ -16,7 +16,7 @@ pub record Arrivals : Type 0 where
 abbrev pub nothing : Arrivals
 nothing = record { known = []; kept = [] }
 
--- what has come of a worker's stream, where all arrivals stand by worker; nothing where there is no worker of that number
+-- what has come of a worker's stream, of all arrivals by worker; nothing if there is no worker of that number
 abbrev pub arrivals_of : List Arrivals → ℕ → Arrivals
 arrivals_of all worker = slice_index_or all worker nothing
 
@@ -24,10 +24,10 @@ arrivals_of all worker = slice_index_or all worker nothing
 abbrev pub known_of : List Arrivals → ℕ → List ℕ
 known_of all worker = (arrivals_of all worker).known
 
--- the frame of a seq, where it is kept
+-- the frame of a seq, if it is kept
 abbrev pub frame_in : List (ℕ × Frame) → ℕ → Option Frame
 frame_in kept seq = lookup (is_at (nat_cmp seq)) kept
 
--- the frame of a worker's seq, where it is kept
+-- the frame of a worker's seq, if it is kept
 abbrev pub frame_of : List Arrivals → ℕ → ℕ → Option Frame
 frame_of all worker seq = frame_in (arrivals_of all worker).kept seq

@@ -44,7 +44,7 @@ lacking all counts = lacking_from 0 all counts
 abbrev pub without_below : Arrivals → ℕ → Arrivals
 without_below arrivals count = record arrivals { kept = filter (λ entry. nat_le count entry.0) arrivals.kept }
 
--- what has come once each worker's frames below its count are forgotten; where there is no count for a worker, all of its stay
+-- what has come once each worker's frames below its count are forgotten; if there is no count for a worker, all of its stay
 abbrev pub dropped : List Arrivals → List ℕ → List Arrivals
 dropped [] counts = []
 dropped (arrivals ∷ all) [] = arrivals ∷ all

@@ -15,7 +15,7 @@ use std::collections::BTreeMap;
 use std::marker::Model;
 use update_log::Frame;
 
-/// What has come of one worker: the known seqs, and the frames that are kept.
+/// What has arrived from one worker: the known seqs, and the frames that are kept.
 #[derive(Debug, Drop)]
 pub struct Collector {
     known: KnownSeqs,
@@ -51,14 +51,14 @@ impl Collector {
         self.known.first_missing()
     }
 
-    /// The frame of that seq, where it is kept.
+    /// The frame of that seq, if it is kept.
     pub fn frame(&self, seq: u64) -> Option<&Frame>
         ensures { option_map (λ frame. frame.now) result ≡ frame_in self.now.kept seq }
     {
         self.kept.get(&seq)
     }
 
-    /// Takes a copy of a frame of this worker that came.
+    /// Takes a copy of a frame of this worker.
     pub fn take(&mut self, frame: &Frame) -> Taken
         ensures { ((result ≡ Taken.Memory) × (self.new ≡ self.old) × ((taken_by self.old frame.now).0 ≡ Taken.Stored))
             ⊎ (taken_by self.old frame.now ≡ (result, self.new)) }
@@ -73,7 +73,7 @@ impl Collector {
         }
     }
 
-    /// Takes a frame of this worker that came.
+    /// Takes a frame of this worker.
     pub fn take_owned(&mut self, frame: Frame) -> Taken
         ensures { ((result ≡ Taken.Memory) × (self.new ≡ self.old) × ((taken_by self.old frame).0 ≡ Taken.Stored))
             ⊎ (taken_by self.old frame ≡ (result, self.new)) }
@@ -90,7 +90,7 @@ impl Collector {
         }
     }
 
-    /// What is answered to a frame of that seq, where there is memory.
+    /// The answer to a frame of that seq, if there is memory.
     pub fn would_take(&self, seq: u64) -> Taken
         ensures { (frame : FrameOf) → frame.seq ≡ seq → result ≡ (taken_by self.now frame).0 }
     {
@@ -103,8 +103,7 @@ impl Collector {
         Taken::Stored
     }
 
-    /// Keeps a frame that is not known yet. Fails only where it is out of memory, and then nothing
-    /// has changed.
+    /// Keeps a frame that is not known yet. Fails only if out of memory.
     fn store(&mut self, frame: Frame) -> Result<(), AllocError>
         requires unknown { is_known self.old.known frame.seq ≡ false }
         requires seq { frame.seq < 2 ^ 64 - 1 }
@@ -122,7 +121,7 @@ impl Collector {
         }
     }
 
-    /// Forgets the frames below a seq. They stay known.
+    /// Drops the frames below a seq. They stay known.
     pub fn drop_below(&mut self, count: u64)
         ensures { self.new ≡ without_below self.old count }
     {
@@ -132,7 +131,7 @@ impl Collector {
     }
 }
 
-/// Whether there is a frame below that seq. The least seq tells it.
+/// Whether there is a frame below that seq; the least seq decides it.
 fn first_is_below(kept: &BTreeMap<u64, Frame>, count: u64) -> bool
     ensures begins { result ≡ begins_below kept.now.entries count }
     ensures none { result ≡ false → NoneBelow count kept.now.entries }
@@ -143,7 +142,7 @@ fn first_is_below(kept: &BTreeMap<u64, Frame>, count: u64) -> bool
     }
 }
 
-/// The same frame once more. Fails only where it is out of memory.
+/// A copy of the frame. Fails only if out of memory.
 fn copy_of(frame: &Frame) -> Result<Frame, AllocError>
     ensures { IfOk result (λ copy. copy ≡ frame.now) }
 {

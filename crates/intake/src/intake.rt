@@ -13,7 +13,7 @@ use std::alloc::{AllocError, Global};
 use std::marker::Model;
 use update_log::Frame;
 
-/// The known frames of each worker, and those of them that are kept.
+/// The known frames of each worker, and which of them are kept.
 ///
 /// Contracts see, by worker, the seqs that are known and the frames that are kept.
 #[derive(Debug, Drop)]
@@ -33,7 +33,7 @@ impl Model for Intake {
 }
 
 impl Intake {
-    /// An intake of so many workers, of whom nothing has come. Fails only where it is out of memory.
+    /// An intake for this many workers, from whom nothing has arrived. Fails only if out of memory.
     pub fn new(alloc: Global, workers: u8) -> Result<Intake, AllocError>
         ensures { IfOk result (λ intake. intake ≡ no_arrivals workers) }
     {
@@ -53,10 +53,10 @@ impl Intake {
         self.workers.len() as u8
     }
 
-    /// Takes a frame that came, of a worker that is there: it is kept, in a copy, where it is not
-    /// known and not too far ahead. It costs a look-up, and a step for each
-    /// known seq that the first missing one passes; each is passed once. `Memory` is
-    /// answered only where the frame would be stored. Only `Stored` changes anything.
+    /// Takes a frame that arrived from an existing worker: keeps a copy of it if it is not known
+    /// and not too far ahead. It costs a look-up, and a step for each known seq that the first
+    /// missing one passes; each seq is passed once. `Memory` is answered only if the frame would be
+    /// stored. Only `Stored` changes anything.
     pub fn take(&mut self, frame: &Frame) -> Taken
         requires { frame.now.worker < length self.old }
         ensures { ((result ≡ Taken.Memory) × (self.new ≡ self.old) × ((taken self.old frame.now).0 ≡ Taken.Stored))
@@ -65,7 +65,7 @@ impl Intake {
         self.workers[frame.worker as usize].take(frame)
     }
 
-    /// Takes a frame as `take` does, and keeps it itself, not a copy.
+    /// Takes a frame as `take` does, and keeps the frame itself, not a copy.
     pub fn take_owned(&mut self, frame: Frame) -> Taken
         requires { frame.worker < length self.old }
         ensures { ((result ≡ Taken.Memory) × (self.new ≡ self.old) × ((taken self.old frame).0 ≡ Taken.Stored))
@@ -74,8 +74,8 @@ impl Intake {
         self.workers[frame.worker as usize].take_owned(frame)
     }
 
-    /// What `take` answers to a frame of that seq of a worker that is there, where there is memory:
-    /// so its entries need not be there yet. Takes no memory.
+    /// What `take` answers to a frame of that seq of an existing worker, if there is memory; it
+    /// does not depend on the frame's entries. Takes no memory.
     pub fn would_take(&self, worker: u8, seq: u64) -> Taken
         requires { worker < length self.now }
         ensures { (frame : FrameOf) → frame.worker ≡ worker → frame.seq ≡ seq → result ≡ (taken self.now frame).0 }
@@ -83,8 +83,8 @@ impl Intake {
         self.workers[worker as usize].would_take(seq)
     }
 
-    /// The first seq that is missing of a worker: all before it are known. It is 0 where there is no
-    /// such worker. Takes no memory.
+    /// The first missing seq of a worker: all before it are known. It is 0 if there is no such
+    /// worker. Takes no memory.
     pub fn contiguous(&self, worker: u8) -> u64
         ensures { result ≡ first_missing (known_of self.now worker) }
     {
@@ -95,15 +95,15 @@ impl Intake {
     }
 
     /// The least worker whose first missing seq is below its count, with that seq. The counts are
-    /// by worker; a worker without one lacks nothing. Takes no memory.
+    /// by worker; a worker without a count lacks nothing. Takes no memory.
     pub fn first_missing(&self, counts: &[u64]) -> Option<(u8, u64)>
         ensures { result ≡ lacking self.now counts.now }
     {
         lacking_worker(&self.workers, counts)
     }
 
-    /// The frame of that seq of a worker, where it is kept; `None` also where there is no such
-    /// worker. Takes no memory.
+    /// The frame of that seq of a worker, if it is kept; `None` also if there is no such worker.
+    /// Takes no memory.
     pub fn frame(&self, worker: u8, seq: u64) -> Option<&Frame>
         ensures { option_map (λ frame. frame.now) result ≡ frame_of self.now worker seq }
     {
@@ -113,8 +113,8 @@ impl Intake {
         }
     }
 
-    /// Forgets each worker's frames below its count, and gives their memory back; they stay known.
-    /// The counts are by worker; of a worker without one nothing is forgotten. Takes no memory.
+    /// Drops each worker's frames below its count, and releases their memory; they stay known. The
+    /// counts are by worker; for a worker without a count nothing is dropped. Takes no memory.
     pub fn drop_below(&mut self, counts: &[u64])
         ensures { self.new ≡ dropped self.old counts.now }
     {
@@ -139,7 +139,7 @@ fn lacking_worker(workers: &[Collector], counts: &[u64]) -> Option<(u8, u64)>
     None
 }
 
-/// Forgets each worker's frames below its count.
+/// Drops each worker's frames below its count.
 fn drop_each(workers: &mut [Collector], counts: &[u64])
     ensures { workers.new ≡ dropped workers.old counts.now }
 {

@@ -9,8 +9,8 @@ use std::alloc::{AllocError, Global};
 use std::collections::BTreeSet;
 use std::marker::Model;
 
-/// The known seqs of one worker: all below the first that is missing, and some above it. The former
-/// take no memory, and of the latter there are at most 4095, since none further ahead is taken.
+/// The known seqs of one worker: all below the first missing one, and some above it. The former
+/// take no memory; of the latter there are at most 4095, since none further ahead is taken.
 ///
 /// Contracts see the seqs in rising order.
 #[derive(Debug, Drop)]
@@ -56,15 +56,14 @@ impl KnownSeqs {
     }
 
     /// Whether the seq is too far ahead to be kept: it is the greatest number, or 4096 or more past
-    /// the first that is missing.
+    /// the first missing one.
     pub fn is_ahead(&self, seq: u64) -> bool
         ensures { result ≡ is_ahead self.now seq }
     {
         seq == u64::MAX || seq.saturating_sub(self.missing) >= FRAME_WINDOW
     }
 
-    /// Adds a seq that is not known yet. Fails only where it is out of memory, and then nothing has
-    /// changed.
+    /// Adds a seq that is not known yet. Fails only if out of memory.
     pub fn insert(&mut self, seq: u64) -> Result<(), AllocError>
         requires unknown { is_known self.old seq ≡ false }
         requires seq { seq < 2 ^ 64 - 1 }
@@ -80,8 +79,8 @@ impl KnownSeqs {
     }
 }
 
-/// The first seq that is missing, where all before `from` are known and these are the known ones
-/// from it on. Those that it passes are taken out; each is passed once.
+/// The first missing seq, given that all before `from` are known and these are the known ones from
+/// it on. Those that it passes are removed; each is passed once.
 fn pass_known(from: u64, above: &mut BTreeSet<u64>) -> u64
     requires from { AreAtLeast from above.old.keys }
     requires below { AreBelow (2 ^ 64 - 1) above.old.keys }
@@ -96,7 +95,7 @@ fn pass_known(from: u64, above: &mut BTreeSet<u64>) -> u64
     missing
 }
 
-/// Whether that seq is there, where none is below it.
+/// Whether that seq is there, given that none is below it.
 fn first_is_at(above: &BTreeSet<u64>, seq: u64) -> bool
     ensures begins { result ≡ begins_at above.now.keys seq }
     ensures none { result ≡ false → AreAtLeast seq above.now.keys → AreAtLeast (seq + 1) above.now.keys }

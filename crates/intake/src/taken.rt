@@ -1,13 +1,13 @@
-/// What became of a frame that came.
+/// What was done with a frame that arrived.
 #[derive(Clone, Copy, Debug, PartialEq, Eq)]
 pub enum Taken {
-    /// It was known, dropped or not.
+    /// It was known already, dropped or not.
     Repeat,
-    /// It is too far ahead: its seq is the greatest number, or 4096 or more past the first that is
-    /// missing of its worker.
+    /// It is too far ahead: its seq is the greatest number, or 4096 or more past its worker's first
+    /// missing one.
     Ahead,
     /// Out of memory.
     Memory,
-    /// It was not known; it is now, and is kept.
+    /// It was not known; it is now known and kept.
     Stored,
 }

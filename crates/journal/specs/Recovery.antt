@@ -1,7 +1,7 @@
 -- Which commits the bytes of a journal keep, whatever a stop left of them, and why bytes are refused.
 --
--- Kept is the longest list that a journal may be of whose text begins the bytes. What stands behind its text is nothing,
--- or what a stop left of a record; anything else is refused, by what it is.
+-- Kept is the longest list that a journal may be of whose text begins the bytes. What stands after its text is nothing, or what a
+-- stop left of a record; anything else is refused, by what it is.
 use Rattle.std.specs.Prelude.{◌≡◌, ◌⊎◌, ℕ, ◌+◌, ◌*◌, ◌^◌, ◌<◌, ◌≤◌, List, [], ◌∷◌, ◌++◌, length, drop, nat_lt}
 use Rattle.std.specs.Prelude.{Bool, true, false, not, ◌&&◌, ◌||◌}
 use Rattle.std.specs.List.{AllByRecursion}
@@ -37,12 +37,12 @@ pub record IsKept (workers : ℕ) (shape : Shape) (bytes : List ℕ) (commits : 
   pub longest : (others : List Commit) → IsJournaled workers shape others → IsBeginning (journal_text workers shape others) bytes
       → length others ≤ length commits
 
--- the kept commits, with the offset behind their text
+-- the kept commits, with the offset after their text
 abbrev pub IsKeptUpTo : ℕ → Shape → List ℕ → List Commit → ℕ → Type 0
 IsKeptUpTo workers shape bytes commits offset =
     IsKept workers shape bytes commits × (offset ≡ length (journal_text workers shape commits))
 
--- how many bytes an entry takes: at least a delete, which is nothing behind its row, at most an insert of the widest row
+-- how many bytes an entry takes: at least a delete, which is nothing after its row, at most an insert of the widest row
 abbrev pub entry_len_min : ℕ
 entry_len_min = 1 + 1 + 8
 
@@ -53,7 +53,7 @@ entry_len_max = 1 + 1 + 8 + 2 + row_width_max
 abbrev pub record_front_len : ℕ
 record_front_len = 1 + 8 + 2
 
--- how many bytes a record takes behind its length: at least a delete, at most 4096 inserts of the widest rows
+-- how many bytes a record takes after its length: at least a delete, at most 4096 inserts of the widest rows
 abbrev pub record_len_min : ℕ
 record_len_min = record_front_len + entry_len_min
 
@@ -64,8 +64,8 @@ record_len_max = record_front_len + commit_entries_max * entry_len_max
 abbrev pub is_record_len : ℕ → Bool
 is_record_len len = not (nat_lt len record_len_min) && not (nat_lt record_len_max len)
 
--- whether a stop may have left these bytes behind the last whole record: fewer than tell a length, or fewer than a length
--- that a record may have; what they hold is not looked at
+-- whether a stop may have left these bytes after the last whole record: fewer than a length takes, or fewer than a length that a
+-- record may have; what they hold is not looked at
 abbrev pub is_torn : List ℕ → Bool
 is_torn bytes = nat_lt (length bytes) 4 || (is_record_len (big_number 4 bytes) && nat_lt (length bytes) (4 + big_number 4 bytes))
 
@@ -87,7 +87,7 @@ pub record IsOutOfOrder (next : ℕ) (bytes : List ℕ) : Type 0 where
   pub there : IsRecordAt bytes number commit
   pub other : ¬ (number ≡ next)
 
--- the record, by the next number, of a commit that is not legal behind the others
+-- the record, by the next number, of a commit that is not legal after the others
 pub record IsIllegal (workers : ℕ) (shape : Shape) (commits : List Commit) (bytes : List ℕ) : Type 0 where
   pub commit : Commit
   pub there : IsRecordAt bytes (length commits + 1) commit
@@ -103,7 +103,7 @@ IsRecovered workers shape bytes commits bytes_kept =
     (EndsInHeader workers shape bytes × (commits ≡ []) × (bytes_kept ≡ 0))
     ⊎ (IsKeptUpTo workers shape bytes commits bytes_kept × (is_torn (drop bytes_kept bytes) ≡ true))
 
--- why bytes are refused; being out of memory is told of no others than those that begin with the header
+-- why bytes are refused; recovery can be out of memory only on bytes that begin with the header
 abbrev pub IsRefusal : ℕ → Shape → List ℕ → JournalFault → Type 0
 IsRefusal workers shape bytes OtherHeader = ¬ IsBeginning (header workers shape) bytes × ¬ IsBeginning bytes (header workers shape)
 IsRefusal workers shape bytes (Damaged offset) =

@@ -10,7 +10,7 @@ faults_max = 18446744073709551615
 abbrev pub room_max : ℕ
 room_max = 18446744073709551615
 
--- an append that failed: behind the old bytes stands some beginning of the new ones
+-- an append that failed: after the old bytes stands some beginning of the new ones
 abbrev pub IsPartlyAppended : List ℕ → List ℕ → List ℕ → Type 0
 IsPartlyAppended old bytes new = (front : List ℕ) × IsBeginning front bytes × (new ≡ old ++ front)
 
@@ -23,7 +23,7 @@ abbrev pub CountsFault : {A F : Type 0} → Result A F → ℕ → ℕ → Type 
 CountsFault (Ok done) old new = new ≡ old
 CountsFault (Err fault) old new = new ≡ old + 1
 
--- the same where a call may also be out of memory, which is no fault
+-- the same if a call may also be out of memory, which is no fault
 abbrev pub CountsFaultOrMemory : {A F : Type 0} → Result A (Option F) → ℕ → ℕ → Type 0
 CountsFaultOrMemory (Err (Some fault)) old new = new ≡ old + 1
 CountsFaultOrMemory other old new = new ≡ old

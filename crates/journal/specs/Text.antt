@@ -29,7 +29,7 @@ journal_version = 0x31
 abbrev pub header : ℕ → Shape → List ℕ
 header workers shape = journal_magic ++ (journal_version ∷ workers ∷ length shape ∷ []) ++ flat_map table_header shape
 
--- a record behind its length: the worker, the commit's number, how many entries, and the entries
+-- a record after its length: the worker, the commit's number, how many entries, and the entries
 abbrev pub record_body : ℕ → Commit → List ℕ
 record_body number commit =
     (commit.worker ∷ []) ++ big_bytes 8 number ++ big_bytes 2 (length commit.entries) ++ flat_map entry_spelling commit.entries
@@ -38,7 +38,7 @@ record_body number commit =
 abbrev pub record_of : ℕ → Commit → List ℕ
 record_of number commit = big_bytes 4 (length (record_body number commit)) ++ record_body number commit
 
--- the records of commits that stand behind `before` others
+-- the records of commits that stand after `before` others
 abbrev pub records_from : ℕ → List Commit → List ℕ
 records_from before [] = []
 records_from before (commit ∷ commits) = record_of (before + 1) commit ++ records_from (before + 1) commits

@@ -1,4 +1,4 @@
-//! What a journal needs of the file that it stands in.
+//! What a journal needs of the file that contains it.
 
 ghost use Rattle.std.specs.Prelude.{◌≡◌, ℕ, ◌≤◌, List, ◌++◌, length, take, Bool, true, OnOk, OnErr};
 ghost use Rattle.journal.specs.Storing.{IsPartlyAppended, IsPartlyCut};
@@ -7,7 +7,7 @@ use std::fs::File;
 use std::io;
 use std::os::unix::fs::FileExt;
 
-/// A file that a journal can stand in.
+/// A file that can contain a journal.
 ///
 /// Contracts see its bytes, and whether files of its type are honest: whether their bytes are what
 /// their answers say. No contract can know that of a file of the operating system, so none counts
@@ -15,27 +15,27 @@ use std::os::unix::fs::FileExt;
 pub trait Disk {
     ghost use Rattle.std.specs.Prelude.{ℕ, List, Bool};
 
-    /// The bytes that stand.
+    /// The bytes of the file.
     ghost content: { Self → List ℕ };
 
-    /// Whether what stands is what the answers say.
+    /// Whether the bytes are what the answers say.
     ghost is_honest: { Bool };
 
-    /// Writes bytes behind those that stand, which are `len`, and syncs them. Where it fails, some
-    /// beginning of them may stand behind the old ones.
+    /// Appends bytes to the file, whose length is `len`, and syncs them. If it fails, some
+    /// beginning of them may follow the old bytes.
     fn append(&mut self, len: u64, bytes: &[u8]) -> io::Result<()>
         requires { is_honest ≡ true → len ≡ length (content self.old) }
         ensures ok { is_honest ≡ true → OnOk result (content self.new ≡ content self.old ++ bytes.now) }
         ensures err { is_honest ≡ true → OnErr result (IsPartlyAppended (content self.old) bytes.now (content self.new)) };
 
-    /// Keeps the first `len` of the bytes that stand, and no other, and syncs that. Where it fails,
-    /// some beginning of them stands, which is not shorter.
+    /// Truncates the file to its first `len` bytes, and syncs that. If it fails, some beginning of
+    /// the old bytes is left, which is not shorter than `len`.
     fn cut_to(&mut self, len: u64) -> io::Result<()>
         requires { is_honest ≡ true → len ≤ length (content self.old) }
         ensures ok { is_honest ≡ true → OnOk result (content self.new ≡ take len (content self.old)) }
         ensures err { is_honest ≡ true → OnErr result (IsPartlyCut len (content self.old) (content self.new)) };
 
-    /// Fills the list with the first bytes that stand, as many as the list has.
+    /// Fills the list with the first bytes of the file, as many as the list has.
     fn read(&self, list: &mut [u8]) -> io::Result<()>
         requires { is_honest ≡ true → length list.old ≤ length (content self.now) }
         ensures len { length list.new ≡ length list.old }

@@ -13,24 +13,26 @@ use std::marker::Model;
 use std::os::unix::fs::OpenOptionsExt;
 use std::path::Path;
 
-/// Who may read and write a file that is made for a journal: its owner alone, since it has all the data.
+/// Who may read and write a file that is made for a journal: only its owner, since it has all the
+/// data.
 const FILE_MODE: u32 = 0o600;
 
-/// A journal in a file: in one of the operating system, which it has locked, or in another `Disk`.
+/// A journal in a file: a locked file of the operating system, or another `Disk`.
 ///
-/// Contracts see the bytes that are known to stand; it is as honest as what it stands in, and no
-/// file of the operating system counts as that. An append that is answered Ok was written and
-/// synced. Behind a write or a cut that failed it appends nothing, until `cut_to` or `read_all` has
-/// cleared away what that left: the bytes behind the last ones that are known to stand.
+/// Contracts see the bytes that are known to be there; the journal is as honest as its file, and no
+/// file of the operating system counts as honest. An append that is answered Ok was written and
+/// synced. After a write or a truncation that failed, it appends nothing until `cut_to` or
+/// `read_all` has cleared away what that left: the bytes after the last ones that are known to be
+/// there.
 #[derive(Debug, Drop)]
 pub struct FileJournal<D: Disk = File> {
     disk: D,
-    /// How many bytes are known to stand.
+    /// How many bytes are known to be there.
     len: u64,
-    /// Whether others may stand behind them.
+    /// Whether others may follow them.
     unsettled: bool,
     faults: u64,
-    /// The newest of them.
+    /// The newest fault.
     last_fault: Option<FileFault>,
 }
 
@@ -48,11 +50,11 @@ impl<D: Disk> Model for FileJournal<D> {
 }
 
 impl FileJournal<File> {
-    /// Opens the journal at a path, and makes the file where there is none, which its owner alone may read
-    /// and write. What it holds is then synced, and so is the folder that has its name.
+    /// Opens the journal at a path; makes the file if there is none, which only its owner may read
+    /// and write. The content of the file is then synced, and so is the folder that has its name.
     ///
-    /// Fails with `Locked` where another journal has the file open, and with `System` where the
-    /// system refuses to make, open, lock or sync it.
+    /// Fails with `Locked` if another journal has the file open, and with `System` if the system
+    /// refuses to make, open, lock or sync it.
     pub fn open<R: Files<File = File>>(
         files: &R,
         path: &str,
@@ -81,8 +83,9 @@ impl<D: Disk> FileJournal<D> {
         }
     }
 
-    /// Why the newest of the calls that failed did; `None` exactly while none has failed. So a program
-    /// can print the system's words where a primary tells only that its journal failed. Takes no memory.
+    /// Why the newest call that failed did; `None` exactly while none has failed. With this a
+    /// program can print the system's words when a primary reports only that its journal failed.
+    /// Takes no memory.
     pub fn last_fault(&self) -> Option<FileFault>
         ensures { is_some result ≡ nat_lt 0 self.now.faults }
     {
@@ -100,7 +103,7 @@ impl<D: Disk> FileJournal<D> {
     }
 }
 
-/// The file at a path, for reading and writing; it is made where there is none.
+/// The file at a path, for reading and writing; it is made if there is none.
 fn open_file<R: Files<File = File>>(files: &R, path: &str) -> io::Result<File> {
     OpenOptions::new()
         .read(true)
@@ -120,7 +123,7 @@ fn lock(file: &File) -> Result<(), OpenFault> {
 }
 
 /// Syncs the file and the folder that has its name: what an earlier process wrote and did not sync
-/// may not be lost once it was read. Answers how many bytes the file has.
+/// must not be lost after it was read. Answers how many bytes the file has.
 fn settle<R: Files<File = File>>(files: &R, path: &str, file: &File) -> io::Result<u64> {
     file.sync_all()?;
     File::open(files, folder_of(path))?.sync_all()?;
@@ -150,13 +153,13 @@ impl<D: Disk> JournalStore for FileJournal<D> {
 
     ghost is_honest = { λ _. D.is_honest };
 
-    /// A file needs no room set aside.
+    /// A file needs no room reserved.
     fn reserve(&mut self, _count: usize) -> Result<(), AllocError> {
         Ok(())
     }
 
-    /// Writes the bytes behind those that stand, and syncs them. Fails with `Unsettled` where an
-    /// earlier write or cut failed, and changes nothing then; and with `System`.
+    /// Appends the bytes, and syncs them. Fails with `Unsettled` if an earlier write or truncation
+    /// failed, and then changes nothing; and with `System`.
     fn append(&mut self, bytes: &[u8]) -> Result<(), FileFault> {
         if self.unsettled {
             return Err(self.fault(FileFault::Unsettled));
@@ -177,7 +180,8 @@ impl<D: Disk> JournalStore for FileJournal<D> {
         }
     }
 
-    /// Cuts the file to so many bytes, and syncs that. Whatever an earlier write left is then gone.
+    /// Truncates the file to this many bytes, and syncs that. Whatever an earlier write left is
+    /// then gone.
     fn cut_to(&mut self, len: u64) -> Result<(), FileFault> {
         self.len = self.len.min(len);
         match self.disk.cut_to(self.len) {
@@ -192,8 +196,8 @@ impl<D: Disk> JournalStore for FileJournal<D> {
         }
     }
 
-    /// Reads the whole file. What an earlier write that failed may have left behind the bytes that
-    /// are known to stand is cut away first: it was not synced, so reading it tells nothing.
+    /// Reads the whole file. First it truncates what an earlier write that failed may have left
+    /// after the bytes that are known to be there: it was not synced, so reading it proves nothing.
     fn read_all(&mut self, list: &mut Vec<u8>) -> Result<(), Option<FileFault>> {
         if self.unsettled {
             if let Err(fault) = self.cut_to(self.len) {

@@ -21,8 +21,7 @@ const TABLE_LEN_MAX: usize = 1 + COLUMNS_MAX;
 /// Bytes of a header, at most.
 pub const HEADER_LEN_MAX: usize = 6 + TABLES_MAX * TABLE_LEN_MAX;
 
-/// The header of a journal of this schema and this number of workers. Fails only where it is out of
-/// memory.
+/// The header of a journal for this schema and this number of workers. Fails only if out of memory.
 pub fn header_bytes(alloc: Global, workers: u8, schema: &Schema) -> Result<Vec<u8>, AllocError>
     ensures { IfOk result (λ bytes. bytes.items ≡ header workers (shape_of schema.now)) }
 {
@@ -30,7 +29,7 @@ pub fn header_bytes(alloc: Global, workers: u8, schema: &Schema) -> Result<Vec<u
     Vec::from_slice(alloc, header.as_slice())
 }
 
-/// The header, kept inline. Takes no memory.
+/// The header, stored inline. Takes no memory.
 pub fn header_of(workers: u8, schema: &Schema) -> ArrayVec<u8, HEADER_LEN_MAX>
     ensures { result.items ≡ header workers (shape_of schema.now) }
 {
@@ -53,7 +52,7 @@ fn table_count(schema: &Schema) -> u8
     schema.len() as u8
 }
 
-/// What stands before the tables.
+/// The part of the header before the tables.
 fn front(workers: u8, tables: u8) -> ArrayVec<u8, HEADER_LEN_MAX>
     ensures { result.items ≡ journal_magic ++ (journal_version ∷ workers ∷ tables ∷ []) }
 {
@@ -80,7 +79,7 @@ fn push_table(bytes: &mut ArrayVec<u8, HEADER_LEN_MAX>, kinds: &[Kind])
     }
 }
 
-/// The byte that stands for a kind: 0 for an `Int`, the width for octets.
+/// The byte for a kind: 0 for an `Int`, the width for octets.
 fn kind_code(kind: Kind) -> u8
     ensures { result ≡ kind_code kind }
 {

@@ -7,35 +7,35 @@ use std::alloc::AllocError;
 
 /// What keeps the bytes of a journal.
 ///
-/// Contracts see the bytes that stand, what calls that failed left behind them, how much room is
-/// reserved, how many faults there were, and whether the store is honest: whether its bytes are what
-/// its answers say. What is said of the bytes holds of honest stores, and no contract can know
-/// whether a real device is one. After an Ok of `append`, `cut_to` or `read_all` the store is settled:
-/// nothing is left behind. A fault is counted, and comes only where the count grew. All calls but
-/// `reserve` and `read_all` take no memory.
+/// Contracts see the bytes that stand, what failed calls left behind them, how much room is
+/// reserved, how many faults there were, and whether the store is honest: whether its bytes are
+/// what its answers say. Statements about the bytes hold for honest stores, and no contract can
+/// know whether a real device is honest. After an Ok of `append`, `cut_to` or `read_all` the store
+/// is settled: nothing is left behind. Each fault is counted: a call fails with one only if the
+/// count grew. All calls but `reserve` and `read_all` take no memory.
 pub trait JournalStore {
     ghost use Rattle.std.specs.Prelude.{ℕ, List, Bool};
 
     /// Why a call failed.
     type Fault: Drop + Send;
 
-    /// The bytes that stand.
+    /// The bytes that stand: those that its answers account for.
     ghost standing: { Self → List ℕ };
 
-    /// What calls that failed left behind them.
+    /// What failed calls left behind them.
     ghost left_behind: { Self → List ℕ };
 
-    /// How many bytes an append may bring.
+    /// How many bytes an append may have.
     ghost room: { Self → ℕ };
 
     /// How many faults there were.
     ghost fault_count: { Self → ℕ };
 
-    /// Whether what stands is what the answers say.
+    /// Whether the bytes are what the answers say.
     ghost is_honest: { Self → Bool };
 
-    /// Makes room for an append of so many bytes. Fails only where it is out of memory. Nothing that
-    /// stands changes.
+    /// Reserves room for an append of this many bytes. Fails only if out of memory. The bytes that
+    /// stand do not change.
     fn reserve(&mut self, count: usize) -> Result<(), AllocError>
         ensures room { OnOk result (count ≤ room self.new) }
         ensures standing { is_honest self.old ≡ true → standing self.new ≡ standing self.old }
@@ -43,8 +43,8 @@ pub trait JournalStore {
         ensures faults { fault_count self.new ≡ fault_count self.old }
         ensures honest { is_honest self.new ≡ is_honest self.old };
 
-    /// Puts bytes behind those that stand, in the room that was reserved for them. They are
-    /// acknowledged where it answers Ok; where it fails, some beginning of them may stand. Takes no
+    /// Appends bytes to those that stand, in the room that was reserved for them. They are
+    /// acknowledged if it answers Ok; if it fails, some beginning of them may be left. Takes no
     /// memory.
     fn append(&mut self, bytes: &[u8]) -> Result<(), Self::Fault>
         requires room { length bytes.now ≤ room self.old }
@@ -56,8 +56,8 @@ pub trait JournalStore {
         ensures faults { CountsFault result (fault_count self.old) (fault_count self.new) }
         ensures honest { is_honest self.new ≡ is_honest self.old };
 
-    /// Keeps the first `len` of the bytes that stand, and no other. Where it fails, some beginning
-    /// of them stands, which is not shorter. Takes no memory.
+    /// Keeps the first `len` of the bytes that stand, and no others. If it fails, some beginning of
+    /// the bytes is left, which is not shorter than `len`. Takes no memory.
     fn cut_to(&mut self, len: u64) -> Result<(), Self::Fault>
         requires within { is_honest self.old ≡ true → len ≤ length (standing self.old) }
         requires countable { fault_count self.old < faults_max }
@@ -67,8 +67,9 @@ pub trait JournalStore {
         ensures faults { CountsFault result (fault_count self.old) (fault_count self.new) }
         ensures honest { is_honest self.new ≡ is_honest self.old };
 
-    /// Makes a list the bytes that stand, whatever it had before. Fails with `None` where it is out
-    /// of memory; after either failure nothing is known of the list. Nothing that stands changes.
+    /// Reads the bytes that stand into a list, whatever it contained before. Fails with `None` if
+    /// out of memory; after either failure nothing is known of the list. The bytes that stand do
+    /// not change.
     fn read_all(&mut self, list: &mut Vec<u8>) -> Result<(), Option<Self::Fault>>
         requires { fault_count self.old < faults_max }
         ensures ok { is_honest self.old ≡ true → OnOk result (list.new.items ≡ standing self.old) }

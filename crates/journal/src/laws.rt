@@ -1,10 +1,10 @@
-//! Laws of the journal's text, and of what its bytes keep.
+//! Laws of the journal's text, and of recovery.
 
 ghost use Rattle.journal.specs.Laws.{TextsAreOneToOne, IsNested, EmptyIsJournaled, BeginningIsJournaled};
 ghost use Rattle.journal.specs.Laws.{StopsAreRecovered, IsRecoveredOnce, IsNotRefused, IsRefusedOnce};
 
-/// The text of a list of commits determines the list, and of two lists whose texts begin the same
-/// bytes one begins the other. It does nothing: its contract is the law.
+/// The text of a list of commits determines the list; if the texts of two lists begin the same
+/// bytes, one list is a beginning of the other. It does nothing: its contract is the law.
 pub fn texts_determine_commits()
     ensures one_to_one { TextsAreOneToOne }
     ensures nested { IsNested }
@@ -19,9 +19,9 @@ pub fn beginnings_are_journaled()
     ensures beginning { BeginningIsJournaled }
 {}
 
-/// Whatever a stop leaves of the text of a list that a journal may be of, the first commits of the
-/// list are recovered; bytes are recovered in one way, and not refused then, or are refused in one
-/// way. It does nothing: its contract is the law.
+/// Whatever a crash leaves of the text of a list that a journal may be of, the first commits of the
+/// list are recovered. Recovery of bytes has one result: either one list of commits or one refusal.
+/// It does nothing: its contract is the law.
 pub fn stops_are_recovered()
     ensures stops { StopsAreRecovered }
     ensures once { IsRecoveredOnce }

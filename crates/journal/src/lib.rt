@@ -1,17 +1,21 @@
-//! The journal: the text that keeps a list of commits, what the bytes of a journal keep whatever a
-//! stop left of them, and where journals stand.
+//! The journal: the text that keeps a list of commits, recovery of the commits after a crash, and
+//! where journals are kept.
 //!
 //! A journal is a header and a record for each commit, numbered from 1. `recover` answers the kept
-//! commits of bytes: the longest legal list whose text begins them. A torn record behind it is what
-//! a stop may leave, and is not kept; anything else that stands there is refused, by what it is.
-//! `JournalStore` is the interface to what keeps the bytes; `MemJournal` keeps them in memory, and
-//! `FileJournal` in a file (`Disk`).
+//! commits of bytes: the longest legal list whose text begins them. A crash may leave a torn record
+//! after it, which is not kept; anything else after it is refused, with the reason. `JournalStore`
+//! is the interface to what keeps the bytes; `MemJournal` keeps them in memory, and `FileJournal`
+//! in a file (`Disk`).
 //!
-//! Promised: `recover` is exact, being out of memory aside; a text determines its commits; and what
-//! an honest store leaves after each outcome of each call, which a `FileJournal` is where its file is
-//! honest. That a real file is honest is not proved.
-//! It stands on `rows`, whose entries it spells and reads, and on `store`, where recovery tries
-//! what it reads. Its definitions are `specs/Text.antt`, `Recovery.antt` and `Storing.antt`.
+//! Promised: `recover` is exact, except that it may run out of memory; a text determines its
+//! commits; and the contracts of `JournalStore` specify what an honest store keeps after each
+//! outcome of each call. A `FileJournal` is honest if its file is. That a real file is honest is
+//! not proved.
+//!
+//! It uses `rows`, whose entries it spells and reads, and `store`, on which recovery tries the
+//! commits that it reads. Its definitions are `specs/Text.antt`, `Recovery.antt` and
+//! `Storing.antt`. If a call fails for lack of memory, its value is unchanged unless the call says
+//! otherwise.
 #![tactic(auto)]
 
 mod disk;

@@ -41,7 +41,7 @@ impl MemJournal {
         MemJournal { content }
     }
 
-    /// The bytes that stand, lent. Takes no memory.
+    /// The bytes, lent. Takes no memory.
     pub fn content(&self) -> &[u8]
         ensures { result.now ≡ self.now.bytes }
     {

@@ -1,6 +1,6 @@
 use rows::Commit;
 
-/// A commit, and the number by which its record stands in a journal.
+/// A commit, and the number that its record has in a journal.
 #[derive(Debug, Drop)]
 pub struct NumberedCommit {
     pub number: u64,

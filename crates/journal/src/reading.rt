@@ -12,20 +12,20 @@ use rows::limits::COMMIT_ENTRIES_MAX;
 use rows::{Commit, read_entries};
 use std::alloc::{AllocError, Global};
 
-/// Bytes that a record takes behind its length, at least: those of one delete.
+/// Bytes of a record after its length, at least: those of one delete.
 const RECORD_LEN_MIN: usize = RECORD_FRONT_LEN + ENTRY_LEN_MIN;
 
-/// And at most: those of 4096 inserts of the widest rows.
+/// Bytes of a record after its length, at most: those of 4096 inserts of the widest rows.
 const RECORD_LEN_MAX: usize = RECORD_FRONT_LEN + COMMIT_ENTRIES_MAX * ENTRY_LEN_MAX;
 
-/// Whether a stop may have left these bytes behind the last whole record.
+/// Whether a crash may have left these bytes after the last whole record.
 pub fn is_torn(bytes: &[u8]) -> bool
     ensures { result ≡ is_torn bytes.now }
 {
     bytes.len() < 4 || (is_record_len(body_len(bytes)) && bytes.len() < 4 + body_len(bytes))
 }
 
-/// How many bytes are to follow the four that tell it.
+/// How many bytes follow the four bytes of a record's length.
 pub fn body_len(bytes: &[u8]) -> usize
     requires { 4 ≤ length bytes.now }
     ensures value { result ≡ big_number 4 bytes.now }
@@ -41,8 +41,8 @@ fn is_record_len(len: usize) -> bool
     len >= RECORD_LEN_MIN && len <= RECORD_LEN_MAX
 }
 
-/// The commit whose record stands at the front of the bytes, and its number; `None` where they are
-/// damaged. Fails only where it is out of memory.
+/// The commit whose record is at the front of the bytes, and its number; `None` if they are
+/// damaged. Fails only if out of memory.
 pub fn read_record(alloc: Global, bytes: &[u8]) -> Result<Option<NumberedCommit>, AllocError>
     requires { is_torn bytes.now ≡ false }
     ensures { IfOk result (λ found. found ≡ record_at bytes.now) }
@@ -56,7 +56,7 @@ pub fn read_record(alloc: Global, bytes: &[u8]) -> Result<Option<NumberedCommit>
     read_body(alloc, body)
 }
 
-/// The commit that a record holds behind its length, and its number; `None` where it is damaged.
+/// The commit in the body of a record, after its length, and its number; `None` if it is damaged.
 fn read_body(alloc: Global, body: &[u8]) -> Result<Option<NumberedCommit>, AllocError>
     requires { RECORD_FRONT_LEN ≤ length body.now }
     ensures { IfOk result (λ found. found ≡ commit_in body.now) }

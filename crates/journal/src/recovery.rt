@@ -16,13 +16,13 @@ use std::alloc::{AllocError, Global};
 use store::{PlainStore, StoreFault, run};
 
 /// The commits that the bytes of a journal keep, for this schema and this number of workers: the
-/// longest legal list whose text begins the bytes. A torn record behind it is not kept, and bytes
+/// longest legal list whose text begins the bytes. A torn record after it is not kept, and bytes
 /// that end within the header keep nothing.
 ///
-/// Fails with `OtherHeader` where the bytes begin otherwise than such a journal, and with the first
-/// of these that stands behind the kept commits, with its offset: `Damaged`; `OutOfOrder`;
-/// `Illegal`. `Memory` tells that the commits, or the rows that they make, found no room; the bytes
-/// then begin with the header. It goes over the bytes once.
+/// Fails with `OtherHeader` if the bytes do not begin like such a journal, and otherwise with the
+/// first of these after the kept commits, with its offset: `Damaged`; `OutOfOrder`; `Illegal`.
+/// `Memory` means that there was no memory for the commits, or for the rows that they make; the
+/// bytes then begin with the header. It goes over the bytes once.
 pub fn recover(
     alloc: Global,
     bytes: &[u8],
@@ -48,14 +48,14 @@ pub fn recover(
     Err(JournalFault::OtherHeader)
 }
 
-/// Whether bytes begin with others.
+/// Whether bytes begin with these others.
 fn begins(front: &[u8], bytes: &[u8]) -> bool
     ensures { MatchBool result (IsBeginning front.now bytes.now) (¬ IsBeginning front.now bytes.now) }
 {
     bytes.starts_with(front)
 }
 
-/// What a journal keeps that has these bytes behind its header.
+/// The recovered commits of a journal that has these bytes after its header.
 fn recover_records(
     alloc: Global,
     bytes: &[u8],
@@ -93,8 +93,8 @@ fn recover_records(
     })
 }
 
-/// The commit of that number, whose record stands at the front of the rest, and what stands behind
-/// it; the store makes its changes. Otherwise why there is none, by the offset of the rest.
+/// The commit of that number, whose record is at the front of the rest, and the bytes after it; the
+/// store makes its changes. Otherwise why there is none, by the offset of the rest.
 fn next_commit<'a>(
     alloc: Global,
     store: &mut PlainStore,
@@ -128,9 +128,9 @@ fn next_commit<'a>(
     }
 }
 
-/// Whether a commit is legal after those that the store stands for: its worker is there, and each
-/// of its entries is defined where it stands. The store then makes its changes. If the commit is not
-/// legal, or the store is out of memory, the store is not to be used again.
+/// Whether a commit is legal after those that are in the store: its worker exists, and each of its
+/// entries is defined where it stands. The store then makes its changes. If the commit is not
+/// legal, or the store is out of memory, the store must not be used again.
 fn accepts(store: &mut PlainStore, workers: u8, commit: &Commit) -> Result<bool, AllocError>
     requires { store.old.whole ≡ true }
     ensures { IfOk result (λ accepted. IsAccepted accepted workers store.old store.new commit.now) }

@@ -15,14 +15,14 @@ use std::alloc::{AllocError, Global};
 /// Bytes of a record between its length and its entries: worker, number, how many entries.
 pub const RECORD_FRONT_LEN: usize = 1 + 8 + 2;
 
-/// Bytes that an entry takes, at least: those of a delete.
+/// Bytes of an entry, at least: those of a delete.
 pub const ENTRY_LEN_MIN: usize = 1 + 1 + 8;
 
-/// And at most: those of an insert of the widest row.
+/// Bytes of an entry, at most: those of an insert of the widest row.
 pub const ENTRY_LEN_MAX: usize = 1 + 1 + 8 + 2 + ROW_WIDTH_MAX;
 
 /// The records of commits, numbered from `first`, which is at least 1. Each commit has 1 to 4096
-/// entries, each with a spelling. Fails only where it is out of memory.
+/// entries, each with a spelling. Fails only if out of memory.
 pub fn records(alloc: Global, commits: &[Commit], first: u64) -> Result<Vec<u8>, AllocError>
     requires held { AllByRecursion HasRecord commits.now }
     requires numbered { 0 < first }
@@ -57,7 +57,7 @@ fn push_record(bytes: &mut Vec<u8>, number: u64, commit: &Commit) -> Result<(), 
     Ok(())
 }
 
-/// How many bytes a record takes behind its length.
+/// How many bytes of a record follow its length.
 fn body_len(entries: &[Entry]) -> u32
     requires few { length entries.now ≤ COMMIT_ENTRIES_MAX }
     requires spelled { AllByRecursion HasSpelling entries.now }

@@ -1,4 +1,4 @@
-//! Journals that are worked on the definitions alone.
+//! Journals that are worked out on the definitions alone.
 
 ghost use Rattle.std.specs.Prelude.{◌≡◌, ◌++◌, ◌∷◌, []};
 ghost use Rattle.journal.specs.Recovery.{record_len_min, record_len_max};
@@ -6,9 +6,9 @@ ghost use Rattle.journal.specs.Text.{header, record_of, journal_text};
 ghost use Rattle.journal.specs.Worked.{pairs, pairs_header, accounts, accounts_header};
 ghost use Rattle.journal.specs.Worked.{one_insert, one_insert_record, delete_and_patch, delete_and_patch_record};
 
-/// What the definition of the journal's text says byte by byte: of two headers, of the records of
-/// an insert and of a delete with a patch, and of a journal of one commit; and how many bytes a
-/// record takes behind its length, at least and at most. No code takes part.
+/// What the definition of the journal's text specifies byte by byte: for two headers, for the
+/// records of an insert and of a delete with a patch, and for a journal of one commit; and how many
+/// bytes a record has after its length, at least and at most. No code takes part.
 pub fn worked_journal()
     ensures octets { header 1 pairs ≡ pairs_header }
     ensures ints { header 2 accounts ≡ accounts_header }

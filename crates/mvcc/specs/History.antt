@@ -7,6 +7,7 @@ use Rattle.rows.specs.Shape.{shape_of}
 use Rattle.rows.specs.Tables.{Tables, apply_entries}
 use Rattle.rows.specs.Commits.{tables_after}
 
+-- the versions of a database: its schema and its commits
 pub record History : Type 0 where
   pub schema : List (List ℕ × List Kind)
   pub commits : List Commit

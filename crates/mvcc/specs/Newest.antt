@@ -8,6 +8,6 @@ use Rattle.rows.specs.Commits.{is_of, last_where}
 abbrev pub writes : ℕ → ℕ → Commit → Bool
 writes table row commit = list_any (is_of table row) commit.entries
 
--- the number of the last commit with an entry of that row, counted from 1; 0 where there is none
+-- the number of the last commit with an entry of that row, counted from 1; 0 if there is none
 abbrev pub newest_of : ℕ → ℕ → List Commit → ℕ
 newest_of table row commits = last_where (writes table row) 0 commits

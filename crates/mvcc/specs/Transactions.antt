@@ -27,11 +27,11 @@ abbrev pub match_column : Value → Option Kind → Bool
 match_column value None = false
 match_column value (Some kind) = is_of_kind value kind
 
--- the kind of a column; none where the table or the column is not there
+-- the kind of a column; none if the table or the column is not there
 abbrev pub column_kind : Shape → ℕ → ℕ → Option Kind
 column_kind shape table column = slice_get (kinds_in shape table) column
 
--- where a column begins among its row's bytes: behind the columns before it
+-- where a column begins among its row's bytes: after the columns before it
 abbrev pub column_offset : Shape → ℕ → ℕ → ℕ
 column_offset shape table column = row_width (take column (kinds_in shape table))
 
@@ -47,7 +47,7 @@ seen_shape shape commits draft = shape_in (seen_by shape commits draft)
 abbrev pub sees : Shape → List Commit → Transaction → ℕ → ℕ → Bool
 sees shape commits draft table row = is_row_at (seen_by shape commits draft) table row
 
--- the transaction with one more entry, where it may have one more
+-- the transaction with one more entry, if it may have one more
 abbrev pub transaction_with : Transaction → Entry → Result Transaction TxFault
 transaction_with draft entry =
     if nat_lt (length draft.entries) commit_entries_max

@@ -7,7 +7,7 @@ ghost use Rattle.mvcc.specs.Inner.RowBytes.{inserted_bytes, patched_bytes, bytes
 use rows::{ByteList, Entry};
 use std::alloc::{AllocError, Global};
 
-/// The bytes of a row after an entry of it, where these were its bytes before. Fails only when out of
+/// The bytes of a row after one of its entries, given its bytes before. Fails only if out of
 /// memory.
 pub fn bytes_after_one(
     alloc: Global,
@@ -29,7 +29,7 @@ pub fn bytes_after_one(
     }
 }
 
-/// The bytes of a row after an insert of these: they, where it was not there.
+/// The bytes of a row after an insert of these bytes: these, if the row was not there.
 fn inserted_bytes(
     alloc: Global,
     bytes: &ByteList,
@@ -43,7 +43,7 @@ fn inserted_bytes(
     }
 }
 
-/// The bytes of a row once others were put at an offset among them; where they do not end within
+/// The bytes of a row after others were put at an offset among them; if they would not end within
 /// the row, nothing is put.
 fn patched_bytes(
     alloc: Global,

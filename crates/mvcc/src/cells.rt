@@ -1,5 +1,5 @@
-//! What entries make of one column of a row, told from the entries alone. `None` stands for a row
-//! that is not there, and `Some(None)` for one that has no such column.
+//! The effect of entries on one column of a row, computed from the entries alone. `None` stands for
+//! a row that is not there, and `Some(None)` for one that has no such column.
 
 ghost use Rattle.std.specs.Prelude.{◌≡◌, ◌≤◌, length, true, slice_get, ◌==◌, if◌then◌else◌};
 ghost use Rattle.std.specs.Option.{option_map};
@@ -13,8 +13,8 @@ ghost use Rattle.mvcc.specs.Inner.Cells.{inserted_cell, patched_cell, cell_after
 use rows::laws::columns_are_of_their_width;
 use rows::{Entry, Kind, RowId, Value, column_at, first_value, width_of_row};
 
-/// What the entries at these indices make of a column of a row, in a table with columns of these
-/// kinds. Takes no memory.
+/// The effect of the entries at these indices on a column of a row, in a table with columns of
+/// these kinds. Takes no memory.
 pub fn cell_after(
     kinds: &[Kind],
     table: u8,
@@ -37,7 +37,7 @@ pub fn cell_after(
     cell
 }
 
-/// What an entry makes of a column of this row: one of another row leaves it.
+/// The effect of an entry on a column of this row: an entry of another row does not change it.
 fn cell_after_entry(
     kinds: &[Kind],
     table: u8,
@@ -63,8 +63,8 @@ fn cell_after_entry(
     }
 }
 
-/// What the bytes of a row make of a column, where they are inserted: nothing where the row was
-/// there, or they are not as wide as its columns.
+/// The column after an insert of a row with these bytes: nothing if the row was there, or if the
+/// bytes are not as wide as its columns.
 fn inserted_cell(
     kinds: &[Kind],
     bytes: &[u8],
@@ -81,7 +81,7 @@ fn inserted_cell(
     Some(value_in_row(kinds, bytes, column))
 }
 
-/// What a patch of these bytes from an offset of a row on makes of a column of it.
+/// The column after a patch of these bytes at an offset of the row.
 fn patched_cell(
     kinds: &[Kind],
     offset: u16,
@@ -105,8 +105,8 @@ fn patched_cell(
     }
 }
 
-/// The value of a column, in the bytes of a row with columns of these kinds; `None` where there
-/// is no such column.
+/// The value of a column, in the bytes of a row with columns of these kinds; `None` if there is no
+/// such column.
 pub fn value_in_row(kinds: &[Kind], bytes: &[u8], column: usize) -> Option<Value>
     requires few { length kinds.now ≤ COLUMNS_MAX }
     requires good { list_all is_good kinds.now ≡ true }

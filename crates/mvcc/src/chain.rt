@@ -37,14 +37,14 @@ impl Chain {
         }
     }
 
-    /// The version of the last link, 0 where there is none.
+    /// The version of the last link; 0 if there is none.
     pub fn newest(&self) -> u64
         ensures { result ≡ newest_in self.now }
     {
         newest_of(self.links.as_slice())
     }
 
-    /// The row's bytes after the last link; `None` where it is not there.
+    /// The row's bytes after the last link; `None` if the row is not there.
     pub fn latest(&self) -> Option<&[u8]>
         ensures { option_map (λ b. b.now) result ≡ latest_in self.now }
     {
@@ -54,7 +54,7 @@ impl Chain {
         }
     }
 
-    /// The row's bytes at a version; `None` where it is not there. The versions of the links do
+    /// The row's bytes at a version; `None` if the row is not there. The versions of the links do
     /// not fall.
     pub fn bytes_at(&self, version: u64) -> Option<&[u8]>
         requires { IsNonDecreasingBy (λ link. link.version) self.now }
@@ -67,15 +67,14 @@ impl Chain {
         self.links[end - 1].bytes.lend()
     }
 
-    /// Takes the last link off, where it is of this number.
+    /// Removes the last link, if it is of this number.
     pub fn take_back(&mut self, number: u64)
         ensures { self.new ≡ taken_back_at number self.old }
     {
         take_back_links(&mut self.links, number);
     }
 
-    /// Links what an entry of the commit of this number makes of the row. Fails only when out of
-    /// memory, and then nothing has changed.
+    /// Adds a link for an entry of the commit of this number. Fails only if out of memory.
     pub fn link(&mut self, alloc: Global, number: u64, entry: &Entry) -> Result<(), AllocError>
         ensures ok { OnOk result (self.new ≡ linked number entry.now self.old) }
         ensures err { OnErr result (self.new ≡ self.old) }
@@ -91,7 +90,7 @@ impl Chain {
     }
 }
 
-/// The version of the last of these links, 0 where there is none.
+/// The version of the last of these links; 0 if there is none.
 fn newest_of(links: &[Link]) -> u64
     ensures { result ≡ newest_in links.now }
 {
@@ -110,7 +109,8 @@ fn end_of(links: &[Link], version: u64) -> usize
     links.partition_point(|link| link.version <= version)
 }
 
-/// Makes room for one more link. The first gets room for itself alone, since most rows are written once.
+/// Makes room for one more link. The first link gets room for itself alone, since most rows are
+/// written once.
 fn reserve_link(links: &mut Vec<Link>) -> Result<(), AllocError>
     ensures items { links.new.items ≡ links.old.items }
     ensures len { vec_len links.new ≡ vec_len links.old }
@@ -123,7 +123,7 @@ fn reserve_link(links: &mut Vec<Link>) -> Result<(), AllocError>
     }
 }
 
-/// Takes the last link off, where it is of this number. The memory stays.
+/// Removes the last link, if it is of this number. The memory is kept.
 fn take_back_links(links: &mut Vec<Link>, number: u64)
     ensures items { links.new.items ≡ taken_back_at number links.old.items }
     ensures len { vec_len links.new ≤ vec_len links.old }

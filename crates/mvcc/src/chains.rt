@@ -37,7 +37,7 @@ impl Chains {
         }
     }
 
-    /// The last version that wrote a row, 0 where there is none.
+    /// The last version that wrote a row; 0 if there is none.
     pub fn newest(&self, table: u8, row: RowId) -> u64
         ensures { result ≡ newest_in (links_at self.now table row.0) }
     {
@@ -47,7 +47,7 @@ impl Chains {
         }
     }
 
-    /// A row's bytes at a version; `None` where it is not there.
+    /// A row's bytes at a version; `None` if the row is not there.
     pub fn bytes_at(&self, version: u64, table: u8, row: RowId) -> Option<&[u8]>
         requires { IsNonDecreasingBy (λ link. link.version) (links_at self.now table row.0) }
         ensures { option_map (λ b. b.now) result ≡ bytes_at version (links_at self.now table row.0) }
@@ -58,8 +58,8 @@ impl Chains {
         }
     }
 
-    /// Links the entries of the next commit, all of them or none. Fails only when out of memory,
-    /// and then the chains are those of the commits before it.
+    /// Adds links for the entries of the next commit, all of them or none. Fails only if out of
+    /// memory, and then the chains are those of the commits before it.
     pub fn link_commit(
         &mut self,
         alloc: Global,
@@ -77,8 +77,8 @@ impl Chains {
         linked
     }
 
-    /// Links the entries of the next commit in order, up to the first for which there is no
-    /// memory; the chains are then those of the commits before it once its rows are taken back.
+    /// Adds links for the entries of the next commit in order, up to the first for which there is
+    /// no memory; once its links are removed again, the chains are those of the commits before it.
     fn link_entries(
         &mut self,
         alloc: Global,
@@ -96,8 +96,7 @@ impl Chains {
         Ok(())
     }
 
-    /// Links what an entry of the commit of this number makes of its row. Fails only when out of
-    /// memory, and then nothing has changed.
+    /// Adds a link for an entry of the commit of this number. Fails only if out of memory.
     fn link(&mut self, alloc: Global, number: u64, entry: &Entry) -> Result<(), AllocError>
         ensures ok { OnOk result (Turns entry.now (linked number entry.now) self.old self.new) }
         ensures err { OnErr result (self.new ≡ self.old) }
@@ -112,7 +111,7 @@ impl Chains {
         Ok(())
     }
 
-    /// Takes the links of the commit of this number off the chains of the entries' rows.
+    /// Removes the links of the commit of this number from the chains of the entries' rows.
     fn take_back_entries(&mut self, number: u64, entries: &[Entry])
         ensures { (table row : ℕ) → links_at self.new table row ≡ all_taken_back number table row entries.now
             (links_at self.old table row) }
@@ -122,7 +121,7 @@ impl Chains {
         }
     }
 
-    /// Takes the link of the commit of this number off the chain of the entry's row.
+    /// Removes the link of the commit of this number from the chain of the entry's row.
     fn take_back(&mut self, number: u64, entry: &Entry)
         ensures { Turns entry.now (taken_back_at number) self.old self.new }
     {

@@ -19,8 +19,9 @@ use rows::laws::entries_are_defined_one_by_one;
 use rows::{Entry, fits, is_there_after};
 use std::alloc::Global;
 
-/// Whether each of the entries is defined where it stands on the rows at that version. A look-up or
-/// two an entry, while there is memory to note the rows that the entries before it wrote.
+/// Whether each of the entries is defined where it stands on the rows at that version. It costs one
+/// or two look-ups for each entry, while there is memory to record the rows that the entries before
+/// it wrote.
 pub fn are_defined(alloc: Global, versions: &Versions, version: u64, entries: &[Entry]) -> bool
     requires { version ≤ length versions.now.commits }
     ensures answer { result ≡ defined_at versions.now version entries.now }
@@ -40,7 +41,7 @@ pub fn are_defined(alloc: Global, versions: &Versions, version: u64, entries: &[
     true
 }
 
-/// Whether the row of the entry is there after the entries that have been noted, on the rows at
+/// Whether the row of the entry is there after the entries that have been recorded, on the rows at
 /// that version.
 fn is_there(versions: &Versions, version: u64, told: &RowsTold, entry: &Entry) -> bool
     requires { version ≤ length versions.now.commits }
@@ -55,7 +56,7 @@ fn is_there(versions: &Versions, version: u64, told: &RowsTold, entry: &Entry) -
     }
 }
 
-/// Whether the entry fits, and its row stands as it needs it, where it is there or not.
+/// Whether the entry fits and is possible, given whether its row is there.
 fn is_defined(versions: &Versions, entry: &Entry, there: bool) -> bool
     ensures answer { result ≡ (is_ok (fitting (shape_of versions.now.schema) entry.now) && stands_for entry.now there) }
     ensures spelled { OnTrue result (HasSpelling entry.now) }
@@ -63,7 +64,7 @@ fn is_defined(versions: &Versions, entry: &Entry, there: bool) -> bool
     fits(versions.schema(), entry).is_ok() && entry.is_possible(there)
 }
 
-/// The same as `are_defined`, by a walk over the entries before each: takes no memory.
+/// The same as `are_defined`, by going over the entries before each one: takes no memory.
 fn are_defined_by_walk(versions: &Versions, version: u64, entries: &[Entry]) -> bool
     requires { version ≤ length versions.now.commits }
     ensures answer { result ≡ defined_at versions.now version entries.now }

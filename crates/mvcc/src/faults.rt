@@ -1,6 +1,6 @@
 use thiserror::Error;
 
-/// Why a call of a transaction is refused: the first that stands, in the order `Unfit`, then
+/// Why a call of a transaction is refused: the first that applies, in the order `Unfit`, then
 /// `Exists` or `Missing`, `TooManyEntries`, `Memory`.
 #[derive(Clone, Copy, Debug, PartialEq, Eq, Error)]
 pub enum TxFault {

@@ -1,4 +1,4 @@
-//! The bytes that a commit left of a row.
+//! The bytes of a row after a commit.
 
 ghost use Rattle.std.specs.Prelude.{◌≡◌};
 ghost use Rattle.std.specs.Option.{option_map};
@@ -6,13 +6,14 @@ ghost use Rattle.std.specs.Option.{option_map};
 use rows::ByteList;
 use std::marker::Model;
 
-/// Bytes that are kept inline, at most: those for which a `Kept` has room beside its tag and their number.
+/// Bytes that are stored inline, at most: those for which a `Kept` has room beside its tag and
+/// their number.
 const INLINE_MAX: usize = 30;
 
-/// A row's bytes, or that the row is not there. Few bytes are kept inline: most rows are narrow, and
-/// memory of their own would cost more than they do.
+/// A row's bytes, or that the row is not there. Short rows are stored inline: most rows are narrow,
+/// and a memory block of their own would cost more than they do.
 ///
-/// Contracts see the list of the bytes, `None` where the row is not there.
+/// Contracts see the list of the bytes, or `None` if the row is not there.
 #[derive(Debug, Drop)]
 pub struct KeptBytes {
     kept: Kept,
@@ -61,7 +62,7 @@ impl KeptBytes {
         }
     }
 
-    /// The bytes, lent; `None` where the row is not there. Takes no memory.
+    /// The bytes, lent; `None` if the row is not there. Takes no memory.
     pub fn lend(&self) -> Option<&[u8]>
         ensures { option_map (λ b. b.now) result ≡ self.now }
     {

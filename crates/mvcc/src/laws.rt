@@ -1,4 +1,4 @@
-//! What holds of every list of commits.
+//! What holds for every list of commits.
 
 ghost use Rattle.mvcc.specs.Inner.RowBytes.{RowsHaveBytes};
 

@@ -1,16 +1,18 @@
 //! Versions: every state of the database since it was empty, and transactions that read one.
 //!
-//! `Versions` is the list of commits. Version `n` is the rows after the first `n` of them, and
-//! each row's values at each version are found by a look-up and a halving: for each row a chain
-//! is kept of the versions that wrote it, with the row's bytes after each.
+//! `Versions` is the list of commits. Version `n` is the rows after the first `n` of them. For each
+//! row a chain keeps the versions that wrote it, with the row's bytes after each, so a row's values
+//! at a version are found by a look-up and a binary search.
 //!
-//! A `Transaction` reads one version, and sees its rows changed by its own entries in the order of
-//! its calls. An index has, for each row that it writes, those of its entries that tell of it.
+//! A `Transaction` reads one version, changed by its own entries in the order of its calls. For
+//! each row that it writes, an index has those of its entries that still matter.
 //!
-//! Promised: a value at a version is that of the tables after so many commits; the newest
-//! version of a row is the last commit that wrote it; a commit is absorbed wholly or not at all;
-//! each call of a transaction answers what `specs/Transactions.antt` says of what it sees.
-//! It stands on `rows` alone.
+//! Promised: a value at a version is that of the tables after so many commits; the newest version
+//! of a row is the last commit that wrote it; a commit is absorbed wholly or not at all; each call
+//! of a transaction answers what `specs/Transactions.antt` specifies for what the transaction sees.
+//!
+//! It uses only `rows`. If a call fails for lack of memory, its value is unchanged unless the call
+//! says otherwise.
 #![tactic(auto)]
 
 mod bytes_after;

@@ -1,7 +1,7 @@
 use crate::kept_bytes::KeptBytes;
 
-/// What a commit that wrote a row left of it: the commit's number, and the row's bytes after it,
-/// `None` where it left the row deleted.
+/// The state of a row after a commit that wrote it: the commit's number, and the row's bytes, or
+/// `None` if the commit deleted the row.
 #[derive(Debug, Drop)]
 pub struct Link {
     pub version: u64,

@@ -1,4 +1,4 @@
-//! Which of a transaction's entries tell of each row that it writes.
+//! Which of a transaction's entries still matter for each row that it writes.
 
 ghost use Rattle.std.specs.Prelude.{◌≡◌, ℕ, [], ◌∷◌, ◌++◌, ◌==◌, ◌&&◌, length, IfOk, OnOk, OnErr, if◌then◌else◌};
 ghost use Rattle.mvcc.specs.Inner.OwnRows.{indices_at, is_patch_of, supersedes, is_superseded, kept_indices};
@@ -31,7 +31,7 @@ impl Indices {
     }
 }
 
-/// For each row the indices, in a list of entries, of those that tell of it.
+/// For each row the indices, in a list of entries, of those that still matter for it.
 ///
 /// Contracts see the list of rows and indices.
 #[derive(Debug, Drop)]
@@ -67,8 +67,7 @@ impl OwnRows {
         }
     }
 
-    /// Gives a row these indices instead of those that it had. Fails only when out of memory,
-    /// and then nothing has changed.
+    /// Replaces the indices of a row. Fails only if out of memory.
     pub fn put(&mut self, table: u8, row: RowId, indices: Indices) -> Result<(), AllocError>
         ensures ok { OnOk result ((t r : ℕ)
             → indices_at self.new t r ≡ (if (table == t) && (row.0 == r) then indices else indices_at self.old t r)) }
@@ -79,9 +78,8 @@ impl OwnRows {
     }
 }
 
-/// The indices of a row's entries once one more entry of it goes behind `entries`: those indices
-/// without the ones of entries of which it leaves nothing, and its own. Fails only when out of
-/// memory.
+/// The indices of a row's entries after one more entry of it is added to `entries`: the earlier
+/// ones without those that it supersedes, and its own. Fails only if out of memory.
 pub fn indices_with(
     alloc: Global,
     entries: &[Entry],
@@ -100,7 +98,7 @@ pub fn indices_with(
     Ok(Indices { items })
 }
 
-/// Whether the entry leaves nothing of the one at that index.
+/// Whether the entry supersedes the one at that index.
 fn is_superseded(entries: &[Entry], entry: &Entry, index: usize) -> bool
     ensures { result ≡ is_superseded entries.now entry.now index }
 {
@@ -110,8 +108,8 @@ fn is_superseded(entries: &[Entry], entry: &Entry, index: usize) -> bool
     }
 }
 
-/// Whether an entry leaves nothing of an earlier one of its row: a delete of any, a patch of a
-/// patch of the same bytes.
+/// Whether an entry supersedes an earlier one of its row: a delete supersedes any, a patch a patch
+/// of the same bytes.
 fn supersedes(entry: &Entry, earlier: &Entry) -> bool
     ensures { result ≡ supersedes entry.now earlier.now }
 {
@@ -122,7 +120,7 @@ fn supersedes(entry: &Entry, earlier: &Entry) -> bool
     }
 }
 
-/// Whether the entry is a patch of the bytes from `start` on, this many.
+/// Whether the entry is a patch of this many bytes from `start` on.
 fn is_patch_of(entry: &Entry, start: u16, size: usize) -> bool
     ensures { result ≡ is_patch_of entry.now start size }
 {

@@ -8,8 +8,8 @@ use std::alloc::{AllocError, Global};
 use std::collections::BTreeMap;
 use std::marker::Model;
 
-/// Of the rows that entries wrote, whether each is there after them. Contracts see the list of
-/// rows, by table and identifier.
+/// For each row that entries wrote, whether it is there after them. Contracts see the list of rows,
+/// by table and identifier.
 #[derive(Debug, Drop)]
 pub struct RowsTold {
     rows: BTreeMap<(u8, u64), bool>,
@@ -33,14 +33,15 @@ impl RowsTold {
         }
     }
 
-    /// Whether the row is there; `None` where nothing is told of it.
+    /// Whether the row is there; `None` if nothing is recorded for it.
     pub fn of(&self, table: u8, row: RowId) -> Option<bool>
         ensures { result ≡ told_of self.now table row.0 }
     {
         self.rows.get(&(table, row.0)).copied()
     }
 
-    /// Tells whether the row is there. Fails only when out of memory.
+    /// Records whether the row is there. Fails only if out of memory; nothing is then known of the
+    /// record.
     pub fn tell(&mut self, table: u8, row: RowId, there: bool) -> Result<(), AllocError>
         ensures { OnOk result ((t r : ℕ)
             → told_of self.new t r ≡ (if (table == t) && (row.0 == r) then Some there else told_of self.old t r)) }

@@ -29,8 +29,9 @@ use std::marker::Model;
 
 /// A transaction: the version that it reads, and its entries in the order of its calls.
 ///
-/// It sees the rows at its snapshot, changed by its own entries. A look at a row costs a look-up,
-/// however many entries there are: `OwnRows` has the indices of those that tell of the row.
+/// It sees the rows at its snapshot, changed by its own entries. Reading a row costs a look-up,
+/// however many entries there are: `OwnRows` has the indices of those that still matter for the
+/// row.
 #[derive(Debug, Drop)]
 pub struct Transaction {
     alloc: Global,
@@ -94,12 +95,12 @@ impl Transaction {
         EntryList::from_vec(entries)
     }
 
-    /// Puts a new row into a table. `versions` are those that it began on, with at least as many
-    /// commits as its snapshot.
+    /// Inserts a row into a table. `versions` are those on which the transaction began, with at
+    /// least as many commits as its snapshot.
     ///
     /// Fails with the first of these: `Unfit`, the table is not there or the values are not of its
     /// columns' kinds, one each; `Exists`, the row is there as the transaction sees it;
-    /// `TooManyEntries`; `Memory`. The transaction is then as it was.
+    /// `TooManyEntries`; `Memory`. The transaction is then unchanged.
     pub fn insert(
         &mut self,
         versions: &Versions,
@@ -130,12 +131,12 @@ impl Transaction {
         }
     }
 
-    /// Gives one column of a row another value. `versions` are those that it began on, with at
-    /// least as many commits as its snapshot.
+    /// Sets one column of a row to another value. `versions` are those on which the transaction
+    /// began, with at least as many commits as its snapshot.
     ///
-    /// Fails with the first of these: `Unfit`, the table or the column is not there or the value
-    /// is not of its kind; `Missing`, the row is not there as the transaction sees it;
-    /// `TooManyEntries`; `Memory`. The transaction is then as it was.
+    /// Fails with the first of these: `Unfit`, the table or the column is not there or the value is
+    /// not of its kind; `Missing`, the row is not there as the transaction sees it;
+    /// `TooManyEntries`; `Memory`. The transaction is then unchanged.
     pub fn set(
         &mut self,
         versions: &Versions,
@@ -167,12 +168,12 @@ impl Transaction {
         }
     }
 
-    /// Takes a row out of a table. `versions` are those that it began on, with at least as many
-    /// commits as its snapshot.
+    /// Deletes a row from a table. `versions` are those on which the transaction began, with at
+    /// least as many commits as its snapshot.
     ///
     /// Fails with the first of these: `Unfit`, the table is not there; `Missing`, the row is not
-    /// there as the transaction sees it; `TooManyEntries`; `Memory`. The transaction is then as it
-    /// was.
+    /// there as the transaction sees it; `TooManyEntries`; `Memory`. The transaction is then
+    /// unchanged.
     pub fn delete(&mut self, versions: &Versions, table: u8, row: RowId) -> Result<(), TxFault>
         requires { self.old.snapshot ≤ length versions.now.commits }
         ensures same_snapshot { self.new.snapshot ≡ self.old.snapshot }
@@ -195,11 +196,11 @@ impl Transaction {
         }
     }
 
-    /// The value of one column of a row, as the transaction sees it. `versions` are those that it
-    /// began on, with at least as many commits as its snapshot. Takes no memory.
+    /// The value of one column of a row, as the transaction sees it. `versions` are those on which
+    /// the transaction began, with at least as many commits as its snapshot. Takes no memory.
     ///
-    /// Fails with the first of these: `Unfit`, the table or the column is not there; `Missing`,
-    /// the row is not there as the transaction sees it.
+    /// Fails with the first of these: `Unfit`, the table or the column is not there; `Missing`, the
+    /// row is not there as the transaction sees it.
     pub fn get(
         &self,
         versions: &Versions,
@@ -219,8 +220,8 @@ impl Transaction {
         }
     }
 
-    /// The kinds of a table's columns, as the transaction sees them; `None` where there is no table
-    /// of that number.
+    /// The kinds of a table's columns, as the transaction sees them; `None` if there is no table of
+    /// that number.
     fn kinds<'v>(&self, versions: &'v Versions, table: u8) -> Option<&'v [Kind]>
         ensures { option_map (λ k. k.now) result
             ≡ slice_get (seen_shape (shape_of versions.now.schema) versions.now.commits self.now) table }
@@ -238,8 +239,8 @@ impl Transaction {
         has_column(versions.schema(), table, column)
     }
 
-    /// Where the column begins among its row's bytes, as the transaction sees them; `None` where
-    /// the table or the column is not there, or the value is not of its kind.
+    /// Where the column begins among its row's bytes, as the transaction sees them; `None` if the
+    /// table or the column is not there, or the value is not of its kind.
     fn offset_for(
         &self,
         versions: &Versions,
@@ -264,8 +265,8 @@ impl Transaction {
         self.cell(versions, table, row, 0).is_some()
     }
 
-    /// One column of a row, as the transaction sees it: `None` where the row is not there, and
-    /// `Some(None)` where it has no such column.
+    /// One column of a row, as the transaction sees it: `None` if the row is not there, and
+    /// `Some(None)` if it has no such column.
     fn cell(
         &self,
         versions: &Versions,
@@ -289,7 +290,7 @@ impl Transaction {
         }
     }
 
-    /// Adds an insert at the end. Fails only when out of memory, and then nothing has changed.
+    /// Adds an insert at the end. Fails only if out of memory.
     fn add_insert(&mut self, table: u8, row: RowId, values: &[Value]) -> Result<(), AllocError>
         requires { length self.old.entries < commit_entries_max }
         ensures ok { OnOk result
@@ -300,7 +301,7 @@ impl Transaction {
         self.add(Entry::Insert { table, row, bytes })
     }
 
-    /// Adds a patch at the end. Fails only when out of memory, and then nothing has changed.
+    /// Adds a patch at the end. Fails only if out of memory.
     fn add_patch(
         &mut self,
         table: u8,
@@ -322,7 +323,7 @@ impl Transaction {
         })
     }
 
-    /// Adds an entry at the end. Fails only when out of memory, and then nothing has changed.
+    /// Adds an entry at the end. Fails only if out of memory.
     fn add(&mut self, entry: Entry) -> Result<(), AllocError>
         requires { length self.old.entries < commit_entries_max }
         ensures ok { OnOk result (self.new ≡ record self.old { entries = self.old.entries ++ entry ∷ [] }) }
@@ -339,8 +340,8 @@ impl Transaction {
     }
 }
 
-/// One column of a row at a version: `None` where the row is not there, and `Some(None)` where it
-/// has no such column.
+/// One column of a row at a version: `None` if the row is not there, and `Some(None)` if it has no
+/// such column.
 fn cell_at(
     versions: &Versions,
     version: u64,
@@ -368,8 +369,8 @@ fn has_column(schema: &Schema, table: u8, column: usize) -> bool
     }
 }
 
-/// Where the column begins among its row's bytes; `None` where the table or the column is not
-/// there, or the value is not of its kind.
+/// Where the column begins among its row's bytes; `None` if the table or the column is not there,
+/// or the value is not of its kind.
 fn offset_for(schema: &Schema, table: u8, column: usize, value: &Value) -> Option<u16>
     ensures { result ≡ (if match_column value.now (column_kind (shape_of schema.now) table column)
         then Some (column_offset (shape_of schema.now) table column) else None) }

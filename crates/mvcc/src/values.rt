@@ -1,4 +1,4 @@
-//! Whether values are those of columns.
+//! Whether values match columns.
 
 ghost use Rattle.std.specs.Prelude.{◌≡◌};
 ghost use Rattle.std.specs.Option.{option_map};

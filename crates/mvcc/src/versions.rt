@@ -25,8 +25,8 @@ use std::marker::Model;
 
 /// The versions of a database: version `n` is the rows after the first `n` commits.
 ///
-/// Contracts see the schema and the list of commits. Each commit's entries are
-/// defined where they stand.
+/// Contracts see the schema and the list of commits. Each commit's entries are defined where they
+/// stand.
 #[derive(Debug, Drop)]
 pub struct Versions {
     alloc: Global,
@@ -48,7 +48,7 @@ impl Model for Versions {
 }
 
 impl Versions {
-    /// The versions of a database without commits. Fails only when out of memory.
+    /// The versions of a database without commits. Fails only if out of memory.
     pub fn new(alloc: Global, schema: &Schema) -> Result<Versions, AllocError>
         ensures { IfOk result (λ versions. versions ≡ record { schema = schema.now; commits = [] }) }
     {
@@ -60,15 +60,15 @@ impl Versions {
         })
     }
 
-    /// Each entry of the commits is defined where it stands, in all of them and in the first of them
-    /// up to any version. It does nothing: its contract is the law.
+    /// Each entry of the commits is defined where it stands, in the whole list and in each
+    /// beginning of it. It does nothing: its contract is the law.
     pub fn keeps_defined(&self)
         ensures all { IsOk (apply_commits (opening (shape_of self.now.schema)) self.now.commits) }
         ensures first { (version : ℕ)
             → IsOk (apply_commits (opening (shape_of self.now.schema)) (take version self.now.commits)) }
     {
         commits_are_defined_one_by_one();
-        // A look at a field brings the invariant to the proof.
+        // A look at a field makes the invariant known to the proof.
         let _ = &self.chains;
     }
 
@@ -108,8 +108,8 @@ impl Versions {
         self.commits.as_slice().get(index as usize)
     }
 
-    /// Adds a commit of a worker at the end, with a copy of these entries. Fails only when out of
-    /// memory, and then nothing has changed.
+    /// Adds a commit of a worker at the end, with a copy of these entries. Fails only if out of
+    /// memory.
     pub fn absorb(&mut self, worker: u8, entries: &[Entry]) -> Result<(), AllocError>
         requires { defined_at self.old (length self.old.commits) entries.now ≡ true }
         ensures ok { OnOk result
@@ -124,8 +124,8 @@ impl Versions {
     }
 
     /// Adds a commit at the end, with a copy of its entries, if each of them is defined where it
-    /// stands on the newest rows, and otherwise changes nothing; answers whether it was added. Fails
-    /// only when out of memory, and then nothing has changed.
+    /// stands on the newest rows, and otherwise changes nothing; answers whether it was added.
+    /// Fails only if out of memory.
     pub fn apply(&mut self, commit: &Commit) -> Result<bool, AllocError>
         ensures ok { IfOk result (λ added. (added ≡ defined_at self.old (length self.old.commits) commit.now.entries)
             × (self.new ≡ absorbed self.old commit.now)) }
@@ -139,8 +139,8 @@ impl Versions {
         Ok(true)
     }
 
-    /// The same as `apply`, which takes the commit over and copies nothing of its list. Where it fails,
-    /// it hands the commit back.
+    /// The same as `apply`, but takes the commit over and does not copy its list. If it fails, it
+    /// hands the commit back.
     pub fn apply_owned(&mut self, commit: Commit) -> Result<bool, Commit>
         ensures ok { IfOk result (λ added. (added ≡ defined_at self.old (length self.old.commits) commit.entries)
             × (self.new ≡ absorbed self.old commit)) }
@@ -153,8 +153,7 @@ impl Versions {
         Ok(true)
     }
 
-    /// Adds a commit at the end. Fails only when out of memory, hands the commit back, and nothing has
-    /// changed.
+    /// Adds a commit at the end. Fails only if out of memory, and then hands the commit back.
     fn add(&mut self, commit: Commit) -> Result<(), Commit>
         requires { defined_at self.old (length self.old.commits) commit.entries ≡ true }
         ensures ok { OnOk result (self.new ≡ record self.old { commits = self.old.commits ++ commit ∷ [] }) }
@@ -173,9 +172,10 @@ impl Versions {
         Ok(())
     }
 
-    /// Whether each of the entries is defined where it stands on the rows at that version. Each that is
-    /// has a spelling. A look-up or two an entry, while there is memory to note the rows that the
-    /// entries before it wrote; without it each entry walks over those before.
+    /// Whether each of the entries is defined where it stands on the rows at that version. Each
+    /// entry that is defined has a spelling. It costs one or two look-ups for each entry, while
+    /// there is memory to record the rows that the entries before it wrote; without memory it goes
+    /// over the earlier entries for each one.
     pub fn are_defined(&self, version: u64, entries: &[Entry]) -> bool
         requires { version ≤ length self.now.commits }
         ensures answer { result ≡ defined_at self.now version entries.now }
@@ -193,8 +193,8 @@ impl Versions {
         self.chains.bytes_at(version, table, row).is_some()
     }
 
-    /// The value of a column of a row at that version; `None` where the row is not there, or has
-    /// no such column.
+    /// The value of a column of a row at that version; `None` if the row is not there, or has no
+    /// such column.
     pub fn value_at(&self, version: u64, table: u8, row: RowId, column: usize) -> Option<Value>
         requires { version ≤ length self.now.commits }
         ensures { result ≡ value_in (tables_at self.now version) table row.0 column }
@@ -205,22 +205,23 @@ impl Versions {
         value_in_row(kinds, bytes, column)
     }
 
-    /// The number of the last commit with an entry of that row, 0 where there is none.
+    /// The number of the last commit with an entry of that row; 0 if there is none.
     pub fn newest(&self, table: u8, row: RowId) -> u64
         ensures { result ≡ newest_of table row.0 self.now.commits }
     {
         self.chains.newest(table, row)
     }
 
-    /// The number of the last commit that touches a row of these entries, 0 where none does.
-    /// Entries that are defined at that version, or at a later one, are defined at the newest.
+    /// The number of the last commit that touches a row of these entries; 0 if none does. Entries
+    /// that are defined at the version of that number, or at a later one, are also defined at the
+    /// newest.
     pub fn last_touching(&self, entries: &[Entry]) -> u64
         ensures last { result ≡ last_touching entries.now 0 self.now.commits }
         ensures stay_defined { (version : ℕ) → result ≤ version → defined_at self.now version entries.now ≡ true
             → defined_at self.now (length self.now.commits) entries.now ≡ true }
     {
         entries_are_defined_one_by_one();
-        // A look at a field brings the invariant to the proof.
+        // A look at a field makes the invariant known to the proof.
         let _ = &self.chains;
         let mut last = 0;
         for entry in entries {

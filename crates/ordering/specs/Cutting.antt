@@ -4,7 +4,7 @@ use Rattle.rows.specs.declared.commit.Commit.{Commit}
 use Rattle.update_log.specs.declared.frame.Frame.{Frame}
 use Rattle.update_log.specs.Streams.{stream_of, frame_count}
 
--- the commits behind the first `from`, up to the first `to`
+-- the commits after the first `from`, up to the first `to`
 abbrev pub commits_between : List Commit → ℕ → ℕ → List Commit
 commits_between commits from to = take (to - from) (drop from commits)
 

@@ -20,7 +20,7 @@ abbrev pub CutFramesMerge : Type 0
 CutFramesMerge = (workers : ℕ) (commits : List Commit) (from to : ℕ) → AllByRecursion (IsCommit workers) commits → from ≤ to
     → to ≤ length commits → IsMerge (frames_cut commits from to) from to (commits_between commits from to)
 
--- and so is that of kept frames, where all that has come is of the streams of commits, and they are counted
+-- and so is that of kept frames, if all that has come is of the streams of commits, and they are counted
 abbrev pub KeptFramesMerge : Type 0
 KeptFramesMerge = (workers : ℕ) (all : List Arrivals) (commits : List Commit) (from to : ℕ) (lows highs : List ℕ)
     → AllByRecursion (IsCommit workers) commits → from ≤ to → to ≤ length commits → AreFrom commits all → AreAllKept all lows highs

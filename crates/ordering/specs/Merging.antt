@@ -22,13 +22,13 @@ pub record HoldCommit (number : ℕ) (entries : List Entry) (frames : List Frame
   pub some : 0 < length entries
   pub few : length entries ≤ commit_entries_max
 
--- a worker's frames of a commit: they hold it where it is the worker's own, and otherwise there are none
+-- a worker's frames of a commit: they hold it if it is the worker's own, and otherwise there are none
 abbrev pub HoldIfOwn : Bool → ℕ → List Entry → List Frame → Type 0
 HoldIfOwn true number entries frames = HoldCommit number entries frames
 HoldIfOwn false number entries frames = frames ≡ []
 
--- a worker's frames are those of its own commits among these, which stand behind `before` others: the frames of each stand
--- together, behind those of the one before
+-- a worker's frames are those of its own commits among these, which stand after `before` others: the frames of each stand
+-- together, after those of the one before
 abbrev pub HoldCommits : ℕ → ℕ → List Commit → List Frame → Type 0
 HoldCommits worker before [] frames = frames ≡ []
 HoldCommits worker before (commit ∷ commits) frames =

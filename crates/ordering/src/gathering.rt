@@ -1,4 +1,4 @@
-//! The frames of one commit, put together.
+//! Putting the frames of one commit together.
 
 ghost use Rattle.std.specs.Prelude.{◌≡◌, ◌<◌, ◌≤◌, ◌++◌, Some, IsSome, IfOk, IfErr, OnOk};
 ghost use Rattle.intake.specs.State.{frame_of};
@@ -13,15 +13,15 @@ use rows::{Entry, EntryList};
 use std::alloc::{AllocError, Global};
 use update_log::Frame;
 
-/// The entries of a commit, and the seq behind its last frame.
+/// The entries of a commit, and the seq after its last frame.
 #[derive(Drop)]
 pub struct Gathered {
     pub entries: EntryList,
     pub next: u64,
 }
 
-/// The commit of that number whose frames stand first among a worker's frames from `first` to before
-/// `end`. `Inconsistent` where none of that number stands there.
+/// The commit of that number whose frames are first among a worker's frames from `first` to before
+/// `end`. `Inconsistent` if there is none of that number.
 pub fn gather(
     alloc: Global,
     intake: &Intake,
@@ -73,7 +73,7 @@ pub fn kept_frame(intake: &Intake, worker: u8, seq: u64) -> &Frame
     }
 }
 
-/// Adds copies of more entries. Fails only where it is out of memory.
+/// Adds copies of more entries. Fails only if out of memory; nothing is then known of the list.
 fn append(entries: &mut EntryList, more: &[Entry]) -> Result<(), AllocError>
     ensures { OnOk result (entries.new ≡ entries.old ++ more.now) }
 {
@@ -83,7 +83,7 @@ fn append(entries: &mut EntryList, more: &[Entry]) -> Result<(), AllocError>
     Ok(())
 }
 
-/// The same entry once more. Fails only where it is out of memory.
+/// A copy of the entry. Fails only if out of memory.
 fn copy_of(entry: &Entry) -> Result<Entry, AllocError>
     ensures { IfOk result (λ copy. copy ≡ entry.now) }
 {

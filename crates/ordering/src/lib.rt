@@ -1,17 +1,20 @@
-//! The merge of many workers' frames by the numbers of their commits.
+//! The merge of the frames of many workers by the numbers of their commits.
 //!
-//! Each worker's frames stand in the order of its commits, and each frame bears its commit's number.
-//! `specs/` says which list of commits the frames of all workers hold together (`Merging.antt`),
-//! which frames were cut from the commits between two versions (`Cutting.antt`), and the laws of
-//! both (`Laws.antt`). `Inner` only helps proofs.
+//! Each worker's frames are in the order of its commits, and each frame contains its commit's
+//! number. `specs/` defines which list of commits the frames of all workers hold together
+//! (`Merging.antt`), which frames were cut from the commits between two versions (`Cutting.antt`),
+//! and the laws of both (`Laws.antt`). `Inner` only helps proofs.
 //!
-//! For each commit the next frame of each worker is looked at, no frame is gone back to, and each
-//! entry is copied once.
+//! For each commit the merge looks at the next frame of each worker. It never goes back to a frame,
+//! and copies each entry once.
 //!
-//! Promised: `ordered` answers the one list of commits that the frames hold, and `Inconsistent`
-//! exactly where they hold none, out of memory aside. `one_merge` says that there is no second, and
-//! that the merge of frames that were cut from commits is these commits. It stands on `intake` for
-//! frames that are kept.
+//! Promised: `ordered` answers the one list of commits that the frames hold, or `Inconsistent`
+//! exactly if they hold none, except that it may run out of memory. `one_merge` states that there
+//! is no other such list, and that merging the frames that were cut from commits gives these
+//! commits back.
+//!
+//! It uses `intake` for the frames that are kept. If a call fails for lack of memory, its value is
+//! unchanged unless the call says otherwise.
 #![tactic(auto)]
 
 mod faults;

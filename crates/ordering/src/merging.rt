@@ -13,11 +13,11 @@ use intake::Intake;
 use rows::Commit;
 use std::alloc::Global;
 
-/// The commits `from` + 1 to `to`, in order, that each worker's frames from its low to before its
-/// high hold together. `low` and `high` have one seq for each worker, and these frames are kept.
-/// `Inconsistent` exactly where they hold no such list of commits; `Memory` only where out of
-/// memory. For each commit the next frame of each worker is looked at, of at most 16, no frame is
-/// gone back to, and each entry is copied once.
+/// The commits `from` + 1 to `to`, in order, that are held together by each worker's frames from
+/// its low to before its high. `low` and `high` have one seq for each worker, and these frames are
+/// kept. `Inconsistent` exactly if they hold no such list of commits; `Memory` only if out of
+/// memory. For each commit it looks at the next frame of each worker, of at most 16, never goes
+/// back to a frame, and copies each entry once.
 pub fn ordered(
     alloc: Global,
     intake: &Intake,
@@ -56,8 +56,8 @@ pub fn ordered(
     }
 }
 
-/// The next commit behind `before` others, and each worker's next seq behind it. After a fault the
-/// seqs are what they were.
+/// The next commit after `before` others, and each worker's next seq after it. After a fault the
+/// seqs are unchanged.
 fn next_commit(
     alloc: Global,
     intake: &Intake,
@@ -99,7 +99,7 @@ fn next_commit(
     }
 }
 
-/// The least worker whose next frame is of the commit of that number.
+/// The least worker whose next frame belongs to the commit of that number.
 fn worker_of(intake: &Intake, at: &[u64], high: &[u64], number: u64) -> Option<usize>
     requires each { length at.now ≡ length high.now }
     requires workers { length at.now ≤ workers_max }
@@ -116,7 +116,7 @@ fn worker_of(intake: &Intake, at: &[u64], high: &[u64], number: u64) -> Option<u
     None
 }
 
-/// Whether the first of a worker's frames from `next` to before `end` is of the commit of that
+/// Whether the first of a worker's frames from `next` to before `end` belongs to the commit of that
 /// number.
 fn is_next(intake: &Intake, worker: u8, next: u64, end: u64, number: u64) -> bool
     requires { AreKept intake.now worker next end }

@@ -22,17 +22,17 @@ use Rattle.plans.specs.Order.{value_cmp, group_cmp, rising}
 
 -- ---- the rows of a plan
 
--- a row of the plan's table, and the row that it is joined with, which has no values where none is joined
+-- a row of the plan's table, and the row that it is joined with, which has no values if none is joined
 pub record JoinedRow : Type 0 where
   pub own : List Value
   pub joined : List Value
 
--- the value of a column of a row, where it has that column
+-- the value of a column of a row, if it has that column
 abbrev pub column_in : JoinedRow → Column → Option Value
 column_in row (Own column) = slice_get row.own column
 column_in row (Joined column) = slice_get row.joined column
 
--- the same; 0 where it has no such column, which no plan that fits names
+-- the same; 0 if it has no such column, which no plan that fits names
 abbrev pub joined_value : JoinedRow → Column → Value
 joined_value row column = unwrap_or (column_in row column) (Int (pos 0))
 
@@ -42,7 +42,7 @@ id_of (Int (pos id)) = Some id
 id_of (Int (negsuc n)) = None
 id_of (Octets bytes) = None
 
--- a row with the row that it is joined with; nothing where that is not there
+-- a row with the row that it is joined with; nothing if that is not there
 abbrev pub joined_with : Tables → Option Join → List Value → Option JoinedRow
 joined_with tables None own = Some (record { own = own; joined = [] })
 joined_with tables (Some join) own =
@@ -58,10 +58,11 @@ passes compared.AtMost order = is_le order
 passes compared.Greater order = is_gt order
 passes compared.AtLeast order = is_ge order
 
+-- whether a row meets a condition
 abbrev pub meets : JoinedRow → Condition → Bool
 meets row condition = passes condition.comparison (value_cmp (joined_value row condition.column) condition.value)
 
--- of these rows of the plan's table, those that are joined where it joins, and meet all its conditions
+-- of these rows of the plan's table, those that are joined if it joins, and meet all its conditions
 abbrev pub rows_among : Tables → Plan → List (ℕ × List Value) → List JoinedRow
 rows_among tables plan rows =
     filter (λ row. list_all (meets row) plan.conditions) (filter_map (λ row. joined_with tables plan.join row.1) rows)
@@ -88,6 +89,7 @@ abbrev pub integer_of : Value → ℤ
 integer_of (Int number) = number
 integer_of (Octets bytes) = pos 0
 
+-- the sum of numbers
 abbrev pub total : List ℤ → ℤ
 total [] = pos 0
 total (number ∷ numbers) = number +ℤ total numbers
@@ -99,7 +101,7 @@ lesser value other = if is_gt (value_cmp value other) then other else value
 abbrev pub greater : Value → Value → Value
 greater value other = if is_gt (value_cmp other value) then other else value
 
--- the better of a value and the best of others, where there are others
+-- the better of a value and the best of others, if there are others
 abbrev pub beside : (Value → Value → Value) → Value → Option Value → Value
 beside better value None = value
 beside better value (Some other) = better value other
@@ -135,5 +137,6 @@ line_of plan rows group = map Stored group ++ map (aggregate_of (rows_in plan.gr
 abbrev pub answer_lines : Plan → List JoinedRow → List (List Field)
 answer_lines plan rows = map (line_of plan rows) (rising (groups_of plan.groups rows))
 
+-- the plain answer of a plan on tables: the lines of the groups of the rows that it looks at
 abbrev pub plain_answer : Tables → Plan → List (List Field)
 plain_answer tables plan = answer_lines plan (rows_among tables plan (rows_of tables plan.table))

@@ -39,6 +39,7 @@ abbrev pub presence_fault : Option Kind → Option PlanFault
 presence_fault None = Some NoColumn
 presence_fault (Some kind) = None
 
+-- the fault of a join: its column is to be one of numbers
 abbrev pub join_fault : List Kind → Option Join → Option PlanFault
 join_fault own None = None
 join_fault own (Some join) = number_fault (slice_get own join.column)
@@ -48,13 +49,15 @@ abbrev pub value_fault : Value → Option Kind → Option PlanFault
 value_fault value None = Some NoColumn
 value_fault value (Some kind) = if is_of_kind value kind then None else Some WrongKind
 
--- a condition's value is to be of its column's kind
+-- the fault of a condition: its value is to be of its column's kind
 abbrev pub condition_fault : List Kind → List Kind → Condition → Option PlanFault
 condition_fault own joined condition = value_fault condition.value (kind_among own joined condition.column)
 
+-- the fault of a column to group by: it is to be there
 abbrev pub group_fault : List Kind → List Kind → Column → Option PlanFault
 group_fault own joined column = presence_fault (kind_among own joined column)
 
+-- the fault of an aggregate: its column is to be there, and only numbers are summed
 abbrev pub aggregate_fault : List Kind → List Kind → Aggregate → Option PlanFault
 aggregate_fault own joined Count = None
 aggregate_fault own joined (Sum column) = number_fault (kind_among own joined column)
@@ -70,18 +73,19 @@ column_faults own joined plan = first (
     ∷ first (map (aggregate_fault own joined) plan.aggregates)
     ∷ [])
 
+-- whether a plan has more conditions, columns to group by or aggregates than it may
 abbrev pub is_too_many : Plan → Bool
 is_too_many plan =
     nat_lt conditions_max (length plan.conditions)
     || nat_lt groups_max (length plan.groups)
     || nat_lt aggregates_max (length plan.aggregates)
 
--- the kinds of the columns that are joined, none without a join; `None` where the table is not there
+-- the kinds of the columns that are joined, none without a join; `None` if the table is not there
 abbrev pub joined_kinds : Shape → Option Join → Option (List Kind)
 joined_kinds shape None = Some []
 joined_kinds shape (Some join) = slice_get shape join.table
 
--- the faults of columns, where both tables are there
+-- the faults of columns, if both tables are there
 abbrev pub fault_by_tables : Option (List Kind) → Option (List Kind) → Plan → Option PlanFault
 fault_by_tables None joined plan = Some NoTable
 fault_by_tables (Some own) None plan = Some NoTable

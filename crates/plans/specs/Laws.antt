@@ -9,7 +9,7 @@ use Rattle.plans.specs.declared.plan.Plan.{Plan}
 use Rattle.plans.specs.Checking.{checked}
 use Rattle.plans.specs.Order.{group_cmp, rising}
 
--- they rise, so that each is there once
+-- the groups of an answer rise, so each is there once
 abbrev pub GroupsRise : Type 0
 GroupsRise = (groups : List (List Value)) → IsStrictlySortedBy group_cmp (rising groups)
 
@@ -17,7 +17,7 @@ GroupsRise = (groups : List (List Value)) → IsStrictlySortedBy group_cmp (risi
 abbrev pub GroupsStay : Type 0
 GroupsStay = (groups : List (List Value)) (group : List Value) → Contains (rising groups) group ↔ Contains groups group
 
--- a plan that fits still fits where a table has one column more, behind the others
+-- a plan that fits still fits if a table has one column more, after the others
 abbrev pub PlanStillFits : Type 0
 PlanStillFits =
     (front back : Shape) (columns : List Kind) (kind : Kind) (plan : Plan) → checked (front ++ columns ∷ back) plan ≡ Ok tt

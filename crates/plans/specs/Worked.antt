@@ -93,6 +93,7 @@ n number = Number number
 abbrev v : ℤ → Field
 v number = Stored (Int number)
 
+-- the worked plans with their answers
 pub record WorkedAnswers : Type 0 where
   pub site : plain_answer worked_tables by_site ≡
       (Stored (two 0x4e 0x45) ∷ n (pos 2) ∷ n (pos 70) ∷ v (pos 100) ∷ [])

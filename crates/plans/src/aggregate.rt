@@ -5,10 +5,10 @@ use crate::column::Column;
 pub enum Aggregate {
     /// How many rows it has.
     Count,
-    /// The exact sum of a column of numbers; 0 of no rows.
+    /// The exact sum of a column of numbers; 0 for no rows.
     Sum(Column),
-    /// The least value of a column; of no rows there is none.
+    /// The least value of a column; none for no rows.
     Min(Column),
-    /// The greatest value of a column; of no rows there is none.
+    /// The greatest value of a column; none for no rows.
     Max(Column),
 }

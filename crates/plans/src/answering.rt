@@ -21,7 +21,7 @@ use std::marker::Sync;
 use store::{Store, rows_stand_in_order};
 
 /// The answers of plans on the rows of a store, in their order. Each plan was checked against the
-/// kinds of the store's tables, and the store is whole. Fails only when out of memory.
+/// kinds of the store's tables, and the store is whole. Fails only if out of memory.
 pub fn answer_batch<S: Store + Sync>(
     alloc: Global,
     store: &S,
@@ -38,7 +38,7 @@ pub fn answer_batch<S: Store + Sync>(
     Ok(answers)
 }
 
-/// The answer of one plan. Fails only when out of memory.
+/// The answer of one plan. Fails only if out of memory.
 fn answer<S: Store>(alloc: Global, store: &S, plan: &Plan) -> Result<Answer, AllocError>
     requires whole { S.is_whole store.now ≡ true }
     requires checked { checked (shape_in (S.tables store.now)) plan.now ≡ Ok tt }
@@ -51,8 +51,8 @@ fn answer<S: Store>(alloc: Global, store: &S, plan: &Plan) -> Result<Answer, All
     groups.answer(alloc)
 }
 
-/// Adds the row at an index of the plan's table, where the plan looks at it, to what is kept of the
-/// rows before it. Fails only when out of memory.
+/// Adds the row at an index of the plan's table, if the plan selects it, to what was computed from
+/// the rows before it. Fails only if out of memory; nothing is then known of the groups.
 fn take_row<S: Store>(
     alloc: Global,
     store: &S,
@@ -81,8 +81,8 @@ fn take_row<S: Store>(
     groups.add(alloc, store, plan, &row, i)
 }
 
-/// Where a row of the plan's table stands with the row that it is joined with; `None` where that is
-/// not there.
+/// The place of a row of the plan's table, with that of the row that it is joined with; `None` if
+/// the latter is not there.
 fn joined_row<S: Store>(store: &S, plan: &Plan, place: S::Place) -> Option<RowPlace<S::Place>>
     requires whole { S.is_whole store.now ≡ true }
     requires there { HasJoin plan.now.join (unwrap_or (S.values_at store.now plan.now.table place) []) }
@@ -106,7 +106,7 @@ fn joined_row<S: Store>(store: &S, plan: &Plan, place: S::Place) -> Option<RowPl
     })
 }
 
-/// The identifier of a row that a value names; `None` where it is negative, or no number.
+/// The identifier of a row that a value names; `None` if the value is negative, or not a number.
 fn id_of(value: Value) -> Option<RowId>
     ensures { option_map (λ id. id.0) result ≡ id_of value }
 {

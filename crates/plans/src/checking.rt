@@ -43,8 +43,8 @@ fn is_too_many(plan: &Plan) -> bool
         || plan.aggregates.as_slice().len() > AGGREGATES_MAX
 }
 
-/// The kinds of the columns that a plan joins, none where it joins no table; `None` where the
-/// table is not there.
+/// The kinds of the columns that a plan joins, none if it joins no table; `None` if the table is
+/// not there.
 fn joined_kinds<'s>(schema: &'s Schema, join: Option<Join>) -> Option<&'s [Kind]>
     ensures { option_map (λ kinds. kinds.now) result ≡ joined_kinds (shape_of schema.now) join }
 {
@@ -54,7 +54,8 @@ fn joined_kinds<'s>(schema: &'s Schema, join: Option<Join>) -> Option<&'s [Kind]
     }
 }
 
-/// The first fault of a plan's columns, among those of its table and of the table that it joins.
+/// The first fault of a plan's columns, given the columns of its table and of the table that it
+/// joins.
 fn column_faults(own: &[Kind], joined: &[Kind], plan: &Plan) -> Option<PlanFault>
     ensures { result ≡ column_faults own.now joined.now plan.now }
 {
@@ -70,7 +71,7 @@ fn column_faults(own: &[Kind], joined: &[Kind], plan: &Plan) -> Option<PlanFault
     aggregates_fault(own, joined, plan.aggregates.as_slice())
 }
 
-/// The kind of a column; `None` where it is not there.
+/// The kind of a column; `None` if it is not there.
 fn kind_among(own: &[Kind], joined: &[Kind], column: Column) -> Option<Kind>
     ensures { result ≡ kind_among own.now joined.now column }
 {
@@ -80,7 +81,7 @@ fn kind_among(own: &[Kind], joined: &[Kind], column: Column) -> Option<Kind>
     }
 }
 
-/// The fault of a column that is to be one of numbers.
+/// The fault of a column that has to be one of numbers.
 fn number_fault(kind: Option<Kind>) -> Option<PlanFault>
     ensures { result ≡ number_fault kind }
 {

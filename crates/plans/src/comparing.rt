@@ -10,8 +10,7 @@ use crate::condition::Comparison;
 use rows::Value;
 use std::cmp::Ordering;
 
-/// How a value stands to another one: numbers compare as numbers, octets by their bytes, the first
-/// that differs deciding.
+/// The order of two values: numbers compare as numbers, octets by the first byte that differs.
 pub fn compare(value: &Value, other: &Value) -> Ordering
     ensures { result ≡ value_cmp value.now other.now }
 {
@@ -31,7 +30,7 @@ fn compare_bytes<'b>(bytes: &'b [u8], other: &'b [u8]) -> Ordering
     Ord::cmp(&bytes, &other)
 }
 
-/// How a group stands to another one: by the first of their values that differ.
+/// The order of two groups: by the first of their values that differ.
 pub fn compare_groups(group: &[Value], other: &[Value]) -> Ordering
     ensures { result ≡ group_cmp group.now other.now }
 {
@@ -48,7 +47,7 @@ pub fn compare_groups(group: &[Value], other: &[Value]) -> Ordering
     compare(value, other_value).then(compare_groups(values, other_values))
 }
 
-/// Whether a value that stands so to another one passes a comparison with it.
+/// Whether a value in this order to another one passes a comparison with it.
 pub fn passes(comparison: Comparison, order: Ordering) -> bool
     ensures { result ≡ passes comparison order }
 {
@@ -62,7 +61,7 @@ pub fn passes(comparison: Comparison, order: Ordering) -> bool
     }
 }
 
-/// The lesser of two values, the first where neither is.
+/// The lesser of two values, or the first if neither is less.
 pub fn lesser(value: Value, other: Value) -> Value
     ensures { result ≡ lesser value other }
 {
@@ -73,7 +72,7 @@ pub fn lesser(value: Value, other: Value) -> Value
     }
 }
 
-/// The greater of two values, the first where neither is.
+/// The greater of two values, or the first if neither is greater.
 pub fn greater(value: Value, other: Value) -> Value
     ensures { result ≡ greater value other }
 {

@@ -1,7 +1,7 @@
 use crate::column::Column;
 use rows::Value;
 
-/// How a column's value is to stand to another value.
+/// How a column's value is compared with another value.
 #[derive(Clone, Copy, Debug, PartialEq, Eq)]
 pub enum Comparison {
     Equal,
@@ -12,7 +12,7 @@ pub enum Comparison {
     AtLeast,
 }
 
-/// What a row is to meet: its value in the column, compared with this value.
+/// A condition on a row: its value in the column, compared with this value.
 #[derive(Clone, Copy, Debug, PartialEq, Eq)]
 pub struct Condition {
     pub column: Column,

@@ -3,7 +3,7 @@ use rows::Value;
 /// One word of a report's line.
 #[derive(Clone, Copy, Debug, PartialEq, Eq)]
 pub enum Field {
-    /// A value of a row: one by which the rows were grouped, or the least or the greatest.
+    /// A value of a row: one by which the rows were grouped, or a least or greatest value.
     Stored(Value),
     /// A count or a sum.
     Number(i128),

@@ -35,15 +35,14 @@ impl FieldList {
         self.items.as_slice()
     }
 
-    /// The field of that number, from 0; `None` where there is none. Takes no memory.
+    /// The field of that number, from 0; `None` if there is none. Takes no memory.
     pub fn get(&self, index: usize) -> Option<Field>
         ensures { result ≡ slice_get self.now index }
     {
         self.items.get(index).copied()
     }
 
-    /// Puts another field in the place of one. Where there is none, nothing changes. Takes no
-    /// memory.
+    /// Replaces a field. If there is no such field, nothing changes. Takes no memory.
     pub fn set(&mut self, index: usize, field: Field)
         ensures { self.new ≡ slice_set self.old index field }
     {

@@ -12,7 +12,7 @@ use std::cmp::Ordering;
 use std::marker::Model;
 
 /// The values by which a row is grouped, which contracts see as a list. They are ordered by the
-/// first of them that differ.
+/// first values that differ.
 #[derive(Debug, Drop)]
 pub struct GroupKey {
     values: Vec<Value>,

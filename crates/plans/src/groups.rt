@@ -1,4 +1,4 @@
-//! What is kept for a plan while its rows are looked at: the aggregates of each group so far.
+//! What is computed for a plan while its rows are read: the aggregates of each group so far.
 
 ghost use Rattle.std.specs.Prelude.{◌≡◌, ◌+◌, ◌++◌, [], true, map, List, IsSome, IfOk, OnOk};
 ghost use Rattle.std.specs.BTreeMap.{is_at};
@@ -43,8 +43,8 @@ impl Model for Groups {
 }
 
 impl Groups {
-    /// The groups of a plan before any row: none, but for the one of a plan that does not group.
-    /// Fails only when out of memory.
+    /// The groups of a plan before any row: none, except for the one group of a plan that does not
+    /// group. Fails only if out of memory.
     pub fn new(alloc: Global, plan: &Plan) -> Result<Groups, AllocError>
         ensures { IfOk result (λ groups. groups ≡ opening_groups plan.now) }
     {
@@ -56,7 +56,8 @@ impl Groups {
         Ok(Groups { map })
     }
 
-    /// Adds a row, behind at most so many others. Fails only when out of memory.
+    /// Adds a row to at most this many earlier ones. Fails only if out of memory; nothing is then
+    /// known of the groups.
     pub fn add<S: Store>(
         &mut self,
         alloc: Global,
@@ -83,7 +84,7 @@ impl Groups {
         Ok(())
     }
 
-    /// The lines of the groups. Fails only when out of memory.
+    /// The lines of the groups. Fails only if out of memory.
     pub fn answer(&self, alloc: Global) -> Result<Answer, AllocError>
         ensures ordered { IsStrictlySortedBy group_cmp (keys_of self.now) }
         ensures lines { IfOk result (λ answer. answer ≡ map (λ entry. map Stored entry.0 ++ entry.1) self.now) }
@@ -96,7 +97,7 @@ impl Groups {
     }
 }
 
-/// The values by which a row is grouped. Fails only when out of memory.
+/// The values by which a row is grouped. Fails only if out of memory.
 fn key_of<S: Store>(
     alloc: Global,
     store: &S,
@@ -114,7 +115,7 @@ fn key_of<S: Store>(
     Ok(GroupKey::from_vec(values))
 }
 
-/// Aggregates of no rows. Fails only when out of memory.
+/// Aggregates of no rows. Fails only if out of memory.
 fn empty_fields(alloc: Global, aggregates: &[Aggregate]) -> Result<FieldList, AllocError>
     ensures { IfOk result (λ fields. fields ≡ map (aggregate_of []) aggregates.now) }
 {
@@ -137,7 +138,7 @@ fn empty_field(aggregate: Aggregate) -> Field
     }
 }
 
-/// The line of a group: its values, and then its aggregates. Fails only when out of memory.
+/// The line of a group: its values, and then its aggregates. Fails only if out of memory.
 fn line_of(alloc: Global, group: &[Value], fields: &[Field]) -> Result<FieldList, AllocError>
     ensures { IfOk result (λ line. line ≡ map Stored group.now ++ fields.now) }
 {

@@ -1,4 +1,4 @@
-//! Aggregates with one row more.
+//! Adding a row to aggregates.
 
 ghost use Rattle.std.specs.Prelude.{◌≡◌, ◌+◌, true};
 ghost use Rattle.std.specs.List.{All, AllByRecursion};
@@ -14,7 +14,7 @@ use crate::row_place::{RowPlace, joined_value};
 use rows::Value;
 use store::Store;
 
-/// Adds a row to the aggregates of its group, of at most so many rows.
+/// Adds a row to the aggregates of its group, which has at most this many rows.
 pub fn grow<S: Store>(
     store: &S,
     row: &RowPlace<S::Place>,
@@ -36,7 +36,7 @@ pub fn grow<S: Store>(
     }
 }
 
-/// What an aggregate takes of a row: 1 for a count, and else the value of its column.
+/// What a row contributes to an aggregate: 1 for a count, and otherwise the value of its column.
 fn input_of<S: Store>(store: &S, row: &RowPlace<S::Place>, aggregate: Aggregate) -> Value
     requires whole { S.is_whole store.now ≡ true }
     requires there { HasInput (row_at_place (S.values_at store.now) row.now) aggregate }
@@ -50,7 +50,7 @@ fn input_of<S: Store>(store: &S, row: &RowPlace<S::Place>, aggregate: Aggregate)
     }
 }
 
-/// An aggregate of at most so many rows with one row more, of which it takes this value.
+/// An aggregate of at most this many rows, after one more row that contributes this value.
 fn grown(aggregate: Aggregate, field: Field, value: Value, rows: usize) -> Field
     requires { IsWithin rows field }
     ensures value { result ≡ grown aggregate field value }
@@ -70,7 +70,7 @@ fn grown(aggregate: Aggregate, field: Field, value: Value, rows: usize) -> Field
     }
 }
 
-/// A sum of at most so many numbers with one more. It fits 128 bits: there are fewer than two to
+/// A sum of at most this many numbers, plus one more. It fits 128 bits: there are fewer than two to
 /// the 64th rows, each with a number of 64 bits.
 fn summed(field: Field, value: Value, rows: usize) -> Field
     requires { IsWithin rows field }
@@ -84,7 +84,7 @@ fn summed(field: Field, value: Value, rows: usize) -> Field
     }
 }
 
-/// The number that a value is; 0 of octets.
+/// The number that a value is; 0 for octets.
 fn integer_of(value: Value) -> i64
     ensures { result ≡ integer_of value }
 {

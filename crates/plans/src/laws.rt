@@ -9,8 +9,8 @@ pub fn groups_rise()
     ensures stay { GroupsStay }
 {}
 
-/// A plan that fits still fits where a table of the schema has one column more, behind the others.
-/// It does nothing: its contract is the law.
+/// A plan that fits still fits if a table of the schema gets one more column, after the others. It
+/// does nothing: its contract is the law.
 pub fn plans_still_fit()
     ensures { PlanStillFits }
 {}

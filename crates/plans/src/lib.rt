@@ -1,16 +1,19 @@
 //! Queries on a store: their plans, their answers, and the text of a report.
 //!
 //! A `Plan` names a table, and may join each of its rows with the row of another table that one of
-//! its columns names. It keeps the rows that meet all conditions, puts them into groups, and tells
-//! of each group what it is asked: how many rows it has, sums, least and greatest values.
-//! `specs/Checking.antt` says which plans fit a schema, `Order.antt` how values are ordered,
-//! `Answers.antt` what the plain answer of a plan is on tables, `Report.antt` what the text of
-//! answers is. `Inner` only helps proofs.
+//! its columns names. It selects the rows that meet all conditions, groups them, and computes for
+//! each group what the plan asks: the number of rows, sums, least and greatest values.
+//! `specs/Checking.antt` defines which plans fit a schema, `Order.antt` how values are ordered,
+//! `Answers.antt` the plain answer of a plan on tables, and `Report.antt` the text of answers.
+//! `Inner` only helps proofs.
 //!
 //! Promised: `Plan::check` answers the first fault; `answer_batch` gives the plain answer of each
-//! plan on the rows of any whole store, out of memory aside; `report` is the text of answers.
-//! It stands on `rows` and `store`. A query finds each row of its table once, and the row that it
-//! joins; it reads their values by these places, and copies nothing but the groups' values.
+//! plan on the rows of any whole store, except that it may run out of memory; `report` is the text
+//! of answers.
+//!
+//! It uses `rows` and `store`. A query finds each row of its table once, and the row that it joins;
+//! it reads their values in place, and copies only the groups' values. If a call fails for lack of
+//! memory, its value is unchanged unless the call says otherwise.
 #![tactic(auto)]
 
 mod aggregate;

@@ -1,4 +1,4 @@
-//! The limits of a plan, each stated once.
+//! The limits of a plan, each defined once.
 
 /// Conditions of a plan, at most.
 pub const CONDITIONS_MAX: usize = 8;

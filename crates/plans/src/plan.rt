@@ -7,9 +7,8 @@ use crate::condition_list::ConditionList;
 use crate::faults::PlanFault;
 use rows::Schema;
 
-/// With which row each row of a plan's table is joined: the row of another table whose identifier
-/// stands in a column of the plan's table. A row whose column is negative, or names no row, is left
-/// out.
+/// A join: each row of a plan's table is joined with the row of another table whose identifier is
+/// in a column of the plan's table. A row whose column is negative, or names no row, is left out.
 #[derive(Clone, Copy, Debug, PartialEq, Eq)]
 pub struct Join {
     /// The column of the plan's table, from 0. It is one of numbers.
@@ -18,18 +17,19 @@ pub struct Join {
     pub table: u8,
 }
 
-/// A query: which rows of a table it looks at, how it groups them, and what it asks of each group.
+/// A query: which rows of a table it selects, how it groups them, and what it computes for each
+/// group.
 #[derive(Clone, Debug, Drop)]
 pub struct Plan {
     /// The number of the table, from 0.
     pub table: u8,
     pub join: Option<Join>,
-    /// What a row is to meet, all of it; at most 8.
+    /// The conditions on a row, all of which it has to meet; at most 8.
     pub conditions: ConditionList,
-    /// The columns by which rows are grouped, at most 2. Without any there is one group, even of
-    /// no rows.
+    /// The columns by which rows are grouped, at most 2. Without any there is one group, even of no
+    /// rows.
     pub groups: ColumnList,
-    /// What is asked of each group, 1 to 8.
+    /// What is computed for each group, 1 to 8 aggregates.
     pub aggregates: AggregateList,
 }
 
@@ -40,8 +40,8 @@ impl Plan {
 
     /// Whether the plan fits the schema. Otherwise the first fault: more than 8 conditions, 2
     /// columns to group by or 8 aggregates (`TooMany`); no aggregate (`NoAggregate`); the plan's
-    /// table or its join's is not there (`NoTable`); and then of the join, the conditions, the
-    /// grouping and the aggregates in turn a column that is not there (`NoColumn`), or one of the
+    /// table or its join's is not there (`NoTable`); and then, for the join, the conditions, the
+    /// grouping and the aggregates in turn, a column that is not there (`NoColumn`), or one of the
     /// wrong kind (`WrongKind`). Takes no memory.
     pub fn check(&self, schema: &Schema) -> Result<(), PlanFault>
         ensures { result ≡ checked (shape_of schema.now) self.now }

@@ -10,9 +10,9 @@ use rows::{append_number, append_value};
 use std::alloc::{AllocError, Global};
 
 /// The text of answers on the tables at this version: a line `version V queries N`; for each answer
-/// a line `query I rows R`, I from 0, and its R lines, their fields parted by one space. Numbers
-/// are decimal, octets `x` and lower-case hexadecimal, and the least and the greatest of no rows are
-/// `-`. Each line is ended by 0a. Fails only when out of memory.
+/// a line `query I rows R`, I from 0, and its R lines, whose fields are separated by one space.
+/// Numbers are decimal, octets `x` and lower-case hexadecimal, and the least and the greatest of no
+/// rows are `-`. Each line ends with 0a. Fails only if out of memory.
 pub fn report(alloc: Global, version: u64, answers: &[Answer]) -> Result<Vec<u8>, AllocError>
     ensures { IfOk result (λ text. text.items ≡ report_text version answers.now) }
 {

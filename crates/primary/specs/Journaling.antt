@@ -1,4 +1,4 @@
--- What stands on the journal of a primary, and what is left where a flush or a start is refused.
+-- What stands on the journal of a primary, and what is left if a flush or a start is refused.
 use Rattle.std.specs.Prelude.{◌≡◌, ℕ, ◌+◌, ◌<◌, ◌^◌, List, length, take, Bool, true, false, Option, None, is_some, Result, Err}
 use Rattle.std.specs.Prelude.{MatchResult}
 use Rattle.rows.specs.declared.commit.Commit.{Commit}
@@ -37,7 +37,7 @@ pub record IsUnchanged {J : Type 0} (is_honest : J → Bool) (standing : J → L
 abbrev pub IsOffering : {J : Type 0} → Core J → ℕ → Type 0
 IsOffering core count = (core.primary.failed ≡ false) × (is_some core.journal ≡ true) × (0 < length (take count core.primary.pending))
 
--- why a flush of so many commits is refused, and what it leaves: the journal is written, and memory taken, only where there is a
+-- why a flush of so many commits is refused, and what it leaves: the journal is written, and memory taken, only if there is a
 -- commit to be moved
 abbrev pub IsFlushRefusal : {J : Type 0} → Core J → ℕ → FlushFault → Primary → Type 0
 IsFlushRefusal core count flushes.Failed after = (core.primary.failed ≡ true) × (after ≡ core.primary)
@@ -46,12 +46,12 @@ IsFlushRefusal core count flushes.NotLent after = ⊥
 IsFlushRefusal core count flushes.Memory after = IsOffering core count × (after ≡ core.primary)
 IsFlushRefusal core count flushes.Journal after = IsOffering core count × (after ≡ failed_primary core.primary)
 
--- what stands where the journal did not take what it was offered: some beginning of that behind the bytes that stood
+-- what stands if the journal did not take what it was offered: some beginning of that after the bytes that stood
 abbrev pub StandsAfterFlush : FlushFault → List ℕ → List ℕ → List ℕ → Type 0
 StandsAfterFlush flushes.Journal offered old new = IsPartlyAppended old offered new
 StandsAfterFlush other offered old new = new ≡ old
 
--- a fault is counted where the journal did not take what it was offered, and nowhere else
+-- a fault is counted if the journal did not take what it was offered; otherwise none is
 abbrev pub CountsFlushFault : {A : Type 0} → Result A FlushFault → ℕ → ℕ → Type 0
 CountsFlushFault (Err flushes.Journal) old new = new ≡ old + 1
 CountsFlushFault other old new = new ≡ old
@@ -65,29 +65,29 @@ pub record KeepsSame (workers : ℕ) (shape : Shape) (old new : List ℕ) : Type
   pub kept : (commits : List Commit) → IsKeptOf workers shape old commits → IsKeptOf workers shape new commits
   pub refused : (fault : JournalFault) → IsRefusal workers shape old fault → IsRefusal workers shape new fault
 
--- why a start on these bytes is refused: they are, where they are what stands; being out of memory is told as such
+-- why a start is refused: these bytes are refused, if they are the ones that stand; or the start is out of memory
 abbrev pub IsStartRefusal : {F : Type 0} → ℕ → Shape → Bool → List ℕ → StartFault F → Type 0
 IsStartRefusal workers shape is_honest bytes (starts.Journal fault) =
     ¬ (fault ≡ journals.Memory) × (is_honest ≡ true → IsRefusal workers shape bytes fault)
 IsStartRefusal workers shape is_honest bytes other = Unit {0}
 
--- a start that is refused tells this fault of the bytes, unless the journal failed or it was out of memory
+-- a start that is refused reports this fault of the bytes, unless the journal failed or it was out of memory
 abbrev pub TellsFault : {F : Type 0} → JournalFault → StartFault F → Type 0
 TellsFault fault (starts.Journal told) = told ≡ fault
 TellsFault fault other = Unit {0}
 
--- where these bytes are refused, so is a start on them, and it tells their fault; being out of memory is no fault of bytes
+-- if these bytes are refused, so is a start on them, and it reports their fault; being out of memory is no fault of bytes
 abbrev pub TellsRefusal : {A J F : Type 0} → ℕ → Shape → List ℕ → Result A (J × StartFault F) → Type 0
 TellsRefusal workers shape bytes result =
     (fault : JournalFault) → IsRefusal workers shape bytes fault → ¬ (fault ≡ journals.Memory)
     → MatchResult result (λ core. ⊥) (λ refusal. TellsFault fault refusal.1)
 
--- a start that is refused leaves the bytes as they were, but where they could not be truncated or written
+-- a start that is refused leaves the bytes as they were, unless they could not be truncated or written
 abbrev pub LeavesBytes : {F : Type 0} → StartFault F → List ℕ → List ℕ → Type 0
 LeavesBytes (starts.Store fault) old new = Unit {0}
 LeavesBytes other old new = new ≡ old
 
--- a fault is counted where the journal could not be read, truncated or written, and nowhere else
+-- a fault is counted if the journal could not be read, truncated or written; otherwise none is
 abbrev pub CountsStartFault : {F : Type 0} → StartFault F → ℕ → ℕ → Type 0
 CountsStartFault (starts.Store fault) old new = new ≡ old + 1
 CountsStartFault other old new = new ≡ old

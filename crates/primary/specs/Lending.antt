@@ -35,7 +35,7 @@ pub record IsLentBy {J : Type 0} (is_honest : J → Bool) (standing : J → List
   pub faults : fault_count lent.journal ≡ faults_in fault_count core.journal
   pub nothing : lent.count ≡ 0 → core.journal ≡ Some lent.journal
 
--- what a write leaves: the records stand behind the bytes, or some beginning of them and one more fault is counted; where no commit
+-- what a write leaves: the records stand after the bytes, or some beginning of them and one more fault is counted; if no commit
 -- is offered, nothing is written
 pub record IsWriteOf {J : Type 0} (is_honest : J → Bool) (standing : J → List ℕ) (fault_count : J → ℕ)
     (lent : Lent J) (done : Returned J) : Type 0 where
@@ -62,7 +62,7 @@ end_answer p done = if done.taken then Ok (length (flushed p done.count).durable
 abbrev pub HasMorePending : Primary → Primary → Type 0
 HasMorePending old new = (more : List Commit) × (new ≡ record old { pending = old.pending ++ more })
 
--- a journal that was written before its flush began is written after it, whatever came between, where what comes back is what the
+-- a journal that was written before its flush began is written after it, whatever came between, if what comes back is what the
 -- write left of this very flush
 abbrev pub EndsWritten : {J : Type 0} → (J → Bool) → (J → List ℕ) → (J → ℕ) → Primary → Returned J → Core J → Type 0
 EndsWritten {J = J} is_honest standing fault_count now done new =
@@ -70,7 +70,7 @@ EndsWritten {J = J} is_honest standing fault_count now done new =
     → IsWriteOf is_honest standing fault_count lent done → HasMorePending begun.primary now
     → IsWritten is_honest standing begun → IsWritten is_honest standing new
 
--- bytes that a stop may leave: the text of what is durable, and behind it the first bytes of the pending commits' records
+-- bytes that a stop may leave: the text of what is durable, and after it the first bytes of the pending commits' records
 abbrev pub IsLeftByStop : Primary → List ℕ → Type 0
 IsLeftByStop p bytes =
     (count : ℕ) × (bytes ≡ journal_text p.workers (shape_of p.schema) p.durable ++ take count (records_from (length p.durable) p.pending))

@@ -13,7 +13,7 @@ use Rattle.wire.specs.Spelling.{spelling, frame_spelling}
 use Rattle.wire.specs.Reading.{reading}
 use Rattle.primary.specs.State.{Primary}
 
--- the datagram of that seq of a worker's stream of the durable list, where the stream has it
+-- the datagram of that seq of a worker's stream of the durable list, if the stream has it
 abbrev pub pushed : Primary → ℕ → ℕ → Option (List ℕ)
 pushed p worker seq = option_map frame_spelling (slice_get (stream_of p.durable worker) seq)
 
@@ -31,7 +31,7 @@ head_for p replica boot request =
 abbrev pub want_frames_max : ℕ
 want_frames_max = 16
 
--- the durable frames of a worker from that seq on, at most 16; none where there is no such worker
+-- the durable frames of a worker from that seq on, at most 16; none if there is no such worker
 abbrev pub wanted : Primary → ℕ → ℕ → List frames.Frame
 wanted p worker from = take want_frames_max (drop from (stream_of p.durable worker))
 

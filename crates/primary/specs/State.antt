@@ -1,9 +1,10 @@
--- The state of a primary: the durable list of commits, the pending list behind it, and whether its journal has
--- failed. Its schema (the names and kinds of its tables) and its number of workers never change.
+-- The state of a primary: the durable list of commits, the pending list after it, and whether its journal has failed. Its schema
+-- (the names and kinds of its tables) and its number of workers never change.
 use Rattle.std.specs.Prelude.{ℕ, List, [], Bool, false, Option, None, Some}
 use Rattle.rows.specs.declared.commit.Commit.{Commit}
 use Rattle.rows.specs.declared.kind.Kind.{Kind}
 
+-- a primary: its schema, its number of workers, its durable and its pending commits, and whether its journal has failed
 pub record Primary : Type 0 where
   pub schema : List (List ℕ × List Kind)
   pub workers : ℕ
@@ -21,12 +22,12 @@ abbrev pub is_honest_in : {J : Type 0} → (J → Bool) → Option J → Bool
 is_honest_in is_honest None = false
 is_honest_in is_honest (Some journal) = is_honest journal
 
--- the bytes that stand on it, where it is there
+-- the bytes that stand on it, if it is there
 abbrev pub standing_in : {J : Type 0} → (J → List ℕ) → Option J → List ℕ
 standing_in standing None = []
 standing_in standing (Some journal) = standing journal
 
--- how many faults it has counted, where it is there
+-- how many faults it has counted, if it is there
 abbrev pub faults_in : {J : Type 0} → (J → ℕ) → Option J → ℕ
 faults_in fault_count None = 0
 faults_in fault_count (Some journal) = fault_count journal

@@ -39,8 +39,8 @@ has_numbers p worker entries =
     nat_lt (next_number p) (2 ^ 64)
     && nat_lt (length (stream_of (p.durable ++ p.pending) worker) + length (parts_of entries)) (2 ^ 64)
 
--- what a commit of a worker answers: its number, or the first refusal. The first committer wins: a commit is refused
--- where a row that it writes was written after its snapshot. Being out of memory aside.
+-- what a commit of a worker answers: its number, or the first refusal. The first committer wins: a commit is refused if a row
+-- that it writes was written after its snapshot. Being out of memory aside.
 abbrev pub commit_answer : Primary → ℕ → Transaction → Result ℕ CommitFault
 commit_answer p worker draft =
     if p.failed then Err Failed else
@@ -50,7 +50,7 @@ commit_answer p worker draft =
     then Err (Conflict (last_touching draft.entries 0 (p.durable ++ p.pending))) else
     if has_numbers p worker draft.entries then Ok (next_number p) else Err NumbersUsedUp
 
--- the primary with this commit behind the pending ones
+-- the primary with this commit after the pending ones
 abbrev pub committed : Primary → ℕ → List Entry → Primary
 committed p worker entries = record p { pending = p.pending ++ record { worker = worker; entries = entries } ∷ [] }
 

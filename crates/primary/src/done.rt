@@ -8,7 +8,7 @@ use std::marker::Model;
 
 /// A flush that was written: the journal, and whether it took what it was offered.
 ///
-/// It is never dropped: it goes to `PrimaryCore::end_flush`, which takes the journal back.
+/// It is never dropped: it is handed to `PrimaryCore::end_flush`, which takes the journal back.
 #[derive(Debug)]
 pub struct Done<J: JournalStore> {
     journal: J,
@@ -29,7 +29,7 @@ impl<J: JournalStore> Model for Done<J> {
 }
 
 impl<J: JournalStore> Done<J> {
-    /// What a write of so many commits left of this journal.
+    /// The result of writing this many commits to this journal.
     pub(crate) fn new(journal: J, count: usize, taken: bool) -> Done<J>
         requires { taken ≡ true → J.fault_count journal < faults_max }
         ensures { result ≡ record { journal = journal; count = count; taken = taken } }

@@ -1,7 +1,7 @@
 use journal::JournalFault;
 use thiserror::Error;
 
-/// Why a transaction is not committed: the first that stands, in the order `Failed`, `ReadOnly`,
+/// Why a transaction is not committed: the first that applies, in the order `Failed`, `ReadOnly`,
 /// `Foreign`, `Conflict`, `NumbersUsedUp`, `Memory`.
 #[derive(Clone, Copy, Debug, PartialEq, Eq, Error)]
 pub enum CommitFault {
@@ -12,7 +12,7 @@ pub enum CommitFault {
     /// It has no entries.
     #[error("no entries")]
     ReadOnly,
-    /// The journal has failed; the primary has to be started again.
+    /// The journal has failed; the primary has to be restarted.
     #[error("the journal failed")]
     Failed,
     /// The number of the commit, or a frame's seq or count, would pass 64 bits.
@@ -20,28 +20,28 @@ pub enum CommitFault {
     NumbersUsedUp,
     #[error("out of memory")]
     Memory,
-    /// It is not of this primary: its snapshot is above what is durable, or an entry is not
-    /// defined where it stands on the rows at the snapshot.
+    /// It is not of this primary: its snapshot is above what is durable, or an entry is not defined
+    /// where it stands on the rows at the snapshot.
     #[error("not a transaction of this primary")]
     Foreign,
 }
 
-/// Why a flush moved nothing.
+/// Why a flush moved no commits.
 #[derive(Clone, Copy, Debug, PartialEq, Eq, Error)]
 pub enum FlushFault {
-    /// The journal did not take the records. It has failed then, and the primary has to be started
-    /// again.
+    /// The journal did not take the records. It has now failed, and the primary has to be
+    /// restarted.
     #[error("the journal could not be written")]
     Journal,
     #[error("out of memory")]
     Memory,
-    /// The journal failed earlier; the primary has to be started again.
+    /// The journal failed earlier; the primary has to be restarted.
     #[error("the journal failed")]
     Failed,
     /// The journal is lent out: a flush has begun and not ended.
     #[error("the journal is lent out")]
     Busy,
-    /// The journal is not lent out, so no flush can end.
+    /// The journal is not lent out, so there is no flush to end.
     #[error("the journal is not lent out")]
     NotLent,
 }

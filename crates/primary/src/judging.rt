@@ -15,8 +15,8 @@ use mvcc::{Transaction, Versions};
 use rows::Entry;
 use update_log::{Streams, part_count};
 
-/// The number that the transaction's commit would get, or the first refusal, where the first
-/// `durable` of the versions are durable and the others pending.
+/// The number that the transaction's commit would get, or the first refusal; the first `durable` of
+/// the versions are durable and the others pending.
 pub fn judge(
     versions: &Versions,
     streams: &Streams,
@@ -53,8 +53,8 @@ pub fn judge(
     next_number(versions, streams, worker, transaction.entries()).ok_or(CommitFault::NumbersUsedUp)
 }
 
-/// The number of the next commit, of a worker and of these entries; `None` where it or a seq or count of
-/// its frames would pass 64 bits.
+/// The number of the next commit, of a worker and of these entries; `None` if that number, or a seq
+/// or count of the commit's frames, would pass 64 bits.
 fn next_number(versions: &Versions, streams: &Streams, worker: u8, entries: &[Entry]) -> Option<u64>
     requires { AllByRecursion HasSpelling entries.now }
     ensures { result ≡ (if nat_lt (length versions.now.commits + 1) (2 ^ 64)
@@ -68,8 +68,8 @@ fn next_number(versions: &Versions, streams: &Streams, worker: u8, entries: &[En
     Some(number)
 }
 
-/// The last commit, durable or pending, that writes a row of the entries, where it stands behind
-/// that snapshot.
+/// The last commit, durable or pending, that writes a row of the entries, if it is after that
+/// snapshot.
 fn conflict(versions: &Versions, snapshot: u64, entries: &[Entry]) -> Option<u64>
     ensures last { result ≡ (if nat_lt snapshot (last_touching entries.now 0 versions.now.commits)
         then Some (last_touching entries.now 0 versions.now.commits) else None) }

@@ -1,4 +1,4 @@
-//! Keeping commits: in their versions, and in the streams of their frames.
+//! Keeping commits: in the versions, and in the streams of their frames.
 
 ghost use Rattle.std.specs.Prelude.{◌≡◌, ◌+◌, ◌^◌, ◌<◌, ◌≤◌, ◌∷◌, [], ◌++◌, length, true, IfOk, OnOk, OnErr};
 ghost use Rattle.std.specs.List.{AllByRecursion};
@@ -23,7 +23,7 @@ pub struct Rebuilt {
     pub streams: Streams,
 }
 
-/// The versions of a list of commits, and its streams. Fails only where it is out of memory.
+/// The versions of a list of commits, and its streams. Fails only if out of memory.
 pub fn rebuild(
     alloc: Global,
     schema: &Schema,
@@ -48,8 +48,8 @@ pub fn rebuild(
 }
 
 /// Adds the next commit, of these entries, to the versions and to its worker's stream. All memory
-/// is taken before anything changes: fails only where it is out of memory, and then no commit has
-/// been added.
+/// is taken before anything changes. Fails only if out of memory, and then no commit has been
+/// added.
 pub fn keep(
     versions: &mut Versions,
     streams: &mut Streams,

@@ -1,18 +1,19 @@
-//! The primary: numbered commits under snapshot isolation, a journal, and the frames of what is
-//! durable.
+//! The primary: numbered commits under snapshot isolation, a journal, and the frames of the durable
+//! commits.
 //!
 //! Its state is a durable list of commits, a pending list, and whether its journal has failed. A
 //! commit is checked against the newest commit of each row that it writes, durable or pending, and
-//! goes to the end of the pending list; a flush writes the records of pending commits to the journal
-//! in one append, and moves them to the durable list; only what is durable is shown, pushed or
-//! counted. A start makes durable what the journal keeps, whatever a stop left of it. But for a
-//! start, no call goes over a list of commits, and a flush over those that it moves alone. `specs/`
-//! says what a commit and a flush answer and leave (`Steps.antt`), what stands on the journal after
-//! each and after a start (`Journaling.antt`), and what is sent (`Sending.antt`). What only helps
-//! proofs stands in `specs/Inner`.
+//! is added to the end of the pending list. A flush writes the records of pending commits to the
+//! journal in one append, and moves them to the durable list; only durable commits are shown,
+//! pushed or counted. A start makes the commits durable that the journal keeps, in whatever state a
+//! crash left it. Apart from a start, no call goes over a whole list of commits; a flush goes over
+//! those that it moves. `specs/` defines what a commit and a flush answer and leave (`Steps.antt`),
+//! what the journal contains after each of them and after a start (`Journaling.antt`), and what is
+//! sent (`Sending.antt`). `specs/Inner` only helps proofs.
 //!
-//! It stands on `rows`, on `mvcc` for versions and transactions, on `update_log` for streams, on
-//! `journal` and on `wire`.
+//! It uses `rows`, `mvcc` for versions and transactions, `update_log` for streams, `journal` and
+//! `wire`. If a call fails for lack of memory, its value is unchanged unless the call says
+//! otherwise.
 #![tactic(auto)]
 
 mod done;

@@ -27,11 +27,11 @@ use std::marker::Model;
 use update_log::{Streams, one_cut};
 use wire::{Datagram, Out, Packet, To, read};
 
-/// A primary but for its journal: the durable list of commits, the pending list, and whether the
+/// A primary without its journal: the durable list of commits, the pending list, and whether the
 /// journal has failed.
 ///
-/// The commits stand in their versions; the streams have for each frame where its entries stand
-/// there. Both have the pending ones too, behind the durable ones.
+/// The versions contain the commits; the streams know for each frame which entries of its commit it
+/// has. Both contain the pending commits too, after the durable ones.
 #[derive(Debug, Drop)]
 pub struct Lists {
     alloc: Global,
@@ -55,8 +55,7 @@ impl Model for Lists {
 }
 
 impl Lists {
-    /// These commits, durable, for a schema and 1 to 16 workers. Fails only where it is out of
-    /// memory.
+    /// These commits, durable, for a schema and 1 to 16 workers. Fails only if out of memory.
     pub fn of(
         alloc: Global,
         schema: &Schema,
@@ -80,7 +79,7 @@ impl Lists {
         })
     }
 
-    /// What holds of the lists, as `PrimaryCore::keeps_legal` says. It does nothing.
+    /// What holds for the lists, as `PrimaryCore::keeps_legal` states it. It does nothing.
     pub fn keeps_legal(&self)
         ensures all { IsJournaled self.now.workers (shape_of self.now.schema) (self.now.durable ++ self.now.pending) }
         ensures durable { IsJournaled self.now.workers (shape_of self.now.schema) self.now.durable }
@@ -130,7 +129,7 @@ impl Lists {
         self.failed
     }
 
-    /// Commits a transaction for a worker, as `PrimaryCore::commit` says.
+    /// Commits a transaction for a worker, as `PrimaryCore::commit` specifies.
     pub fn commit(
         &mut self,
         transaction: Transaction,
@@ -170,8 +169,8 @@ impl Lists {
         }
     }
 
-    /// The records of the first `count` pending commits, of all where there are fewer. Fails only
-    /// where it is out of memory.
+    /// The records of the first `count` pending commits, or of all if there are fewer. Fails only
+    /// if out of memory.
     pub fn records(&self, count: usize) -> Result<Vec<u8>, AllocError>
         ensures ok { IfOk result (λ bytes. bytes.items ≡ offered self.now count) }
         ensures err { OnErr result (0 < length (take count self.now.pending)) }
@@ -184,7 +183,7 @@ impl Lists {
         records(self.alloc, commits, self.durable as u64 + 1)
     }
 
-    /// Moves the first `count` pending commits, all where there are fewer, to the durable list.
+    /// Moves the first `count` pending commits, or all if there are fewer, to the durable list.
     pub fn acknowledge(&mut self, count: usize)
         ensures { self.new ≡ flushed self.old count }
     {
@@ -192,15 +191,15 @@ impl Lists {
         self.durable += moved;
     }
 
-    /// Notes that the journal has failed.
+    /// Records that the journal has failed.
     pub fn fail(&mut self)
         ensures { self.new ≡ failed_primary self.old }
     {
         self.failed = true;
     }
 
-    /// The packet of that `seq` of the worker's stream of the durable list, where the stream has
-    /// it. Takes no memory.
+    /// The packet of that `seq` of the worker's stream of the durable list, if the stream has it.
+    /// Takes no memory.
     pub fn push(&self, worker: u8, seq: u64) -> Option<Packet>
         ensures { result ≡ pushed self.now worker seq }
     {
@@ -208,7 +207,7 @@ impl Lists {
         frame_packet(&self.streams, self.versions.commits(), durable, worker, seq)
     }
 
-    /// What is sent for bytes that came, as `PrimaryCore::on_bytes` says.
+    /// What is sent for bytes that arrived, as `PrimaryCore::on_bytes` specifies.
     pub fn on_bytes(&self, bytes: &[u8]) -> Result<Vec<Out>, AllocError>
         ensures ok { IfOk result (λ outs. outs.items ≡ answers self.now bytes.now) }
         ensures err { OnErr result (0 < length (answers self.now bytes.now)) }

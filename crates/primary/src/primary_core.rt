@@ -30,12 +30,13 @@ use std::alloc::{AllocError, Global};
 use std::marker::Model;
 use wire::{Out, Packet};
 
-/// A primary: its durable list of commits, its pending list, whether it has failed, and its journal.
+/// A primary: its durable list of commits, its pending list, whether it has failed, and its
+/// journal.
 ///
-/// Contracts see these lists with the schema and the number of workers, and the journal, which is
-/// not there while it is lent out for a write. A journal that is honest and has not failed has the
-/// text of the durable list after a start, and each call keeps that; nothing but what is durable is
-/// ever pushed or counted.
+/// Contracts see these lists with the schema and the number of workers, and the journal, unless it
+/// is lent out for a write. A journal that is honest and has not failed contains the text of the
+/// durable list after a start, and each call preserves that. Only what is durable is ever pushed or
+/// counted.
 #[derive(Debug, Drop)]
 pub struct PrimaryCore<J: JournalStore> {
     lists: Lists,
@@ -54,14 +55,14 @@ impl<J: JournalStore> Model for PrimaryCore<J> {
 }
 
 impl<J: JournalStore> PrimaryCore<J> {
-    /// A primary for a schema and 1 to 16 workers, on a journal: what the journal keeps is durable.
-    /// What a stop left behind that is truncated, and what is missing of the header written, before
-    /// anything else.
+    /// A primary for a schema and 1 to 16 workers, on a journal: the commits that the journal keeps
+    /// are durable. Before anything else, a torn record is truncated, or a header that a crash left
+    /// incomplete is completed.
     ///
-    /// Fails with `Store` where the journal could not be read, truncated or written, which it has counted
-    /// as a fault; with `Journal` where its bytes are refused, and then with the fault that they have;
-    /// with `Memory`. The journal is handed back, and keeps what it kept; its bytes are changed only
-    /// where `Store` is answered.
+    /// Fails with `Store` if the journal could not be read, truncated or written, which it has
+    /// counted as a fault; with `Journal` if its bytes are refused, and then with their fault; with
+    /// `Memory`. The journal is handed back, and keeps the same commits; its bytes are changed only
+    /// if `Store` is answered.
     pub fn start(
         alloc: Global,
         journal: J,
@@ -100,8 +101,8 @@ impl<J: JournalStore> PrimaryCore<J> {
     }
 
     /// The durable list followed by the pending one is legal for the primary's schema and workers,
-    /// and a journal may be of it; so may it be of the durable list alone. A datagram spells each
-    /// frame of the durable list. It does nothing: its contract is the law.
+    /// and a journal may be of it, and also of the durable list alone. A datagram spells each frame
+    /// of the durable list. It does nothing: its contract is the law.
     pub fn keeps_legal(&self)
         ensures all { IsJournaled self.now.primary.workers (shape_of self.now.primary.schema)
             (self.now.primary.durable ++ self.now.primary.pending) }
@@ -114,7 +115,7 @@ impl<J: JournalStore> PrimaryCore<J> {
         self.lists.keeps_legal();
     }
 
-    /// How many commits are durable, which is the version that a transaction begins on.
+    /// How many commits are durable, which is the version on which a transaction begins.
     pub fn durable(&self) -> u64
         ensures { result ≡ length self.now.primary.durable }
     {
@@ -128,7 +129,8 @@ impl<J: JournalStore> PrimaryCore<J> {
         self.lists.pending()
     }
 
-    /// How many workers there are, 1 to 16: a transaction is committed for one that is below.
+    /// How many workers there are, 1 to 16: a transaction is committed for a worker below this
+    /// number.
     pub fn workers(&self) -> u8
         ensures count { result ≡ self.now.primary.workers }
         ensures some { 0 < result }
@@ -154,7 +156,7 @@ impl<J: JournalStore> PrimaryCore<J> {
         self.journal.is_none()
     }
 
-    /// The journal, to be looked at. Takes no memory.
+    /// The journal, for reading. Takes no memory.
     pub fn journal(&self) -> &J
         requires { is_some self.now.journal ≡ true }
         ensures { self.now.journal ≡ Some result.now }
@@ -177,8 +179,8 @@ impl<J: JournalStore> PrimaryCore<J> {
         }
     }
 
-    /// The records of the pending commits, as a flush of all would write them. Fails only where it is
-    /// out of memory.
+    /// The records of the pending commits, as a flush of all would write them. Fails only if out of
+    /// memory.
     pub fn pending_text(&self) -> Result<Vec<u8>, AllocError>
         ensures { IfOk result (λ bytes. bytes.items ≡ records_from (length self.now.primary.durable) self.now.primary.pending) }
     {
@@ -212,11 +214,11 @@ impl<J: JournalStore> PrimaryCore<J> {
     }
 
     /// Begins a flush of the first `count` pending commits (all, if there are fewer): takes all
-    /// memory, and lends the journal out with their records. The lists stay as they are; commits,
-    /// pushes and answers go on while the records are written.
+    /// memory, and lends the journal out with their records. The lists do not change; commits,
+    /// pushes and answers continue while the records are written.
     ///
     /// Fails with `Failed` if the journal failed before, with `Busy` if it is lent out, or with
-    /// `Memory`; nothing that stands has changed then.
+    /// `Memory`; the lists and the journal's bytes are then unchanged.
     pub fn begin_flush(&mut self, count: usize) -> Result<Work<J>, FlushFault>
         ensures ok { IfOk result (IsLentBy J.is_honest J.standing J.fault_count self.old count) }
         ensures lent { OnOk result (self.new ≡ record self.old { journal = None }) }
@@ -243,18 +245,18 @@ impl<J: JournalStore> PrimaryCore<J> {
         }
     }
 
-    /// The packet of that `seq` of the worker's stream of the durable list, where the stream has
-    /// it. Takes no memory.
+    /// The packet of that `seq` of the worker's stream of the durable list, if the stream has it.
+    /// Takes no memory.
     pub fn push(&self, worker: u8, seq: u64) -> Option<Packet>
         ensures { result ≡ pushed self.now.primary worker seq }
     {
         self.lists.push(worker, seq)
     }
 
-    /// What the primary sends for bytes that came: to an Ask, one Head with what is durable and
-    /// each worker's frame count at it; to a Want, the durable frames of the worker from the one that
-    /// it names on, at most 16, none where there is no such worker; to anything else nothing. Each
-    /// goes to the replica that asked. Fails only where it is out of memory, and only where
+    /// What the primary sends for bytes that arrived: to an Ask, one Head with what is durable and
+    /// each worker's frame count at that version; to a Want, the durable frames of the worker from
+    /// the one that it names on, at most 16, and none if there is no such worker; to anything else
+    /// nothing. Each goes to the replica that asked. Fails only if out of memory, and only if
     /// something is to be sent.
     pub fn on_bytes(&self, bytes: &[u8]) -> Result<Vec<Out>, AllocError>
         ensures ok { IfOk result (λ outs. outs.items ≡ answers self.now.primary bytes.now) }
@@ -266,13 +268,13 @@ impl<J: JournalStore> PrimaryCore<J> {
 
 impl<J: JournalStore + Drop> PrimaryCore<J> {
     /// Ends the flush that this primary began: takes the journal back, and answers how many commits
-    /// are durable. If the journal took the records, as many pending commits are durable now as were
-    /// offered, whatever was committed meanwhile. Takes no memory.
+    /// are durable. If the journal took the records, as many pending commits are now durable as
+    /// were offered, whatever was committed meanwhile. Takes no memory.
     ///
     /// Fails with `NotLent` if the journal is not lent out, and then nothing changes; or with
-    /// `Journal` if the journal did not take the records: the lists are then as they were, some
-    /// beginning of the records may stand, and each commit and flush answers `Failed` until the
-    /// primary is started again.
+    /// `Journal` if the journal did not take the records: the lists are then unchanged, the journal
+    /// may contain some beginning of the records, and each commit and flush answers `Failed` until
+    /// the primary is restarted.
     pub fn end_flush(&mut self, done: Done<J>) -> Result<u64, FlushFault>
         ensures not_lent { is_some self.old.journal ≡ true → (result ≡ Err FlushFault.NotLent) × (self.new ≡ self.old) }
         ensures ended { self.old.journal ≡ None → self.new ≡ ended self.old.primary done }
@@ -294,14 +296,14 @@ impl<J: JournalStore + Drop> PrimaryCore<J> {
     }
 
     /// Moves the first `count` pending commits (all, if there are fewer) to the durable list, and
-    /// answers how many are durable then. Their records go to the journal in one append, for which
-    /// all memory is taken first; if there is nothing to move, nothing is written. It begins a flush,
-    /// writes it and ends it.
+    /// answers how many are then durable. Their records go to the journal in one append, for which
+    /// all memory is taken first; if there is nothing to move, nothing is written. This begins a
+    /// flush, writes it and ends it.
     ///
     /// Fails with `Failed` if the journal failed before; with `Busy` if it is lent out; with
     /// `Memory`; or with `Journal` if the journal did not take the records and has counted a fault.
-    /// The lists are then as they were; after `Journal` some beginning of the records may stand, and
-    /// each commit and flush answers `Failed` until the primary is started again.
+    /// The lists are then unchanged; after `Journal` the journal may contain some beginning of the
+    /// records, and each commit and flush answers `Failed` until the primary is restarted.
     pub fn flush(&mut self, count: usize) -> Result<u64, FlushFault>
         ensures ok { IfOk result (λ durable. (self.old.primary.failed ≡ false) × (self.new.primary ≡ flushed self.old.primary count)
             × (durable ≡ length self.new.primary.durable)) }

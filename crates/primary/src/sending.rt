@@ -16,7 +16,7 @@ use wire::{Counts, Out, Packet, To};
 /// Frames that answer one Want, at most.
 const WANT_FRAMES_MAX: u64 = 16;
 
-/// The packet of that `seq` of a worker's stream of the first `durable` of the commits, where the
+/// The packet of that `seq` of a worker's stream of the first `durable` of the commits, if the
 /// stream has it. Takes no memory.
 pub fn frame_packet(
     streams: &Streams,
@@ -35,9 +35,8 @@ pub fn frame_packet(
     Some(Packet::of_frame(&frame))
 }
 
-/// The frames of a worker from that seq on, at most 16, each on its way to the replica: those of
-/// the first `durable` of the commits. Fails only where it is out of memory, and only where there is
-/// one.
+/// The frames of a worker from that seq on, at most 16, each addressed to the replica: those of the
+/// first `durable` of the commits. Fails only if out of memory, and only if there is one.
 pub fn wanted_outs(
     alloc: Global,
     streams: &Streams,
@@ -68,7 +67,7 @@ pub fn wanted_outs(
     Ok(outs)
 }
 
-/// How many frames of the first `version` commits each of this many workers has.
+/// The frame count of each of this many workers at this version.
 pub fn counts(streams: &Streams, version: u64, workers: u8) -> Counts
     requires { workers ≤ workers_max }
     ensures { (commits : List CommitOf) → AreStreamsOf streams.now.streams commits → result ≡ counts_of commits version workers }

@@ -1,4 +1,4 @@
-//! Starting on a journal: reading it, and making it the text of what it keeps.
+//! Starting on a journal: recovery, and truncating or completing what a crash left.
 
 ghost use Rattle.std.specs.Prelude.{◌≡◌, ◌<◌, ◌≤◌, ◌++◌, ℕ, length, true, IfOk, IfErr, OnOk, OnErr};
 ghost use Rattle.rows.specs.Limits.{workers_max};
@@ -17,9 +17,9 @@ use rows::Schema;
 use std::alloc::Global;
 use update_log::one_cut;
 
-/// The lists of the commits that a journal keeps. What is torn is truncated from it then, or what
-/// is missing of its header written; all memory is taken before that. Where it fails, the journal
-/// keeps what it kept, and its bytes are changed only where it could not be truncated or written.
+/// The lists of the commits that a journal keeps. A torn record is truncated, or an incomplete
+/// header completed; all memory is taken before that. If it fails, the journal keeps the same
+/// commits, and its bytes are changed only if it could not be truncated or written.
 pub fn open<J: JournalStore>(
     alloc: Global,
     journal: &mut J,
@@ -57,7 +57,7 @@ pub fn open<J: JournalStore>(
     Ok(lists)
 }
 
-/// The bytes that stand on a journal. Nothing that stands changes.
+/// The bytes on a journal. They do not change.
 fn standing<J: JournalStore>(
     alloc: Global,
     journal: &mut J,
@@ -78,7 +78,7 @@ fn standing<J: JournalStore>(
     }
 }
 
-/// What the bytes of a journal keep.
+/// The commits that the bytes of a journal keep.
 fn kept<F>(
     alloc: Global,
     bytes: &[u8],
@@ -92,7 +92,7 @@ fn kept<F>(
     ensures no_fault { (count : ℕ) → IfErr result (λ fault. CountsStartFault fault count count) }
 {
     one_cut();
-    // A look at the length brings its range to the proof: no list has more commits than bytes.
+    // A look at the length makes its range known to the proof: no list has more commits than bytes.
     let _ = bytes.len();
     match recover(alloc, bytes, schema, workers) {
         Ok(recovered) => Ok(recovered),
@@ -101,8 +101,8 @@ fn kept<F>(
     }
 }
 
-/// Makes a journal of these bytes the text of what they keep: where they end within the header, the
-/// rest of it is written, and otherwise what is torn behind the kept ones is truncated.
+/// Makes a journal of these bytes contain the text of the commits that it keeps: completes a header
+/// that is cut short, or else truncates what is torn after the kept ones.
 fn settle<J: JournalStore>(
     journal: &mut J,
     bytes: &[u8],
@@ -132,7 +132,7 @@ fn settle<J: JournalStore>(
     Ok(())
 }
 
-/// Puts bytes behind those that stand.
+/// Appends bytes to the journal.
 fn add<J: JournalStore>(journal: &mut J, bytes: &[u8]) -> Result<(), StartFault<J::Fault>>
     requires { J.fault_count journal.old < faults_max }
     ensures ok { J.is_honest journal.old ≡ true → OnOk result (J.standing journal.new ≡ J.standing journal.old ++ bytes.now) }

@@ -1,6 +1,6 @@
 use rows::EntryList;
 
-/// What a commit is known by: its number, its worker and its entries.
+/// What identifies a commit: its number, its worker and its entries.
 #[derive(Debug, Drop)]
 pub struct Ticket {
     pub number: u64,

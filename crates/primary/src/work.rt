@@ -10,8 +10,8 @@ use std::marker::Model;
 
 /// A flush that has begun: the journal, lent out, and the records that are offered to it.
 ///
-/// It needs no primary to be written, so whoever shares one lets go of it meanwhile. It is never
-/// dropped: it is written, and what the write leaves ends the flush.
+/// Writing it does not need the primary, so a thread that shares one releases it meanwhile. It is
+/// never dropped: it is written, and the result of the write ends the flush.
 #[derive(Debug)]
 pub struct Work<J: JournalStore> {
     journal: J,
@@ -32,7 +32,7 @@ impl<J: JournalStore> Model for Work<J> {
 }
 
 impl<J: JournalStore> Work<J> {
-    /// A flush of so many commits, whose records these are, on this journal.
+    /// A flush of this many commits, with these records, on this journal.
     pub(crate) fn new(journal: J, count: usize, records: Vec<u8>) -> Work<J>
         requires { CanBeWritten J.room J.fault_count (record { journal = journal; count = count; records = records.items }) }
         ensures { result ≡ record { journal = journal; count = count; records = records.items } }
@@ -44,9 +44,9 @@ impl<J: JournalStore> Work<J> {
         }
     }
 
-    /// Offers the records to the journal in one append, and nothing where no commit is offered.
-    /// A stop meanwhile, before the write or after it, finds what a stop of the primary may leave.
-    /// Takes no memory.
+    /// Offers the records to the journal in one append, or nothing if no commit is offered. A crash
+    /// meanwhile, before the write or after it, leaves what a stop of the primary may leave. Takes
+    /// no memory.
     pub fn write(self) -> Done<J>
         ensures left { IsWriteOf J.is_honest J.standing J.fault_count self result }
         ensures stops { StopsAreAllowed J.is_honest J.standing J.fault_count self result }

@@ -28,7 +28,7 @@ pub fn value_of(
         .map_err(LineFault::Tx)
 }
 
-/// Puts a new row into a table.
+/// Inserts a row into a table.
 pub fn insert_into(
     versions: &Versions,
     transaction: &mut Transaction,
@@ -48,7 +48,7 @@ pub fn insert_into(
         .map_err(LineFault::Tx)
 }
 
-/// Gives one column of a row another value.
+/// Sets one column of a row to another value.
 pub fn set_in(
     versions: &Versions,
     transaction: &mut Transaction,
@@ -69,7 +69,7 @@ pub fn set_in(
         .map_err(LineFault::Tx)
 }
 
-/// Takes a row out of a table.
+/// Deletes a row from a table.
 pub fn delete_from(
     versions: &Versions,
     transaction: &mut Transaction,

@@ -3,7 +3,7 @@
 use mvcc::TxFault;
 use thiserror::Error;
 
-/// Why a call of a seat is refused: the first that stands, in this order.
+/// Why a call of a seat is refused: the first that applies, in this order.
 #[derive(Clone, Copy, Debug, PartialEq, Eq, Error)]
 pub enum LineFault {
     /// What is published could not be entered, or is shorter than what the seat has seen.
@@ -12,7 +12,7 @@ pub enum LineFault {
     /// The transaction's snapshot is above the seat's list.
     #[error("the transaction's snapshot is ahead of the seat")]
     Ahead,
-    /// The transaction refuses the call.
+    /// The transaction itself refuses the call.
     #[error("{0}")]
     Tx(TxFault),
 }

@@ -5,7 +5,8 @@ use crossbeam_utils::rule::{Outcome, Protocol};
 use history::Naming;
 use std::marker::{Brand, PhantomData};
 
-/// Which line it is: its history, its schema and its number of workers. Each call of a program picks it.
+/// Which line it is: its history, its schema and its number of workers. Each call of a program
+/// determines it.
 pub trait Line: Naming {
     ghost use Rattle.std.specs.Prelude.{List, ℕ};
     ghost use Rattle.rows.specs.declared.kind.Kind.{Kind};
@@ -23,7 +24,7 @@ impl Line for Brand {
     ghost workers = { 0 };
 }
 
-/// The rule of what is published: it is of this line.
+/// The rule of what is published: it belongs to this line.
 pub struct Published<L: Line> {
     line: PhantomData<L>,
 }
@@ -36,7 +37,7 @@ impl<L: Line> Protocol<Shown, ()> for Published<L> {
     ghost first = { tt };
 }
 
-/// What a reader finds, or a publication leaves: what is then published is of this line.
+/// What a reader finds, or a publication leaves: what is then published belongs to this line.
 pub struct Sees<L: Line> {
     line: PhantomData<L>,
 }

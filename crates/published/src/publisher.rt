@@ -1,4 +1,4 @@
-//! Who publishes: two copies of what readers see, and the commits that one of them lacks.
+//! The publisher: two copies of what readers see, and the commits that one of them lacks.
 
 ghost use Rattle.std.specs.Prelude.{◌≡◌, ◌<◌, ◌^◌, [], ◌∷◌, ◌++◌, length, drop, IfOk, MatchBool, MatchResult};
 ghost use Rattle.rows.specs.Shape.{shape_of};
@@ -19,10 +19,10 @@ use std::alloc::{AllocError, Global};
 use std::marker::Model;
 use std::sync::Wait;
 
-/// The publisher of a line. It keeps the handle with which it waits for readers, also when it is
+/// The publisher of a line. It keeps the handle with which it waits for readers, also while it is
 /// dropped.
 ///
-/// Contracts see the list that is published, and the one that will be with the next `publish`.
+/// Contracts see the published list, and the list that the next `publish` will publish.
 pub struct Publisher<L: Line, R: Wait + Drop> {
     writer: Writer<Shown, Step, (), Published<L>>,
     rt: R,
@@ -52,8 +52,8 @@ impl<L: Line, R: Wait + Drop> Drop for Publisher<L, R> {
 }
 
 impl<L: Line, R: Wait + Drop> Publisher<L, R> {
-    /// A publisher that has published no commit, with room for so many readers. `seen` is of a history
-    /// without commits. Fails only when out of memory.
+    /// A publisher that has published no commit, with room for this many readers. `seen` is a token
+    /// of a history without commits. Fails only if out of memory.
     pub fn new(
         alloc: Global,
         rt: R,
@@ -82,13 +82,13 @@ impl<L: Line, R: Wait + Drop> Publisher<L, R> {
         })
     }
 
-    /// A reader of what is published. Fails if every reader that there is room for is in use, or out of
-    /// memory.
+    /// A reader of what is published. Fails if every reader that there is room for is in use, or if
+    /// out of memory.
     pub fn reader(&self) -> Result<Reader<Shown, (), Published<L>>, AllocError> {
         self.writer.factory().reader()
     }
 
-    /// Adds the next commit to what will be published. If it is out of memory, the step comes back.
+    /// Adds the next commit to what will be published. If out of memory, it hands the step back.
     pub fn push(&mut self, step: Step) -> Result<(), Step>
         requires book { step.seen.book ≡ L.book }
         requires history { told step.seen.log ≡ self.old.queued ++ step.commit ∷ [] }
@@ -102,8 +102,8 @@ impl<L: Line, R: Wait + Drop> Publisher<L, R> {
         self.writer.append(step)
     }
 
-    /// Publishes all that was added, and answers whether there was memory for it. It waits for readers
-    /// that entered before the publication before this one, and have not left.
+    /// Publishes everything that was added, and answers whether there was memory for it. It waits
+    /// for readers that entered before the previous publication and have not left.
     pub fn publish(&mut self) -> bool
         ensures queued { self.new.queued ≡ self.old.queued }
         ensures shown { MatchBool result (self.new.shown ≡ self.new.queued) (self.new.shown ≡ self.old.shown) }
@@ -125,7 +125,7 @@ impl<L: Line, R: Wait + Drop> Publisher<L, R> {
     }
 }
 
-/// Publishes all that was added, and answers whether there was memory for it.
+/// Publishes everything that was added, and answers whether there was memory for it.
 fn show<L: Line, R: Wait + Drop>(
     rt: &R,
     writer: Writer<Shown, Step, (), Published<L>>,

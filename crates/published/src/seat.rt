@@ -71,8 +71,8 @@ impl<L: Line> Seat<L> {
         self.front = front;
     }
 
-    /// Begins a transaction. Its snapshot is the newest version that is published, or a newer one that
-    /// the seat has seen. Takes no memory.
+    /// Begins a transaction. Its snapshot is the newest published version, or a newer one that the
+    /// seat has seen. Takes no memory.
     ///
     /// Fails with `Unread` if what is published cannot be entered.
     pub fn begin(&mut self, alloc: Global) -> Result<Transaction, LineFault>
@@ -91,9 +91,9 @@ impl<L: Line> Seat<L> {
 
     /// The value of a column of a row, as the transaction sees it. Takes no memory.
     ///
-    /// Fails with the first of these: `Unread`, what is published cannot be entered, or is shorter than
-    /// what the seat has seen; `Ahead`, the transaction's snapshot is above the seat's list; `Tx`, the
-    /// transaction's own refusal.
+    /// Fails with the first of these: `Unread`, what is published cannot be entered, or is shorter
+    /// than what the seat has seen; `Ahead`, the transaction's snapshot is above the seat's list;
+    /// `Tx`, the transaction's own refusal.
     pub fn value(
         &mut self,
         transaction: &Transaction,
@@ -114,10 +114,9 @@ impl<L: Line> Seat<L> {
         answer
     }
 
-    /// Puts a new row into a table of the transaction.
+    /// Inserts a row into a table of the transaction.
     ///
-    /// Fails as `value` does, and also where the transaction is out of memory. The transaction is then
-    /// as it was.
+    /// Fails as `value` does, or if out of memory; the transaction is then unchanged.
     pub fn insert(
         &mut self,
         transaction: &mut Transaction,
@@ -139,10 +138,9 @@ impl<L: Line> Seat<L> {
         answer
     }
 
-    /// Gives one column of a row another value in the transaction.
+    /// Sets one column of a row to another value in the transaction.
     ///
-    /// Fails as `value` does, and also where the transaction is out of memory. The transaction is then
-    /// as it was.
+    /// Fails as `value` does, or if out of memory; the transaction is then unchanged.
     pub fn set(
         &mut self,
         transaction: &mut Transaction,
@@ -172,10 +170,9 @@ impl<L: Line> Seat<L> {
         answer
     }
 
-    /// Takes a row out of a table of the transaction.
+    /// Deletes a row from a table of the transaction.
     ///
-    /// Fails as `value` does, and also where the transaction is out of memory. The transaction is then
-    /// as it was.
+    /// Fails as `value` does, or if out of memory; the transaction is then unchanged.
     pub fn delete(
         &mut self,
         transaction: &mut Transaction,
@@ -221,7 +218,8 @@ impl<L: Line> Seat<L> {
         }
     }
 
-    /// Takes the list that was entered, if the seat has not seen a longer one; answers whether it did.
+    /// Takes the list that was entered, unless the seat has seen a longer one; answers whether it
+    /// did.
     fn follow(&mut self, reading: &Reading<Shown, (), Published<L>>) -> bool
         requires { IsOfLine L.book L.schema L.workers reading.now.part.value }
         ensures legal { IsJournaled L.workers (shape_of L.schema) self.new }
@@ -233,8 +231,9 @@ impl<L: Line> Seat<L> {
         self.front.follow(front)
     }
 
-    /// Enters what is published, and takes its list. `None` if it cannot be entered, or is shorter than
-    /// what the seat has seen: no row meets that, since what a seat has seen was published before.
+    /// Enters what is published, and takes its list. `None` if it cannot be entered, or is shorter
+    /// than what the seat has seen; the latter never happens, since what a seat has seen was
+    /// published before.
     fn read(&mut self) -> Option<Reading<Shown, (), Published<L>>>
         ensures legal { IsJournaled L.workers (shape_of L.schema) self.new }
         ensures later { IsPrefix self.old self.new }

@@ -1,4 +1,5 @@
-//! What readers see: the versions of a list of commits, and the history that the list is a beginning of.
+//! What readers see: the versions of a list of commits, and a token of the history that the list is
+//! a beginning of.
 
 ghost use Rattle.std.specs.Prelude.{◌≡◌};
 
@@ -8,7 +9,7 @@ use mvcc::Versions;
 use rows::Commit;
 use std::alloc::AllocError;
 
-/// Versions, and a token of the history's beginning that they are of.
+/// Versions, and a token of the beginning of the history that they contain.
 #[derive(Drop)]
 pub struct Shown {
     pub versions: Versions,

@@ -23,6 +23,7 @@ pub record IsMoment (moment : Moment) : Type 0 where
 abbrev pub waiting : Moment → List Plan
 waiting moment = drop (length moment.takers) moment.plans
 
+-- a plan with its position in the put list
 abbrev pub queued : ℕ → Plan → Queued
 queued position plan = record { position = position; plan = plan }
 
@@ -41,6 +42,7 @@ moves_until pass moment = record {
   taken = owned pass 0 moment.takers moment.plans;
 }
 
+-- nothing was put or taken
 abbrev pub no_moves : Moves
 no_moves = record { put = []; taken = [] }
 
@@ -58,6 +60,7 @@ pub record AreMovesAt (moves : Moves) (pass : ℕ) (moment : Moment) : Type 0 wh
   pub sound : IsMoment moment
   pub all : moves ≡ moves_until pass moment
 
+-- there is such a moment
 abbrev pub AreMovesOfMoment : Moves → Type 0
 AreMovesOfMoment moves = (pass : ℕ) × (moment : Moment) × AreMovesAt moves pass moment
 
@@ -96,10 +99,11 @@ pub record Takes (old : Moves) (plan : Plan) (new : Moves) : Type 0 where
   pub one_more : new.taken ≡ old.taken ++ queued (length moment.takers) plan ∷ []
   pub same : new.put ≡ old.put
 
+-- the plan of one with its position
 abbrev pub plan_in : Queued → Plan
 plan_in one = one.plan
 
--- what taking a batch leaves: so many plans were taken, and just these were given, in order, behind what the batch had
+-- what taking a batch leaves: so many plans were taken, and just these were given, in order, after what the batch had
 pub record TakesBatch (old : Moves) (before : List Plan) (count : ℕ) (new : Moves) (after : List Plan) : Type 0 where
   pub added : List Queued
   pub counted : length added ≡ count

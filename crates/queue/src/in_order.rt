@@ -1,4 +1,4 @@
-//! The rule that every step of the queue keeps, and what its steps tell.
+//! The rule that every step of the queue keeps, and what its steps show.
 
 use crate::moves::Moves;
 use crossbeam_queue::protocol::{Lesson, Outcome, Protocol};

@@ -2,9 +2,9 @@
 
 ghost use Rattle.queue.specs.Laws.{MovesRise, PutIsListed, TakenOnce};
 
-/// What was put and taken with a pass stands in rising position, each plan at its position in the
-/// list of all that were put, and no other pass put or took it. It does nothing: its contract is the
-/// laws.
+/// What was put and taken with a pass is in rising position, each plan is at its position in the
+/// list of all that were put, and no other pass put or took it. It does nothing: its contract is
+/// the laws.
 pub fn moves_are_listed()
     ensures rise { MovesRise }
     ensures put { PutIsListed }

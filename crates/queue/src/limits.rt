@@ -3,7 +3,7 @@
 ghost use Rattle.std.specs.Prelude.{◌≡◌};
 ghost use Rattle.queue.specs.Limits.{batch_plans_max};
 
-/// Plans of a batch, at most: as many as wait at a replica.
+/// Plans of a batch, at most: as many as may wait at a replica.
 pub const BATCH_PLANS_MAX: usize = 64;
 
 /// The limit is the number that the definitions name. It does nothing: its contract says so.

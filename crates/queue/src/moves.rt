@@ -1,4 +1,5 @@
-//! What a pass has done with the queue. No value of these types is made: contracts alone speak of them.
+//! What a pass has done with the queue. No value of these types is made: they are for contracts
+//! alone.
 
 use plans::Plan;
 use std::collections::LinkedList;

@@ -2,8 +2,8 @@
 
 use crate::ring::Seat;
 
-/// What lets one thread put and take. It has no bytes: contracts see what was put and taken with it.
-/// It goes with the queue that gave it, and with no other.
+/// The right of one thread to put and take. It has no bytes: contracts see what was put and taken
+/// with it. It belongs to the queue that gave it, and to no other.
 #[derive(Drop)]
 pub struct Pass {
     pub(crate) seat: Seat,

@@ -7,9 +7,10 @@ use plans::Plan;
 use std::alloc::{AllocError, Global};
 use std::sync::Wait;
 
-/// A queue of plans that threads share, with room for so many and no more: first in, first out.
-/// What it holds at a moment no contract can say, since other threads use it too; what was done with
-/// each `Pass` is said exactly.
+/// A queue of plans that threads share, with room for a fixed number: first in, first out.
+///
+/// No contract can state its content at a moment, since other threads use it too; contracts state
+/// exactly what was done with each `Pass`.
 #[derive(Drop)]
 pub struct QueryQueue {
     ring: Ring,
@@ -21,7 +22,7 @@ impl QueryQueue {
     ghost use Rattle.queue.specs.Rule.{no_moves, AreMovesOfMoment, HeldThen, Puts, TakesBatch};
     ghost use Rattle.queue.specs.Passes.{capacity_of, moves_of, IsPassOf};
 
-    /// An empty queue with room for so many plans. Fails only when out of memory.
+    /// An empty queue with room for this many plans. Fails only if out of memory.
     pub fn new(alloc: Global, capacity: usize) -> Result<QueryQueue, AllocError>
         requires { 0 < capacity }
         ensures { IfOk result (λ queue. capacity_of queue ≡ capacity) }
@@ -30,7 +31,7 @@ impl QueryQueue {
         Ok(QueryQueue { ring })
     }
 
-    /// A pass with which nothing was put or taken yet. There is always one.
+    /// A pass with which nothing was put or taken yet. It is always `Some`.
     pub fn pass(&self) -> Option<Pass>
         ensures some { IsSome result }
         ensures fresh { IfSome result (λ pass. IsPassOf self.now pass × (moves_of pass ≡ no_moves)) }
@@ -40,8 +41,8 @@ impl QueryQueue {
         })
     }
 
-    /// Puts a plan at the end, in one step. It comes back if the queue was full at a moment of the
-    /// call, and then nothing has changed.
+    /// Puts a plan at the end, in one step. If the queue was full at a moment of the call, the plan
+    /// is returned, and nothing has changed.
     pub fn put<R: Wait>(&self, rt: &R, pass: &mut Pass, plan: Plan) -> Result<(), Plan>
         requires { IsPassOf self.now pass.old }
         ensures same { IsPassOf self.now pass.new }
@@ -53,8 +54,8 @@ impl QueryQueue {
     }
 
     /// Takes up to 64 plans, each in one step, and appends them to the batch in the order of the
-    /// queue; answers how many. There are fewer only if the queue was empty at a moment of the call.
-    /// Takes room for all of them first: if it is out of memory for that, nothing has changed.
+    /// queue; answers how many. There are fewer only if the queue was empty at a moment of the
+    /// call. Memory for all of them is taken first: if there is none, nothing has changed.
     pub fn take_batch<R: Wait>(
         &self,
         rt: &R,

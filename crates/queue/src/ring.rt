@@ -14,7 +14,7 @@ pub(crate) type Ring = RuledArrayQueue<Plan, Moves, InOrder>;
 
 pub(crate) type Seat = Pass<Plan, Moves>;
 
-/// Puts a plan at the end, in one step. It comes back only if the ring was full.
+/// Puts a plan at the end, in one step. It is returned only if the ring was full.
 pub(crate) fn push<R: Wait>(rt: &R, ring: &Ring, seat: &mut Seat, plan: Plan) -> Result<(), Plan>
     requires { IsPassOf ring.now seat.old }
     ensures same { IsPassOf ring.now seat.new }
@@ -25,7 +25,7 @@ pub(crate) fn push<R: Wait>(rt: &R, ring: &Ring, seat: &mut Seat, plan: Plan) ->
     ring.push_as::<Put, R>(rt, seat, plan)
 }
 
-/// Takes the first plan, in one step. There is none only if the ring was empty.
+/// Takes the first plan, in one step; `None` only if the ring was empty.
 pub(crate) fn pop<R: Wait>(rt: &R, ring: &Ring, seat: &mut Seat) -> Option<Plan>
     requires { IsPassOf ring.now seat.old }
     ensures same { IsPassOf ring.now seat.new }

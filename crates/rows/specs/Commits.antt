@@ -49,8 +49,8 @@ overlaps (Delete table row) other = is_of table row.0 other
 abbrev pub touches : List Entry → Commit → Bool
 touches entries commit = list_any (λ entry. list_any (overlaps entry) commit.entries) entries
 
--- the greatest number of a commit of which something holds, the first commit of the list being the
--- next after `before`; 0 where it holds of none
+-- the greatest number of a commit of which something holds, the first commit of the list being the next after `before`; 0 if it
+-- holds of none
 abbrev pub last_where : (Commit → Bool) → ℕ → List Commit → ℕ
 last_where holds before [] = 0
 last_where holds before (commit ∷ commits) =

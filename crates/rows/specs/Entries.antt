@@ -28,7 +28,7 @@ abbrev pub listed : Option (List Kind) → Result (Unit {0}) EntryFault
 listed None = Err NoTable
 listed (Some kinds) = Ok tt
 
--- whether an entry fits its table, where that is there, by the kinds of the table's columns; or its first fault
+-- whether an entry fits its table, if that is there, by the kinds of the table's columns; or its first fault
 abbrev pub fitting_in : Option (List Kind) → Entry → Result (Unit {0}) EntryFault
 fitting_in kinds (Insert table row bytes) = sized kinds (length bytes)
 fitting_in kinds (Patch table row offset bytes) = placed kinds offset (length bytes)

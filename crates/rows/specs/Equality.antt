@@ -1,4 +1,4 @@
--- What `==` is of entries and commits: true exactly where they are equal (`Laws.antt`).
+-- What `==` is of entries and commits: true exactly if they are equal (`Laws.antt`).
 use Rattle.std.specs.Prelude.{ℕ, List, [], ◌∷◌, Bool, nat_eq, ◌==◌, ◌&&◌}
 use Rattle.std.specs.Cmp.Lexicographic.{pointwise}
 use Rattle.rows.specs.declared.commit.Commit.{Commit}

@@ -37,7 +37,7 @@ CommitsKeepKinds =
 abbrev pub VersionsKeepKinds : Type 0
 VersionsKeepKinds = (shape : Shape) (commits : List Commit) (version : ℕ) → shape_in (tables_after shape commits version) ≡ shape
 
--- where each row has values of its columns' kinds, it still has after an entry
+-- if each row has values of its columns' kinds, it still has after an entry
 abbrev pub EntryKeepsRows : Type 0
 EntryKeepsRows =
     (tables after : Tables) (entry : Entry) → RowsAreOfKinds tables → apply_entry tables entry ≡ Ok after → RowsAreOfKinds after
@@ -67,7 +67,7 @@ FoundColumnsFit =
     (kinds : List Kind) (offset size column : ℕ) (kind : Kind) → column_at kinds offset size ≡ Some (column, kind)
     → list_all is_good kinds ≡ true → (is_good kind ≡ true) × (size ≡ width_of kind)
 
--- a column's value is told by as many bytes as it is wide
+-- a column's value is determined by as many bytes as it is wide
 abbrev pub WidthTellsValue : Type 0
 WidthTellsValue =
     (kind : Kind) (bytes others : List ℕ) → take (width_of kind) bytes ≡ take (width_of kind) others
@@ -85,11 +85,11 @@ SpelledAreFound =
     (entries : List Entry) → AllByRecursion HasSpelling entries
     → entries_filling (length entries) (flat_map entry_spelling entries) ≡ Some entries
 
--- an entry overlaps with another where the other does with it
+-- an entry overlaps with another exactly if the other overlaps with it
 abbrev pub IsSymmetric : Type 0
 IsSymmetric = (entry other : Entry) → overlaps entry other ≡ overlaps other entry
 
--- `==` of bytes, of entries, of lists of them and of commits is true exactly where they are equal
+-- `==` of bytes, of entries, of lists of them and of commits is true exactly if they are equal
 abbrev pub BytesEqual : Type 0
 BytesEqual = (bytes other : List ℕ) → Decides (pointwise nat_eq bytes other) (bytes ≡ other)
 

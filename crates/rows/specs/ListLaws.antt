@@ -1,4 +1,4 @@
--- Laws of lists of commits and of entries: where one is defined, which parts of it are, and what of a row it leaves.
+-- Laws of lists of commits and of entries: when one is defined, which parts of it are, and what of a row it leaves.
 use Rattle.std.specs.Prelude.{◌≡◌, ℕ, ◌≤◌, List, [], ◌∷◌, ◌++◌, length, take, None, Ok, ◌&&◌, true, false, is_ok}
 use Rattle.std.specs.List.{AllByRecursion}
 use Rattle.rows.specs.declared.commit.Commit.{Commit}
@@ -16,7 +16,7 @@ BeginningsAreDefined =
     (shape : Shape) (commits : List Commit) (version : ℕ) → is_ok (apply_commits (opening shape) commits) ≡ true
     → apply_commits (opening shape) (take version commits) ≡ Ok (tables_after shape commits version)
 
--- each of them is defined behind those before it
+-- each of them is defined after those before it
 abbrev pub EachIsDefined : Type 0
 EachIsDefined =
     (shape : Shape) (before : List Commit) (commit : Commit) (behind : List Commit)
@@ -29,7 +29,7 @@ EachFits =
     (shape : Shape) (commits : List Commit) → is_ok (apply_commits (opening shape) commits) ≡ true
     → AllByRecursion (λ commit. AllByRecursion (λ entry. is_ok (fitting shape entry) ≡ true) commit.entries) commits
 
--- with one more behind them that is defined there, they are defined
+-- with one more after them that is defined there, they are defined
 abbrev pub OneMoreIsDefined : Type 0
 OneMoreIsDefined =
     (shape : Shape) (commits : List Commit) (commit : Commit) → is_ok (apply_commits (opening shape) commits) ≡ true
@@ -42,7 +42,7 @@ UndefinedStayUndefined =
     (tables : Tables) (before entries : List Entry) → is_ok (apply_entries tables before) ≡ false
     → is_ok (apply_entries tables (before ++ entries)) ≡ false
 
--- one more entry is defined where it fits and its row stands as it needs it
+-- one more entry is defined if it fits and its row stands as it needs it
 abbrev pub OneMoreEntryIsDefined : Type 0
 OneMoreEntryIsDefined =
     (shape : Shape) (commits : List Commit) (version : ℕ) (before : List Entry) (entry : Entry) (table row : ℕ)
@@ -59,7 +59,7 @@ UntouchedStayDefined =
     → is_ok (apply_entries (tables_after shape commits version) entries) ≡ true
     → is_ok (apply_entries (tables_after shape commits (length commits)) entries) ≡ true
 
--- whether a row is there after entries that are defined is told from the entries
+-- whether a row is there after entries that are defined follows from the entries
 abbrev pub PresenceIsTold : Type 0
 PresenceIsTold =
     (tables : Tables) (entries : List Entry) (table row : ℕ) → is_ok (apply_entries tables entries) ≡ true

@@ -26,7 +26,7 @@ pub record IsSpelledAt (bytes : List ℕ) (found : Entry × ℕ) : Type 0 where
   pub size : found.1 ≡ length (entry_spelling found.0)
   pub front : bytes ≡ entry_spelling found.0 ++ drop found.1 bytes
 
--- an insert behind its row: the size in two bytes, and the data
+-- an insert after its row: the size in two bytes, and the data
 abbrev pub insert_at : ℕ → ℕ → List ℕ → Option (Entry × ℕ)
 insert_at table row rest = if nat_lt (length rest) 2 then None else of_size (big_number 2 rest) (drop 2 rest)
   where
@@ -35,7 +35,7 @@ insert_at table row rest = if nat_lt (length rest) 2 then None else of_size (big
         if (size == 0) || nat_lt row_width_max size || nat_lt (length content) size then None else
         Some (Insert table (record { 0 = row }) (take size content), 12 + size)
 
--- a patch behind its row: the offset in two bytes, the size in two, and the data
+-- a patch after its row: the offset in two bytes, the size in two, and the data
 abbrev pub patch_at : ℕ → ℕ → List ℕ → Option (Entry × ℕ)
 patch_at table row rest =
     if nat_lt (length rest) 4 then None else of_size (big_number 2 rest) (big_number 2 (drop 2 rest)) (drop 4 rest)
@@ -49,25 +49,25 @@ patch_at table row rest =
 abbrev pub is_row_code : ℕ → Bool
 is_row_code code = (code == insert_code) || (code == patch_code) || (code == delete_code)
 
--- an entry behind its row, by what it begins with
+-- an entry after its row, by what it begins with
 abbrev pub entry_behind : ℕ → ℕ → ℕ → List ℕ → Option (Entry × ℕ)
 entry_behind code table row rest =
     if code == insert_code then insert_at table row rest else
     if code == patch_code then patch_at table row rest else Some (Delete table (record { 0 = row }), 10)
 
--- the entry at the front of the bytes, and how many it takes; none where no entry is spelled there
+-- the entry at the front of the bytes, and how many it takes; none if no entry is spelled there
 abbrev pub entry_at : List ℕ → Option (Entry × ℕ)
 entry_at bytes =
     if not (is_row_code (slice_index bytes 0)) then None else
     if nat_lt (length bytes) 10 || not (nat_lt (slice_index bytes 1) tables_max) then None else
     entry_behind (slice_index bytes 0) (slice_index bytes 1) (big_number 8 (drop 2 bytes)) (drop 10 bytes)
 
--- the list behind a first entry
+-- the list after a first entry
 abbrev pub behind : Option (Entry × ℕ) → (ℕ → Option (List Entry)) → Option (List Entry)
 behind None others = None
 behind (Some found) others = option_map (λ entries. found.0 ∷ entries) (others found.1)
 
--- the entries that the bytes spell: this many, and all of the bytes; none where they do not
+-- the entries that the bytes spell: this many, and all of the bytes; none if they do not
 abbrev pub entries_filling : ℕ → List ℕ → Option (List Entry)
 entries_filling zero [] = Some []
 entries_filling zero (byte ∷ bytes) = None

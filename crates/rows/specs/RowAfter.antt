@@ -1,4 +1,4 @@
--- What entries make of one row's values, told from the entries alone; `None` where the row is not there.
+-- What entries make of one row's values, derived from the entries alone; `None` if the row is not there.
 use Rattle.std.specs.Prelude.{ℕ, List, [], ◌∷◌, Option, None, Some, if◌then◌else◌, is_ok}
 use Rattle.std.specs.Option.{option_map}
 use Rattle.rows.specs.declared.commit.Commit.{Commit}
@@ -12,7 +12,7 @@ use Rattle.rows.specs.Entries.{fitting}
 use Rattle.rows.specs.Tables.{patched_row}
 use Rattle.rows.specs.Commits.{is_of}
 
--- the values that an insert leaves: its own, where the row was not there
+-- the values that an insert leaves: its own, if the row was not there
 abbrev pub inserted_row : List Kind → List ℕ → Option (List Value) → Option (List Value)
 inserted_row kinds bytes None = Some (values_of kinds bytes)
 inserted_row kinds bytes (Some values) = Some values
@@ -38,7 +38,7 @@ row_after_commits shape table row [] was = was
 row_after_commits shape table row (commit ∷ commits) was =
     row_after_commits shape table row commits (row_after shape table row commit.entries was)
 
--- a row's values after entries, where one that does not fit changes nothing
+-- a row's values after entries; one that does not fit changes nothing
 abbrev pub row_after_fit : Shape → ℕ → ℕ → List Entry → Option (List Value) → Option (List Value)
 row_after_fit shape table row [] was = was
 row_after_fit shape table row (entry ∷ entries) was =

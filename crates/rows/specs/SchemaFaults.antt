@@ -9,7 +9,7 @@ use Rattle.rows.specs.declared.faults.SchemaFault.TheVariants.{TooManyTables, To
 use Rattle.rows.specs.Limits.{tables_max, columns_max, row_width_max}
 use Rattle.rows.specs.Shape.{row_width, is_good}
 
--- the fault of one table, which stands behind these
+-- the fault of one table, which stands after these
 abbrev pub table_fault : List (List ℕ × List Kind) → List ℕ × List Kind → Option SchemaFault
 table_fault before table =
     if length table.0 == 0 then Some Empty else
@@ -19,11 +19,12 @@ table_fault before table =
     if not (list_all is_good table.1) then Some BadWidth else
     if nat_lt row_width_max (row_width table.1) then Some RowTooWide else None
 
--- the first fault of these tables, which stand behind others
+-- the first fault of these tables, which stand after others
 abbrev pub tables_fault : List (List ℕ × List Kind) → List (List ℕ × List Kind) → Option SchemaFault
 tables_fault before [] = None
 tables_fault before (table ∷ tables) = option_or (table_fault before table) (tables_fault (before ++ table ∷ []) tables)
 
+-- the first fault of tables that are to be a schema: none or too many, or the first of one of them
 abbrev pub schema_fault : List (List ℕ × List Kind) → Option SchemaFault
 schema_fault tables =
     if length tables == 0 then Some Empty else

@@ -8,6 +8,7 @@ use Rattle.rows.specs.declared.kind.Kind.{Kind}
 use Rattle.rows.specs.declared.kind.Kind.TheVariants.{Int, Octets}
 use Rattle.rows.specs.Limits.{tables_max, columns_max, row_width_max, octets_max}
 
+-- for each table the kinds of its columns
 abbrev pub Shape : Type 0
 Shape = List (List Kind)
 
@@ -19,7 +20,7 @@ given table = (table.0.now, table.1.now)
 abbrev pub shape_of : List (List ℕ × List Kind) → Shape
 shape_of schema = map (λ table. table.1) schema
 
--- the kinds of a table's columns; none where there is no table of that number
+-- the kinds of a table's columns; none if there is no table of that number
 abbrev pub kinds_in : Shape → ℕ → List Kind
 kinds_in shape table = unwrap_or (slice_get shape table) []
 
@@ -37,8 +38,8 @@ is_good (Octets width) = not (width == 0) && not (nat_lt octets_max width)
 abbrev pub row_width : List Kind → ℕ
 row_width kinds = sum_by width_of kinds
 
--- the column of these, which stand behind `before` others, that begins at this offset from the first of them and has
--- this size: its number and its kind; none where these are not exactly one column's bytes
+-- the column of these, which stand after `before` others, that begins at this offset from the first of them and has this size:
+-- its number and its kind; none if these are not exactly one column's bytes
 abbrev pub column_from : ℕ → List Kind → ℕ → ℕ → Option (ℕ × Kind)
 column_from before [] offset size = None
 column_from before (kind ∷ kinds) offset size =

@@ -19,8 +19,8 @@ delete_code = 3
 abbrev pub entry_front : ℕ → ℕ → ℕ → List ℕ
 entry_front code table row = (code ∷ table ∷ []) ++ big_bytes 8 row
 
--- an insert: behind the row the size in two bytes, and the data. A patch: behind the row the offset in two bytes, the
--- size in two, and the data. A delete: nothing behind the row.
+-- an insert: after the row the size in two bytes, and the data. A patch: after the row the offset in two bytes, the size in two,
+-- and the data. A delete: nothing after the row.
 abbrev pub entry_spelling : Entry → List ℕ
 entry_spelling (Insert table row bytes) = entry_front insert_code table row.0 ++ big_bytes 2 (length bytes) ++ bytes
 entry_spelling (Patch table row offset bytes) =

@@ -40,15 +40,15 @@ opening shape = map (λ kinds. record { kinds = kinds; rows = [] }) shape
 abbrev pub shape_in : Tables → Shape
 shape_in tables = map (λ table. table.kinds) tables
 
--- the kinds of a table's columns; none where there is no table of that number
+-- the kinds of a table's columns; none if there is no table of that number
 abbrev pub kinds_of : Tables → ℕ → List Kind
 kinds_of tables table = kinds_in (shape_in tables) table
 
--- the rows of a table; none where there is no table of that number
+-- the rows of a table; none if there is no table of that number
 abbrev pub rows_of : Tables → ℕ → Rows
 rows_of tables table = option_map_or (λ found. found.rows) (slice_get tables table) []
 
--- the values of a row, where it is there
+-- the values of a row, if it is there
 abbrev pub row_at : Rows → ℕ → Option (List Value)
 row_at rows row = lookup (is_at (nat_cmp row)) rows
 
@@ -133,7 +133,7 @@ apply_entry tables (Patch table row offset bytes) =
 apply_entry tables (Delete table row) =
     change_where (is_fit tables (Delete table row)) (is_row_at tables table row.0) Missing (deleted tables table row.0)
 
--- what comes after a change, where it is not refused
+-- what comes after a change, if it is not refused
 abbrev pub and_then : (Tables → Result Tables Refusal) → Result Tables Refusal → Result Tables Refusal
 and_then next (Ok tables) = next tables
 and_then next (Err refusal) = Err refusal
@@ -143,7 +143,7 @@ abbrev pub apply_entries : Tables → List Entry → Result Tables Refusal
 apply_entries tables [] = Ok tables
 apply_entries tables (entry ∷ entries) = and_then (λ after. apply_entries after entries) (apply_entry tables entry)
 
--- the tables after a list of entries, where one that is refused changes nothing
+-- the tables after a list of entries; one that is refused changes nothing
 abbrev pub applied : Tables → List Entry → Tables
 applied tables [] = tables
 applied tables (entry ∷ entries) = applied (result_unwrap_or (apply_entry tables entry) tables) entries

@@ -1,4 +1,4 @@
-//! Bytes that contracts see as a list.
+//! Bytes, which contracts see as a list.
 
 ghost use Rattle.std.specs.Prelude.{◌≡◌, ◌==◌, length, nat_eq};
 ghost use Rattle.std.specs.Cmp.{partial_equiv_from_equiv};
@@ -8,8 +8,8 @@ use std::marker::Model;
 
 /// An owned list of bytes: a row's data in an entry.
 ///
-/// Contracts see the list itself, so that two entries with the same bytes are equal wherever
-/// their memory lies. It is made from a `Vec` and gives it back without taking memory.
+/// Contracts see the list itself, so two entries with the same bytes are equal wherever their
+/// memory is. It is made from a `Vec` and converted back without taking memory.
 #[derive(Clone, Debug, Drop)]
 pub struct ByteList {
     items: Vec<u8>,

@@ -1,4 +1,4 @@
-//! Which entry a spelling is of: its first byte.
+//! The first byte of a spelling: the kind of entry.
 
 /// An insert.
 pub const INSERT_CODE: u8 = 1;

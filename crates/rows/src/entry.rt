@@ -1,4 +1,4 @@
-//! Entries, and what each tells of its row.
+//! Entries, and their effect on the presence of their rows.
 
 ghost use Rattle.std.specs.Prelude.{◌≡◌};
 ghost use Rattle.std.specs.Cmp.{partial_equiv_from_equiv};
@@ -12,21 +12,21 @@ use crate::row_id::RowId;
 /// One physical change of one row of one table.
 #[derive(Clone, Debug, Drop)]
 pub enum Entry {
-    /// Puts a new row into a table; `bytes` are its columns' bytes in order.
+    /// Inserts a row into a table; `bytes` are its columns' bytes in order.
     Insert {
         table: u8,
         row: RowId,
         bytes: ByteList,
     },
     /// Changes one column of a row; `bytes` are the column's new bytes, and `offset` is where the
-    /// column begins among the row's.
+    /// column begins in the row's bytes.
     Patch {
         table: u8,
         row: RowId,
         offset: u16,
         bytes: ByteList,
     },
-    /// Takes a row out of a table.
+    /// Deletes a row from a table.
     Delete {
         table: u8,
         row: RowId,
@@ -67,7 +67,7 @@ impl Entry {
         }
     }
 
-    /// The table that the entry is of.
+    /// The table of the entry.
     pub fn table(&self) -> u8
         ensures { result ≡ table_of self.now }
     {
@@ -78,7 +78,7 @@ impl Entry {
         }
     }
 
-    /// Whether the entry is of that row.
+    /// Whether the entry changes that row.
     pub fn is_of(&self, table: u8, row: RowId) -> bool
         ensures { result ≡ is_of table row.0 self.now }
     {
@@ -101,7 +101,7 @@ impl Entry {
         }
     }
 
-    /// Whether the entry is possible, where its row is there or not: an insert needs it absent, a
+    /// Whether the entry is possible, given whether its row is there: an insert needs it absent, a
     /// patch and a delete need it there.
     pub fn is_possible(&self, there: bool) -> bool
         ensures { result ≡ stands_for self.now there }
@@ -112,7 +112,7 @@ impl Entry {
         }
     }
 
-    /// Whether the entry leaves its row there, where it was there or not.
+    /// Whether the row is there after the entry, given whether it was there before.
     pub fn leaves_row(&self, was: bool) -> bool
         ensures { result ≡ left_by self.now was }
     {

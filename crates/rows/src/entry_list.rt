@@ -10,10 +10,10 @@ use crate::entry::Entry;
 use std::alloc::{AllocError, Global};
 use std::marker::Model;
 
-/// An owned list of entries, in the order in which they act.
+/// An owned list of entries, in the order in which they take effect.
 ///
-/// Contracts see the list itself, so that two commits with the same entries are equal wherever
-/// their memory lies. It is made from a `Vec` and gives it back without taking memory.
+/// Contracts see the list itself, so two commits with the same entries are equal wherever their
+/// memory is. It is made from a `Vec` and converted back without taking memory.
 #[derive(Clone, Debug, Drop)]
 pub struct EntryList {
     items: Vec<Entry>,
@@ -45,8 +45,8 @@ impl EntryList {
         EntryList { items }
     }
 
-    /// A copy of these entries, with room for exactly them: that of none takes no memory. Fails only
-    /// when out of memory.
+    /// A copy of these entries, with room for exactly them: a copy of none takes no memory. Fails
+    /// only if out of memory.
     pub fn from_slice(alloc: Global, entries: &[Entry]) -> Result<EntryList, AllocError>
         ensures ok { IfOk result (λ list. list ≡ entries.now) }
         ensures none { length entries.now ≡ 0 → IsOk result }
@@ -65,7 +65,7 @@ impl EntryList {
         self.items
     }
 
-    /// Adds an entry at the end. Fails only when out of memory, and then nothing has changed.
+    /// Adds an entry at the end. Fails only if out of memory.
     pub fn push(&mut self, entry: Entry) -> Result<(), AllocError>
         ensures ok { OnOk result (self.new ≡ self.old ++ entry ∷ []) }
         ensures err { OnErr result (self.new ≡ self.old) }
@@ -110,7 +110,7 @@ impl Eq for EntryList {
     ghost laws = { lists_equiv same_entry_equiv };
 }
 
-/// The same entry once more. Fails only when out of memory.
+/// A copy of the entry. Fails only if out of memory.
 fn copy_of(entry: &Entry) -> Result<Entry, AllocError>
     ensures { IfOk result (λ copy. copy ≡ entry.now) }
 {

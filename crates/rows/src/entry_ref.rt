@@ -1,22 +1,22 @@
 use crate::row_id::RowId;
 
-/// An entry whose data is lent by the bytes that it was read from.
+/// An entry whose data is lent by the bytes from which it was read.
 #[derive(Clone, Copy, Debug)]
 pub enum EntryRef<'a> {
-    /// Puts a new row into a table.
+    /// Inserts a row into a table.
     Insert {
         table: u8,
         row: RowId,
         bytes: &'a [u8],
     },
-    /// Changes one column of a row, which begins at `offset` among the row's bytes.
+    /// Changes one column of a row, which begins at `offset` in the row's bytes.
     Patch {
         table: u8,
         row: RowId,
         offset: u16,
         bytes: &'a [u8],
     },
-    /// Takes a row out of a table.
+    /// Deletes a row from a table.
     Delete {
         table: u8,
         row: RowId,

@@ -1,10 +1,10 @@
 use thiserror::Error;
 
-/// Why a list of tables is no schema, or why none could be made of it.
+/// Why a list of tables is not a schema, or why none could be made from it.
 ///
-/// The first that stands is named: no table, too many tables, and then table by table an empty
-/// name, a name twice, no column, too many columns, a bad width, a row too wide. Being out of
-/// memory comes last.
+/// The first that applies is reported: no table, too many tables, and then table by table an empty
+/// name, a name twice, no column, too many columns, a bad width, a row too wide. Out of memory is
+/// last.
 #[derive(Clone, Copy, Debug, PartialEq, Eq, Error)]
 pub enum SchemaFault {
     #[error("too many tables")]
@@ -29,7 +29,7 @@ pub enum EntryFault {
     /// The schema has no table of that number.
     #[error("no such table")]
     NoTable,
-    /// An insert's data has not the width of the table's rows.
+    /// An insert's data does not have the width of the table's rows.
     #[error("the data has not the row's width")]
     WrongSize,
     /// A patch's offset and size are not exactly those of one column's bytes.

@@ -1,4 +1,4 @@
-//! Entries that fill bytes, one behind the other.
+//! Entries that fill bytes, one after the other.
 
 ghost use Rattle.std.specs.Prelude.{◌≡◌, [], IfOk, is_ok, is_some, true};
 ghost use Rattle.std.specs.List.{list_all};
@@ -50,8 +50,8 @@ pub fn entries_fit(schema: &Schema, count: u16, bytes: &[u8]) -> bool
     true
 }
 
-/// The entries that the bytes spell, `count` of them and all of the bytes, owned; `None` where they
-/// do not. Fails only when out of memory.
+/// The entries that the bytes spell, `count` of them in all of the bytes, owned; `None` if the
+/// bytes do not spell them. Fails only if out of memory.
 pub fn read_entries(
     alloc: Global,
     count: u16,

@@ -14,8 +14,8 @@ use crate::limits::COLUMNS_MAX;
 use crate::row_id::RowId;
 use crate::schema::{Schema, column_at, width_of_row};
 
-/// Whether the entry fits the schema: its table is there, an insert's data has exactly the width
-/// of the table's rows, and a patch's offset and size are exactly those of the bytes of one of the
+/// Whether the entry fits the schema: its table exists, an insert's data has exactly the width of
+/// the table's rows, and a patch's offset and size are exactly those of the bytes of one of the
 /// table's columns. Otherwise the first fault, in this order. Takes no memory.
 pub fn fits(schema: &Schema, entry: &Entry) -> Result<(), EntryFault>
     ensures exact { result ≡ fitting (shape_of schema.now) entry.now }
@@ -24,7 +24,7 @@ pub fn fits(schema: &Schema, entry: &Entry) -> Result<(), EntryFault>
     fits_lent(schema, entry.lend())
 }
 
-/// Whether a lent entry fits the schema, just as `fits` says it of an entry. Takes no memory.
+/// Whether a lent entry fits the schema, as `fits` does for an entry. Takes no memory.
 pub fn fits_lent(schema: &Schema, lent: EntryRef<'_>) -> Result<(), EntryFault>
     ensures exact { result ≡ fitting (shape_of schema.now) (entry_of lent.entry) }
     ensures spelled { OnOk result (HasSpelling (entry_of lent.entry)) }
@@ -41,8 +41,8 @@ pub fn fits_lent(schema: &Schema, lent: EntryRef<'_>) -> Result<(), EntryFault>
     }
 }
 
-/// Whether the entry fits a table with columns of these kinds, which is taken for its own: just as
-/// `fits` says it where that table is there. Takes no memory.
+/// Whether the entry fits a table with columns of these kinds, which is taken to be its own: the
+/// answer of `fits` if that table exists. Takes no memory.
 pub fn fits_columns(kinds: &[Kind], entry: &Entry) -> Result<(), EntryFault>
     requires { length kinds.now ≤ COLUMNS_MAX }
     ensures { result ≡ fitting_in (Some kinds.now) entry.now }
@@ -54,7 +54,7 @@ pub fn fits_columns(kinds: &[Kind], entry: &Entry) -> Result<(), EntryFault>
     }
 }
 
-/// Whether an insert of so many bytes fits columns of these kinds.
+/// Whether an insert of this many bytes fits columns of these kinds.
 fn sized(kinds: &[Kind], size: usize) -> Result<(), EntryFault>
     requires { length kinds.now ≤ COLUMNS_MAX }
     ensures { result ≡ sized (Some kinds.now) size }
@@ -66,7 +66,7 @@ fn sized(kinds: &[Kind], size: usize) -> Result<(), EntryFault>
     }
 }
 
-/// Whether a patch of so many bytes at an offset fits columns of these kinds.
+/// Whether a patch of this many bytes at an offset fits columns of these kinds.
 fn placed(kinds: &[Kind], offset: u16, size: usize) -> Result<(), EntryFault>
     ensures { result ≡ placed (Some kinds.now) offset size }
 {
@@ -77,8 +77,8 @@ fn placed(kinds: &[Kind], offset: u16, size: usize) -> Result<(), EntryFault>
     }
 }
 
-/// Whether an insert fits: its table is there, with rows as wide as its data. The row matters to
-/// the contract alone, which says that an insert that fits has a spelling.
+/// Whether an insert fits: its table exists, and its rows are as wide as the data. The row matters
+/// only to the contract, which states that an insert that fits has a spelling.
 fn insert_fits(schema: &Schema, table: u8, row: RowId, bytes: &[u8]) -> Result<(), EntryFault>
     ensures exact { result ≡ sized (slice_get (shape_of schema.now) table) (length bytes.now) }
     ensures spelled { OnOk result (IsInsert table row.0 bytes.now) }
@@ -89,8 +89,8 @@ fn insert_fits(schema: &Schema, table: u8, row: RowId, bytes: &[u8]) -> Result<(
     }
 }
 
-/// Whether a patch fits: its table is there, and its data is exactly one column's bytes. The
-/// row matters to the contract alone, which says that a patch that fits has a spelling.
+/// Whether a patch fits: its table exists, and its data is exactly one column's bytes. The row
+/// matters only to the contract, which states that a patch that fits has a spelling.
 fn patch_fits(
     schema: &Schema,
     table: u8,
@@ -107,8 +107,8 @@ fn patch_fits(
     }
 }
 
-/// Whether a delete fits: its table is there. The row matters to the contract alone, which says
-/// that a delete that fits has a spelling.
+/// Whether a delete fits: its table exists. The row matters only to the contract, which states that
+/// a delete that fits has a spelling.
 fn delete_fits(schema: &Schema, table: u8, row: RowId) -> Result<(), EntryFault>
     ensures exact { result ≡ listed (slice_get (shape_of schema.now) table) }
     ensures spelled { OnOk result (IsDelete table row.0) }

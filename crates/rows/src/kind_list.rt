@@ -22,7 +22,7 @@ impl Model for KindList {
 }
 
 impl KindList {
-    /// A list of these kinds. Fails only when out of memory.
+    /// A list of these kinds. Fails only if out of memory.
     pub fn from_slice(alloc: Global, kinds: &[Kind]) -> Result<KindList, AllocError>
         ensures { IfOk result (λ list. list ≡ kinds.now) }
     {

@@ -8,8 +8,8 @@ ghost use Rattle.rows.specs.ListLaws.{BeginningsAreDefined, EachIsDefined, EachF
 ghost use Rattle.rows.specs.ListLaws.{UndefinedStayUndefined, OneMoreEntryIsDefined, UntouchedStayDefined, PresenceIsTold};
 ghost use Rattle.rows.specs.ListLaws.{RowsAreLeft, RowsAreSeen};
 
-/// Entries and commits leave the kinds of each table's columns. It does nothing: its contract is
-/// the law.
+/// Entries and commits do not change the kinds of any table's columns. It does nothing: its
+/// contract is the law.
 pub fn changes_keep_kinds()
     ensures entry { EntryKeepsKinds }
     ensures entries { EntriesKeepKinds }
@@ -19,15 +19,16 @@ pub fn changes_keep_kinds()
 {}
 
 /// Each row has a value for each of its table's columns, of the column's kind, and entries and
-/// commits leave that so. It does nothing: its contract is the law.
+/// commits preserve that. It does nothing: its contract is the law.
 pub fn rows_are_of_kinds()
     ensures entry { EntryKeepsRows }
     ensures commits { CommitsKeepRows }
     ensures versions { VersionsAreOfKinds }
 {}
 
-/// A list of commits that is defined is so up to each version, commit by commit, and with one more
-/// that is defined behind it; its entries fit. It does nothing: its contract is the law.
+/// A list of commits that is defined is also defined up to each version, commit by commit, and with
+/// one more commit that is defined after it; its entries fit. It does nothing: its contract is the
+/// law.
 pub fn commits_are_defined_one_by_one()
     ensures beginnings { BeginningsAreDefined }
     ensures each { EachIsDefined }
@@ -35,8 +36,9 @@ pub fn commits_are_defined_one_by_one()
     ensures longer { OneMoreIsDefined }
 {}
 
-/// Entries that are defined are so one by one, and stay so where no later commit touches their rows;
-/// which rows they leave there is told from them. It does nothing: its contract is the law.
+/// Entries that are defined are defined one by one, and stay defined if no later commit touches
+/// their rows; the entries alone determine which rows are there after them. It does nothing: its
+/// contract is the law.
 pub fn entries_are_defined_one_by_one()
     ensures undefined { UndefinedStayUndefined }
     ensures longer { OneMoreEntryIsDefined }
@@ -44,14 +46,14 @@ pub fn entries_are_defined_one_by_one()
     ensures presence { PresenceIsTold }
 {}
 
-/// A row's values after commits, and after entries that fit, are told from these alone. It does
+/// A row's values after commits, and after entries that fit, depend on these alone. It does
 /// nothing: its contract is the law.
 pub fn rows_are_as_entries_leave_them()
     ensures left { RowsAreLeft }
     ensures seen { RowsAreSeen }
 {}
 
-/// The column that bytes are of is as wide as they are, and they tell its value. It does nothing: its
+/// A column is as wide as its bytes, and the bytes determine its value. It does nothing: its
 /// contract is the law.
 pub fn columns_are_of_their_width()
     ensures column { FoundColumnsFit }
@@ -64,20 +66,20 @@ pub fn numbers_are_read_as_spelled()
     ensures below { NumbersAreBelow }
 {}
 
-/// Entries that are read from bytes, all of which they fill, are spelled there, and entries that
-/// are spelled there are read. It does nothing: its contract is the law.
+/// Entries that are read from bytes, and fill them, are spelled there, and entries that are spelled
+/// there are read. It does nothing: its contract is the law.
 pub fn entries_are_read_as_spelled()
     ensures found { FoundAreSpelled }
     ensures spelled { SpelledAreFound }
 {}
 
-/// Whether two entries conflict is told the same from either. It does nothing: its contract is
+/// Whether two entries conflict does not depend on their order. It does nothing: its contract is
 /// the law.
 pub fn overlap_is_symmetric()
     ensures { IsSymmetric }
 {}
 
-/// `==` is true exactly where both sides are equal. It does nothing: its contract is the law.
+/// `==` is true exactly if both sides are equal. It does nothing: its contract is the law.
 pub fn equal_is_same()
     ensures bytes { BytesEqual }
     ensures entry { EntryEquals }

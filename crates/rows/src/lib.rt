@@ -1,16 +1,18 @@
-//! Schemas, values, rows, entries and commits: the words that every other crate speaks.
+//! Schemas, values, rows, entries and commits: the vocabulary of every other crate.
 //!
-//! A schema is the list of its tables, each with its name and the kinds of its columns. An entry
-//! is one physical change of one row, a commit the entries of one transaction. Definitions on
-//! them stand in `specs/`: what an entry makes of the tables (`Tables.antt`), which lists of
-//! commits are legal (`Commits.antt`), the one spelling of an entry (`Spelling.antt`), and how values
-//! and lines of words are written (`Text.antt`).
+//! A schema is the list of its tables, each with its name and the kinds of its columns. An entry is
+//! one physical change of one row; a commit is the entries of one transaction. The definitions are
+//! in `specs/`: what an entry does to the tables (`Tables.antt`), which lists of commits are legal
+//! (`Commits.antt`), the one spelling of an entry (`Spelling.antt`), and how values and lines of
+//! words are written (`Text.antt`).
 //!
-//! Promised: `fits` says exactly which entries fit a schema; `write_entry` and `read_entry` are
-//! the spelling and its reading, and `read_entries` that of entries that fill bytes; `row_values` and
-//! `row_bytes` are a row's two forms; `append_value` adds a value's text to what is written.
-//! It stands on `byteorder` for numbers as bytes, on `itoa` for those in decimal, and on `indexmap`
-//! for tables by name.
+//! Promised: `fits` decides exactly which entries fit a schema; `write_entry` writes an entry's
+//! spelling, `read_entry` reads it, and `read_entries` reads entries that fill bytes; `row_values`
+//! and `row_bytes` convert between a row's two forms; `append_value` appends a value's text.
+//!
+//! It uses `byteorder` for numbers as bytes, `itoa` for decimal numbers, and `indexmap` for tables
+//! by name. If a call fails for lack of memory, its value is unchanged unless the call says
+//! otherwise.
 #![tactic(auto)]
 
 mod byte_list;

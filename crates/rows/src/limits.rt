@@ -1,4 +1,4 @@
-//! The limits of the engine, each stated once.
+//! The limits of the engine, each defined once.
 
 ghost use Rattle.std.specs.Prelude.{◌≡◌};
 ghost use Rattle.rows.specs.Limits.{tables_max, columns_max, octets_max, row_width_max, commit_entries_max};
@@ -19,10 +19,10 @@ pub const ROW_WIDTH_MAX: usize = 512;
 /// Entries in a commit, at most.
 pub const COMMIT_ENTRIES_MAX: usize = 4096;
 
-/// Workers of a primary, at most; worker numbers are below it.
+/// Workers of a primary, at most; worker numbers are below this.
 pub const WORKERS_MAX: u8 = 16;
 
-/// Replicas, at most; replica numbers are below it.
+/// Replicas, at most; replica numbers are below this.
 pub const REPLICAS_MAX: u8 = 16;
 
 /// Bytes of a datagram, at most.
@@ -31,11 +31,11 @@ pub const DATAGRAM_MAX: usize = 1200;
 /// Queries that may wait at a replica for its next batch, at most.
 pub const WAITING_QUERIES_MAX: usize = 64;
 
-/// Frames that a replica keeps of one worker, counted from the first that is missing.
+/// Frames that a replica keeps for one worker, counted from the first missing one.
 pub const FRAME_WINDOW: u64 = 4096;
 
-/// The limits are the numbers that the definitions name. It does nothing: its contract says so,
-/// so that a limit which is changed here alone is refused.
+/// The limits are the numbers that the definitions name. It does nothing: its contract states this,
+/// so that a limit that is changed only here is refused.
 pub fn are_as_defined()
     ensures tables { TABLES_MAX ≡ tables_max }
     ensures columns { COLUMNS_MAX ≡ columns_max }

@@ -8,9 +8,9 @@ ghost use Rattle.rows.specs.Limits.{octets_max};
 use crate::limits::OCTETS_MAX;
 use std::marker::Model;
 
-/// Up to 64 bytes, kept inline: the value of an `Octets` column.
+/// Up to 64 bytes, stored inline: the value of an `Octets` column.
 ///
-/// Contracts see the list of the bytes, so that two values with the same bytes are equal.
+/// Contracts see the list of the bytes, so two values with the same bytes are equal.
 #[derive(Clone, Copy, Debug)]
 pub struct Octets {
     buffer: [u8; OCTETS_MAX],
@@ -37,7 +37,7 @@ impl Model for Octets {
 }
 
 impl Octets {
-    /// These bytes; `None` exactly where there are more than 64. Takes no memory.
+    /// These bytes; `None` exactly if there are more than 64. Takes no memory.
     pub fn from_slice(bytes: &[u8]) -> Option<Octets>
         ensures { result ≡ (if nat_lt octets_max (length bytes.now) then None else Some bytes.now) }
     {

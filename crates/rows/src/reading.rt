@@ -12,12 +12,12 @@ use crate::limits::{OCTETS_MAX, ROW_WIDTH_MAX, TABLES_MAX};
 use crate::row_id::RowId;
 use byteorder::{BigEndian, ByteOrder};
 
-/// The entry that stands at the front of the bytes, its data lent, and how many bytes it takes;
-/// `None` exactly where none is spelled there. Takes no memory.
+/// The entry at the front of the bytes, with its data lent, and how many bytes it takes; `None`
+/// exactly if none is spelled there. Takes no memory.
 pub fn read_entry(bytes: &[u8]) -> Option<(EntryRef<'_>, usize)>
     ensures exact { option_map seen result ≡ entry_at bytes.now }
 
-    // What is found is spelled so, and what is spelled so is found.
+    // Exactly what is spelled is found.
     ensures spelled { IfSome result (λ found. IsSpelledAt bytes.now (seen found)) }
     ensures only { (entry : Entry) (rest : List ℕ) → HasSpelling entry → bytes.now ≡ entry_spelling entry ++ rest
         → option_map seen result ≡ Some (entry, length (entry_spelling entry)) }
@@ -45,14 +45,14 @@ fn front_entry(bytes: &[u8]) -> Option<(EntryRef<'_>, usize)>
     }
 }
 
-/// Whether an entry that begins with this is of a row.
+/// Whether an entry that begins with this byte names a row.
 fn is_row_code(code: u8) -> bool
     ensures { result ≡ is_row_code code }
 {
     code == INSERT_CODE || code == PATCH_CODE || code == DELETE_CODE
 }
 
-/// What stands behind an insert's row: the size, and the data.
+/// The part of an insert after its row: the size and the data.
 fn read_insert(table: u8, row: RowId, rest: &[u8]) -> Option<(EntryRef<'_>, usize)>
     ensures { option_map seen result ≡ insert_at table row.0 rest.now }
 {
@@ -68,7 +68,7 @@ fn read_insert(table: u8, row: RowId, rest: &[u8]) -> Option<(EntryRef<'_>, usiz
     Some((EntryRef::Insert { table, row, bytes }, 12 + size))
 }
 
-/// What stands behind a patch's row: the offset, the size, and the data.
+/// The part of a patch after its row: the offset, the size and the data.
 fn read_patch(table: u8, row: RowId, rest: &[u8]) -> Option<(EntryRef<'_>, usize)>
     ensures { option_map seen result ≡ patch_at table row.0 rest.now }
 {

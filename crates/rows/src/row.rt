@@ -45,7 +45,7 @@ impl Row {
         self.items.as_slice()
     }
 
-    /// Puts another value into a column. Where there is no such column nothing changes. Takes no
+    /// Puts another value into a column. If there is no such column, nothing changes. Takes no
     /// memory.
     pub fn set(&mut self, column: usize, value: Value)
         ensures { self.new ≡ slice_set self.old column value }
@@ -55,8 +55,8 @@ impl Row {
         }
     }
 
-    /// Puts one column's bytes, in a table with columns of these kinds. Where they are not
-    /// exactly one column's nothing changes. Takes no memory.
+    /// Puts bytes in place of one column's, in a table with columns of these kinds. If they are not
+    /// exactly one column's bytes, nothing changes. Takes no memory.
     pub fn patch(&mut self, kinds: &[Kind], offset: u16, bytes: &[u8])
         requires { list_all is_good kinds.now ≡ true }
         ensures { self.new ≡ patched_row kinds.now offset bytes.now self.old }
@@ -68,7 +68,7 @@ impl Row {
 }
 
 /// The bytes of a row with these values: each column's bytes in order, an `Int` as eight bytes,
-/// big-endian, two's complement, `Octets` as they are. Fails only when out of memory.
+/// big-endian, two's complement, `Octets` as they are. Fails only if out of memory.
 pub fn row_bytes(alloc: Global, values: &[Value]) -> Result<ByteList, AllocError>
     ensures { IfOk result (λ bytes. bytes ≡ bytes_of values.now) }
 {
@@ -82,7 +82,7 @@ pub fn row_bytes(alloc: Global, values: &[Value]) -> Result<ByteList, AllocError
     Ok(ByteList::from_vec(bytes))
 }
 
-/// The values of a row with columns of these kinds, from the row's bytes. Fails only when out of
+/// The values of a row with columns of these kinds, from the row's bytes. Fails only if out of
 /// memory.
 pub fn row_values(alloc: Global, kinds: &[Kind], bytes: &[u8]) -> Result<Row, AllocError>
     requires good { list_all is_good kinds.now ≡ true }
@@ -99,7 +99,7 @@ pub fn row_values(alloc: Global, kinds: &[Kind], bytes: &[u8]) -> Result<Row, Al
     Ok(Row { items })
 }
 
-/// The value of a column of this kind that stands at the front of the bytes. Takes no memory.
+/// The value of a column of this kind at the front of the bytes. Takes no memory.
 pub fn first_value(kind: Kind, bytes: &[u8]) -> Value
     requires good { is_good kind ≡ true }
     requires wide { width_of kind ≤ length bytes.now }

@@ -19,8 +19,8 @@ use std::marker::Model;
 
 /// The tables of a database, in order, each with its name and the kinds of its columns.
 ///
-/// It has 1 to 16 tables with names that differ, each of 1 to 16 columns and at most 512 bytes a
-/// row; a column of `Octets` has 1 to 64 bytes. Tables are named by their number, from 0.
+/// It has 1 to 16 tables with different names, each of 1 to 16 columns and at most 512 bytes a row;
+/// a column of `Octets` has 1 to 64 bytes. Tables are identified by their number, from 0.
 #[derive(Debug, Drop)]
 pub struct Schema {
     tables: IndexMap<String, KindList>,
@@ -42,11 +42,11 @@ impl Model for Schema {
 impl Schema {
     /// The schema of these tables, each given by its name and the kinds of its columns.
     ///
-    /// Fails with the first of these that stands: no table (`Empty`), more than 16 tables
-    /// (`TooManyTables`); then table by table an empty name (`Empty`), a name that an earlier
-    /// table has (`NameTwice`), no column (`Empty`), more than 16 columns (`TooManyColumns`), a
-    /// column of 0 bytes or of more than 64 (`BadWidth`), a row of more than 512 bytes
-    /// (`RowTooWide`); and `Memory` last.
+    /// Fails with the first of these that applies: no table (`Empty`), more than 16 tables
+    /// (`TooManyTables`); then table by table an empty name (`Empty`), a name that an earlier table
+    /// has (`NameTwice`), no column (`Empty`), more than 16 columns (`TooManyColumns`), a column of
+    /// 0 bytes or of more than 64 (`BadWidth`), a row of more than 512 bytes (`RowTooWide`); and
+    /// `Memory` last.
     pub fn new(alloc: Global, tables: &[(&str, &[Kind])]) -> Result<Schema, SchemaFault>
         ensures exact { MatchResult result (λ schema. (schema ≡ map given tables.now) × (schema_fault (map given tables.now) ≡ None))
             (IsFirstFault (schema_fault (map given tables.now)) SchemaFault.Memory) }
@@ -60,16 +60,16 @@ impl Schema {
         }
     }
 
-    /// Every schema keeps its limits: it has 1 to 16 tables, each of 1 to 16 columns and at most
-    /// 512 bytes a row. It does nothing: its contract is the law.
+    /// Every schema is within its limits: it has 1 to 16 tables, each of 1 to 16 columns and at
+    /// most 512 bytes a row. It does nothing: its contract is the law.
     pub fn keeps_limits(&self)
         ensures { AreTables (shape_of self.now) }
     {
-        // A look at a field brings the invariant to the proof.
+        // A look at a field makes the invariant known to the proof.
         let _ = &self.tables;
     }
 
-    /// The kinds of a table's columns; `None` where there is no table of that number.
+    /// The kinds of a table's columns; `None` if there is no table of that number.
     pub fn kinds(&self, table: usize) -> Option<&[Kind]>
         ensures value { option_map (λ k. k.now) result ≡ slice_get (shape_of self.now) table }
         ensures bounds { IfSome result (λ k. (table < TABLES_MAX) × AreColumns k.now) }
@@ -85,14 +85,14 @@ impl Schema {
         self.tables.len()
     }
 
-    /// The number of the table with this name; `None` where there is none.
+    /// The number of the table with this name; `None` if there is none.
     pub fn table_named(&self, name: &str) -> Option<usize>
         ensures { result ≡ position (λ table. bytes_eq name.now table.0) self.now }
     {
         self.tables.get_index_of(name)
     }
 
-    /// The name of a table; `None` where there is no table of that number.
+    /// The name of a table; `None` if there is no table of that number.
     pub fn name(&self, table: usize) -> Option<&str>
         ensures { option_map (λ name. name.now) result ≡ option_map (λ t. t.0) (slice_get self.now table) }
     {
@@ -106,7 +106,7 @@ impl Clone for Schema {
 
     ghost is_clone = { λ schema copy. copy ≡ schema };
 
-    /// A second schema with the same tables. Fails only when out of memory.
+    /// A copy of the schema. Fails only if out of memory.
     fn clone(&self) -> Result<Schema, AllocError> {
         let tables = copy_of(&self.tables)?;
         Ok(Schema { tables })
@@ -137,8 +137,8 @@ fn are_good(kinds: &[Kind]) -> bool
     true
 }
 
-/// The column that begins at this offset among a row's bytes and has this size: its number and
-/// its kind. `None` where these are not exactly one column's bytes. Takes no memory.
+/// The column that begins at this offset among a row's bytes and has this size: its number and its
+/// kind. `None` if these are not exactly one column's bytes. Takes no memory.
 pub fn column_at(kinds: &[Kind], offset: usize, size: usize) -> Option<(usize, Kind)>
     ensures { result ≡ column_at kinds.now offset size }
 {
@@ -156,7 +156,7 @@ pub fn column_at(kinds: &[Kind], offset: usize, size: usize) -> Option<(usize, K
     None
 }
 
-/// The first fault of tables that are to be a schema, out of memory aside.
+/// The first fault of tables that are to be a schema, apart from out of memory.
 fn first_fault(tables: &[(&str, &[Kind])]) -> Option<SchemaFault>
     ensures { result ≡ schema_fault (map given tables.now) }
 {
@@ -176,7 +176,7 @@ fn first_fault(tables: &[(&str, &[Kind])]) -> Option<SchemaFault>
     None
 }
 
-/// The first fault of one table, which stands behind others.
+/// The first fault of one table, which follows others.
 fn fault_of_table(before: &[(&str, &[Kind])], name: &str, kinds: &[Kind]) -> Option<SchemaFault>
     ensures { result ≡ table_fault (map given before.now) (name.now, kinds.now) }
 {
@@ -208,7 +208,7 @@ fn is_named(tables: &[(&str, &[Kind])], name: &str) -> bool
     tables.iter().any(|table| table.0 == name)
 }
 
-/// The map of these tables, whose names differ. Fails only when out of memory.
+/// The map of these tables, whose names differ. Fails only if out of memory.
 fn build(
     alloc: Global,
     tables: &[(&str, &[Kind])],
@@ -223,7 +223,7 @@ fn build(
     Ok(made)
 }
 
-/// A second map of the same tables. Fails only when out of memory.
+/// A copy of the map. Fails only if out of memory.
 fn copy_of(tables: &IndexMap<String, KindList>) -> Result<IndexMap<String, KindList>, AllocError>
     requires { tables_fault [] (map kept_table tables.now.entries) ≡ None }
     ensures { IfOk result (λ made. map kept_table made.entries ≡ map kept_table tables.now.entries) }
@@ -236,7 +236,8 @@ fn copy_of(tables: &IndexMap<String, KindList>) -> Result<IndexMap<String, KindL
     Ok(made)
 }
 
-/// Puts a table without a fault behind those of the map. Fails only when out of memory.
+/// Adds a table without a fault to the end of the map. Fails only if out of memory; nothing is then
+/// known of the map.
 fn add_table(
     alloc: Global,
     tables: &mut IndexMap<String, KindList>,

@@ -1,4 +1,4 @@
-//! Appending numbers, values and bytes to a text, as outputs, events and reports have them.
+//! Appending numbers, values and bytes to a text, as in outputs, events and reports.
 
 ghost use Rattle.std.specs.Prelude.{◌≡◌, ◌<◌, ◌++◌, false, length, take, OnOk, OnErr};
 ghost use Rattle.std.specs.Fmt.{digit_glyph};
@@ -8,8 +8,8 @@ use crate::value::Value;
 use itoa::{Buffer, Integer};
 use std::alloc::AllocError;
 
-/// Appends a number of any width in decimal, behind `-` where it is below 0. Fails only when out of
-/// memory, and then leaves the text as it was.
+/// Appends a number of any width in decimal, after `-` if it is below 0. Fails only if out of
+/// memory.
 pub fn append_number<I: Integer>(text: &mut Vec<u8>, number: I) -> Result<(), AllocError>
     ensures ok { OnOk result (text.new.items ≡ text.old.items ++ I.text number) }
     ensures err { OnErr result (text.new.items ≡ text.old.items) }
@@ -18,8 +18,8 @@ pub fn append_number<I: Integer>(text: &mut Vec<u8>, number: I) -> Result<(), Al
     text.extend_from_slice(digits.format(number).as_bytes())
 }
 
-/// Appends a value: a number in decimal, octets as `x` and two lower-case hexadecimal digits a byte.
-/// Fails only when out of memory; then a beginning of it may stand behind the text.
+/// Appends a value: a number in decimal, octets as `x` and two lower-case hexadecimal digits a
+/// byte. Fails only if out of memory; some beginning of the value may then have been appended.
 pub fn append_value(text: &mut Vec<u8>, value: &Value) -> Result<(), AllocError>
     ensures ok { OnOk result (text.new.items ≡ text.old.items ++ value_text value.now) }
     ensures err { OnErr result (take (length text.old.items) text.new.items ≡ text.old.items) }
@@ -33,8 +33,8 @@ pub fn append_value(text: &mut Vec<u8>, value: &Value) -> Result<(), AllocError>
     }
 }
 
-/// Appends bytes as two lower-case hexadecimal digits each. Fails only when out of memory; then the
-/// digits of the first ones may stand behind the text.
+/// Appends bytes as two lower-case hexadecimal digits each. Fails only if out of memory; the digits
+/// of the first bytes may then have been appended.
 pub fn append_hex(text: &mut Vec<u8>, bytes: &[u8]) -> Result<(), AllocError>
     ensures ok { OnOk result (text.new.items ≡ text.old.items ++ hex_text bytes.now) }
     ensures err { OnErr result (take (length text.old.items) text.new.items ≡ text.old.items) }

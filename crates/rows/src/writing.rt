@@ -24,7 +24,7 @@ pub fn entry_len(entry: &Entry) -> usize
 }
 
 /// Writes the spelling of an entry to the front of the buffer, and answers its length. The bytes
-/// behind it stay. Takes no memory.
+/// after it do not change. Takes no memory.
 pub fn write_entry(entry: &Entry, buffer: &mut [u8]) -> usize
     requires spelled { HasSpelling entry.now }
     requires room { length (entry_spelling entry.now) ≤ length buffer.old }
@@ -81,7 +81,7 @@ fn write_delete(table: u8, row: RowId, buffer: &mut [u8]) -> usize
     10
 }
 
-/// The ten bytes that every entry begins with: which it is, the table, and the row.
+/// The ten bytes that begin every entry: its kind, the table, and the row.
 fn entry_front(code: u8, table: u8, row: RowId) -> [u8; 10]
     ensures { result ≡ entry_front code table row.0 }
 {

@@ -17,7 +17,7 @@ abbrev pub node_text : Node → List ℕ
 node_text nodes.Primary = codes "p"
 node_text (nodes.Replica number) = codes "r" ++ decimal number
 
--- bytes by themselves: two digits of hexadecimal each; `-` where there are none
+-- bytes by themselves: two digits of hexadecimal each; `-` if there are none
 abbrev pub bytes_text : List ℕ → List ℕ
 bytes_text [] = codes "-"
 bytes_text (byte ∷ bytes) = hex_text (byte ∷ bytes)
@@ -61,7 +61,7 @@ tables_in other = []
 abbrev pub event_text : List (List ℕ × List Kind) → Event → List ℕ
 event_text schema event = words_text (event_words (name_in schema) event)
 
--- an event behind `> `, and the lines of its output
+-- an event after `> `, and the lines of its output
 abbrev pub echoed_one : List (List ℕ × List Kind) → Event → Output → List ℕ
 echoed_one schema event output = codes "> " ++ event_text schema event ++ 10 ∷ [] ++ output_text output
 

@@ -1,4 +1,4 @@
--- What is said of the faults of a line.
+-- The words for the faults of a line.
 use Rattle.std.specs.Prelude.{ℕ, List, codes}
 use Rattle.script.specs.declared.faults.Reason.{Reason}
 use Rattle.script.specs.declared.faults.Reason.TheVariants.{NotText, BadSetting, UnknownEvent, BadWords, NoTable}

@@ -13,11 +13,12 @@ use Rattle.plans.specs.declared.plan.Join.{Join}
 use Rattle.plans.specs.declared.plan.Plan.{Plan}
 use Rattle.script.specs.Values.{HasWord}
 
--- a column: its number, behind `j` where it is one of the joined table
+-- a column: its number, after `j` if it is one of the joined table
 abbrev pub column_text : Column → List ℕ
 column_text (Own column) = decimal column
 column_text (Joined column) = codes "j" ++ decimal column
 
+-- a comparison, as it is written
 abbrev pub comparison_text : Comparison → List ℕ
 comparison_text Equal = codes "="
 comparison_text NotEqual = codes "!="
@@ -26,9 +27,11 @@ comparison_text AtMost = codes "<="
 comparison_text Greater = codes ">"
 comparison_text AtLeast = codes ">="
 
+-- a condition: a column, a comparison and a value
 abbrev pub condition_words : Condition → List (List ℕ)
 condition_words condition = column_text condition.column ∷ comparison_text condition.comparison ∷ value_text condition.value ∷ []
 
+-- an aggregate: what is asked, and the column of which
 abbrev pub aggregate_words : Aggregate → List (List ℕ)
 aggregate_words Count = codes "count" ∷ []
 aggregate_words (Sum column) = codes "sum" ∷ column_text column ∷ []
@@ -40,10 +43,11 @@ abbrev pub join_words : (ℕ → List ℕ) → Option Join → List (List ℕ)
 join_words naming None = []
 join_words naming (Some join) = codes "join" ∷ decimal join.column ∷ naming join.table ∷ []
 
--- a condition behind another
+-- a condition after another
 abbrev pub and_words : Condition → List (List ℕ)
 and_words condition = codes "and" ∷ condition_words condition
 
+-- all conditions of a plan
 abbrev pub where_words : List Condition → List (List ℕ)
 where_words [] = []
 where_words (condition ∷ conditions) = codes "where" ∷ (condition_words condition ++ flat_map and_words conditions)
@@ -72,6 +76,7 @@ abbrev pub HasColumnWord : Column → Type 0
 HasColumnWord (Own column) = column < 2 ^ 8
 HasColumnWord (Joined column) = column < 2 ^ 8
 
+-- a join, a condition and an aggregate that words can have
 abbrev pub HasJoinWords : Option Join → Type 0
 HasJoinWords None = Unit {0}
 HasJoinWords (Some join) = join.column < 2 ^ 8

@@ -15,7 +15,7 @@ use Rattle.script.specs.EventText.{event_text}
 use Rattle.script.specs.EventLines.{IsEventLine, IsEventFault, begins_with, setting_names}
 use Rattle.script.specs.Settings.{AreSettings, settings_lines, is_ready, IsNoSetting}
 
--- the lines of a text: what stands before each 0a, and what stands behind the last one, if anything does
+-- the lines of a text: what stands before each 0a, and what stands after the last one, if anything does
 abbrev pub without_empty_end : List (List ℕ) → List (List ℕ)
 without_empty_end [] = []
 without_empty_end ([] ∷ []) = []
@@ -29,11 +29,12 @@ abbrev pub is_kept : List ℕ → Bool
 is_kept [] = false
 is_kept (first ∷ rest) = not (first == 35)
 
--- events that can stand behind settings: none before a table is set
+-- events that can stand after settings: none before a table is set
 abbrev pub AreEvents : Settings → List Event → Type 0
 AreEvents (Ready setup) events = AllByRecursion (λ event. IsEventLine setup (event_text setup.schema event) event) events
 AreEvents other events = events ≡ []
 
+-- the lines of events, each on the tables of the settings
 abbrev pub events_lines : Settings → List Event → List (List ℕ)
 events_lines (Ready setup) events = map (event_text setup.schema) events
 events_lines other events = []
@@ -50,14 +51,14 @@ pub record LinesReadAs (lines : List (List ℕ)) (settings : Settings) (events :
 abbrev pub IsScript : List ℕ → Setup → List Event → Type 0
 IsScript text setup events = LinesReadAs (lines_of text) (Ready setup) events
 
--- why a line of text that is not skipped cannot stand behind these settings and events
+-- why a line of text that is not skipped cannot stand after these settings and events
 abbrev pub IsFaultBehind : Settings → List Event → List ℕ → Reason → Type 0
 IsFaultBehind (Ready setup) [] line BadSetting = (begins_with setting_names line ≡ true) × IsNoSetting (Ready setup) line
 IsFaultBehind (Ready setup) events line reason = IsEventFault setup line reason
 IsFaultBehind settings events line BadSetting = IsNoSetting settings line
 IsFaultBehind settings events line reason = ⊥
 
--- why a line cannot stand there; what is not text is told first, of lines that would be skipped too
+-- why a line cannot stand there; what is not text comes first, also in lines that would be skipped
 abbrev pub IsLineFault : Settings → List Event → List ℕ → Reason → Type 0
 IsLineFault settings events line NotText = is_text line ≡ false
 IsLineFault settings events line reason =
@@ -77,7 +78,7 @@ IsSettingsFaultNext settings [] (Some line) BadSetting =
 IsSettingsFaultNext settings [] (Some line) reason = ⊥
 IsSettingsFaultNext settings [] None reason = (is_ready settings ≡ false) × (reason ≡ BadSetting)
 
--- the lines before this one, counted from 1, begin a script, and this line, or the end behind the last line, has this fault
+-- the lines before this one, counted from 1, begin a script, and this line, or the end after the last line, has this fault
 pub record IsFaultAt (IsNextFault : Settings → List Event → Option (List ℕ) → Reason → Type 0) (text : List ℕ) (line : ℕ)
     (reason : Reason) : Type 0 where
   pub settings : Settings

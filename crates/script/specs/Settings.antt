@@ -15,10 +15,12 @@ use Rattle.script.specs.Text.{is_name}
 abbrev pub IsCount : ℕ → ℕ → Type 0
 IsCount limit count = (0 < count) × (count ≤ limit)
 
+-- a column's kind: `int`, or `bytes` and its width
 abbrev pub kind_text : Kind → List ℕ
 kind_text Int = codes "int"
 kind_text (Octets width) = codes "bytes" ++ decimal width
 
+-- the lines of the number of workers, and of replicas
 abbrev pub workers_line : ℕ → List ℕ
 workers_line count = words_text (codes "workers" ∷ decimal count ∷ [])
 

@@ -5,7 +5,7 @@ use Rattle.std.specs.Str.{bytes_eq}
 use Rattle.rows.specs.declared.kind.Kind.{Kind}
 use Rattle.script.specs.Text.{is_name}
 
--- the name of a table; `?` where the schema has no such table
+-- the name of a table; `?` if the schema has no such table
 abbrev pub name_in : List (List ℕ × List Kind) → ℕ → List ℕ
 name_in schema table = or_unknown (slice_get schema table)
   where

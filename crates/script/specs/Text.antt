@@ -6,6 +6,7 @@ use Rattle.std.specs.List.{list_all}
 abbrev pub is_text_byte : ℕ → Bool
 is_text_byte byte = nat_le 32 byte && nat_le byte 126
 
+-- whether a line is text: each of its bytes is
 abbrev pub is_text : List ℕ → Bool
 is_text line = list_all is_text_byte line
 

@@ -11,9 +11,9 @@ pub enum Node {
 /// What happens next: one step of a client, of the primary, of the network, or of a replica.
 #[derive(Debug, Drop)]
 pub enum Event {
-    /// A transaction begins on what is durable.
+    /// A transaction begins, on what is durable.
     Begin,
-    /// A transaction puts in a row.
+    /// A transaction inserts a row.
     Insert {
         transaction: u64,
         table: u8,
@@ -28,7 +28,7 @@ pub enum Event {
         column: u8,
         value: Value,
     },
-    /// A transaction takes out a row.
+    /// A transaction deletes a row.
     Delete {
         transaction: u64,
         table: u8,
@@ -50,16 +50,16 @@ pub enum Event {
     Abort {
         transaction: u64,
     },
-    /// The first pending commits become durable, this many at the most.
+    /// The first pending commits become durable, at most this many.
     Flush {
         count: u32,
     },
-    /// The primary stops, and its journal keeps so many bytes more than what it acknowledged: the
-    /// first of the pending commits' records, or all of them where there are fewer.
+    /// The primary stops, and its journal keeps this many bytes beyond what it acknowledged: the
+    /// first of the pending commits' records, or all of them if there are fewer.
     Stop {
         bytes: u64,
     },
-    /// A primary that is stopped starts on what its journal keeps.
+    /// A stopped primary starts on what its journal keeps.
     Start,
     /// The primary sends the frame of a worker's stream that has this `seq`.
     Push {
@@ -71,7 +71,7 @@ pub enum Event {
         index: u64,
         node: Node,
     },
-    /// The datagram at that index is shown.
+    /// The bytes of the datagram at that index are shown.
     Show {
         index: u64,
     },
@@ -88,15 +88,15 @@ pub enum Event {
     Run {
         replica: u8,
     },
-    /// A replica tells which version its tables are at.
+    /// A replica reports the version of its tables.
     Version {
         replica: u8,
     },
-    /// A replica tells its tables, as text.
+    /// A replica reports its tables, as text.
     Dump {
         replica: u8,
     },
-    /// A replica is started anew, by the number of this start of it.
+    /// A replica is restarted, in the boot of that number.
     Restart {
         replica: u8,
         boot: u64,

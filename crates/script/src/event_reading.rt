@@ -35,8 +35,8 @@ pub fn read_event(alloc: Global, setup: &Setup, line: &[u8]) -> Result<Event, Li
     read_table_event(alloc, setup, first, rest)
 }
 
-/// The event of a line whose first word is this, and the others behind it: an event on a table or of
-/// bytes, or another one.
+/// The event of a line whose first word is this one, and whose other words are these: an event on a
+/// table or of bytes, or another one.
 #[tactic(auto, unfolding(crate::specs::Inner::Reading::event_of))]
 fn read_table_event(
     alloc: Global,
@@ -104,7 +104,7 @@ fn read_network_event(setup: &Setup, first: &[u8], words: &[&[u8]]) -> Result<Ev
     }
 }
 
-/// An event of a replica that names no table; or why the first word is that of no event.
+/// An event of a replica that names no table; or why the first word names no event.
 #[tactic(auto, unfolding(crate::specs::Inner::Reading::replica_event))]
 fn read_replica_event(setup: &Setup, first: &[u8], words: &[&[u8]]) -> Result<Event, LineFault>
     ensures { result ≡ because (replica_event setup.now.replicas first.now (map (λ word. word.now) words.now)) }
@@ -148,7 +148,7 @@ fn is_setting(word: &[u8]) -> bool
     word == b"workers".as_slice() || word == b"replicas".as_slice() || word == b"table".as_slice()
 }
 
-/// The event that the words of a line give, where they give one.
+/// The event of a line; `BadWords` if its words give none.
 fn or_bad_words(event: Option<Event>) -> Result<Event, LineFault>
     ensures { result ≡ because (or_bad_words event) }
 {
@@ -407,7 +407,7 @@ fn read_raw(alloc: Global, setup: &Setup, words: &[&[u8]]) -> Result<Event, Line
     })
 }
 
-/// The one word that there is, where there are no others.
+/// The one word; `None` if there are more or fewer.
 fn one_word<'a>(words: &[&'a [u8]]) -> Option<&'a [u8]>
     ensures { MatchOption result (one_of (map (λ word. word.now) words.now) ≡ None)
         (λ it. one_of (map (λ word. word.now) words.now) ≡ Some it.now) }
@@ -458,7 +458,7 @@ fn five_words<'a>(words: &[&'a [u8]]) -> Option<(&'a [u8], &'a [u8], &'a [u8], &
     Some((words[0], words[1], words[2], words[3], words[4]))
 }
 
-/// Three words, and one or more behind them.
+/// Three words, and one or more after them.
 fn three_words_and_more<'a>(
     words: &'a [&'a [u8]],
 ) -> Option<(&'a [u8], &'a [u8], &'a [u8], &'a [&'a [u8]])>

@@ -1,4 +1,4 @@
-//! The lines of events, as a script has them, alone and before those of their outputs.
+//! The lines of events, as in a script, alone and before those of their outputs.
 
 ghost use Rattle.std.specs.Prelude.{◌≡◌, ◌∷◌, [], ◌++◌, OnOk, codes, decimal};
 ghost use Rattle.rows.specs.Text.{words_text};
@@ -17,7 +17,7 @@ use plans::Plan;
 use rows::{RowId, Schema, Value};
 use std::alloc::AllocError;
 
-/// Adds the line of an event behind `> `, and the lines of its output.
+/// Adds the line of an event after `> `, and the lines of its output.
 pub fn push_echoed(
     text: &mut Vec<u8>,
     schema: &Schema,
@@ -32,7 +32,7 @@ pub fn push_echoed(
     push_output(text, output)
 }
 
-/// Adds the line of an event, without its end.
+/// Adds the line of an event, without its end of line.
 fn push_event(text: &mut Vec<u8>, schema: &Schema, event: &Event) -> Result<(), AllocError>
     ensures { OnOk result (text.new.items ≡ text.old.items ++ event_text schema.now event.now) }
 {

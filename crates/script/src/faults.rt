@@ -1,7 +1,7 @@
 use std::fmt;
 use thiserror::Error;
 
-/// Why a line does not read. Where one line has several faults, the first of these is given.
+/// Why a line does not read. If a line has several faults, the first of these is reported.
 #[derive(Clone, Copy, Debug, PartialEq, Eq)]
 pub enum Reason {
     /// A byte that is not allowed: all are from 20 to 7e, and 0a ends a line.
@@ -36,7 +36,7 @@ impl fmt::Display for Reason {
 impl std::error::Error for Reason {}
 
 /// Why a script does not read: its first faulty line, counted from 1 with skipped lines counted,
-/// and why. A setting that is missing at the end is named on the line after the last.
+/// and the reason. A setting that is missing at the end is reported on the line after the last.
 #[derive(Clone, Copy, Debug, PartialEq, Eq, Error)]
 pub enum ScriptFault {
     #[error("line {line}: {reason}")]
@@ -45,7 +45,7 @@ pub enum ScriptFault {
     Memory,
 }
 
-/// Why a text was not written whole.
+/// Why a text was not written completely.
 #[derive(Clone, Copy, Debug, PartialEq, Eq, Error)]
 pub enum WriteFault {
     /// The writer failed; a beginning of the text was written.

@@ -1,4 +1,4 @@
-//! Lines of words, which one space parts.
+//! Lines of words, separated by one space.
 
 ghost use Rattle.std.specs.Prelude.{◌≡◌, ◌∷◌, [], ◌++◌, map, OnOk};
 ghost use Rattle.rows.specs.Text.{value_text, words_text, line_text};
@@ -13,13 +13,13 @@ pub enum Word<'a> {
     Text(&'a str),
     Number(u64),
     Value(&'a Value),
-    /// A text, and a number right behind it.
+    /// A text, and a number right after it.
     Numbered(&'a str, u64),
     /// Bytes in hexadecimal, or `-` for none.
     Bytes(&'a [u8]),
 }
 
-/// Adds a line of these words, the first of which is a text, with its end.
+/// Adds a line of these words, the first of which is a text, with its end of line.
 pub fn push_line(text: &mut Vec<u8>, first: &str, words: &[Word]) -> Result<(), AllocError>
     ensures { OnOk result (text.new.items ≡ text.old.items ++ line_text (first.now ∷ map word_text words.now)) }
 {
@@ -36,7 +36,7 @@ pub fn push_words(text: &mut Vec<u8>, first: &str, words: &[Word]) -> Result<(),
     push_tail(text, words)
 }
 
-/// Adds words, each behind a space.
+/// Adds words, each after a space.
 pub fn push_tail(text: &mut Vec<u8>, words: &[Word]) -> Result<(), AllocError>
     ensures { OnOk result (text.new.items ≡ text.old.items ++ tail_text (map word_text words.now)) }
 {
@@ -47,7 +47,7 @@ pub fn push_tail(text: &mut Vec<u8>, words: &[Word]) -> Result<(), AllocError>
     Ok(())
 }
 
-/// Adds values, each behind a space.
+/// Adds values, each after a space.
 pub fn push_values(text: &mut Vec<u8>, values: &[Value]) -> Result<(), AllocError>
     ensures { OnOk result (text.new.items ≡ text.old.items ++ tail_text (map value_text values.now)) }
 {

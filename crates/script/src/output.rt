@@ -9,7 +9,7 @@ pub enum Output {
     Tx { number: u64, snapshot: u64 },
     /// The change was taken.
     Accepted,
-    /// The row to insert is there.
+    /// The row to insert is already there.
     Exists,
     /// The row to change or to look at is not there.
     Missing,
@@ -29,15 +29,15 @@ pub enum Output {
     ReadOnly,
     /// A number would pass 64 bits.
     NumbersUsedUp,
-    /// The transaction is not of this primary. No run answers it.
+    /// The transaction is not of this primary. No run answers this.
     Foreign,
-    /// The journal has failed. No run answers it.
+    /// The journal has failed. No run answers this.
     Failed,
-    /// So many commits are durable.
+    /// This many commits are durable.
     Durable(u64),
-    /// The primary has stopped, or it is stopped and nothing was done.
+    /// The primary has stopped, or it was stopped already and nothing was done.
     Stopped,
-    /// The primary runs, and so it was not started.
+    /// The primary runs, so it was not started.
     Running,
     /// These datagrams were sent.
     Sent(SentList),
@@ -49,7 +49,7 @@ pub enum Output {
     Stored,
     /// The frame was known.
     Repeat,
-    /// The frame is too far past the first that is missing.
+    /// The frame is too far ahead of the first missing one.
     Ahead,
     /// The version of that number was fetched for the batch.
     Head(u64),
@@ -57,13 +57,13 @@ pub enum Output {
     Ignored,
     /// The bytes of a datagram.
     Shown(ByteList),
-    /// So many queries wait now.
+    /// This many queries wait now.
     Opened(usize),
-    /// As many queries wait as may.
+    /// As many queries wait as are allowed.
     BatchFull,
     /// The query's plan does not fit the schema.
     BadPlan(PlanFault),
-    /// The batch has its version.
+    /// The batch has its version already.
     Busy,
     /// No query waits.
     Empty,
@@ -79,13 +79,13 @@ pub enum Output {
     Version(u64),
     /// The text of a replica's tables, with its ends of lines.
     Dump(ByteList),
-    /// The replica was started by that number.
+    /// The replica was restarted in the boot of that number.
     Boot(u64),
-    /// The replica was started by that number before.
+    /// The replica has had the boot of that number before.
     BootUsed,
     /// The bytes are a datagram that was never sent.
     Forged,
-    /// The frames are not those of one list of commits. No run answers it.
+    /// The frames are not those of one list of commits. No run answers this.
     Inconsistent,
     /// The replica is broken.
     Broken,

@@ -97,7 +97,7 @@ fn fault_number(fault: PlanFault) -> u64
     }
 }
 
-/// The words of an output that has nothing else; none of one that has.
+/// The words of an output that has nothing else; none for one that has.
 fn word_of(output: &Output) -> &'static str
     ensures { result.now ≡ word_of output.now }
 {

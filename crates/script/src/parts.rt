@@ -13,8 +13,8 @@ use crate::word_reading::words_of;
 use plans::Plan;
 use std::alloc::{AllocError, Global};
 
-/// The plan that a text is, on the tables of a setup; `None` exactly where it is none, or a table
-/// that it names is not there. Fails only when out of memory.
+/// The plan that a text spells, on the tables of a setup; `None` exactly if it spells none, or
+/// names a table that is not there. Fails only if out of memory.
 pub fn read_plan(alloc: Global, text: &[u8], setup: &Setup) -> Result<Option<Plan>, AllocError>
     ensures { IfOk result (λ read. MatchOption read ((plan : Plan) → IsPlanText setup.now.schema text.now plan → ⊥)
         (IsPlanText setup.now.schema text.now)) }
@@ -27,8 +27,8 @@ pub fn read_plan(alloc: Global, text: &[u8], setup: &Setup) -> Result<Option<Pla
     }
 }
 
-/// The event that a line is, on the tables of a setup, or why it is none. A text of more than one line is
-/// no event. Fails only when out of memory.
+/// The event that a line spells, on the tables of a setup, or why it spells none. A text of more
+/// than one line is no event. Fails only if out of memory.
 pub fn read_event_line(
     alloc: Global,
     line: &[u8],

@@ -17,12 +17,13 @@ use plans::{
 use rows::Schema;
 use std::alloc::{AllocError, Global};
 
-/// The plan that words are, on the tables of a schema: `query NAME`, then where they are wanted
-/// `join COL NAME`, `where COND and COND ..` and `by COL ..`, and then `get AGG ..`. Numbers of
-/// conditions, columns and aggregates have no limit here, nor is it seen whether the plan fits the
-/// schema.
+/// The plan that words spell, on the tables of a schema: `query NAME`, then optionally `join COL
+/// NAME`, `where COND and COND ..` and `by COL ..`, and then `get AGG ..`. The numbers of
+/// conditions, columns and aggregates have no limit here, and it is not checked whether the plan
+/// fits the schema.
 ///
-/// Fails with `BadWords`, with `NoTable` where only a table is not there, or with `Memory`.
+/// Fails with `BadWords`, with `NoTable` if the only fault is that a table is not there, or with
+/// `Memory`.
 pub fn read_plan_words(alloc: Global, schema: &Schema, words: &[&[u8]]) -> Result<Plan, LineFault>
     ensures { Gives (plan_of schema.now (map (λ word. word.now) words.now)) result }
 {
@@ -48,7 +49,7 @@ pub fn read_plan_words(alloc: Global, schema: &Schema, words: &[&[u8]]) -> Resul
     plan_on(schema, name, joined, conditions, groups, aggregates)
 }
 
-/// The plan of these parts, on the tables of their names.
+/// The plan of these parts, with the tables of these names.
 fn plan_on(
     schema: &Schema,
     name: &[u8],
@@ -71,7 +72,7 @@ fn plan_on(
     })
 }
 
-/// The name behind `query`, and the words behind it.
+/// The name after `query`, and the words after it.
 #[tactic(auto, unfolding(crate::specs::Inner::PlanReading::query_of))]
 fn read_query<'a>(words: &'a [&'a [u8]]) -> Option<(&'a [u8], &'a [&'a [u8]])>
     ensures { MatchOption result (query_of (lent_lists words.now) ≡ None)
@@ -89,7 +90,7 @@ fn read_query<'a>(words: &'a [&'a [u8]]) -> Option<(&'a [u8], &'a [&'a [u8]])>
     Some((name, behind))
 }
 
-/// A join's column and the name of its table, where there is a join, and the words behind it.
+/// A join's column and the name of its table, if there is a join, and the words after it.
 #[tactic(auto, unfolding(crate::specs::Inner::PlanReading::join_of))]
 fn read_join<'a>(words: &'a [&'a [u8]]) -> (Option<(u8, &'a [u8])>, &'a [&'a [u8]])
     ensures { join_of (lent_lists words.now) ≡ (named result.0, lent_lists result.1.now) }
@@ -122,7 +123,7 @@ fn named_join(schema: &Schema, joined: Option<(u8, &[u8])>) -> Result<Option<Joi
     }
 }
 
-/// The conditions, where there are any, and the words behind them.
+/// The conditions, if there are any, and the words after them.
 #[tactic(auto, unfolding(crate::specs::Inner::PlanReading::conditions_of))]
 fn read_conditions<'a>(
     alloc: Global,
@@ -146,7 +147,7 @@ fn read_conditions<'a>(
     Ok((conditions, left))
 }
 
-/// This word and a condition, and the words behind them.
+/// This word and a condition, and the words after them.
 #[tactic(auto, unfolding(crate::specs::Inner::PlanReading::condition_behind))]
 fn condition_behind<'a>(
     opening: &[u8],
@@ -168,7 +169,7 @@ fn condition_behind<'a>(
     Some((condition, behind))
 }
 
-/// A column: a decimal number up to 255, behind `j` where it is one of the joined table.
+/// A column: a decimal number up to 255, after `j` if it is one of the joined table.
 #[tactic(auto, unfolding(crate::specs::Inner::PlanReading::column_of))]
 fn read_column(word: &[u8]) -> Option<Column>
     ensures { result ≡ column_of word.now }
@@ -200,7 +201,7 @@ fn read_comparison(word: &[u8]) -> Option<Comparison>
     }
 }
 
-/// The columns by which rows are grouped, where there are any, and the words behind them.
+/// The columns by which rows are grouped, if there are any, and the words after them.
 #[tactic(auto, unfolding(crate::specs::Inner::PlanReading::groups_of))]
 fn read_groups<'a>(
     alloc: Global,
@@ -224,7 +225,7 @@ fn read_groups<'a>(
     Ok((groups, left))
 }
 
-/// `by` and a column, and the words behind them.
+/// `by` and a column, and the words after them.
 #[tactic(auto, unfolding(crate::specs::Inner::PlanReading::by_first))]
 fn by_first<'a>(words: &'a [&'a [u8]]) -> Option<(Column, &'a [&'a [u8]])>
     ensures { Finds (by_first (lent_lists words.now)) result }
@@ -238,7 +239,7 @@ fn by_first<'a>(words: &'a [&'a [u8]]) -> Option<(Column, &'a [&'a [u8]])>
     column_first(behind)
 }
 
-/// A column, and the words behind it.
+/// A column, and the words after it.
 #[tactic(auto, unfolding(crate::specs::Inner::PlanReading::column_first))]
 fn column_first<'a>(words: &'a [&'a [u8]]) -> Option<(Column, &'a [&'a [u8]])>
     ensures { Finds (column_first (lent_lists words.now)) result }
@@ -250,7 +251,7 @@ fn column_first<'a>(words: &'a [&'a [u8]]) -> Option<(Column, &'a [&'a [u8]])>
     Some((column, behind))
 }
 
-/// The aggregates, where there are any, and the words behind them.
+/// The aggregates, if there are any, and the words after them.
 #[tactic(auto, unfolding(crate::specs::Inner::PlanReading::aggregates_of))]
 fn read_aggregates<'a>(
     alloc: Global,
@@ -274,7 +275,7 @@ fn read_aggregates<'a>(
     Ok((aggregates, left))
 }
 
-/// `get` and an aggregate, and the words behind them.
+/// `get` and an aggregate, and the words after them.
 #[tactic(auto, unfolding(crate::specs::Inner::PlanReading::get_first))]
 fn get_first<'a>(words: &'a [&'a [u8]]) -> Option<(Aggregate, &'a [&'a [u8]])>
     ensures { Finds (get_first (lent_lists words.now)) result }
@@ -288,7 +289,7 @@ fn get_first<'a>(words: &'a [&'a [u8]]) -> Option<(Aggregate, &'a [&'a [u8]])>
     aggregate_first(behind)
 }
 
-/// An aggregate, and the words behind it.
+/// An aggregate, and the words after it.
 #[tactic(auto, unfolding(crate::specs::Inner::PlanReading::aggregate_first))]
 fn aggregate_first<'a>(words: &'a [&'a [u8]]) -> Option<(Aggregate, &'a [&'a [u8]])>
     ensures { Finds (aggregate_first (lent_lists words.now)) result }

@@ -13,7 +13,7 @@ use plans::{Aggregate, Column, Comparison, Condition, Join, Plan};
 use rows::Schema;
 use std::alloc::AllocError;
 
-/// Adds the words of a plan, each behind a space. Tables have their names in the schema.
+/// Adds the words of a plan, each after a space. Tables have their names in the schema.
 pub fn push_plan(text: &mut Vec<u8>, schema: &Schema, plan: &Plan) -> Result<(), AllocError>
     ensures { OnOk result (text.new.items ≡ text.old.items ++ tail_text (plan_words (name_in schema.now) plan.now)) }
 {

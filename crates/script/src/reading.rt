@@ -20,10 +20,10 @@ use crate::setup::Setup;
 use crate::word_reading::is_text;
 use std::alloc::Global;
 
-/// The settings and events of a script. Each line is ended by 0a, and the last one may lack it;
-/// empty lines and lines that begin with `#` are skipped.
+/// The settings and events of a script. Each line ends with 0a, which the last one may lack; empty
+/// lines and lines that begin with `#` are skipped.
 ///
-/// Fails with the first faulty line and why, or with `Memory`.
+/// Fails with the first faulty line and the reason, or with `Memory`.
 pub fn read_script(alloc: Global, script: &[u8]) -> Result<(Setup, Vec<Event>), ScriptFault>
     ensures exact { MatchResult result (λ read. IsScript script.now read.0 read.1.items) (IsScriptFault script.now) }
     ensures possible { IfOk result (λ read. (0 < read.0.workers) × (read.0.workers ≤ workers_max) × (read.0.replicas ≤ replicas_max)
@@ -52,10 +52,10 @@ pub fn read_script(alloc: Global, script: &[u8]) -> Result<(Setup, Vec<Event>), 
     }
 }
 
-/// The settings of a schema file, which has nothing else. Its lines are those of a script.
+/// The settings of a schema file, which contains nothing else. Its lines are those of a script.
 ///
-/// Fails with the first faulty line and why, or with `Memory`; a line that is no setting is a
-/// `BadSetting`, unless it is not text.
+/// Fails with the first faulty line and the reason, or with `Memory`; a line that is no setting is
+/// a `BadSetting`, unless it is not text.
 pub fn read_settings(alloc: Global, text: &[u8]) -> Result<Setup, ScriptFault>
     ensures { MatchResult result (IsSettingsText text.now) (IsSettingsFault text.now) }
 {
@@ -81,7 +81,7 @@ pub fn read_settings(alloc: Global, text: &[u8]) -> Result<Setup, ScriptFault>
     }
 }
 
-/// The setup, where a table is set, so that no setting is missing.
+/// The setup, if a table is set: then no setting is missing.
 fn setup_of(settings: Settings) -> Option<Setup>
     ensures { MatchOption result (is_ready settings ≡ false) (λ setup. settings ≡ Settings.Ready setup) }
 {
@@ -93,7 +93,7 @@ fn setup_of(settings: Settings) -> Option<Setup>
     }
 }
 
-/// The bytes before the first 0a, and those behind it; all of the bytes, where none stands.
+/// The bytes before the first 0a, and those after it; all of the bytes if there is no 0a.
 fn first_line(bytes: &[u8]) -> (&[u8], &[u8])
     requires { 0 < length bytes.now }
     ensures parts { lines_of bytes.now ≡ result.0.now ∷ lines_of result.1.now }
@@ -105,15 +105,15 @@ fn first_line(bytes: &[u8]) -> (&[u8], &[u8])
     }
 }
 
-/// Where the byte stands first.
+/// The first position of the byte.
 fn position_of(bytes: &[u8], byte: u8) -> Option<usize>
     ensures { result ≡ position (λ other. other == byte) bytes.now }
 {
     bytes.iter().position(|other| *other == byte)
 }
 
-/// Reads one line: a setting, or an event once the settings have a table. A line that is skipped
-/// leaves the settings as they are.
+/// Reads one line: a setting, or an event once the settings have a table. A skipped line leaves the
+/// settings as they are.
 fn read_line(
     alloc: Global,
     settings: Settings,
@@ -132,7 +132,7 @@ fn read_line(
         return Ok(settings);
     }
     if let Settings::Ready(setup) = &settings {
-        // Behind an event no line is a setting.
+        // After an event no line is a setting.
         if !events.is_empty() || !begins_as_setting(line) {
             return match add_event(alloc, setup, line, events) {
                 Ok(()) => Ok(settings),
@@ -143,7 +143,7 @@ fn read_line(
     read_setting(alloc, settings, line)
 }
 
-/// Reads the line of an event, and puts it behind those before it.
+/// Reads the line of an event, and adds it to the end.
 fn add_event(
     alloc: Global,
     setup: &Setup,
@@ -161,8 +161,7 @@ fn add_event(
     Ok(())
 }
 
-/// Reads one line of a schema file: a setting. A line that is skipped leaves the settings as they
-/// are.
+/// Reads one line of a schema file: a setting. A skipped line leaves the settings as they are.
 fn read_setting_line(alloc: Global, settings: Settings, line: &[u8]) -> Result<Settings, LineFault>
     requires { AreSettings settings }
     ensures { MatchResult result (λ next. IsLineRead settings [] line.now next []) (OrMemory (IsSettingsLineFault settings line.now)) }
@@ -196,7 +195,7 @@ fn begins_as_setting(line: &[u8]) -> bool
         || first == b"table".as_slice()
 }
 
-/// What stands before the first space of a line; all of it, where there is none.
+/// The part of a line before its first space; all of it if there is none.
 fn first_word(line: &[u8]) -> &[u8]
     ensures { result.now ≡ first_word line.now }
 {

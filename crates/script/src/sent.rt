@@ -1,4 +1,4 @@
-//! Where datagrams that were sent are found.
+//! The datagrams that were sent, as outputs report them.
 
 ghost use Rattle.std.specs.Prelude.{◌≡◌, [], ◌∷◌, ◌++◌, length, OnOk, OnErr, IfOk};
 
@@ -36,7 +36,7 @@ impl SentList {
         SentList { items }
     }
 
-    /// The list of one. Fails only when out of memory.
+    /// The list of one. Fails only if out of memory.
     pub fn of_one(alloc: Global, sent: Sent) -> Result<SentList, AllocError>
         ensures { IfOk result (λ list. list ≡ sent ∷ []) }
     {

@@ -1,4 +1,4 @@
-//! Reading the settings of a script, one line after the other.
+//! Reading the settings of a script, line by line.
 
 ghost use Rattle.std.specs.Prelude.{◌≡◌, ◌≢◌, ◌<◌, ◌^◌, ◌∷◌, [], ◌++◌, ℕ, List, true, map, decimal, slice_get, codes, IfOk};
 ghost use Rattle.std.specs.Prelude.{MatchOption, MatchResult, false};
@@ -66,7 +66,7 @@ pub fn read_setting(alloc: Global, settings: Settings, line: &[u8]) -> Result<Se
     }
 }
 
-/// The count that the words set, of what has this name: at least 1, and up to a limit.
+/// The count that the words set, for this name: at least 1, and at most a limit.
 fn count_of(words: &[&[u8]], name: &[u8], limit: u8) -> Option<u8>
     ensures { MatchOption result
         ((count : ℕ) → IsCount limit count → texts words.now ≢ name.now ∷ decimal count ∷ [])
@@ -79,7 +79,7 @@ fn count_of(words: &[&[u8]], name: &[u8], limit: u8) -> Option<u8>
     Some(count)
 }
 
-/// The one word behind a name.
+/// The one word after a name.
 fn word_behind<'a>(words: &[&'a [u8]], name: &[u8]) -> Option<&'a [u8]>
     ensures { MatchOption result
         ((word : List ℕ) → texts words.now ≢ name.now ∷ word ∷ [])
@@ -105,7 +105,7 @@ fn first_table(alloc: Global, words: &[&[u8]]) -> Result<Schema, LineFault>
     }
 }
 
-/// The schema of the tables so far, and of the one behind them that the words set.
+/// The schema of the tables so far, and of the one after them that the words set.
 fn next_table(alloc: Global, so_far: &Schema, words: &[&[u8]]) -> Result<Schema, LineFault>
     ensures { MatchResult result (IsTableMore so_far.now (texts words.now)) (OrMemory (IsNoTableMore so_far.now (texts words.now))) }
 {
@@ -130,7 +130,7 @@ fn read_table<'a>(alloc: Global, words: &[&'a [u8]]) -> Result<(&'a str, Vec<Kin
     }
 }
 
-/// The name behind the word `table`, and the words behind that.
+/// The name after the word `table`, and the words after that.
 fn table_parts<'a, 'x>(words: &'x [&'a [u8]]) -> Option<(&'a str, &'x [&'a [u8]])>
     ensures { MatchOption result
         ((name : List ℕ) (rest : List (List ℕ)) → is_name name ≡ true → texts words.now ≢ codes "table" ∷ name ∷ rest)
@@ -142,7 +142,7 @@ fn table_parts<'a, 'x>(words: &'x [&'a [u8]]) -> Option<(&'a str, &'x [&'a [u8]]
     }
 }
 
-/// The word as text, where it has the form of a table's name.
+/// The word as text, if it has the form of a table's name.
 fn name_of(word: &[u8]) -> Option<&str>
     ensures { MatchOption result (is_name word.now ≡ false) (λ name. (name.now ≡ word.now) × (is_name word.now ≡ true)) }
 {
@@ -185,8 +185,8 @@ fn kind_of(word: &[u8]) -> Option<Kind>
     if kind.is_good() { Some(kind) } else { None }
 }
 
-/// The schema of the tables so far and one more behind them. They are copied: a schema has at most
-/// 16 tables, and so a line costs its length and a constant.
+/// The schema of the tables so far and one more after them. They are copied: a schema has at most
+/// 16 tables, so the cost of a line is its length and a constant.
 fn longer_schema<'a>(
     alloc: Global,
     so_far: &'a Schema,
@@ -205,7 +205,7 @@ fn longer_schema<'a>(
     schema_of(alloc, tables.as_slice())
 }
 
-/// The tables of a schema, lent. Fails only when out of memory.
+/// The tables of a schema, lent. Fails only if out of memory.
 fn tables_of(alloc: Global, schema: &Schema) -> Result<Vec<(&str, &[Kind])>, AllocError>
     ensures { IfOk result (λ tables. map given tables.items ≡ schema.now) }
 {

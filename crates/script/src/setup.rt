@@ -1,11 +1,11 @@
 use rows::Schema;
 
-/// What stands for the whole of a run: the tables, and how many workers and replicas there are.
+/// What is fixed for a whole run: the tables, and the numbers of workers and replicas.
 #[derive(Debug, Drop)]
 pub struct Setup {
     pub schema: Schema,
-    /// Workers of the primary; their numbers are below it.
+    /// Workers of the primary; their numbers are below this.
     pub workers: u8,
-    /// Replicas; their numbers are below it.
+    /// Replicas; their numbers are below this.
     pub replicas: u8,
 }

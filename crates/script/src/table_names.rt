@@ -9,10 +9,9 @@ use crate::faults::{LineFault, Reason};
 use crate::word_reading::{is_name, text};
 use rows::Schema;
 
-/// The number of the table of that name. A word that is no name is bad, whichever tables there
-/// are.
+/// The number of the table of that name. A word that is no name is bad, whatever tables there are.
 ///
-/// Fails with `BadWords`, or with `NoTable` where no table has the name. Takes no memory.
+/// Fails with `BadWords`, or with `NoTable` if no table has the name. Takes no memory.
 #[tactic(auto, unfolding(crate::specs::Inner::WordReading::table_of))]
 pub fn named_table(schema: &Schema, name: &[u8]) -> Result<u8, LineFault>
     ensures { result ≡ because (table_of schema.now name.now) }
@@ -31,7 +30,7 @@ pub fn named_table(schema: &Schema, name: &[u8]) -> Result<u8, LineFault>
     }
 }
 
-/// The name of a table; `?`, where the schema has no such table.
+/// The name of a table; `?` if the schema has no such table.
 pub fn name_of(schema: &Schema, table: u8) -> &str
     ensures { result.now ≡ name_in schema.now table }
 {

@@ -1,4 +1,4 @@
-//! Values and bytes, and the words that are them.
+//! The values and bytes that words spell.
 
 ghost use Rattle.std.specs.Prelude.{◌≡◌, map, None, Some, IfOk, IfErr, MatchOption};
 ghost use Rattle.rows.specs.Text.{value_text};
@@ -13,9 +13,9 @@ use crate::word_reading::{byte_of, value_of};
 use rows::Value;
 use std::alloc::Global;
 
-/// The value that a word stands for: a signed decimal number of 64 bits without needless zeros, or
-/// `x` and 1 to 64 pairs of lower-case hexadecimal digits; `None` exactly where it stands for none.
-/// Takes no memory.
+/// The value that a word spells: a signed decimal number of 64 bits without needless zeros, or `x`
+/// and 1 to 64 pairs of lower-case hexadecimal digits; `None` exactly if it spells none. Takes no
+/// memory.
 pub fn read_value(word: &[u8]) -> Option<Value>
     ensures { MatchOption result ((value : Value) → HasWord value → value_text value ≡ word.now → ⊥)
         (λ value. HasWord value × (value_text value ≡ word.now)) }
@@ -23,9 +23,9 @@ pub fn read_value(word: &[u8]) -> Option<Value>
     value_of(word)
 }
 
-/// The values that words stand for.
+/// The values that words spell.
 ///
-/// Fails with `BadWords` where one of them stands for none, or with `Memory`.
+/// Fails with `BadWords` if one of them spells none, or with `Memory`.
 pub fn read_values(alloc: Global, words: &[&[u8]]) -> Result<Vec<Value>, LineFault>
     ensures ok { IfOk result (λ values. values_in_words (map (λ word. word.now) words.now) ≡ Some values.items) }
     ensures err { IfErr result (OrMemory (λ reason.
@@ -47,9 +47,9 @@ pub fn read_values(alloc: Global, words: &[&[u8]]) -> Result<Vec<Value>, LineFau
     Ok(values)
 }
 
-/// The bytes of pairs of lower-case hexadecimal digits, of any number of them; `-` is none.
+/// The bytes of any number of pairs of lower-case hexadecimal digits; `-` spells no bytes.
 ///
-/// Fails with `BadWords` where the word is neither, or with `Memory`.
+/// Fails with `BadWords` if the word is neither, or with `Memory`.
 pub fn read_bytes(alloc: Global, word: &[u8]) -> Result<Vec<u8>, LineFault>
     ensures ok { IfOk result (λ bytes. hex_of word.now ≡ Some bytes.items) }
     ensures err { IfErr result (OrMemory (λ reason. (reason ≡ Reason.BadWords) × (hex_of word.now ≡ None))) }
@@ -74,8 +74,8 @@ pub fn read_bytes(alloc: Global, word: &[u8]) -> Result<Vec<u8>, LineFault>
     Ok(bytes)
 }
 
-/// A word is that of one value alone. It does nothing: its contract says so of the text of values,
-/// whoever reads it.
+/// A word spells at most one value. It does nothing: its contract states this of the text of
+/// values, independent of the reader.
 pub fn words_determine_values()
     ensures { WordsDetermineValues }
 {}

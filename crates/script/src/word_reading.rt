@@ -1,4 +1,4 @@
-//! The words of a line, and the numbers, values and names that they are.
+//! The words of a line, and the numbers, values and names that they spell.
 
 ghost use Rattle.std.specs.Prelude.{◌≡◌, ◌≢◌, ℕ, ℤ, ◌<◌, ◌==◌, ◌^◌, map, None, Some, IfOk, MatchOption, decimal, FitsSigned};
 ghost use Rattle.std.specs.Fmt.{signed_decimal};
@@ -13,7 +13,7 @@ use rows::limits::OCTETS_MAX;
 use rows::{Octets, Value};
 use std::alloc::{AllocError, Global};
 
-/// The words of a line, which one space parts. A space at an end of the line, or two in a row,
+/// The words of a line, separated by one space. A space at an end of the line, or two in a row,
 /// make an empty word.
 pub fn words_of(alloc: Global, line: &[u8]) -> Result<Vec<&[u8]>, AllocError>
     ensures { IfOk result (λ words. map (λ word. word.now) words.items ≡ slice_split (λ byte. byte == 32) line.now) }
@@ -26,7 +26,8 @@ pub fn number(word: &[u8]) -> Option<u64>
     ensures { result ≡ number_of word.now }
 {
     let number = parsed(word)?;
-    // Other spellings that are parsed, as with a sign or zeros before it, are not the one that it is written in.
+    // Other spellings that parse, such as one with a sign or leading zeros, differ from the one in
+    // which the number is written.
     if is_written(number, word) {
         Some(number)
     } else {
@@ -34,7 +35,7 @@ pub fn number(word: &[u8]) -> Option<u64>
     }
 }
 
-/// What the word is parsed as, which is the number where it is written so.
+/// The number that the word parses as, which is the answer if it is written in this way.
 fn parsed(word: &[u8]) -> Option<u64>
     ensures { (number : ℕ) → number < 2 ^ 64 → decimal number ≡ word.now → result ≡ Some number }
 {
@@ -72,7 +73,7 @@ pub fn small_number(word: &[u8]) -> Option<u8>
     u8::try_from(number(word)?).ok()
 }
 
-/// A signed decimal number of 64 bits; `-` stands only before a number that is not 0.
+/// A signed decimal number of 64 bits; `-` is only allowed before a number that is not 0.
 pub fn int(word: &[u8]) -> Option<i64>
     ensures { result ≡ int_of word.now }
 {
@@ -84,7 +85,7 @@ pub fn int(word: &[u8]) -> Option<i64>
     }
 }
 
-/// What the word is parsed as, which is the number where it is written so.
+/// The number that the word parses as, which is the answer if it is written in this way.
 fn parsed_int(word: &[u8]) -> Option<i64>
     ensures { (number : ℤ) → FitsSigned w64 number → signed_decimal number ≡ word.now → result ≡ Some number }
 {
@@ -98,8 +99,8 @@ fn is_written_int(number: i64, word: &[u8]) -> bool
     text.format(number).as_bytes() == word
 }
 
-/// The value that a word stands for: `x` and 1 to 64 pairs of lower-case hexadecimal digits, or
-/// else a signed decimal number of 64 bits; `None` where it stands for none. Takes no memory.
+/// The value that a word spells: `x` and 1 to 64 pairs of lower-case hexadecimal digits, or else a
+/// signed decimal number of 64 bits; `None` if it spells none. Takes no memory.
 #[tactic(auto, unfolding(crate::specs::Inner::WordReading::value_of))]
 pub fn value_of(word: &[u8]) -> Option<Value>
     ensures { result ≡ value_of word.now }
@@ -133,7 +134,7 @@ pub fn byte_of(high: u8, low: u8) -> Option<u8>
     Some(hex_digit(high)? * 16 + hex_digit(low)?)
 }
 
-/// What a lower-case hexadecimal digit stands for.
+/// The value of a lower-case hexadecimal digit.
 fn hex_digit(digit: u8) -> Option<u8>
     ensures { result ≡ digit_of digit }
 {
@@ -144,7 +145,7 @@ fn hex_digit(digit: u8) -> Option<u8>
     }
 }
 
-/// Whether all bytes are those of a line of text: from 20 to 7e.
+/// Whether all bytes are allowed in a line of text: from 20 to 7e.
 pub fn is_text(line: &[u8]) -> bool
     ensures { result ≡ is_text line.now }
 {
@@ -186,10 +187,10 @@ fn is_name_byte(byte: u8) -> bool
     matches!(byte, b'a'..=b'z' | b'0'..=b'9' | b'_')
 }
 
-/// Letters of a table's name, at most.
+/// Characters of a table's name, at most.
 const NAME_LEN_MAX: usize = 16;
 
-/// The word as text, where it is.
+/// The word as text, if it is text.
 pub fn text(word: &[u8]) -> Option<&str>
     ensures { MatchOption result (¬ IsUtf8 word.now) (λ text. (text.now ≡ word.now) × IsUtf8 word.now) }
 {

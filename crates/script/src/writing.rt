@@ -1,4 +1,4 @@
-//! The text of outputs to a writer, in pieces.
+//! Writing the text of outputs to a writer, in pieces.
 
 ghost use Rattle.std.specs.Prelude.{◌≡◌, [], Err, IfOk, OnOk, OnErr};
 ghost use Rattle.std.specs.Io.KnownBytes.{Appends, Keeps};
@@ -16,13 +16,14 @@ use std::alloc::{AllocError, Global};
 use std::io;
 use std::io::{ErrorKind, Write};
 
-/// How many bytes of a text are gathered before they are written.
+/// How many bytes of a text are collected before they are written.
 const PIECE: usize = 8192;
 
-/// Writes the text of outputs: a line for each, but two for a run that waits for a frame and as
-/// many as it has for a report or for the text of tables. It is not flushed.
+/// Writes the text of outputs: one line each, except two for a run that waits for a frame, and all
+/// lines of a report or of the text of tables. The writer is not flushed.
 ///
-/// Fails with `Memory` before anything is written, and with `Write` where a beginning was.
+/// Fails with `Memory` before anything is written; with `Write`, some beginning of the text was
+/// written.
 pub fn write_text_of<W: Write>(
     alloc: Global,
     writer: &mut W,
@@ -42,11 +43,12 @@ pub fn write_text_of<W: Write>(
     }
 }
 
-/// Writes the text of events and of what they answer: the line of each event behind `> `, and then
-/// the lines of its output, as far as both lists go. Tables have their names in the schema. It is
-/// not flushed.
+/// Writes the text of events and of their outputs: the line of each event after `> `, and then the
+/// lines of its output, as far as both lists go. Tables have their names in the schema. The writer
+/// is not flushed.
 ///
-/// Fails with `Memory` before anything is written, and with `Write` where a beginning was.
+/// Fails with `Memory` before anything is written; with `Write`, some beginning of the text was
+/// written.
 pub fn write_echoed_text_of<W: Write>(
     alloc: Global,
     writer: &mut W,
@@ -69,8 +71,8 @@ pub fn write_echoed_text_of<W: Write>(
     }
 }
 
-/// An empty text with room for a piece and, behind it, the lines of any of these outputs: each is
-/// put there once. So it is not out of memory once something is written.
+/// An empty text with room for a piece and, after it, the lines of any one of these outputs: each
+/// is put there once. So it cannot run out of memory once something is written.
 fn room_for(alloc: Global, outputs: &[Output]) -> Result<Vec<u8>, AllocError>
     ensures { IfOk result (λ text. text.items ≡ []) }
 {
@@ -103,7 +105,7 @@ fn room_for_echoed(
     Ok(text)
 }
 
-/// Writes the text of outputs by an empty text that has room.
+/// Writes the text of outputs through an empty text that has room.
 fn write_outputs<W: Write>(writer: &mut W, text: &mut Vec<u8>, outputs: &[Output]) -> io::Result<()>
     requires { text.old.items ≡ [] }
     ensures written { OnOk result (Appends (W.contents writer.old) (W.contents writer.new) (outputs_text outputs.now)) }
@@ -142,7 +144,7 @@ fn write_echoed<W: Write>(
     write_bytes(writer, text.as_slice())
 }
 
-/// Writes a text where it is a piece, and empties it then.
+/// Writes a text and empties it, if it is at least a piece.
 fn write_piece<W: Write>(writer: &mut W, text: &mut Vec<u8>) -> io::Result<()>
     ensures written { OnOk result (IsWrittenBut (W.contents writer.old) (W.contents writer.new) text.old.items text.new.items) }
     ensures interrupted { OnErr result (IsPartlyWritten (W.contents writer.old) (W.contents writer.new) text.old.items) }
@@ -154,14 +156,14 @@ fn write_piece<W: Write>(writer: &mut W, text: &mut Vec<u8>) -> io::Result<()>
     Ok(())
 }
 
-/// Writes these bytes. Where that fails a beginning of them was written, of which `write_all` says
-/// nothing.
+/// Writes these bytes. If that fails, some beginning of them was written, and `write_all` does not
+/// report which.
 fn write_bytes<W: Write>(writer: &mut W, bytes: &[u8]) -> io::Result<()>
     ensures written { OnOk result (Appends (W.contents writer.old) (W.contents writer.new) bytes.now) }
     ensures interrupted { OnErr result (IsPartlyWritten (W.contents writer.old) (W.contents writer.new) bytes.now) }
 {
     let mut rest = bytes;
-    // A writer that is interrupted again and again is given up at last.
+    // A writer that is interrupted again and again is eventually given up.
     for _ in 0..u64::MAX {
         if rest.is_empty() {
             return Ok(());

@@ -1,21 +1,24 @@
 //! One primary for many threads.
 //!
-//! A `Line` has a primary under a lock, and gives out seats, one a thread. A seat reads what is
-//! published and waits for nobody; it commits, flushes, settles, pushes and answers datagrams through
-//! the line, whose lock is held for one call of the primary at a time. A flush is group commit: it
-//! takes its turn, and the lock is not held while the journal is written, so that others commit and
-//! read meanwhile and go with the next flush. The lock is over a `desk::Desk`, whose methods have the
-//! whole contract; nothing can be said of a line by which thread came when, so the calls here say what
-//! they answer, and what the seat has seen then. `Start` is the name of a new line, which a program
-//! makes first, and the type of the line stands for it.
+//! A `Line` has a primary under a lock, and gives out seats, one for each thread. A seat reads what
+//! is published without waiting; it commits, flushes, settles, pushes and answers datagrams through
+//! the line, which holds the lock for one call of the primary at a time. A flush is a group commit:
+//! it takes its turn, and the lock is released while the journal is written, so that others commit
+//! and read meanwhile and are part of the next flush. Under the lock is a `desk::Desk`, whose
+//! methods have the whole contract. Contracts cannot state the order in which threads took the
+//! lock, so those of a line state what a call answers, and what the seat has then seen. `Start` is
+//! the name of a new line; a program makes it first, and the type of the line refers to it.
 //!
-//! Promised, whatever the schedule: what a seat has seen is a legal list that only grows, and what it
-//! is answered, pushed or told of a ticket is of that list (`desk::specs::Answers`); a ticket has the
-//! transaction's entries, and a number above its snapshot and above the seat's last one; at the end
-//! the primary has exactly as many commits more as the seats got tickets (`end`). What was handed out
-//! is of the seat's list and of every longer one (`laws::what_is_sent_is_of_the_list`). Not promised: that
-//! a call that waits returns.
-//! It stands on `desk`, and on `queue` for the query queue, which it hands on.
+//! Promised, whatever the schedule: what a seat has seen is a legal list that only grows, and what
+//! it reads, sends or learns about a ticket agrees with that list (`desk::specs::Answers`); a
+//! ticket has the transaction's entries, and a number above its snapshot and above the seat's last
+//! one; at the end the primary has exactly as many new commits as the seats got tickets (`end`).
+//! Whatever was sent agrees with the seat's list and with every longer one
+//! (`laws::what_is_sent_is_of_the_list`). Not promised: that a call that waits returns.
+//!
+//! It uses `desk`, and re-exports the query queue of `queue`. If a call fails for lack of memory,
+//! its values are unchanged unless the call says otherwise, except that more of the durable list
+//! may be published and seen by the seat.
 #![tactic(auto)]
 
 mod faults;

@@ -19,18 +19,18 @@ use wire::{Out, Packet};
 
 /// A primary for many threads, each with a seat.
 ///
-/// `L` is the line that it is. `R` is the handle with which it waits for readers of what is published.
-/// What holds of what lies under the lock, each time it is taken, is `desk::specs::Keeping`.
+/// `L` is the line's name. `R` is the handle with which it waits for readers of what is published.
+/// `desk::specs::Keeping` specifies what holds under the lock each time it is taken.
 #[derive(Drop)]
 pub struct Line<L: Origin, J: JournalStore, R: Wait + Drop> {
     desk: Mutex<Desk<L, J, R>>,
-    /// Told each time that a flush has ended.
+    /// Notified each time a flush has ended.
     written: Condvar,
 }
 
 impl<L: Origin, J: JournalStore, R: Wait + Drop> Line<L, J, R> {
-    /// A line for this primary, with the seats that `start` names; what is durable is published. It
-    /// hands the primary back with `Memory` if it is out of memory.
+    /// A line for this primary, with the seats that `start` names; what is durable is published.
+    /// Fails with `Memory` if out of memory, and then hands the primary back.
     pub fn new(
         alloc: Global,
         rt: R,
@@ -60,22 +60,23 @@ impl<L: Origin, J: JournalStore, R: Wait + Drop> Line<L, J, R> {
         }
     }
 
-    /// A seat that was not given out yet; `None` if all are. It has seen what was durable when the line
-    /// was made, and has no ticket. It may wait; takes no memory.
+    /// A seat that was not given out yet; `None` if all were. It has seen what was durable when the
+    /// line was made, and has no ticket. It may wait; takes no memory.
     pub fn seat<W: Wait>(&self, rt: &W) -> Option<Seat<L>>
         ensures { IfSome result (IsNew L.first) }
     {
         self.desk.lock(rt).seat()
     }
 
-    /// Commits a transaction for a worker: the commit is pending, and the ticket has its number, worker
-    /// and entries. It may wait.
+    /// Commits a transaction for a worker: the commit is pending, and the ticket has its number,
+    /// worker and entries. It may wait.
     ///
     /// Fails with the first of these, and hands the transaction back: `Failed`, the journal failed;
-    /// `ReadOnly`, it has no entries; `Foreign`, it is not of this primary; `Conflict` with the number of
-    /// the last commit after its snapshot that touches one of its rows; `NumbersUsedUp`. `Memory` comes
-    /// before these if there is no room to note the commit. If a conflict is with a commit that is still
-    /// pending, flush before the transaction is begun anew: a snapshot has only what is durable.
+    /// `ReadOnly`, it has no entries; `Foreign`, it is not of this primary; `Conflict` with the
+    /// number of the last commit after its snapshot that touches one of its rows; `NumbersUsedUp`.
+    /// `Memory` precedes these if there is no memory to record the commit's seat. If the conflict
+    /// is with a commit that is still pending, flush before the transaction is begun again: a
+    /// snapshot has only durable commits.
     pub fn commit<W: Wait>(
         &self,
         rt: &W,
@@ -94,11 +95,11 @@ impl<L: Origin, J: JournalStore, R: Wait + Drop> Line<L, J, R> {
         self.desk.lock(rt).commit(seat, transaction, worker)
     }
 
-    /// What has become of a ticket's commit, after what is durable was published. It may wait.
+    /// The state of a ticket's commit, after what is durable was published. It may wait.
     ///
-    /// `Settled`: it is durable; `Lost`: another commit is durable under its number; `NotYet`: the
-    /// durable list is shorter than its number; `Unpublished`: the seat's list is, and there was no
-    /// memory to publish what is durable.
+    /// `Settled`: the commit is durable; `Lost`: another commit is durable under its number;
+    /// `NotYet`: the durable list is shorter than its number; `Unpublished`: the seat's list is
+    /// shorter, and there was no memory to publish what is durable.
     pub fn settle<W: Wait>(&self, rt: &W, seat: &mut Seat<L>, ticket: &Ticket) -> Settled
         ensures later { IsPrefix seat.old.list seat.new.list }
         ensures seat { seat.new ≡ record seat.old { list = seat.new.list } }
@@ -107,9 +108,9 @@ impl<L: Origin, J: JournalStore, R: Wait + Drop> Line<L, J, R> {
         self.desk.lock(rt).settle(seat, ticket)
     }
 
-    /// The packet of that `seq` of the worker's stream of what is durable, if the stream has it, after
-    /// what is durable was published. It may wait. Fails only when out of memory, and then hands nothing
-    /// out.
+    /// The packet of that `seq` of the worker's stream of what is durable, if the stream has it,
+    /// after what is durable was published. It may wait. Fails only if out of memory, and then
+    /// hands nothing out.
     pub fn push<W: Wait>(
         &self,
         rt: &W,
@@ -124,9 +125,9 @@ impl<L: Origin, J: JournalStore, R: Wait + Drop> Line<L, J, R> {
         self.desk.lock(rt).push(seat, worker, seq)
     }
 
-    /// What the primary sends for bytes that came, after what is durable was published: to an Ask one
-    /// Head, to a Want the frames that it names, 16 at most, to anything else nothing. It may wait. Fails
-    /// only when out of memory, and then hands nothing out.
+    /// What the primary sends for bytes that arrived, after what is durable was published: to an
+    /// Ask one Head, to a Want the frames that it names, 16 at most, to anything else nothing. It
+    /// may wait. Fails only if out of memory, and then hands nothing out.
     pub fn on_bytes<W: Wait>(
         &self,
         rt: &W,
@@ -140,8 +141,9 @@ impl<L: Origin, J: JournalStore, R: Wait + Drop> Line<L, J, R> {
         self.desk.lock(rt).on_bytes(seat, bytes)
     }
 
-    /// The primary, if every seat that was given out is handed in. It then has as many commits beyond
-    /// those with which the line was made as these seats got tickets. Otherwise all is handed back.
+    /// The primary, if every seat that was given out is handed in. Beyond the commits with which
+    /// the line was made, it then has as many as these seats got tickets. Otherwise everything is
+    /// handed back.
     pub fn end(self, seats: Vec<Seat<L>>) -> Result<PrimaryCore<J>, (Line<L, J, R>, Vec<Seat<L>>)>
         requires { L.parts ≡ L.seats }
         ensures ok { IfOk result (λ core. commit_count core.primary ≡ commit_count L.first + sum (map (λ seat. seat.share) seats.items)) }
@@ -162,15 +164,15 @@ impl<L: Origin, J: JournalStore, R: Wait + Drop> Line<L, J, R> {
 }
 
 impl<L: Origin, J: JournalStore + Drop, R: Wait + Drop> Line<L, J, R> {
-    /// Makes the commits durable that are the first `count` pending ones when it is called (all, if there
-    /// are fewer), whosoever they are, and publishes them: `Published` with how many are durable then, or
-    /// `Unpublished` if there was no memory to publish them. One flush writes at a time, in one append;
-    /// the others wait for it, and write nothing if it has made their commits durable. Commits, reads and
-    /// answers go on meanwhile.
+    /// Makes the first `count` commits durable that are pending when it is called (all, if there
+    /// are fewer), of whichever seats, and publishes them: answers `Published` with how many are
+    /// then durable, or `Unpublished` if there was no memory to publish them. One flush writes at a
+    /// time, in one append; the others wait for it, and write nothing if it has made their commits
+    /// durable. Commits, reads and answers continue meanwhile.
     ///
-    /// Fails with `Failed` if the journal failed before, with `Memory`, and then nothing has changed; or
-    /// with `Journal` if the journal did not take the records: no commit is durable by it, and each
-    /// commit and flush answers `Failed` until the primary is started again.
+    /// Fails with `Failed` if the journal failed before, or with `Memory`, and then nothing has
+    /// changed; or with `Journal` if the journal did not take the records: this flush has made no
+    /// commit durable, and each commit and flush answers `Failed` until the primary is restarted.
     pub fn flush<W: Wait>(
         &self,
         rt: &W,
@@ -184,8 +186,8 @@ impl<L: Origin, J: JournalStore + Drop, R: Wait + Drop> Line<L, J, R> {
     {
         let desk = self.desk.lock(rt);
         let target = desk.flush_target(count);
-        // One flush has the journal at a time. Those that wait for it mostly find, all at once, that it has
-        // written their commits too.
+        // One flush has the journal at a time. Most of those that wait for it find, all at once,
+        // that it has written their commits too.
         let mut desk = self.written.wait_while(
             rt,
             desk,
@@ -195,7 +197,7 @@ impl<L: Origin, J: JournalStore + Drop, R: Wait + Drop> Line<L, J, R> {
             return Ok(flushed);
         }
         let begun = desk.begin_flush(target, count);
-        // The lock is not held while the journal is written.
+        // The lock is released while the journal is written.
         drop(desk);
         let ended = match begun {
             Ok(work) => {

@@ -7,8 +7,8 @@ use crate::faults::NewFault;
 use history::Opened;
 use std::sync::ledger::Blank;
 
-/// What a new line is known by: a history and a ledger of its own. The program that makes it calls a
-/// function that is generic in `Origin`, and that call picks the name.
+/// The name of a new line: a history and a ledger of its own. The program that makes the line calls
+/// a function that is generic in `Origin`, and that call determines the name.
 #[derive(Drop)]
 pub struct Start {
     pub opened: Opened,
@@ -22,7 +22,7 @@ pub struct Start {
 impl Start {
     /// A new name, for a line with 1 to 32 seats. Takes no memory.
     ///
-    /// Fails with `NoReader` if there is no history, which no program meets.
+    /// Fails with `NoReader` if there is no history, which never happens in a program.
     pub fn new(seats: u8) -> Result<Start, NewFault>
         requires some { 0 < seats }
         requires few { seats ≤ seats_max }

@@ -8,7 +8,7 @@ use Rattle.rows.specs.Tables.{Rows, Tables, Refusal, Unfit, Exists, Missing, app
 use Rattle.store.specs.declared.faults.StoreFault.TheVariants as faults
 use Rattle.store.specs.Faults.{number_of}
 
--- a column of a row, where the row is there and has that column
+-- a column of a row, if the row is there and has that column
 abbrev pub column_of : Option (List Value) → ℕ → Option Value
 column_of None column = None
 column_of (Some values) column = slice_get values column

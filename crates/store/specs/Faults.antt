@@ -20,8 +20,8 @@ number_of Unfit = 3
 number_of Memory = 4
 number_of Broken = 5
 
--- what holds where commits were not applied, of whether the store was whole, of whether there is an entry to apply,
--- and of what they make of its tables: one of them is refused, or it is out of memory, or the store was not whole
+-- what holds if commits were not applied, by whether the store was whole, whether there is an entry to apply, and what they make
+-- of its tables: one of them is refused, or it is out of memory, or the store was not whole
 abbrev pub FailsAs : Bool → Bool → Result Tables Refusal → ApplyFault → Type 0
 FailsAs whole some changes apply.Inconsistent = (whole ≡ true) × IsErr changes
 FailsAs whole some changes apply.Memory = (whole ≡ true) × (some ≡ true)

@@ -1,4 +1,4 @@
-//! The interface to a store that a replica applies commits to.
+//! The interface to a store to which a replica applies commits.
 
 ghost use Rattle.std.specs.Prelude.{◌≡◌, true, false, Ok, OnOk, OnErr, IfErr};
 ghost use Rattle.rows.specs.Tables.{shape_in};
@@ -9,13 +9,13 @@ use crate::faults::ApplyFault;
 use crate::store::Store;
 use rows::Commit;
 
-/// A store that lists of commits are applied to.
+/// A store to which lists of commits can be applied.
 pub trait ApplyStore: Store {
     /// Makes all changes of these commits, in their order.
     ///
-    /// Fails with `Broken` where the store is not whole, with `Inconsistent` where one of the
-    /// changes is refused, and with `Memory`, which comes only where there is an entry to apply.
-    /// After any of them the store is not whole, for good.
+    /// Fails with `Broken` if the store is not whole, with `Inconsistent` if one of the changes is
+    /// refused, or with `Memory`, only if there is an entry to apply. After any failure the store
+    /// is never whole again.
     fn apply_all(&mut self, commits: &[Commit]) -> Result<(), ApplyFault>
         ensures ok { OnOk result (apply_commits (Self.tables self.old) commits.now ≡ Ok (Self.tables self.new)) }
         ensures only_whole { OnOk result (Self.is_whole self.old ≡ true) }

@@ -15,7 +15,7 @@ use crate::table_map::TableMap;
 use rows::{Commit, Entry, Schema, fits_columns, row_values};
 use std::alloc::{AllocError, Global};
 
-/// The tables of a schema, without rows. Fails only when out of memory.
+/// The tables of a schema, without rows. Fails only if out of memory.
 pub fn empty_tables(alloc: Global, schema: &Schema) -> Result<Vec<TableMap>, AllocError>
     ensures { IfOk result (λ tables. tables.items ≡ opening (shape_of schema.now)) }
 {
@@ -31,7 +31,7 @@ pub fn empty_tables(alloc: Global, schema: &Schema) -> Result<Vec<TableMap>, All
 
 /// Makes the change of one entry, or refuses it and changes nothing.
 ///
-/// The fault is the first of these that stands: `Unfit`; `Exists` or `Missing`; `Memory`.
+/// The fault is the first of these that applies: `Unfit`; `Exists` or `Missing`; `Memory`.
 pub fn change_tables(
     alloc: Global,
     tables: &mut [TableMap],
@@ -73,8 +73,7 @@ fn change_table(alloc: Global, table: &mut TableMap, entry: &Entry) -> Result<()
     }
 }
 
-/// Puts a row into a table that has no such row; where it has one, it is refused, and nothing has
-/// changed.
+/// Inserts a row into a table; if the row is there, the insert is refused, and nothing has changed.
 fn insert_row(alloc: Global, table: &mut TableMap, row: u64, bytes: &[u8]) -> Result<(), StoreFault>
     requires { row_width table.old.kinds ≤ length bytes.now }
     ensures ok { OnOk result ((is_present table.old.rows row ≡ false)
@@ -90,7 +89,7 @@ fn insert_row(alloc: Global, table: &mut TableMap, row: u64, bytes: &[u8]) -> Re
     table.insert(row, values).map_err(|_| StoreFault::Memory)
 }
 
-/// A change of a row is refused where the row was not found.
+/// Refuses a change of a row that was not found.
 fn where_found(found: bool) -> Result<(), StoreFault>
     ensures { result ≡ (if found then Ok tt else Err StoreFault.Missing) }
 {

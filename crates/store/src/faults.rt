@@ -2,8 +2,8 @@ use thiserror::Error;
 
 /// Why a plain store refuses a change.
 ///
-/// The first that stands is named: the store is broken, the entry does not fit, its row stands
-/// otherwise than it needs; being out of memory comes last.
+/// The first that applies is reported: the store is broken; the entry does not fit; its row is
+/// there and should not be, or the reverse; out of memory.
 #[derive(Clone, Copy, Debug, PartialEq, Eq, Error)]
 pub enum StoreFault {
     /// It inserts a row that is there.
@@ -22,10 +22,11 @@ pub enum StoreFault {
     Broken,
 }
 
-/// Why a list of commits was not applied. The store is not whole from then on.
+/// Why a list of commits was not applied. The store is then not whole.
 #[derive(Clone, Copy, Debug, PartialEq, Eq, Error)]
 pub enum ApplyFault {
-    /// A change is refused: its entry does not fit, or its row stands otherwise than it needs.
+    /// A change is refused: its entry does not fit, or its row is there and should not be, or the
+    /// reverse.
     #[error("a change is refused")]
     Inconsistent,
     #[error("out of memory")]

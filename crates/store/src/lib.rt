@@ -1,17 +1,18 @@
-//! Stores: where the rows of a database stand, and how changes are applied to them.
+//! Stores: where the rows of a database are kept, and how changes are applied to them.
 //!
-//! A store is a map from a table and a row to the row's values. `Store` is the interface to any
-//! of them: it finds rows, reads columns, counts and lists the rows of a table, and applies one
-//! change; `run` applies a list of changes up to the first that is refused, and `ApplyStore` adds
-//! the lists of commits that a replica applies. `PlainStore` keeps each table's rows in an
-//! ordered map and their identifiers in a list, beside the kinds of its columns.
+//! A store is a map from a table and a row to the row's values. `Store` is the interface to all of
+//! them: it finds rows, reads columns, counts and lists the rows of a table, and applies one
+//! change. `run` applies a list of changes up to the first that is refused, and `ApplyStore` adds
+//! the lists of commits that a replica applies. `PlainStore` keeps each table's rows in an ordered
+//! map and their identifiers in a list, beside the kinds of its columns.
 //!
-//! Promised of every store, while it is whole: what it finds, reads, counts and lists agrees with
-//! one list of tables, each row of which has a value of each column's kind, and a change makes of
-//! them what its definition says or leaves them as they were. A store that could not apply a list
-//! of commits is not whole, for good.
-//! It stands on `rows`, whose definitions its contracts speak of; its own are few
-//! (`specs/Changes.antt`).
+//! Promised of every store while it is whole: what it finds, reads, counts and lists agrees with
+//! one list of tables, in which each row has a value of each column's kind. A change does to these
+//! tables what its definition specifies, or leaves them unchanged. A store that could not apply a
+//! list of commits is never whole again.
+//!
+//! It uses `rows`, whose definitions its contracts rest on; its own are few (`specs/Changes.antt`).
+//! If a call fails for lack of memory, its value is unchanged unless the call says otherwise.
 #![tactic(auto)]
 
 mod apply_store;

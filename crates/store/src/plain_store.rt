@@ -15,9 +15,9 @@ use std::marker::Model;
 
 /// A store that keeps the rows of each table in an ordered map, and their identifiers in a list.
 ///
-/// Contracts see its tables, and whether it is whole. It changes a row in place, and copies neither
-/// rows nor tables. A row that is put in or taken out moves the identifiers on its shorter side:
-/// none where it is the greatest, and up to half of the table's in the middle.
+/// Contracts see its tables, and whether it is whole. It changes rows in place, and copies neither
+/// rows nor tables. Inserting or deleting a row moves the identifiers on its shorter side: none for
+/// the greatest identifier, and up to half of the table's for one in the middle.
 #[derive(Debug, Drop)]
 pub struct PlainStore {
     alloc: Global,
@@ -38,7 +38,7 @@ impl Model for PlainStore {
 }
 
 impl PlainStore {
-    /// A store for the tables of a schema, each without rows. It is whole. Fails only when out of
+    /// A store for the tables of a schema, each without rows. It is whole. Fails only if out of
     /// memory.
     pub fn new(alloc: Global, schema: &Schema) -> Result<PlainStore, AllocError>
         ensures { IfOk result (λ store.
@@ -52,7 +52,7 @@ impl PlainStore {
         })
     }
 
-    /// A table, lent; `None` where there is no table of that number.
+    /// A table, lent; `None` if there is no table of that number.
     fn table(&self, table: u8) -> Option<&TableMap>
         ensures { MatchOption result (rows_of self.now.tables table ≡ []) (λ found. rows_of self.now.tables table ≡ found.now.rows) }
     {
@@ -89,7 +89,7 @@ impl Store for PlainStore {
         let _ = &self.whole;
     }
 
-    /// The identifier of a row of a table; `None` where the row or the table is not there.
+    /// The identifier of a row of a table; `None` if the row or the table is not there.
     fn find(&self, table: u8, row: RowId) -> Option<RowId> {
         if self.table(table)?.contains(row.0) {
             Some(row)
@@ -109,7 +109,7 @@ impl Store for PlainStore {
         values[column]
     }
 
-    /// How many rows a table has; 0 where there is no table of that number.
+    /// How many rows a table has; 0 if there is no table of that number.
     fn len(&self, table: u8) -> usize {
         match self.table(table) {
             Some(found) => found.len(),
@@ -126,7 +126,7 @@ impl Store for PlainStore {
     }
 
     /// Makes one change, or refuses it and changes nothing: `Broken`; `Unfit`; `Exists` or
-    /// `Missing`; `Memory`, the first that stands.
+    /// `Missing`; `Memory`; the first that applies.
     fn change(&mut self, entry: &Entry) -> Result<(), StoreFault> {
         if !self.whole {
             return Err(StoreFault::Broken);
@@ -148,8 +148,8 @@ impl Store for PlainStore {
 }
 
 impl ApplyStore for PlainStore {
-    /// Makes all changes of these commits, in their order; `Broken`, `Inconsistent` or `Memory`
-    /// otherwise, and then the store is not whole, for good.
+    /// Makes all changes of these commits, in their order; otherwise `Broken`, `Inconsistent` or
+    /// `Memory`, after which the store is never whole again.
     fn apply_all(&mut self, commits: &[Commit]) -> Result<(), ApplyFault> {
         if !self.whole {
             return Err(ApplyFault::Broken);

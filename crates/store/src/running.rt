@@ -10,8 +10,8 @@ use rows::Entry;
 /// Makes the changes of a list of entries in their order, up to the first that is refused.
 ///
 /// Fails with the number of that entry, counted from 0, and the fault with which the store refuses
-/// it. The changes of the entries before it are then made, and no other. A store that is not whole
-/// refuses the first entry.
+/// it. The changes of the entries before it have then been made, and no others. A store that is not
+/// whole refuses the first entry.
 pub fn run<S: Store>(store: &mut S, entries: &[Entry]) -> Result<(), (usize, S::Fault)>
     ensures ok { OnOk result (apply_entries (S.tables store.old) entries.now ≡ Ok (S.tables store.new)) }
     ensures err { IfErr result (λ stop. StopsAt (S.is_whole store.old) (S.tables store.old)

@@ -8,15 +8,15 @@ use rows::{Entry, RowId, Value};
 
 /// A store of rows: a map from a table and a row to the row's values, and the way to change it.
 ///
-/// Contracts see its tables, and whether it is whole. What a store answers means its tables only
-/// while it is whole, and a store that is no longer whole is never whole again. All calls but
+/// Contracts see its tables, and whether it is whole. Its answers are those of its tables only
+/// while it is whole, and a store that is no longer whole is never whole again. All calls except
 /// `change` take no memory.
 pub trait Store {
     ghost use Rattle.std.specs.Prelude.{ℕ, List, Bool, Option};
     ghost use Rattle.rows.specs.declared.value.Value.{Value};
     ghost use Rattle.rows.specs.Tables.{Tables};
 
-    /// Where a row of a table stands. It is used only until the next change.
+    /// Where a row of a table is. It may be used only until the next change.
     type Place: Copy;
 
     /// Why a change was refused.
@@ -25,16 +25,16 @@ pub trait Store {
     /// Its tables, each with the kinds of its columns and its rows.
     ghost tables: { Self → Tables };
 
-    /// Whether its tables stand as its changes made them.
+    /// Whether its tables are as its changes made them.
     ghost is_whole: { Self → Bool };
 
-    /// The values of the row of a table that a place stands for.
+    /// The values of the row of a table at a place.
     ghost values_at: { Self → ℕ → Self.Place → Option (List Value) };
 
     /// The number of a fault.
     ghost kind_of: { Self.Fault → ℕ };
 
-    /// Whether its tables stand as its changes made them.
+    /// Whether its tables are as its changes made them.
     fn whole(&self) -> bool
         ensures { result ≡ is_whole self.now };
 
@@ -43,7 +43,7 @@ pub trait Store {
     fn keeps_kinds(&self)
         ensures { is_whole self.now ≡ true → RowsAreOfKinds (tables self.now) };
 
-    /// The place of a row of a table; `None` where the row or the table is not there.
+    /// The place of a row of a table; `None` if the row or the table is not there.
     fn find(&self, table: u8, row: RowId) -> Option<Self::Place>
         ensures found { is_whole self.now ≡ true → is_some result ≡ is_row_at (tables self.now) table row.0 }
         ensures place { is_whole self.now ≡ true
@@ -55,7 +55,7 @@ pub trait Store {
         requires there { IsSome (column_of (values_at self.now table place) column) }
         ensures { Some result ≡ column_of (values_at self.now table place) column };
 
-    /// How many rows a table has; 0 where there is no table of that number.
+    /// How many rows a table has; 0 if there is no table of that number.
     fn len(&self, table: u8) -> usize
         ensures { is_whole self.now ≡ true → result ≡ length (rows_of (tables self.now) table) };
 
@@ -68,7 +68,7 @@ pub trait Store {
 
     /// Makes one change, or refuses it and changes nothing.
     ///
-    /// The kind of the fault is that of the first of these that stands: 5 Broken, the store is not
+    /// The kind of the fault is that of the first of these that applies: 5 Broken, the store is not
     /// whole; 3 Unfit, the entry does not fit the schema; 1 Exists, an insert of a row that is
     /// there; 2 Missing, a patch or a delete of a row that is not there; 4 Memory.
     fn change(&mut self, entry: &Entry) -> Result<(), Self::Fault>

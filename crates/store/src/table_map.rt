@@ -14,13 +14,13 @@ use std::alloc::{AllocError, Global};
 use std::collections::{BTreeMap, VecDeque};
 use std::marker::Model;
 
-/// One table. Contracts see the kinds of its columns, which a table may have, and its rows in rising
-/// identifier.
+/// One table. Contracts see the kinds of its columns, which are allowed for a table, and its rows
+/// in rising identifier.
 #[derive(Debug, Drop)]
 pub struct TableMap {
     kinds: KindList,
     rows: BTreeMap<u64, Row>,
-    /// The identifiers of the rows, rising: the map does not tell which row stands at an index.
+    /// The identifiers of the rows, rising: the map cannot find the row at an index.
     ids: VecDeque<u64>,
 }
 
@@ -37,7 +37,7 @@ impl Model for TableMap {
 }
 
 impl TableMap {
-    /// A table with columns of these kinds, and without rows. Fails only when out of memory.
+    /// A table with columns of these kinds, and without rows. Fails only if out of memory.
     pub fn new(alloc: Global, kinds: &[Kind]) -> Result<TableMap, AllocError>
         requires { AreColumns kinds.now }
         ensures { IfOk result (λ table. table ≡ record { kinds = kinds.now; rows = [] }) }
@@ -71,7 +71,7 @@ impl TableMap {
         self.rows.contains_key(&row)
     }
 
-    /// The values of a row, lent; `None` where it is not there.
+    /// The values of a row, lent; `None` if it is not there.
     pub fn row(&self, row: u64) -> Option<&[Value]>
         ensures { option_map (λ values. values.now) result ≡ row_at self.now.rows row }
     {
@@ -90,8 +90,8 @@ impl TableMap {
         self.ids[i]
     }
 
-    /// Puts a row in. Fails only when out of memory, and then nothing has changed. Besides the
-    /// row's own identifier, those on the shorter side of it move: none for the greatest yet.
+    /// Inserts a row. Fails only if out of memory. It moves the identifiers on the row's shorter
+    /// side: none if the row's identifier is the greatest so far.
     pub fn insert(&mut self, row: u64, values: Row) -> Result<(), AllocError>
         ensures ok { OnOk result (self.new ≡ record self.old { rows = with_row self.old.rows row values }) }
         ensures err { OnErr result (self.new ≡ self.old) }
@@ -107,8 +107,8 @@ impl TableMap {
         Ok(())
     }
 
-    /// Puts bytes at one column's offset of a row, and answers whether the row is there; where it
-    /// is not, nothing changes. Takes no memory.
+    /// Puts bytes at one column's offset of a row, and answers whether the row is there; if it is
+    /// not, nothing changes. Takes no memory.
     pub fn patch(&mut self, row: u64, offset: u16, bytes: &[u8]) -> bool
         ensures rows { self.new ≡ record self.old { rows = with_patch self.old.kinds self.old.rows row offset bytes.now } }
         ensures found { result ≡ is_present self.old.rows row }
@@ -122,8 +122,8 @@ impl TableMap {
         }
     }
 
-    /// Takes a row out, and answers whether it was there; where it was not, nothing changes. The
-    /// identifiers on the shorter side of it move.
+    /// Deletes a row, and answers whether it was there; if it was not, nothing changes. It moves
+    /// the identifiers on the row's shorter side.
     pub fn remove(&mut self, row: u64) -> bool
         ensures rows { self.new ≡ record self.old { rows = without_row self.old.rows row } }
         ensures found { result ≡ is_present self.old.rows row }
@@ -138,7 +138,7 @@ impl TableMap {
     }
 }
 
-/// The index of an identifier among those that rise: how many of them are below it.
+/// The index of an identifier in the rising list: how many identifiers are below it.
 fn index_of(ids: &VecDeque<u64>, row: u64) -> usize
     requires { IsStrictlySortedBy nat_cmp ids.now.items }
     ensures { result ≡ prefix_len (λ id. nat_lt id row) ids.now.items }

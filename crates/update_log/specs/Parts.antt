@@ -13,7 +13,7 @@ frame_front_len = 26
 abbrev pub frame_len : List Entry → ℕ
 frame_len entries = frame_front_len + length (flat_map entry_spelling entries)
 
--- a part has no room for the first entry of the part behind it, where there is one
+-- a part has no room for the first entry of the part after it, if there is one
 abbrev pub IsFullBefore : List Entry → List (List Entry) → Type 0
 IsFullBefore part [] = Unit {0}
 IsFullBefore part (next ∷ parts) = datagram_max < frame_len (part ++ take 1 next)
@@ -39,7 +39,7 @@ pub record AreParts (entries : List Entry) (parts : List (List Entry)) : Type 0 
 abbrev pub has_room : List Entry → Entry → Bool
 has_room part entry = nat_le (frame_len (part ++ entry ∷ [])) datagram_max
 
--- a part and the entries behind it, cut: an entry goes into the part where it has room, and otherwise begins the next
+-- a part and the entries after it, cut: an entry goes into the part if it has room, and otherwise begins the next
 abbrev pub parts_from : List Entry → List Entry → List (List Entry)
 parts_from part [] = part ∷ []
 parts_from part (entry ∷ entries) =

@@ -9,7 +9,7 @@ use Rattle.update_log.specs.Frames.{IsSendable, frames_of}
 use Rattle.update_log.specs.Inner.Spans.{spans_of, stream_spans}
 use Rattle.update_log.specs.State.{StreamsState, Next}
 
--- the worker's frames of commits that stand behind `before` others, the first frame with the seq `first`
+-- the worker's frames of commits that stand after `before` others, the first frame with the seq `first`
 abbrev pub stream_from : ℕ → ℕ → ℕ → List Commit → List Frame
 stream_from worker before first [] = []
 stream_from worker before first (commit ∷ commits) =
@@ -24,7 +24,7 @@ stream_of commits worker = stream_from worker 0 0 commits
 abbrev pub frame_count : List Commit → ℕ → ℕ → ℕ
 frame_count commits worker version = length (stream_of (take version commits) worker)
 
--- the stream that is kept of a worker; none where there is no worker of that number
+-- the stream that is kept of a worker; none if there is no worker of that number
 abbrev pub stream_at : List (List Span) → ℕ → List Span
 stream_at streams worker = or_none (slice_get streams worker)
   where

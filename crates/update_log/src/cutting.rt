@@ -17,10 +17,10 @@ use std::alloc::{AllocError, Global};
 /// Bytes of a frame before its entries.
 const FRAME_FRONT_LEN: usize = 26;
 
-/// The frames of a commit, by the commit's number and the seq that its first frame has in its
-/// worker's stream. An entry goes into the frame of the one before it while that frame stays within
-/// 1200 bytes, and otherwise begins the next; the last frame alone is marked as such. A commit
-/// without entries has none. Fails only where it is out of memory.
+/// The frames of a commit, by the commit's number and the seq of its first frame in its worker's
+/// stream. An entry goes into the frame of the one before it while that frame stays within 1200
+/// bytes, and otherwise begins the next frame; only the last frame is marked as last. A commit
+/// without entries has no frames. Fails only if out of memory.
 pub fn cut(
     alloc: Global,
     commit: &Commit,
@@ -30,7 +30,7 @@ pub fn cut(
     requires { IsCuttable commit.now number first_seq }
     ensures frames { IfOk result (λ frames. frames.items ≡ frames_of commit.now number first_seq) }
 
-    // The entries in order, each frame full before the next; and a datagram spells each frame.
+    // The entries in order, each frame filled before the next; and a datagram spells each frame.
     ensures parts { IfOk result (λ frames. AreParts commit.now.entries (map (λ frame. frame.entries) frames.items)) }
     ensures sendable { IfOk result (λ frames. AllByRecursion IsSendable frames.items) }
 {
@@ -38,8 +38,8 @@ pub fn cut(
     cut_entries(alloc, commit.worker, entries, number, first_seq)
 }
 
-/// How many frames a commit of these entries is cut into, so that a caller can tell whether all have
-/// a seq. Takes no memory.
+/// How many frames a commit of these entries is cut into, so that a caller can determine whether
+/// each gets a seq. Takes no memory.
 pub fn part_count(entries: &[Entry]) -> usize
     requires { AllByRecursion HasSpelling entries.now }
     ensures { result ≡ length (parts_of entries.now) }
@@ -55,7 +55,7 @@ pub fn part_count(entries: &[Entry]) -> usize
     entries.len()
 }
 
-/// The frames of a worker's commit of these entries, as `cut` says.
+/// The frames of a worker's commit of these entries, as `cut` specifies.
 fn cut_entries(
     alloc: Global,
     worker: u8,
@@ -87,8 +87,8 @@ fn cut_entries(
     Ok(frames)
 }
 
-/// Where the entries of each frame of a commit of these entries stand, by the commit's number. Fails
-/// only where it is out of memory.
+/// For each frame of a commit of these entries, by the commit's number, which entries it has. Fails
+/// only if out of memory.
 pub fn cut_spans(alloc: Global, entries: &[Entry], number: u64) -> Result<Vec<Span>, AllocError>
     requires spelled { AllByRecursion HasSpelling entries.now }
     requires few { length entries.now ≤ commit_entries_max }
@@ -130,7 +130,7 @@ fn part_len(entries: &[Entry]) -> usize
     entries.len()
 }
 
-/// The same entries once more, with room for no others. Fails only where it is out of memory.
+/// A copy of the entries, with room for no others. Fails only if out of memory.
 fn copied(alloc: Global, entries: &[Entry]) -> Result<EntryList, AllocError>
     ensures { IfOk result (λ copy. copy ≡ entries.now) }
 {
@@ -141,7 +141,7 @@ fn copied(alloc: Global, entries: &[Entry]) -> Result<EntryList, AllocError>
     Ok(EntryList::from_vec(copy))
 }
 
-/// The same entry once more. Fails only where it is out of memory.
+/// A copy of the entry. Fails only if out of memory.
 fn copy_of(entry: &Entry) -> Result<Entry, AllocError>
     ensures { IfOk result (λ copy. copy ≡ entry.now) }
 {

@@ -3,10 +3,10 @@ ghost use Rattle.std.specs.Prelude.{◌≡◌};
 use crate::frame_ref::FrameRef;
 use rows::EntryList;
 
-/// Entries of one commit on their way to the replicas: a link of its worker's stream.
+/// Entries of one commit on their way to the replicas: one element of its worker's stream.
 #[derive(Clone, Debug, Drop)]
 pub struct Frame {
-    /// The worker whose stream it is of, below 16.
+    /// The worker of its stream, below 16.
     pub worker: u8,
     /// Its number in that stream, from 0.
     pub seq: u64,

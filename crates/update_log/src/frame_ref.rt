@@ -1,12 +1,12 @@
 use rows::Entry;
 use std::marker::Model;
 
-/// A frame whose entries are lent by the commit that it was cut from.
+/// A frame whose entries are lent by the commit from which it was cut.
 ///
 /// Contracts see the frame.
 #[derive(Debug, Drop)]
 pub struct FrameRef<'a> {
-    /// The worker whose stream it is of, below 16.
+    /// The worker of its stream, below 16.
     pub worker: u8,
     /// Its number in that stream, from 0.
     pub seq: u64,

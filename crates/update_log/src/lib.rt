@@ -1,18 +1,20 @@
 //! The update log: a commit of any size is cut into frames, and the frames of a worker's commits
 //! are its stream.
 //!
-//! A frame holds entries of one commit and goes in one datagram of at most 1200 bytes. `specs/`
-//! has the parts into which a commit's entries are cut (`Parts.antt`: what they are, and the
-//! function that gives them), the frames of a commit (`Frames.antt`), a worker's stream and its
+//! A frame holds entries of one commit and fits in one datagram of at most 1200 bytes. `specs/`
+//! defines the parts into which a commit's entries are cut (`Parts.antt`: what they are, and the
+//! function that computes them), the frames of a commit (`Frames.antt`), a worker's stream and its
 //! frame counts (`Streams.antt`), and the laws of cutting (`Laws.antt`).
 //!
-//! Promised: `cut` answers the frames of a commit, all of which a datagram spells. `Streams` are
-//! the streams of a list of commits that grows by one commit at a time: `extend` adds a commit's
-//! frames or changes no stream; in two steps, `reserve` takes all the memory for that and `add`
-//! needs none. They keep of each frame where its entries stand in the commits, and no entries: the
-//! commits are the caller's, and `frame` lends a frame out of them. `count` and `frame` take no
-//! memory. `one_cut` says that there is exactly one way to cut. It stands on `rows` for entries and
-//! commits.
+//! Promised: `cut` answers the frames of a commit, each of which a datagram can spell. `Streams`
+//! are the streams of a list of commits that grows by one commit at a time. `extend` adds a
+//! commit's frames or changes no stream; in two steps, `reserve` takes all the memory for that and
+//! `add` needs none. For each frame the streams keep which of the commit's entries it has, not the
+//! entries themselves: the caller keeps the commits, and `frame` lends a frame out of them. `count`
+//! and `frame` take no memory. `one_cut` states that there is exactly one way to cut.
+//!
+//! It uses `rows` for entries and commits. If a call fails for lack of memory, its value is
+//! unchanged unless the call says otherwise.
 #![tactic(auto)]
 
 mod cutting;

@@ -1,11 +1,10 @@
 use crate::span::Span;
 use std::marker::Model;
 
-/// The frames of a commit on their way into its worker's stream: `Streams::reserve` finds where
-/// their entries stand in the commit and makes the room for them, and `Streams::add` puts them
-/// there.
+/// The frames of a commit before they are in its worker's stream: `Streams::reserve` finds which of
+/// the commit's entries each has and makes room for them, and `Streams::add` adds them.
 ///
-/// Contracts see the worker and where the frames' entries stand.
+/// Contracts see the worker and which entries the frames have.
 #[derive(Debug, Drop)]
 pub struct NextFrames {
     pub(crate) worker: u8,

@@ -15,8 +15,8 @@ use rows::Entry;
 use std::alloc::{AllocError, Global};
 use std::marker::Model;
 
-/// Where the entries of one worker's frames stand, in order: what stands at an index is of the
-/// frame that has it as its seq.
+/// Which entries the frames of one worker have, in order: the span at an index is that of the frame
+/// with this seq.
 ///
 /// Contracts see the list of the spans, and how many more it can take without memory.
 #[derive(Debug, Drop)]
@@ -50,24 +50,24 @@ impl Stream {
         self.spans.len() as u64
     }
 
-    /// Where the entries of the frame of that seq stand, where the stream has it. Takes no memory.
+    /// Which entries the frame of that seq has; `None` if the stream has no such frame. Takes no
+    /// memory.
     pub fn span(&self, seq: u64) -> Option<&Span>
         ensures { option_map (λ span. span.now) result ≡ slice_get self.now.spans seq }
     {
         self.spans.as_slice().get(seq as usize)
     }
 
-    /// How many frames are of commits up to that version, where these stand before all others.
-    /// Found by halving; takes no memory.
+    /// How many frames belong to commits up to that version; these precede all others. Found by
+    /// binary search; takes no memory.
     pub fn count(&self, version: u64) -> u64
         ensures { (front back : List SpanOf) → IsSplitAt version self.now.spans front back → result ≡ length front }
     {
         count_upto(self.spans.as_slice(), version) as u64
     }
 
-    /// Where the entries of each frame of a commit of these entries stand, by the commit's number;
-    /// the stream then has room for these frames. Fails only where it is out of memory. No frame is
-    /// added.
+    /// For each frame of a commit of these entries, by the commit's number, which entries it has;
+    /// the stream then has room for these frames. Fails only if out of memory. No frame is added.
     pub fn reserve(
         &mut self,
         alloc: Global,
@@ -85,7 +85,7 @@ impl Stream {
         Ok(spans)
     }
 
-    /// Adds frames that there is room for. Takes no memory.
+    /// Adds frames for which there is room. Takes no memory.
     pub fn add(&mut self, more: Vec<Span>)
         requires { length more.items ≤ self.old.room }
         ensures { self.new.spans ≡ self.old.spans ++ more.items }
@@ -94,14 +94,14 @@ impl Stream {
     }
 }
 
-/// How many of the frames are of commits up to that version, where these stand before all others.
+/// How many of the frames belong to commits up to that version; these precede all others.
 fn count_upto(spans: &[Span], version: u64) -> usize
     ensures { (front back : List SpanOf) → IsSplitAt version spans.now front back → result ≡ length front }
 {
     spans.partition_point(|span| span.commit <= version)
 }
 
-/// Moves more spans behind these, which have room for them.
+/// Appends more spans to these, which have room for them.
 fn append(spans: &mut Vec<Span>, more: Vec<Span>)
     requires { vec_len spans.old + vec_len more ≤ vec_capacity spans.old }
     ensures { spans.new.items ≡ spans.old.items ++ more.items }

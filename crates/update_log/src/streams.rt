@@ -17,13 +17,13 @@ use rows::{Commit, Entry};
 use std::alloc::{AllocError, Global};
 use std::marker::Model;
 
-/// The streams of a list of commits: of each worker the frames of its commits. The entries stay
-/// with the commits, which the caller keeps and hands to `frame`; of each frame it is kept where
-/// they stand there, in 16 bytes.
+/// The streams of a list of commits: for each worker the frames of its commits. The entries stay
+/// with the commits, which the caller keeps and hands to `frame`; a stream records in 16 bytes
+/// which entries a frame has.
 ///
-/// Contracts see the streams by worker, and how many more frames each can take without memory; of
-/// which list of commits they are is a relation (`AreStreamsOf`) that `new` begins and `extend`
-/// carries on.
+/// Contracts see the streams by worker, and how many more frames each can take without memory. A
+/// relation (`AreStreamsOf`), which `new` establishes and `extend` preserves, states to which list
+/// of commits they belong.
 #[derive(Debug, Drop)]
 pub struct Streams {
     alloc: Global,
@@ -46,7 +46,7 @@ impl Model for Streams {
 }
 
 impl Streams {
-    /// The streams of no commit. Fails only where it is out of memory.
+    /// The streams of no commit. Fails only if out of memory.
     pub fn new(alloc: Global) -> Result<Streams, AllocError>
         ensures { IfOk result (λ streams. AreStreamsOf streams.streams []) }
     {
@@ -57,8 +57,8 @@ impl Streams {
         Ok(Streams { alloc, workers })
     }
 
-    /// Adds the next commit, by its number: its frames go to the end of its worker's stream. No entry
-    /// is copied. Fails only where it is out of memory, and then no stream has changed.
+    /// Adds the next commit, by its number: its frames go to the end of its worker's stream. No
+    /// entry is copied. Fails only if out of memory, and then no stream has changed.
     pub fn extend(&mut self, commit: &Commit, number: u64) -> Result<(), AllocError>
         requires cuttable { IsCuttable commit.now number (length (stream_at self.old.streams commit.now.worker)) }
         requires few { length commit.now.entries ≤ commit_entries_max }
@@ -72,11 +72,10 @@ impl Streams {
         Ok(())
     }
 
-    /// Takes all the memory that adding the next commit needs, the worker's commit of these entries,
-    /// by its number: its frames are found, and room for them made in its worker's stream. `add` then
-    /// puts them there, so that a caller can take other memory in between and needs to take nothing
-    /// back where there is none. No entry is copied. Fails only where it is out of memory. No stream
-    /// changes.
+    /// Takes all the memory that adding the next commit needs, given its worker, entries and
+    /// number: finds its frames, and makes room for them in its worker's stream. `add` then adds
+    /// them. So a caller can take other memory in between, and has nothing to undo if there is
+    /// none. No entry is copied. Fails only if out of memory. No stream changes.
     pub fn reserve(
         &mut self,
         worker: u8,
@@ -96,8 +95,8 @@ impl Streams {
         Ok(NextFrames { worker, spans })
     }
 
-    /// Adds the frames of a commit, for which there is room, to the end of its worker's stream: those
-    /// that `reserve` answered, where no others went there since. Takes no memory.
+    /// Adds the frames of a commit, for which there is room, to the end of its worker's stream:
+    /// those that `reserve` answered, if no others were added since. Takes no memory.
     pub fn add(&mut self, next: NextFrames)
         requires { HasRoom self.old next }
         ensures added { self.new.streams ≡ extended self.old.streams next }
@@ -110,8 +109,8 @@ impl Streams {
         stream.add(next.spans);
     }
 
-    /// The seq that the worker's next frame gets, which is how many frames its stream has; 0 where
-    /// there is no such worker. Takes no memory.
+    /// The seq of the worker's next frame, which is the number of frames in its stream; 0 if there
+    /// is no such worker. Takes no memory.
     pub fn next_seq(&self, worker: u8) -> u64
         ensures { result ≡ length (stream_at self.now.streams worker) }
     {
@@ -121,8 +120,8 @@ impl Streams {
         }
     }
 
-    /// How many frames of the worker belong to the first `version` commits; none where there is no
-    /// such worker. Found by halving; takes no memory.
+    /// How many frames of the worker belong to the first `version` commits; 0 if there is no such
+    /// worker. Found by binary search; takes no memory.
     pub fn count(&self, worker: u8, version: u64) -> u64
         ensures { (commits : List CommitOf) → AreStreamsOf self.now.streams commits → result ≡ frame_count commits worker version }
     {
@@ -132,8 +131,8 @@ impl Streams {
         }
     }
 
-    /// The frame of that seq of the worker's stream, lent by the commits that these are the streams
-    /// of, where the stream has it; `None` also where there is no such worker. Takes no memory.
+    /// The frame of that seq of the worker's stream, lent by the commits of these streams; `None`
+    /// if the stream has no such frame, or there is no such worker. Takes no memory.
     pub fn frame<'a>(&self, commits: &'a [Commit], worker: u8, seq: u64) -> Option<FrameRef<'a>>
         requires { AreStreamsOf self.now.streams commits.now }
         ensures found { result ≡ slice_get (stream_of commits.now worker) seq }
@@ -145,8 +144,8 @@ impl Streams {
         }
     }
 
-    /// Where the entries of the frame of that seq of the worker's stream stand, where the stream has
-    /// it.
+    /// Which entries the frame of that seq of the worker's stream has; `None` if the stream has no
+    /// such frame.
     fn span(&self, worker: u8, seq: u64) -> Option<&Span>
         ensures { option_map (λ span. span.now) result ≡ slice_get (stream_at self.now.streams worker) seq }
     {
@@ -157,7 +156,7 @@ impl Streams {
     }
 }
 
-/// The frame of that worker and seq whose entries stand there, lent by its commit.
+/// The frame of that worker and seq with these entries, lent by its commit.
 fn lent<'a>(commits: &'a [Commit], worker: u8, seq: u64, span: &Span) -> FrameRef<'a>
     requires { IsSpanIn commits.now span.now }
     ensures { result ≡ frame_at commits.now worker seq span.now }

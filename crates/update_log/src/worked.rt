@@ -1,10 +1,10 @@
-//! Cuts that are worked on the definitions alone.
+//! Cuts that are worked out on the definitions alone.
 
 ghost use Rattle.std.specs.Prelude.{◌≡◌, ◌∷◌, [], ◌++◌, map, length};
 ghost use Rattle.update_log.specs.Parts.{frame_len, parts_of};
 ghost use Rattle.update_log.specs.Worked.{inserts, deletes};
 
-/// What the definition of a commit's parts says of 42 inserts of two numbers, and of 38 with 11
+/// What the definition of a commit's parts gives for 42 inserts of two numbers, and for 38 with 11
 /// deletes: how many entries each part has, and how many bytes its frame. No code takes part.
 pub fn worked_cuts()
     ensures counts { map length (parts_of (inserts 42)) ≡ 41 ∷ 1 ∷ [] }

@@ -56,6 +56,7 @@ body_at kind body =
     if kind == ask_kind then ask_at body else
     if kind == head_kind then head_at body else want_at body
 
+-- what bytes read as: a datagram, or the first fault, in the order of the parts: too short, magic, version, kind, length, body
 abbrev pub reading : List ℕ → Result Datagram WireFault
 reading bytes =
     if nat_lt (length bytes) 6 then Err Short else

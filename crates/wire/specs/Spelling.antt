@@ -41,6 +41,7 @@ datagram_front kind total = big_bytes 2 datagram_magic ++ (datagram_version ∷ 
 abbrev pub datagram_of : ℕ → List ℕ → List ℕ
 datagram_of kind body = datagram_front kind (6 + length body) ++ body
 
+-- a flag: 1 if it is true, else 0
 abbrev pub flag : Bool → ℕ
 flag false = 0
 flag true = 1
@@ -64,6 +65,7 @@ head_head replica boot request version workers =
 abbrev pub want_body : ℕ → ℕ → ℕ → List ℕ
 want_body replica worker from = (replica ∷ worker ∷ []) ++ big_bytes 8 from
 
+-- the bytes of a datagram
 abbrev pub spelling : Datagram → List ℕ
 spelling (Frame worker seq commit last entries) =
     datagram_of frame_kind (frame_head worker seq commit last (length entries) ++ flat_map entry_spelling entries)
@@ -84,7 +86,7 @@ pub record AreCounts (counts : List ℕ) : Type 0 where
   pub few : length counts ≤ workers_max
   pub below : AllByRecursion (λ count. count < 2 ^ 64) counts
 
--- which datagrams have a spelling: a Frame where it is one, and the others where their numbers are in range
+-- which datagrams have a spelling: a Frame if it is one (`IsFrame`), and the others if their numbers are in range
 abbrev pub HasDatagramSpelling : Datagram → Type 0
 HasDatagramSpelling (Frame worker seq commit last entries) = IsFrame worker seq commit entries
 HasDatagramSpelling (Ask replica boot request) = IsAsk replica boot request
@@ -95,8 +97,10 @@ HasDatagramSpelling (Want replica worker from) = (replica < replicas_max) × (wo
 abbrev pub datagram_of_frame : frames.Frame → Datagram
 datagram_of_frame frame = Frame frame.worker frame.seq frame.commit frame.last frame.entries
 
+-- the bytes of that datagram
 abbrev pub frame_spelling : frames.Frame → List ℕ
 frame_spelling frame = spelling (datagram_of_frame frame)
 
+-- which frames a datagram spells
 abbrev pub FrameHasSpelling : frames.Frame → Type 0
 FrameHasSpelling frame = HasDatagramSpelling (datagram_of_frame frame)

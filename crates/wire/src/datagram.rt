@@ -4,8 +4,8 @@ use crate::lent_entries::LentEntries;
 /// A datagram, its entries lent by the bytes that it was read from.
 #[derive(Debug, Drop)]
 pub enum Datagram<'a> {
-    /// From the primary: entries of the commit numbered `commit`, number `seq` of `worker`'s
-    /// stream; `last` on the last frame of its commit.
+    /// From the primary: entries of the commit numbered `commit`, as number `seq` of `worker`'s
+    /// stream; `last` is set on the last frame of a commit.
     Frame {
         worker: u8,
         seq: u64,
@@ -19,8 +19,8 @@ pub enum Datagram<'a> {
         boot: u64,
         request: u64,
     },
-    /// From the primary, to an Ask: the durable version, and how many frames each worker has up
-    /// to it.
+    /// From the primary, in answer to an Ask: the durable version, and how many frames each worker
+    /// has up to it.
     Head {
         replica: u8,
         boot: u64,

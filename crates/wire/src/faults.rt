@@ -1,6 +1,6 @@
 use thiserror::Error;
 
-/// Why bytes are no datagram: the first that stands, in this order.
+/// Why bytes are no datagram: the first that applies, in this order.
 #[derive(Clone, Copy, Debug, PartialEq, Eq, Error)]
 pub enum WireFault {
     /// Fewer than 6 bytes.
@@ -12,18 +12,18 @@ pub enum WireFault {
     /// The third byte is not 01.
     #[error("another version of the format")]
     Version,
-    /// The fourth byte names no kind that is read.
+    /// The fourth byte is not a kind of datagram.
     #[error("no such kind of datagram")]
     Kind,
     /// The total length is not that of the bytes, or above 1200.
     #[error("the total length is wrong")]
     Length,
-    /// The body is none of its kind.
+    /// The body does not have the form of its kind.
     #[error("the body is not of its kind")]
     Body,
 }
 
-/// The buffer is shorter than what was to be written to it.
+/// The buffer is shorter than what would be written to it.
 #[derive(Clone, Copy, Debug, PartialEq, Eq, Error)]
 #[error("the buffer is too small")]
 pub struct TooSmall;

@@ -4,8 +4,8 @@ ghost use Rattle.wire.specs.Laws.{SpellingsAreOneToOne, IsPrefixFree, SpelledAre
 
 use rows::laws;
 
-/// Datagrams that have spellings and share one are equal, no spelling is a proper beginning of another,
-/// and each is read as the datagram that it is of. It does nothing: its contract is the law.
+/// Datagrams that have spellings and share one are equal, no spelling is a proper beginning of
+/// another, and each spelling is read as its datagram. It does nothing: its contract is the law.
 pub fn one_spelling()
     ensures one_to_one { SpellingsAreOneToOne }
     ensures prefix_free { IsPrefixFree }

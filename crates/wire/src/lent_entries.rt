@@ -35,8 +35,8 @@ impl<'a> Model for LentEntries<'a> {
 }
 
 impl<'a> LentEntries<'a> {
-    /// The entries that the bytes spell, `count` of them and all of the bytes; `None` where they
-    /// do not. Takes no memory.
+    /// The entries that the bytes spell, `count` of them and all of the bytes; `None` if they do
+    /// not. Takes no memory.
     pub fn filling(count: u16, bytes: &'a [u8]) -> Option<LentEntries<'a>>
         ensures { result ≡ entries_filling count bytes.now }
     {
@@ -70,7 +70,7 @@ impl<'a> LentEntries<'a> {
         entries_fit(schema, self.count, self.bytes)
     }
 
-    /// The entries, owned. Fails only when out of memory.
+    /// The entries, owned. Fails only if out of memory.
     pub fn to_list(&self, alloc: Global) -> Result<EntryList, AllocError>
         ensures { IfOk result (λ list. list ≡ self.now) }
     {

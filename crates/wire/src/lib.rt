@@ -1,15 +1,16 @@
 //! Datagrams between a primary and its replicas, to the byte.
 //!
-//! Four kinds: a Frame carries entries of one commit from the primary, an Ask asks it for the
-//! newest durable version, a Head answers that, and a Want asks for frames that are missing.
-//! `specs/` has their one spelling (`Spelling.antt`), what bytes read as with the first fault
-//! (`Reading.antt`), and the laws of the format (`Laws.antt`).
+//! There are four kinds. A Frame carries entries of one commit from the primary; an Ask asks the
+//! primary for the newest durable version; a Head answers an Ask; a Want asks for missing frames.
+//! `specs/` defines their one spelling (`Spelling.antt`), what bytes are read as, with the first
+//! fault (`Reading.antt`), and the laws of the format (`Laws.antt`).
 //!
-//! Promised: `read` answers what the bytes read as, lending their parts: what is read is spelled
-//! so, and what is spelled so is read. `write` and `write_frame` write the one spelling or say
-//! that the buffer is too small. None of them takes memory. `one_spelling` says
-//! that spellings tell datagrams apart, and that none is the beginning of another.
-//! It stands on `rows` for entries, on `update_log` for frames and on `byteorder` for numbers.
+//! Promised: `read` answers the datagram that the bytes spell, lending its parts, and reads exactly
+//! what is spelled. `write` and `write_frame` write the one spelling, or report that the buffer is
+//! too small. None of them takes memory. `one_spelling` states that different datagrams have
+//! different spellings, and that no spelling is the beginning of another.
+//!
+//! It uses `rows` for entries, `update_log` for frames and `byteorder` for numbers.
 #![tactic(auto)]
 
 mod counts;

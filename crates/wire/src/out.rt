@@ -1,6 +1,6 @@
 use crate::packet::Packet;
 
-/// Where a datagram is to go.
+/// The destination of a datagram.
 #[derive(Clone, Copy, Debug, PartialEq, Eq)]
 pub enum To {
     Primary,
@@ -8,7 +8,7 @@ pub enum To {
     Replicas,
 }
 
-/// A datagram, and where it is to go.
+/// A datagram, and its destination.
 #[derive(Debug, Drop)]
 pub struct Out {
     pub to: To,

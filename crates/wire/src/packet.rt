@@ -1,4 +1,4 @@
-//! A spelled datagram that is on its way.
+//! A spelled datagram on its way.
 
 ghost use Rattle.std.specs.Prelude.{◌≡◌, ◌≤◌, length, Ok};
 ghost use Rattle.wire.specs.Reading.{reading};

@@ -20,15 +20,15 @@ pub const DATAGRAM_MAGIC: u16 = 0x4244;
 /// The version of the format.
 pub const DATAGRAM_VERSION: u8 = 1;
 
-/// The datagram that the bytes spell, its parts lent by them. Otherwise the first of these
-/// faults: `Short`, fewer than 6 bytes; `Magic`, other first bytes than 42 44; `Version`, another
-/// third byte than 01; `Kind`, a fourth byte other than 01 (Frame), 02 (Ask), 03 (Head) and 04
-/// (Want); `Length`, where the total length in bytes 5 and 6 is not that of the bytes or is above
-/// 1200; and `Body`, where the rest is not as its kind wants it. Takes no memory.
+/// The datagram that the bytes spell, with parts lent by them. Otherwise the first of these faults:
+/// `Short`, there are fewer than 6 bytes; `Magic`, the first bytes are not 42 44; `Version`, the
+/// third byte is not 01; `Kind`, the fourth byte is not 01 (Frame), 02 (Ask), 03 (Head) or 04
+/// (Want); `Length`, the total length in bytes 5 and 6 is not the number of the bytes, or is above
+/// 1200; `Body`, the rest does not have the form of its kind. Takes no memory.
 pub fn read(bytes: &[u8]) -> Result<Datagram<'_>, WireFault>
     ensures exact { result ≡ reading bytes.now }
 
-    // What is read is spelled so, and what is spelled so is read.
+    // Exactly what is spelled is read.
     ensures found { IfOk result (λ datagram. HasDatagramSpelling datagram × (bytes.now ≡ spelling datagram)) }
     ensures only { (datagram : Datagram) → HasDatagramSpelling datagram → bytes.now ≡ spelling datagram → result ≡ Ok datagram }
 {
@@ -62,7 +62,7 @@ fn read_datagram(bytes: &[u8]) -> Result<Datagram<'_>, WireFault>
     read_body(kind, body).ok_or(WireFault::Body)
 }
 
-/// Whether no datagrams are of this kind.
+/// Whether there is no datagram of this kind.
 fn is_unknown(kind: u8) -> bool
     ensures { result ≡ (not (kind == frame_kind) && not (kind == ask_kind) && not (kind == head_kind) && not (kind == want_kind)) }
 {

@@ -21,9 +21,9 @@ use update_log::FrameRef;
 /// Bytes of a frame before its entries.
 const FRAME_FRONT_LEN: usize = 26;
 
-/// Writes the spelling of a datagram to the front of the buffer, and answers its length; the
-/// bytes behind it stay. `TooSmall` exactly where the buffer is shorter than the spelling, and
-/// then the buffer is unchanged. Takes no memory.
+/// Writes the spelling of a datagram to the front of the buffer, and answers its length; the bytes
+/// after it do not change. `TooSmall` exactly if the buffer is shorter than the spelling, and then
+/// the buffer is unchanged. Takes no memory.
 pub fn write(datagram: &Datagram<'_>, buffer: &mut [u8]) -> Result<usize, TooSmall>
     requires { HasDatagramSpelling datagram.now }
     ensures ok { IfOk result (λ len. (len ≡ length (spelling datagram.now)) × (buffer.new ≡ spelling datagram.now ++ drop len buffer.old)) }
@@ -78,8 +78,8 @@ pub fn write(datagram: &Datagram<'_>, buffer: &mut [u8]) -> Result<usize, TooSma
 }
 
 /// Writes the spelling of a frame to the front of the buffer, and answers its length; the bytes
-/// behind it stay. `TooSmall` exactly where the buffer is shorter than the spelling, and then the
-/// buffer is unchanged. Takes no memory.
+/// after it do not change. `TooSmall` exactly if the buffer is shorter than the spelling, and then
+/// the buffer is unchanged. Takes no memory.
 pub fn write_frame(frame: &FrameRef<'_>, buffer: &mut [u8]) -> Result<usize, TooSmall>
     requires { FrameHasSpelling frame.now }
     ensures ok { IfOk result (λ len. (len ≡ length (frame_spelling frame.now))
@@ -143,8 +143,8 @@ fn entries_len(entries: &[Entry]) -> usize
     total
 }
 
-/// Writes the entries one behind the other to the front of the buffer; the bytes behind them
-/// stay.
+/// Writes the entries one after the other to the front of the buffer; the bytes after them do not
+/// change.
 fn write_entries(entries: &[Entry], buffer: &mut [u8])
     requires spelled { AllByRecursion EntryHasSpelling entries.now }
     requires room { length (flat_map entry_spelling entries.now) ≤ length buffer.old }
@@ -156,8 +156,8 @@ fn write_entries(entries: &[Entry], buffer: &mut [u8])
     }
 }
 
-/// Copies two runs of bytes one behind the other to the front of the buffer, where it is long
-/// enough for both.
+/// Copies two runs of bytes one after the other to the front of the buffer, if it is long enough
+/// for both.
 fn put_two(front: &[u8], back: &[u8], buffer: &mut [u8]) -> Result<usize, TooSmall>
     requires { length front.now + length back.now ≤ DATAGRAM_MAX }
     ensures ok { IfOk result (λ len. (len ≡ length front.now + length back.now)
@@ -234,7 +234,7 @@ fn want_bytes(replica: u8, worker: u8, from: u64) -> [u8; 16]
     bytes
 }
 
-/// Puts the six bytes that begin every datagram: the magic, the version, the kind and the total
+/// Writes the six bytes that begin every datagram: the magic, the version, the kind and the total
 /// length.
 fn start(kind: u8, total: u16, bytes: &mut [u8])
     requires { 6 ≤ length bytes.old }

@@ -15,8 +15,8 @@ use Rattle.world.specs.Steps.{World, Member, AskedBatch, opening_world, happens,
 abbrev pub ready_member : Member → Option Fetched
 ready_member m = ready m.broken (first_lacked m.known) (option_and_then (λ (batch : AskedBatch). batch.fetched) m.batch)
 
--- a run that is out of memory at a replica that has fetched a version and lacks no frame: it stands at the old version or
--- at the fetched one and may run again; or it is broken, where there was a commit to apply
+-- a run that is out of memory at a replica that has fetched a version and lacks no frame: it stands at the old version or at the
+-- fetched one and may run again; or it is broken, if there was a commit to apply
 abbrev pub RunIsInterrupted : World → Option Member → Output → World → Type 0
 RunIsInterrupted old None output new = ⊥
 RunIsInterrupted old (Some m) output new =
@@ -44,8 +44,8 @@ takes_memory (outputs.Dump text) = true
 takes_memory (outputs.Boot boot) = true
 takes_memory other = false
 
--- whether an event asks for memory where it would give this answer: an abort asks for none, a flush for some where there is a
--- commit to flush, a stop where the primary runs, and any other event where its answer is made with memory
+-- whether an event asks for memory if it would give this answer: an abort asks for none, a flush for some if there is a commit to
+-- flush, a stop if the primary runs, and any other event if its answer is made with memory
 abbrev pub asks_for_memory : World → Event → Output → Bool
 asks_for_memory w (events.Abort transaction) answer = false
 asks_for_memory w (events.Flush count) answer = takes_memory answer && nat_lt 0 (length (take count w.primary.pending))

@@ -1,5 +1,5 @@
 -- What reports promise, on one page: a list of commits that only grows, and for each replica a version and at most one batch.
--- Reports and dumps are told by the list alone. How datagrams, journals and memory bring that about is not said here.
+-- Reports and dumps are specified by the list alone. How datagrams, journals and memory bring that about is left out here.
 use Rattle.std.specs.Prelude.{◌≡◌, ℕ, ◌≤◌, List, [], length, replicate, Option, None, Some, slice_get, slice_set, ◌⊎◌}
 use Rattle.rows.specs.declared.commit.Commit.{Commit}
 use Rattle.rows.specs.declared.kind.Kind.{Kind}
@@ -12,12 +12,13 @@ use Rattle.dispatcher.specs.TableText.{names_of, table_text}
 use Rattle.script.specs.declared.output.Output.{Output}
 use Rattle.script.specs.declared.output.Output.TheVariants as outputs
 
--- a replica: its version; and the queries of its batch, where it has one, with how many commits were durable when they asked
--- and the version that was fetched for them
+-- a replica: its version; and, if it has a batch, the queries of it, how many commits were durable when they asked, and the
+-- version that was fetched for them
 pub record Reader : Type 0 where
   pub version : ℕ
   pub batch : Option (List Plan × ℕ × Option ℕ)
 
+-- the commits that are durable, and the replicas
 pub record Database : Type 0 where
   pub commits : List Commit
   pub readers : List Reader
@@ -26,6 +27,7 @@ pub record Database : Type 0 where
 abbrev pub new_reader : Reader
 new_reader = record { version = 0; batch = None }
 
+-- the database at its start, with so many replicas
 abbrev pub new_database : ℕ → Database
 new_database replicas = record { commits = []; readers = replicate replicas new_reader }
 
@@ -45,7 +47,7 @@ IsFetched commits version old new =
     (plans : List Plan) × (asked_at : ℕ) × (old.batch ≡ Some (plans, asked_at, None))
     × MayServe commits old asked_at version × (new ≡ record old { batch = Some (plans, asked_at, Some version) })
 
--- a replica goes to the version that was fetched for its batch, but the answer has to wait
+-- a replica goes to the version that was fetched for its batch, but the run was out of memory before it reported
 abbrev pub IsMoved : List Commit → Reader → Reader → Type 0
 IsMoved commits old new =
     (plans : List Plan) × (asked_at version : ℕ) × (old.batch ≡ Some (plans, asked_at, Some version))
@@ -71,7 +73,8 @@ IsDumped schema commits text reader =
     (reader.version ≤ length commits)
     × (text ≡ table_text (names_of schema) reader.version (tables_after (shape_of schema) commits reader.version))
 
--- what an output says, and what becomes of the replicas: but where one starts anew, as `boot` tells, none goes back
+-- what an output says, and what becomes of the replicas: none goes back to an older version, unless it starts anew, which `boot`
+-- reports
 abbrev pub Says : List (List ℕ × List Kind) → Database → Output → List Reader → Type 0
 Says schema old (outputs.Report text) new = Becomes (IsAnswered schema old.commits text) old.readers new
 Says schema old (outputs.Dump text) new =

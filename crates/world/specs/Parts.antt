@@ -17,7 +17,7 @@ pub record Parts : Type 0 where
   pub stopped : Bool
   -- the bytes that stand on the primary's journal
   pub journal : List ℕ
-  -- the transactions in the order of their `begin`; none where one is no longer open
+  -- the transactions in the order of their `begin`; none if one is no longer open
   pub transactions : List (Option Transaction)
   -- the bytes of every datagram that was ever sent, in order
   pub sent : List (List ℕ)
@@ -32,6 +32,7 @@ abbrev pub replicas_from : List (List ℕ × List Kind) → ℕ → ℕ → ℕ 
 replicas_from schema workers number zero = []
 replicas_from schema workers number (suc count) = replica_started schema workers number 1 ∷ replicas_from schema workers (suc number) count
 
+-- a list of so many zeros
 abbrev pub zeros : ℕ → List ℕ
 zeros zero = []
 zeros (suc count) = 0 ∷ zeros count

@@ -14,11 +14,11 @@ use Rattle.world.specs.declared.script_running.Echo.{Echo}
 use Rattle.world.specs.declared.script_running.Echo.TheVariants as echoes
 use Rattle.world.specs.Theorem.{IsRun}
 
--- a reader gave these bytes, and has no more: where it is known what it had, they are all of that
+-- a reader gave these bytes, and has no more: if it is known what it had, they are all of that
 abbrev pub WasRead : Option (List ℕ) → Option (List ℕ) → List ℕ → Type 0
 WasRead old new bytes = Consumes old new bytes × IsAtEnd new
 
--- the text of a run: the lines of its outputs, and where events are shown the line of each before those of its output
+-- the text of a run: the lines of its outputs, and if events are shown the line of each before those of its output
 abbrev pub run_text : Echo → Setup → List Event → List Output → List ℕ
 run_text echoes.No setup events outputs = outputs_text outputs
 run_text echoes.Events setup events outputs = echoed_text setup.schema events outputs
@@ -32,7 +32,7 @@ pub record IsPrinted (echo : Echo) (script : List ℕ) (text : List ℕ) : Type 
   pub run : IsRun setup events outputs
   pub text_is : text ≡ run_text echo setup events outputs
 
--- what is said of a fault; of a script that does not read its line, and why
+-- the words for a fault: of a script that does not read, its line and the reason
 abbrev pub fault_text : RunFault → List ℕ
 fault_text faults.Read = codes "the script could not be read"
 fault_text (faults.Script line reason) = codes "line " ++ decimal line ++ codes ": " ++ reason_text reason

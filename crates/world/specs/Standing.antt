@@ -37,7 +37,7 @@ member_of boots asked_at r = record {
   broken = r.broken;
 }
 
--- the boots that the replica of this number had; none where there is no such replica
+-- the boots that the replica of this number had; none if there is no such replica
 abbrev pub boots_at : List (List ℕ) → ℕ → List ℕ
 boots_at boots number = slice_index_or boots number []
 
@@ -57,7 +57,7 @@ world_of p = record {
   members = members_of p.replicas p.boots p.asked_at;
 }
 
--- two replicas of two moments that stand at one version hold the same tables; a broken one stands at none
+-- two replicas at one version, at whatever two moments, hold the same tables; a broken one has no version
 abbrev pub TablesAgree : Parts → Parts → Type 0
 TablesAgree p q =
     (i j : ℕ) (r other : Replica) → slice_get p.replicas i ≡ Some r → slice_get q.replicas j ≡ Some other → r.broken ≡ false
@@ -73,8 +73,8 @@ abbrev pub JournalKeeps : Parts → Type 0
 JournalKeeps p =
     (bytes_kept : ℕ) × IsRecovered p.primary.workers (shape_of p.primary.schema) p.journal p.primary.durable bytes_kept
 
--- where the journal of a primary stands, by whether it is stopped: what is durable is then what the journal keeps, and
--- otherwise its bytes are the text of that
+-- what a primary's journal contains, by whether it is stopped: then what is durable is what the journal keeps; otherwise its
+-- bytes are the text of what is durable
 abbrev pub JournalStandsAs : Parts → Bool → Type 0
 JournalStandsAs p true = JournalKeeps p
 JournalStandsAs p false = p.journal ≡ journal_text p.primary.workers (shape_of p.primary.schema) p.primary.durable
@@ -82,7 +82,7 @@ JournalStandsAs p false = p.journal ≡ journal_text p.primary.workers (shape_of
 abbrev pub JournalStands : Parts → Type 0
 JournalStands p = JournalStandsAs p p.stopped
 
--- what a stop leaves on the journal: the bytes that it acknowledged, and so many of the pending commits' records behind them
+-- what a stop leaves on the journal: the bytes that it acknowledged, and so many of the pending commits' records after them
 abbrev pub StopLeaves : Parts → Event → Parts → Type 0
 StopLeaves old (events.Stop bytes) new =
     old.stopped ≡ false → new.stopped ≡ true

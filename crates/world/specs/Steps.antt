@@ -1,5 +1,5 @@
 -- The world: one primary, its open transactions, every datagram that was ever sent, and of each replica what it knows.
--- No replica's tables are held: what a batch answers is said by the one list of durable commits.
+-- No replica's tables are held: what a batch answers is specified by the one list of durable commits.
 use Rattle.std.specs.Prelude.{ℕ, zero, suc, ◌+◌, List, [], ◌∷◌, ◌++◌, length, Bool, true, false, Option, None, Some, Result, Ok, Err}
 use Rattle.std.specs.Prelude.{slice_get, slice_set, slice_index_or, replicate, ◌==◌, ◌&&◌, not, nat_lt, nat_le, if◌then◌else◌}
 use Rattle.std.specs.Prelude.{is_ok}
@@ -45,7 +45,7 @@ pub record AskedBatch : Type 0 where
   pub asked_at : ℕ
   pub fetched : Option Fetched
 
--- a replica
+-- a replica as the world has it: its boots, the frames that it knows, its version, queries and batch, and no tables
 pub record Member : Type 0 where
   pub number : ℕ
   -- the boots that it had, in the order of its starts
@@ -62,11 +62,12 @@ pub record Member : Type 0 where
   pub batch : Option AskedBatch
   pub broken : Bool
 
+-- the world: the primary, whether it is stopped, the transactions, all datagrams that were ever sent, and the replicas
 pub record World : Type 0 where
   pub primary : Primary
   -- whether the primary is stopped; then nothing is pending, and no transaction is open
   pub stopped : Bool
-  -- the transactions in the order of their `begin`; none where one is no longer open
+  -- the transactions in the order of their `begin`; none if one is no longer open
   pub transactions : List (Option Transaction)
   -- the bytes of every datagram that was ever sent, in order; the network may deliver any of them, to any node, in any
   -- order and number
@@ -95,6 +96,7 @@ had_boot boots boot = list_any (λ had. had == boot) boots
 abbrev pub restarted : ℕ → Member → ℕ → Member
 restarted workers m boot = record (fresh workers m.number) { boots = m.boots ++ boot ∷ []; boot = boot }
 
+-- so many fresh replicas, the first with this number
 abbrev pub fresh_from : ℕ → ℕ → ℕ → List Member
 fresh_from workers number zero = []
 fresh_from workers number (suc count) = fresh workers number ∷ fresh_from workers (suc number) count
@@ -128,7 +130,7 @@ start_happens w = if w.stopped then (outputs.Durable (length w.primary.durable),
 
 -- ---- transactions, commits and flushes
 
--- the open transaction of this number, where there is one
+-- the open transaction of this number, if there is one
 abbrev pub open_transaction : List (Option Transaction) → ℕ → Option Transaction
 open_transaction transactions number = option_and_then (λ slot. slot) (slice_get transactions number)
 
@@ -137,11 +139,12 @@ abbrev pub change_happens : World → ℕ → Result Transaction TxFault → Out
 change_happens w number (Ok draft) = (outputs.Accepted, record w { transactions = slice_set w.transactions number (Some draft) })
 change_happens w number (Err fault) = (of_change fault, w)
 
+-- what happens to an open transaction; if there is none, that is the answer
 abbrev pub on_transaction : World → Option Transaction → (Transaction → Output × World) → Output × World
 on_transaction w None next = (outputs.NoTx, w)
 on_transaction w (Some draft) next = next draft
 
--- a transaction is open until its commit is answered, or it is given up
+-- a commit is answered, with its ticket or a refusal, and the transaction is over
 abbrev pub commit_happens : World → ℕ → ℕ → Transaction → Result ℕ CommitFault → Output × World
 commit_happens w transaction worker draft (Ok number) = (
   outputs.Ticket number,
@@ -153,6 +156,7 @@ commit_happens w transaction worker draft (Ok number) = (
 commit_happens w transaction worker draft (Err fault) =
     (of_commit fault, record w { transactions = slice_set w.transactions transaction None })
 
+-- a transaction is given up
 abbrev pub abort_happens : World → ℕ → Output × World
 abort_happens w transaction = (outputs.Accepted, record w { transactions = slice_set w.transactions transaction None })
 
@@ -168,14 +172,16 @@ flush_happens w count =
 abbrev pub send : World → List ℕ → Output × World
 send w bytes = (outputs.Sent (record { index = length w.sent; len = length bytes } ∷ []), record w { sent = w.sent ++ bytes ∷ [] })
 
+-- a frame is pushed, if the stream has it
 abbrev pub push_happens : World → Option (List ℕ) → Output × World
 push_happens w None = (outputs.NoFrame, w)
 push_happens w (Some bytes) = send w bytes
 
+-- the world with a replica changed
 abbrev pub with_member : World → Member → World
 with_member w member = record w { members = slice_set w.members member.number member }
 
--- the known seqs of a worker; none where there is no worker of that number
+-- the known seqs of a worker; none if there is no worker of that number
 abbrev pub known_seqs : List (List ℕ) → ℕ → List ℕ
 known_seqs known worker = slice_index_or known worker []
 
@@ -190,7 +196,7 @@ frame_happens m worker seq =
     if is_ahead (known_seqs m.known worker) seq then (outputs.Ahead, m) else
     (outputs.Stored, record m { known = with_known m.known worker seq })
 
--- a Head of a replica's own number, boot and request: it is taken where the batch has none
+-- a Head of a replica's own number, boot and request: it is taken if the batch has none
 abbrev pub head_happens : Member → ℕ → List ℕ → Option AskedBatch → Output × Member
 head_happens m version counts None = (outputs.Ignored, m)
 head_happens m version counts (Some batch) = unless_fetched batch.fetched
@@ -208,13 +214,16 @@ datagram_happens m (Ok (datagrams.Head replica boot request version counts)) =
     && (request == m.request) then head_happens m version counts m.batch else (outputs.Ignored, m)
 datagram_happens m other = (outputs.Ignored, m)
 
+-- what happens at a replica that is there
 abbrev pub on_member : World → Option Member → (Member → Output × World) → Output × World
 on_member w None next = (outputs.Ignored, w)
 on_member w (Some member) next = next member
 
+-- what a replica answers, and the world with that replica after it
 abbrev pub member_output : World → Output × Member → Output × World
 member_output w answer = (answer.0, with_member w answer.1)
 
+-- bytes arrive at a node
 abbrev pub delivered : World → List ℕ → Node → Output × World
 delivered w bytes nodes.Primary =
     (of_answers (length w.sent) (answers w.primary bytes), record w { sent = w.sent ++ packets_of (answers w.primary bytes) })
@@ -222,6 +231,7 @@ delivered w bytes (nodes.Replica number) =
     on_member w (slice_get w.members number)
     (λ m. if m.broken then (outputs.Broken, w) else member_output w (datagram_happens m (reading bytes)))
 
+-- a datagram of the list of all that was sent arrives at a node
 abbrev pub deliver_happens : World → Node → Option (List ℕ) → Output × World
 deliver_happens w node None = (outputs.NeverSent, w)
 deliver_happens w node (Some bytes) = delivered w bytes node
@@ -234,6 +244,7 @@ is_forged sent bytes = is_ok (reading bytes) && not (list_any (λ other. bytes_e
 abbrev pub raw_happens : World → Node → List ℕ → Output × World
 raw_happens w node bytes = if is_forged w.sent bytes then (outputs.Forged, w) else delivered w bytes node
 
+-- the bytes of a datagram that was sent
 abbrev pub shown : Option (List ℕ) → Output
 shown None = outputs.NeverSent
 shown (Some bytes) = outputs.Shown bytes
@@ -244,6 +255,7 @@ shown (Some bytes) = outputs.Shown bytes
 abbrev pub durable_tables : World → ℕ → Tables
 durable_tables w version = tables_after (shape_of w.primary.schema) w.primary.durable version
 
+-- a query is opened, if its plan fits
 abbrev pub open_happens : World → Member → Plan → Result (Unit {0}) PlanFault → Output × World
 open_happens w m plan (Err fault) = (outputs.BadPlan fault, w)
 open_happens w m plan (Ok fits) = (outputs.Opened (length m.waiting + 1), with_member w (record m { waiting = m.waiting ++ plan ∷ [] }))
@@ -260,6 +272,7 @@ new_batch w m = record m {
   batch = Some (record { plans = m.waiting; asked_at = length w.primary.durable; fetched = None });
 }
 
+-- a replica asks: for the queries that wait, or again for a batch without a version
 abbrev pub ask_happens : World → Member → Option AskedBatch → Output × World
 ask_happens w m None =
     if length m.waiting == 0 then (outputs.Empty, w) else send (with_member w (new_batch w m)) (ask_bytes m (m.request + 1))
@@ -269,9 +282,11 @@ ask_happens w m (Some batch) = again batch.fetched
     again None = send w (ask_bytes m m.request)
     again (Some fetched) = (outputs.Busy, w)
 
+-- the Want of a worker's frames from a seq on
 abbrev pub want_bytes : Member → ℕ → ℕ → List ℕ
 want_bytes m worker from = spelling (datagrams.Want m.number worker from)
 
+-- a run waits for a frame, and sends a Want
 abbrev pub wait_happens : World → ℕ → ℕ → List ℕ → Output × World
 wait_happens w worker seq bytes =
     (outputs.Waiting worker seq (record { index = length w.sent; len = length bytes }), record w { sent = w.sent ++ bytes ∷ [] })
@@ -297,10 +312,12 @@ answer_happens w m plans fetched None = (
   with_member w (record m { version = fetched.version; batch = None }),
 )
 
+-- a run, by the version that was fetched for the batch
 abbrev pub fetched_happens : World → Member → List Plan → Option Fetched → Output × World
 fetched_happens w m plans None = (outputs.WaitingHead, w)
 fetched_happens w m plans (Some fetched) = answer_happens w m plans fetched (first_lacked m.known fetched.counts)
 
+-- a run, by the batch
 abbrev pub run_happens : World → Member → Option AskedBatch → Output × World
 run_happens w m None = (outputs.NoBatch, w)
 run_happens w m (Some batch) = fetched_happens w m batch.plans batch.fetched

@@ -9,7 +9,7 @@ use Rattle.journal.specs.Recovery.{IsBeginning, IsJournaled, IsRecovered}
 use Rattle.mvcc.specs.Transaction.{Transaction}
 use Rattle.primary.specs.State.{Primary}
 
--- how many of these commits, which stand behind `before` others, have their whole records among so many bytes
+-- how many of these commits, which stand after `before` others, have their whole records among so many bytes
 abbrev pub whole_in : ℕ → List Commit → ℕ → ℕ
 whole_in before [] bytes = 0
 whole_in before (commit ∷ commits) bytes =
@@ -45,7 +45,7 @@ StopIsRecovered =
 abbrev pub StopKeepsDurable : Type 0
 StopKeepsDurable = (p : Primary) (bytes : ℕ) → IsBeginning p.durable (stopped_at p bytes).durable
 
--- and no transaction open
+-- and no transaction is open after it
 abbrev pub StopEndsTransactions : Type 0
 StopEndsTransactions =
     (transactions : List (Option Transaction)) (number : ℕ) → option_and_then (λ slot. slot) (slice_get (closed transactions) number) ≡ None

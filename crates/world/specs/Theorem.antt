@@ -53,8 +53,8 @@ SaysRows commits old event (outputs.Dump text) =
     × IsDumpOf commits old member.version text
 SaysRows commits old event other = Unit {0}
 
--- an output that does not speak of damage: of frames that are not those of one list, of a transaction that the primary
--- did not begin, or of a journal that failed
+-- an output that reports no damage: of frames that are not those of one list, of a transaction that the primary did not begin, or
+-- of a journal that failed
 abbrev pub IsFaultless : Output → Type 0
 IsFaultless outputs.Inconsistent = ⊥
 IsFaultless outputs.Foreign = ⊥
@@ -63,8 +63,8 @@ IsFaultless other = Unit {0}
 
 -- ---- a run
 
--- one step of the world, by a list of commits: what it answers and leaves may happen, what it says of rows is exact by that list, what
--- was durable is the beginning of what is durable, and no damage is told
+-- one step of the world, by a list of commits: what it answers and leaves may happen, what it says of rows is exact by that list,
+-- what was durable is the beginning of what is durable, and no damage is reported
 pub record IsStep (commits : List Commit) (old : World) (event : Event) (output : Output) (new : World) : Type 0 where
   pub happens : MayHappen old event output new
   pub rows : SaysRows commits old event output
@@ -72,7 +72,7 @@ pub record IsStep (commits : List Commit) (old : World) (event : Event) (output 
   pub faultless : IsFaultless output
 
 -- one step of the cores: it is one of the world that they make, and leaves every replica fed from what is durable, that on the
--- journal, and behind a stop the very bytes that the stop names
+-- journal, and after a stop the very bytes that the stop names
 abbrev pub IsCoreStep : List Commit → Parts → Event → Output → Parts → Type 0
 IsCoreStep commits old event output new =
     IsStep commits (world_of old) event output (world_of new) × AreFed new × JournalStands new × StopLeaves old event new
@@ -102,11 +102,11 @@ abbrev pub HasExactReports : Setup → List Event → List Output → Type 0
 HasExactReports setup events outputs =
     RunsWith (λ commits old event output new. SaysRows commits old event output) setup events outputs
 
--- a text that begins by telling this version, as that of a dump does
+-- a text that begins with this version, as that of a dump does
 abbrev pub TellsVersion : ℕ → List ℕ → Type 0
 TellsVersion version text = (rest : List ℕ) × (text ≡ codes "version " ++ decimal version ++ 32 ∷ rest)
 
--- two dumps that tell one version are equal, of whatever replicas and at whatever moments
+-- two dumps of one version are equal, of whatever replicas and at whatever moments
 abbrev pub HasOneDumpOfVersion : Setup → List Event → List Output → Type 0
 HasOneDumpOfVersion setup events outputs =
     (version i j : ℕ) (text other : List ℕ) → version < 2 ^ 64
@@ -123,18 +123,18 @@ abbrev pub HasLegalList : Setup → List Event → List Output → Type 0
 HasLegalList setup events outputs =
     (end : World) × Runs (opening_world setup) events outputs end × IsLegal (shape_of setup.schema) setup.workers end.primary.durable
 
--- no output speaks of damage
+-- no output reports damage
 abbrev pub HasNoFault : Setup → List Event → List Output → Type 0
 HasNoFault setup events outputs = AllByRecursion IsFaultless outputs
 
--- one step of the cores that leaves every replica fed from what is durable, that on the journal, and behind a stop the very bytes
+-- one step of the cores that leaves every replica fed from what is durable, that on the journal, and after a stop the very bytes
 -- that the stop names
 abbrev pub StandsStep : Parts → Event → Output → Parts → Type 0
 StandsStep old event output new =
     MayHappen (world_of old) event output (world_of new) × AreFed new × JournalStands new × StopLeaves old event new
 
 -- the cores stand where the world does from the beginning on, every replica is fed from what is durable there, the journal
--- stands for that, and replicas at one version hold the same tables, at whatever two moments of the run
+-- contains that, and replicas at one version hold the same tables, at whatever two moments of the run
 abbrev pub CoresStand : Setup → List Event → List Output → Type 0
 CoresStand setup events outputs =
     (world_of (parts_started setup) ≡ opening_world setup)
@@ -155,9 +155,11 @@ AllowedRunsAreExact =
 abbrev pub seen_batch : AskedBatch → List Plan × ℕ × Option ℕ
 seen_batch batch = (batch.plans, batch.asked_at, option_map (λ (fetched : Fetched). fetched.version) batch.fetched)
 
+-- a replica as users see it
 abbrev pub reader_of : Member → Reader
 reader_of m = record { version = m.version; batch = option_map seen_batch m.batch }
 
+-- a world as users see it: what is durable, and each replica's version and batch
 abbrev pub database_of : World → Database
 database_of w = record { commits = w.primary.durable; readers = map reader_of w.members }
 

@@ -43,6 +43,7 @@ open_and_fetch_outputs =
     outputs.Opened 1 ∷ outputs.Sent (record { index = 1; len = 23 } ∷ []) ∷ outputs.Sent (record { index = 2; len = 40 } ∷ [])
     ∷ outputs.Head 1 ∷ []
 
+-- the text of the report: one row
 abbrev pub report : List ℕ
 report = codes "version 1 queries 1\nquery 0 rows 1\n1\n"
 
@@ -69,6 +70,7 @@ lost_frame_outputs =
     commit_and_push_outputs ++ open_and_fetch_outputs
     ++ outputs.Waiting 0 0 (record { index = 3; len = 16 }) ∷ outputs.Stored ∷ outputs.Report report ∷ []
 
+-- the row that the scripts change
 abbrev pub account : RowId
 account = record { 0 = 7 }
 
@@ -89,6 +91,7 @@ conflict_outputs =
     ∷ outputs.Durable 2 ∷ outputs.Tx 3 2 ∷ outputs.Value (Int (pos 120)) ∷ outputs.Accepted ∷ outputs.Ticket 3 ∷ outputs.Durable 3
     ∷ outputs.Tx 4 3 ∷ outputs.Value (Int (pos 150)) ∷ outputs.Accepted ∷ outputs.Accepted ∷ outputs.NoTx ∷ []
 
+-- a second row
 abbrev pub other_account : RowId
 other_account = record { 0 = 8 }
 
@@ -159,6 +162,7 @@ count_and_sum_named = record {
   aggregates = Count ∷ Sum (Joined 1) ∷ [];
 }
 
+-- a row that names another
 abbrev pub named_account : RowId
 named_account = record { 0 = 5 }
 

@@ -6,7 +6,7 @@ ghost use Rattle.world.specs.Steps.{had_boot};
 use std::alloc::{AllocError, Global};
 use std::marker::Model;
 
-/// The numbers of a replica's starts, in their order.
+/// The boots of a replica, in their order.
 #[derive(Debug, Drop)]
 pub struct BootList {
     items: Vec<u64>,
@@ -21,7 +21,7 @@ impl Model for BootList {
 }
 
 impl BootList {
-    /// The list of one boot. Fails only when out of memory.
+    /// The list of one boot. Fails only if out of memory.
     pub fn of_one(alloc: Global, boot: u64) -> Result<BootList, AllocError>
         ensures { IfOk result (λ boots. boots ≡ boot ∷ []) }
     {
@@ -37,7 +37,7 @@ impl BootList {
         self.items.contains(&boot)
     }
 
-    /// One boot more. When out of memory nothing has changed.
+    /// Adds a boot. Fails only if out of memory.
     pub fn push(&mut self, boot: u64) -> Result<(), AllocError>
         ensures ok { OnOk result (self.new ≡ self.old ++ boot ∷ []) }
         ensures err { OnErr result (self.new ≡ self.old) }

@@ -22,9 +22,9 @@ use std::marker::Model;
 use store::PlainStore;
 
 /// What the world was made for, the primary, each replica on a store of its own, the transactions
-/// in the order of their `begin` (none where one is no longer open), every datagram that was ever
-/// sent, at its own length, and for each replica the boots that it had, and how many commits were
-/// durable when its newest batch asked.
+/// in the order of their `begin` (none for one that is no longer open), every datagram that was
+/// ever sent, at its own length, and, for each replica, the boots that it has had and how many
+/// commits were durable when its newest batch asked.
 #[derive(Debug, Drop)]
 pub struct Cores {
     pub alloc: Global,
@@ -57,7 +57,7 @@ impl Model for Cores {
 }
 
 impl Cores {
-    /// A primary without commits, and replicas without frames, each with boot 1. Fails only when out
+    /// A primary without commits, and replicas without frames, each with boot 1. Fails only if out
     /// of memory.
     pub fn start(alloc: Global, setup: &Setup) -> Result<Cores, AllocError>
         requires some { 0 < setup.now.workers }
@@ -101,8 +101,8 @@ impl Cores {
         }
     }
 
-    /// What a primary that runs keeps of its commits, and of its journal where that has not failed.
-    /// It does nothing: its contract is the law.
+    /// What a running primary guarantees about its commits, and about its journal unless that has
+    /// failed. It does nothing: its contract is the law.
     pub fn keeps_core(&self)
         ensures lists { self.now.stopped ≡ false → PrimaryListsAreLegal self.now.primary }
         ensures text { self.now.stopped ≡ false → self.now.primary.failed ≡ false
@@ -114,7 +114,7 @@ impl Cores {
     }
 }
 
-/// The same setup once more. Fails only when out of memory.
+/// A copy of the setup. Fails only if out of memory.
 fn copy_of(setup: &Setup) -> Result<Setup, AllocError>
     ensures { IfOk result (λ copy. copy ≡ setup.now) }
 {

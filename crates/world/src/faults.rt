@@ -7,7 +7,7 @@ use std::fmt;
 pub enum RunFault {
     /// The reader failed; nothing was written.
     Read,
-    /// The script does not read, at that line; nothing was written.
+    /// That line of the script does not read; nothing was written.
     Script { line: u64, reason: Reason },
     /// The writer failed; a beginning of the text was written.
     Write,

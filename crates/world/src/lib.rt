@@ -1,20 +1,21 @@
-//! The world: the cores of the primary and of its replicas, and all that was ever sent, stepped by
-//! events.
+//! The world: the cores of the primary and of its replicas, and every datagram that was ever sent,
+//! stepped by events.
 //!
-//! A `World` has one step, which calls the cores by their public calls alone; its contract says
-//! what each event may answer and leave. `run` steps a new world by a list of events, and its
-//! contract is the main theorem; `run_script` does so with the events of a script. Losses, repeats
-//! and delays of the network, and whatever else may go wrong, are events.
+//! A `World` has one step, which uses only the public calls of the cores; its contract specifies
+//! what each event may answer and leave. `run` steps a new world through a list of events, and its
+//! contract is the main theorem; `run_script` does the same with the events of a script. Lost,
+//! repeated and late datagrams, and whatever else may go wrong, are events.
 //!
-//! `specs/` says what may happen: the world as its users see it (`Steps.antt`), what a stop of the
-//! primary leaves (`Stops.antt`) and which outputs are allowed (`Allowed.antt`), the cores as parts
-//! and the world that they make (`Parts.antt`, `Standing.antt`), what a step and a run are
-//! (`Theorem.antt`), what a script's run reads and prints (`Scripts.antt`), and the promise to users
-//! on one page (`Database.antt`). What only helps proofs stands in `specs/Inner`.
+//! `specs/` defines what may happen: the world as its users see it (`Steps.antt`), what a crash of
+//! the primary leaves (`Stops.antt`) and which outputs are allowed (`Allowed.antt`), the cores as
+//! parts and the world that they make (`Parts.antt`, `Standing.antt`), what a step and a run are
+//! (`Theorem.antt`), what a script's run reads and prints (`Scripts.antt`), and the promise to
+//! users on one page (`Database.antt`). `specs/Inner` only helps proofs.
 //!
-//! It stands on `primary` and `dispatcher`, which know nothing of each other, on `journal` for what
-//! a primary's journal keeps, on `mvcc` for transactions, on `plans` for queries, and on `script` for
-//! events and outputs.
+//! It uses `primary` and `dispatcher`, which know nothing of each other, `journal` for what a
+//! primary's journal keeps, `mvcc` for transactions, `plans` for queries, and `script` for events
+//! and outputs. If a call fails for lack of memory, its value is unchanged unless the call says
+//! otherwise.
 #![tactic(auto)]
 
 mod boot_list;

@@ -1,4 +1,4 @@
-//! What the refusals of the cores are called among the outputs.
+//! Which output reports each refusal of the cores.
 
 ghost use Rattle.std.specs.Prelude.{◌≡◌};
 ghost use Rattle.world.specs.Outputs.{of_change, of_look, of_commit};
@@ -10,7 +10,7 @@ use primary::CommitFault;
 use rows::Value;
 use script::Output;
 
-/// A call that changes a transaction.
+/// The output for a call that changes a transaction.
 pub fn change_output(changed: Result<(), TxFault>) -> Output
     ensures { result ≡ of_changed changed }
 {
@@ -20,7 +20,7 @@ pub fn change_output(changed: Result<(), TxFault>) -> Output
     }
 }
 
-/// A refused call of a transaction.
+/// The output for a refused call of a transaction.
 fn refused_output(fault: TxFault) -> Output
     ensures { result ≡ of_change fault }
 {
@@ -33,7 +33,7 @@ fn refused_output(fault: TxFault) -> Output
     }
 }
 
-/// A look at a column.
+/// The output for a look at a column.
 pub fn look_output(looked: Result<Value, TxFault>) -> Output
     ensures { result ≡ of_look looked }
 {
@@ -43,7 +43,7 @@ pub fn look_output(looked: Result<Value, TxFault>) -> Output
     }
 }
 
-/// A refused commit.
+/// The output for a refused commit.
 pub fn commit_output(fault: CommitFault) -> Output
     ensures { result ≡ of_commit fault }
 {
@@ -57,7 +57,7 @@ pub fn commit_output(fault: CommitFault) -> Output
     }
 }
 
-/// A refused query.
+/// The output for a refused query.
 pub fn open_output(fault: OpenFault) -> Output
     ensures { result ≡ of_open fault }
 {
@@ -69,7 +69,7 @@ pub fn open_output(fault: OpenFault) -> Output
     }
 }
 
-/// A refused ask.
+/// The output for a refused ask.
 pub fn ask_output(fault: AskFault) -> Output
     ensures { result ≡ of_ask fault }
 {
@@ -80,7 +80,7 @@ pub fn ask_output(fault: AskFault) -> Output
     }
 }
 
-/// A refused dump.
+/// The output for a refused dump.
 pub fn dump_output(fault: DumpFault) -> Output
     ensures { result ≡ of_dump fault }
 {
@@ -90,7 +90,7 @@ pub fn dump_output(fault: DumpFault) -> Output
     }
 }
 
-/// What a replica made of bytes.
+/// The output for what a replica made of bytes.
 pub fn got_output(got: Got) -> Output
     ensures { result ≡ of_got got }
 {

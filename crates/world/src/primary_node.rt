@@ -1,4 +1,4 @@
-//! The primary of a world, whether it runs or is stopped.
+//! The primary of a world, running or stopped.
 
 ghost use Rattle.std.specs.Prelude.{◌≡◌, length};
 ghost use Rattle.world.specs.Inner.Nodes.{durable_in};
@@ -7,8 +7,8 @@ use crate::running_primary::RunningPrimary;
 use journal::MemJournal;
 use rows::Commit;
 
-/// The primary's core. While it is stopped there is none: its journal stands, and beside it the
-/// commits that this keeps, which the world alone looks at.
+/// The primary's core. While it is stopped there is none: only its journal is left, and beside it
+/// the commits that the journal keeps, at which only the world looks.
 #[derive(Debug, Drop)]
 pub enum PrimaryNode {
     Running(RunningPrimary),

@@ -10,9 +10,8 @@ use script::{Event, Output};
 use store::PlainStore;
 
 impl Cores {
-    /// Puts a new replica in the place of an old one, in a boot that it never had: without frames,
-    /// queries or a batch, and with no rows. All memory is taken before; without it nothing has
-    /// changed.
+    /// Replaces a replica by a new one, in a boot that it never had: without frames, queries or a
+    /// batch, and with no rows. All memory is taken first; if there is none, nothing has changed.
     pub fn restart(&mut self, number: u8, boot: u64) -> Output
         requires ready { IsReady self.old }
         requires there { number < length self.old.replicas }

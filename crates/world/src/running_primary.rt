@@ -21,8 +21,8 @@ use std::alloc::AllocError;
 use std::marker::Model;
 use wire::{Out, Packet};
 
-/// A primary's core whose journal is not lent out, and has the text of what is durable unless it
-/// failed: an event that flushes takes the journal back before it ends.
+/// A primary's core whose journal is not lent out, and contains the text of what is durable unless
+/// it failed: an event that flushes takes the journal back before it ends.
 #[derive(Debug, Drop)]
 pub struct RunningPrimary {
     core: PrimaryCore<MemJournal>,
@@ -47,8 +47,8 @@ impl RunningPrimary {
         RunningPrimary { core }
     }
 
-    /// What a core keeps of its lists, and what stands on the journal unless it failed. It does
-    /// nothing: its contract is the law.
+    /// What a core guarantees about its lists, and about the content of the journal unless that
+    /// failed. It does nothing: its contract is the law.
     pub fn keeps_legal(&self)
         ensures all { IsJournaled self.now.primary.workers (shape_of self.now.primary.schema)
             (self.now.primary.durable ++ self.now.primary.pending) }
@@ -80,14 +80,14 @@ impl RunningPrimary {
         self.core.versions()
     }
 
-    /// The journal, to be looked at.
+    /// The journal, for reading.
     pub fn journal(&self) -> &MemJournal
         ensures { result.now ≡ self.now.journal }
     {
         self.core.journal()
     }
 
-    /// The records of the pending commits. Fails only where it is out of memory.
+    /// The records of the pending commits. Fails only if out of memory.
     pub fn pending_text(&self) -> Result<Vec<u8>, AllocError>
         ensures { IfOk result (λ bytes. bytes.items ≡ records_from (length self.now.primary.durable) self.now.primary.pending) }
     {
@@ -111,7 +111,7 @@ impl RunningPrimary {
         self.core.commit(transaction, worker)
     }
 
-    /// Flushes, as the core does: it begins a flush, writes it and ends it.
+    /// Flushes, as the core does: begins a flush, writes it and ends it.
     pub fn flush(&mut self, count: usize) -> Result<u64, FlushFault>
         ensures ok { IfOk result (λ durable. (self.old.primary.failed ≡ false) × (self.new.primary ≡ flushed self.old.primary count)
             × (durable ≡ length self.new.primary.durable)) }
@@ -121,15 +121,15 @@ impl RunningPrimary {
         self.core.flush(count)
     }
 
-    /// The packet of that frame of the durable list, where the stream has it.
+    /// The packet of that frame of the durable list, if the stream has it.
     pub fn push(&self, worker: u8, seq: u64) -> Option<Packet>
         ensures { result ≡ pushed self.now.primary worker seq }
     {
         self.core.push(worker, seq)
     }
 
-    /// What the primary sends for bytes that came. Fails only where it is out of memory, and only
-    /// where something is to be sent.
+    /// What the primary sends for bytes that arrived. Fails only if out of memory, and only if
+    /// something is to be sent.
     pub fn on_bytes(&self, bytes: &[u8]) -> Result<Vec<Out>, AllocError>
         ensures ok { IfOk result (λ outs. outs.items ≡ answers self.now.primary bytes.now) }
         ensures err { OnErr result (0 < length (answers self.now.primary bytes.now)) }

@@ -15,21 +15,21 @@ use script::{
 use std::alloc::Global;
 use std::io::{ErrorKind, Read, Write};
 
-/// What stands before the lines that an event answers.
+/// What precedes the lines of an event's output.
 #[derive(Clone, Copy, Debug, PartialEq, Eq)]
 pub enum Echo {
     /// Nothing.
     No,
-    /// The event's own line, behind `> `.
+    /// The event's own line, after `> `.
     Events,
 }
 
-/// Reads a script to its end, runs all its events, and then writes the text of what they answer
-/// and flushes it.
+/// Reads a script to its end, runs all its events, and then writes the text of their outputs and
+/// flushes it.
 ///
-/// What the reader had and what the writer holds is as far as their types say it. No clause tells
-/// whether they failed: that the answer is `Read` or `Write` only then is tested, and that it is
-/// `Write` where the flush fails.
+/// The contract specifies what was read and written as far as the types of the reader and the
+/// writer do. No clause states whether they failed. It is tested that the answer is `Read` or
+/// `Write` only if they did, and `Write` if the flush fails.
 pub fn run_script<R: Read, W: Write>(
     alloc: Global,
     echo: Echo,

@@ -10,16 +10,16 @@ use crate::world::World;
 use script::{Event, Output, Setup};
 use std::alloc::{AllocError, Global};
 
-/// What each of the events answers, in order, from a primary without commits and replicas without
-/// frames on: the main theorem. The workers and replicas that an event names are the setup's, and
-/// there are 1 to 16 workers. Fails only when out of memory, where the world cannot be made or
-/// the outputs cannot be kept.
+/// The outputs of the events, in order, starting from a primary without commits and replicas
+/// without frames: the main theorem. The workers and replicas that an event names are the setup's,
+/// and there are 1 to 16 workers. Fails only if out of memory, when the world cannot be made or the
+/// outputs cannot be kept.
 ///
-/// The outputs are those of one run, by one legal list of commits: at each of its steps what is
-/// answered and left may happen in the world, a report has the plain answers on the rows after
-/// exactly the commits of that list up to the version fetched for its batch, what is durable only
-/// grows, over stops too, and stands on the primary's journal, every replica is fed from it, and no
-/// damage is told. `runs_keep_promises` says what follows.
+/// The outputs are those of one run, by one legal list of commits. At each step of the run, the
+/// world allows what is answered and left. A report has the plain answers on the rows after exactly
+/// the commits of that list up to the version fetched for its batch. What is durable only grows,
+/// also across crashes, and is on the primary's journal; every replica is fed from it; and no
+/// output reports damage. `runs_keep_promises` states what follows.
 pub fn run(alloc: Global, setup: &Setup, events: &[Event]) -> Result<Vec<Output>, AllocError>
     requires some { 0 < setup.now.workers }
     requires workers { setup.now.workers ≤ workers_max }

@@ -1,5 +1,5 @@
-//! One step of the cores: each event is one call on one of them. `transacting.rt` has those of
-//! transactions.
+//! One step of the cores: each event is one call on one of them. Those of transactions are in
+//! `transacting.rt`.
 
 ghost use Rattle.std.specs.Prelude.{◌≡◌, ◌<◌, ◌≤◌, [], ◌++◌, ◌⊎◌, length, vec_capacity, IfOk, OnErr};
 ghost use Rattle.world.specs.Outputs.{sent_from, packets_of};
@@ -23,7 +23,7 @@ use wire::{Out, Packet, read};
 const ASK_LEN: usize = 23;
 
 impl Cores {
-    /// Lets an event happen by the call that it is, and answers what it gave.
+    /// Lets an event happen, by the call that it stands for, and answers its output.
     pub fn happen(&mut self, event: &Event) -> Output
         requires ready { IsReady self.old }
         requires possible { IsPossible self.old.primary.workers (length self.old.replicas) event.now }
@@ -103,7 +103,7 @@ impl Cores {
         }
     }
 
-    /// Sends a datagram; when out of memory nothing is sent.
+    /// Sends a datagram; if out of memory, nothing is sent.
     fn send(&mut self, packet: &Packet) -> Output
         ensures { ((result ≡ sent_one self.old packet.now) × (self.new ≡ with_sent self.old packet.now))
             ⊎ ((result ≡ Output.Memory) × (self.new ≡ self.old)) }
@@ -149,7 +149,7 @@ impl Cores {
         self.send_answers(outs.as_slice())
     }
 
-    /// Sends what the primary answers; when out of memory nothing is sent.
+    /// Sends what the primary answers; if out of memory, nothing is sent.
     fn send_answers(&mut self, outs: &[Out]) -> Output
         ensures { MaySendAnswers self.old outs.now result self.new }
     {
@@ -173,7 +173,7 @@ impl Cores {
         got_output(replica.on_bytes(bytes.as_slice()))
     }
 
-    /// Hands bytes to a node as they are, unless they are a datagram that was never sent.
+    /// Hands bytes to a node unchanged, unless they are a datagram that was never sent.
     fn raw(&mut self, node: Node, bytes: &ByteList) -> Output
         requires { IsThere (length self.old.replicas) node }
         ensures { MayStep self.old (Event.Raw node bytes.now) result self.new }
@@ -276,7 +276,7 @@ impl Cores {
     }
 
     /// Runs a batch. A run that waits has changed nothing at its replica, so room for its Want is
-    /// taken behind it.
+    /// taken afterwards.
     fn run(&mut self, number: u8) -> Output
         requires { number < length self.old.replicas }
         ensures { MayStep self.old (Event.Run number) result self.new }
@@ -293,7 +293,7 @@ impl Cores {
         }
     }
 
-    /// Sends the Want of a run that waits; when out of memory nothing is sent.
+    /// Sends the Want of a run that waits; if out of memory, nothing is sent.
     fn wait(&mut self, worker: u8, seq: u64, want: &Packet) -> Output
         ensures { ((result ≡ waiting_for self.old worker seq want.now) × (self.new ≡ with_sent self.old want.now))
             ⊎ ((result ≡ Output.Memory) × (self.new ≡ self.old)) }
@@ -315,7 +315,7 @@ impl Cores {
         }
     }
 
-    /// Tells a replica's version; of a broken one the last at which it was whole.
+    /// Reports a replica's version; for a broken one the last at which it was whole.
     fn version(&self, number: u8) -> Output
         requires { number < length self.now.replicas }
         ensures { MayStep self.now (Event.Version number) result self.now }
@@ -334,21 +334,21 @@ impl Cores {
     }
 }
 
-/// Whether bytes are a datagram that is not among those that were sent.
+/// Whether bytes are a datagram that was never sent.
 fn is_forged(sent: &[ByteList], bytes: &[u8]) -> bool
     ensures { result ≡ are_forged sent.now bytes.now }
 {
     read(bytes).is_ok() && !sent.iter().any(|other| other.as_slice() == bytes)
 }
 
-/// The same plan once more. Fails only when out of memory.
+/// A copy of the plan. Fails only if out of memory.
 fn copy_of(plan: &Plan) -> Result<Plan, AllocError>
     ensures { IfOk result (λ copy. copy ≡ plan.now) }
 {
     plan.clone()
 }
 
-/// A datagram's bytes, put where there is room for them.
+/// A datagram's bytes, copied into room that was taken for them.
 fn copied(room: Vec<u8>, bytes: &[u8]) -> ByteList
     requires empty { room.items ≡ [] }
     requires room { length bytes.now ≤ vec_capacity room }
@@ -361,7 +361,7 @@ fn copied(room: Vec<u8>, bytes: &[u8]) -> ByteList
     }
 }
 
-/// Sends datagrams one after the other, and answers where they are found. Fails only when out of
+/// Sends datagrams one after the other, and answers their indices and lengths. Fails only if out of
 /// memory, and then nothing is sent.
 fn send_all(alloc: Global, sent: &mut Vec<ByteList>, outs: &[Out]) -> Result<SentList, AllocError>
     ensures ok { IfOk result (λ list. (list ≡ sent_from (length sent.old.items) outs.now)
@@ -374,7 +374,7 @@ fn send_all(alloc: Global, sent: &mut Vec<ByteList>, outs: &[Out]) -> Result<Sen
     Ok(SentList::from_vec(list))
 }
 
-/// The indices and lengths of datagrams that are sent behind these.
+/// The indices and lengths of datagrams that are sent after these.
 fn sent_behind(alloc: Global, sent: &[ByteList], outs: &[Out]) -> Result<Vec<Sent>, AllocError>
     ensures { IfOk result (λ list. list.items ≡ sent_from (length sent.now) outs.now) }
 {
@@ -388,7 +388,7 @@ fn sent_behind(alloc: Global, sent: &[ByteList], outs: &[Out]) -> Result<Vec<Sen
     Ok(list)
 }
 
-/// The datagrams' bytes, without where they go.
+/// The datagrams' bytes, without their destinations.
 fn packets_in(alloc: Global, outs: &[Out]) -> Result<Vec<ByteList>, AllocError>
     ensures { IfOk result (λ packets. packets.items ≡ packets_of outs.now) }
 {

@@ -23,8 +23,8 @@ use script::{Event, Output, Setup};
 use std::alloc::{AllocError, Global};
 
 impl Cores {
-    /// Stops the primary: its core ends, and its journal has so many bytes more of what was not
-    /// acknowledged. All memory is taken before, and where there is none nothing has changed.
+    /// Stops the primary: its core ends, and its journal keeps this many more bytes of what was not
+    /// acknowledged. All memory is taken first; if there is none, nothing has changed.
     pub fn stop(&mut self, bytes: u64) -> Output
         requires { IsReady self.old }
         ensures { MayStep self.old (Event.Stop bytes) result self.new }
@@ -50,7 +50,7 @@ impl Cores {
         Output::Stopped
     }
 
-    /// Starts the primary again, on what its journal keeps. When out of memory it stays stopped.
+    /// Starts the primary again, on what its journal keeps. If out of memory, it stays stopped.
     pub fn start_again(&mut self) -> Output
         requires { IsReady self.old }
         ensures { HappensBeside self.old Event.Start result self.new }
@@ -74,8 +74,8 @@ impl Cores {
     }
 }
 
-/// What stands after a stop: the bytes that the journal acknowledged, and so many of the pending
-/// commits' records behind them. Fails only when out of memory.
+/// The bytes on the journal after a stop: those that it acknowledged, and then this many of the
+/// pending commits' records. Fails only if out of memory.
 fn bytes_left(alloc: Global, primary: &RunningPrimary, bytes: u64) -> Result<Vec<u8>, AllocError>
     ensures { IfOk result (λ content. content.items ≡ primary.now.journal.bytes
         ++ take bytes (records_from (length primary.now.primary.durable) primary.now.primary.pending)) }
@@ -88,7 +88,7 @@ fn bytes_left(alloc: Global, primary: &RunningPrimary, bytes: u64) -> Result<Vec
     Ok(content)
 }
 
-/// The commits that a journal keeps which is not refused. Fails only when out of memory.
+/// The commits that a journal keeps, whose bytes are not refused. Fails only if out of memory.
 fn commits_kept(
     alloc: Global,
     content: &[u8],
@@ -111,7 +111,7 @@ fn commits_kept(
     }
 }
 
-/// Gives every transaction up.
+/// Gives up every transaction.
 fn close_all(transactions: &mut [Option<Transaction>])
     ensures { transactions.new ≡ closed transactions.old }
 {
@@ -120,8 +120,8 @@ fn close_all(transactions: &mut [Option<Transaction>])
     }
 }
 
-/// Starts a primary on a journal that is not refused. When out of memory it hands back the journal,
-/// which keeps the same.
+/// Starts a primary on a journal whose bytes are not refused. If out of memory, it hands back the
+/// journal, which keeps the same commits.
 pub fn start_on(
     alloc: Global,
     journal: MemJournal,

@@ -9,13 +9,13 @@ ghost use Rattle.world.specs.Stops.{StopIsRecovered, StopKeepsDurable, StopEndsT
 use crate::laws::steps_are_told;
 use journal::laws::stops_are_recovered;
 
-/// What each run keeps, of which `run` says that it is one: its outputs are allowed; each report
-/// has the plain answers at one version of the one list, no older than what was durable when its
-/// batch asked; two dumps that tell one version are equal; what is durable stays; the one list is
-/// legal; no output speaks of damage; and the cores stand where the world does at every step, every
-/// replica fed from what is durable, that on the primary's journal, behind a stop with the very
-/// bytes that it names, and replicas at one version that are not broken hold the same tables, at
-/// whatever two moments. No code takes part.
+/// What holds for each run; the contract of `run` states that it is one. Its outputs are allowed.
+/// Each report has the plain answers at one version of the one list, no older than what was durable
+/// when its batch asked. Two dumps at one version are equal. What is durable stays durable. The one
+/// list is legal. No output reports damage. At every step the cores are where the world is: every
+/// replica is fed from what is durable, which is on the primary's journal; after a stop the journal
+/// has exactly the bytes that the stop names; and replicas that are at one version and not broken
+/// hold the same tables, at whatever two moments. No code takes part.
 pub fn runs_keep_promises()
     ensures allowed { OfEachRun Allowed }
     ensures reports { OfEachRun HasExactReports }
@@ -28,8 +28,8 @@ pub fn runs_keep_promises()
     steps_are_told();
 }
 
-/// What is durable after a stop is what the journal keeps of the bytes that stand then; it is what
-/// was durable, with more or nothing behind it; and no transaction is open. No code takes part.
+/// What is durable after a stop is what the journal keeps of its bytes at that moment: what was
+/// durable, possibly with more after it. No transaction is open then. No code takes part.
 pub fn stops_keep_what_stands()
     ensures recovered { StopIsRecovered }
     ensures durable { StopKeepsDurable }
@@ -38,19 +38,19 @@ pub fn stops_keep_what_stands()
     stops_are_recovered();
 }
 
-/// Whatever is allowed in the world by events that are possible, whoever answers it, keeps what is
-/// durable, speaks of no damage, and reports by the one list that is durable at the end. No code
-/// takes part.
+/// Any outputs that the world allows for possible events, whatever produced them, keep what is
+/// durable, report no damage, and report by the one list that is durable at the end. No code takes
+/// part.
 pub fn allowed_runs_are_exact()
     ensures { AllowedRunsAreExact }
 {
     steps_are_told();
 }
 
-/// Whatever is allowed in the world by events that are possible is, as users see it, a run of a
-/// list of commits that only grows, of replicas that each stand at a version of it and go back to
-/// an older one only where they start anew, and of batches that are each answered at the version
-/// fetched for them, at least as new as the list was when they asked. No code takes part.
+/// Whatever the world allows for possible events is, as users see it, a run of the database: a list
+/// of commits that only grows; replicas that are each at a version of it, and go back to an older
+/// version only when they are restarted; and batches that are each answered at the version fetched
+/// for them, which is at least as new as the list was when they asked. No code takes part.
 pub fn runs_are_of_database()
     ensures { RunsAreOfDatabase }
 {

@@ -119,7 +119,7 @@ impl Cores {
         }
     }
 
-    /// Gives a transaction up.
+    /// Gives up a transaction.
     pub fn abort(&mut self, number: u64) -> Output
         ensures { HappensBeside self.old (Event.Abort number) result self.new }
     {
@@ -133,7 +133,7 @@ impl Cores {
     }
 }
 
-/// The open transaction of that number, lent, where there is one.
+/// The open transaction of that number, lent; `None` if there is none.
 fn find_open(transactions: &[Option<Transaction>], number: u64) -> Option<&Transaction>
     ensures { option_map (λ t. t.now) result ≡ open_transaction transactions.now number }
 {
@@ -143,7 +143,7 @@ fn find_open(transactions: &[Option<Transaction>], number: u64) -> Option<&Trans
     }
 }
 
-/// Takes the open transaction of that number out of its slot, where there is one.
+/// Takes the open transaction of that number out of its slot; `None` if there is none.
 fn take_open(transactions: &mut Vec<Option<Transaction>>, number: u64) -> Option<Transaction>
     ensures taken { result ≡ open_transaction transactions.old.items number }
     ensures left { transactions.new.items ≡ slice_set transactions.old.items number None }

@@ -1,4 +1,4 @@
-//! Events that are worked on the definitions alone.
+//! Events that are worked out on the definitions alone.
 
 ghost use Rattle.std.specs.Prelude.{◌≡◌};
 ghost use Rattle.world.specs.Worked.{first_commit, first_commit_outputs, lost_frame, lost_frame_outputs, conflict, conflict_outputs};
@@ -6,11 +6,11 @@ ghost use Rattle.world.specs.Worked.{write_skew, write_skew_outputs, refusals, r
 ghost use Rattle.world.specs.Worked.{stops, stops_outputs, two_queries, two_queries_outputs, two_workers, two_workers_outputs, wide_world};
 ghost use Rattle.world.specs.Steps.{outputs_of};
 
-/// What the definitions of the world say of eight lists of events: a first commit that is reported,
-/// the same where its frame is lost at first, two transactions that change one row, two that each
-/// set the row that the other one looked at, the refusals of a transaction's calls in their order,
-/// stops inside a journal write and outside of one, two queries of one batch of which one joins and
-/// groups, and two workers whose frames come in the other order. No code takes part.
+/// What the definitions of the world state for eight lists of events: a first commit that is
+/// reported, the same with its frame lost at first, two transactions that change one row, two that
+/// each set the row that the other one looked at, the refusals of a transaction's calls in their
+/// order, stops inside a journal write and outside of one, two queries of one batch of which one
+/// joins and groups, and two workers whose frames arrive in the other order. No code takes part.
 pub fn worked_scripts()
     ensures first_commit { outputs_of worked_world first_commit ≡ first_commit_outputs }
     ensures lost_frame { outputs_of worked_world lost_frame ≡ lost_frame_outputs }

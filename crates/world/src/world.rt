@@ -19,9 +19,9 @@ use std::alloc::{AllocError, Global};
 use std::marker::Model;
 
 /// One primary on a journal in memory, its replicas, the open transactions, and every datagram that
-/// was ever sent. While the primary is stopped, its journal is all that is left of it.
+/// was ever sent. While the primary is stopped, only its journal is left of it.
 ///
-/// Contracts see the cores as callers of each see it. `world_of` says which world they make.
+/// Contracts see each core as its callers do. `world_of` defines the world that they make.
 #[derive(Debug, Drop)]
 pub struct World {
     cores: Cores,
@@ -39,8 +39,8 @@ impl Model for World {
 }
 
 impl World {
-    /// A primary without commits, on an empty journal, and replicas without frames, each with boot 1.
-    /// There are 1 to 16 workers. Fails only when out of memory.
+    /// A primary without commits, on an empty journal, and replicas without frames, each with boot
+    /// 1. There are 1 to 16 workers. Fails only if out of memory.
     pub fn new(alloc: Global, setup: &Setup) -> Result<World, AllocError>
         requires some { 0 < setup.now.workers }
         requires workers { setup.now.workers ≤ workers_max }
@@ -54,11 +54,10 @@ impl World {
         Ok(World { cores })
     }
 
-    /// Lets an event happen, and answers what it gave. The worker and the replica that it names
-    /// are there. It answers `memory` only where the event asks for some, and the world is as it was
-    /// then, but for a run that was cut short.
-    /// A stop leaves on the journal what that acknowledged, and behind it so many bytes of the
-    /// pending commits' records.
+    /// Lets an event happen, and answers its output. The worker and the replica that it names
+    /// exist. It answers `memory` only if the event takes memory, and the world is then unchanged,
+    /// except after a run that was cut short. A stop leaves on the journal what that acknowledged,
+    /// and then as many bytes of the pending commits' records as it names.
     pub fn step(&mut self, event: &Event) -> Output
         requires possible { IsPossible self.old.primary.workers (length self.old.replicas) event.now }
         ensures happens { MayHappen (world_of self.old) event.now result (world_of self.new) }
