@@ -25,8 +25,8 @@ pub record IsCommitted (shape : Shape) (from : ℕ) (list : List Commit) (job : 
   pub above : draft.snapshot < number
   pub stands : commit_at list number ≡ Some (record { worker = job.worker; entries = draft.entries })
 
--- a job that is told of a conflict with a number above its snapshot: no more is known by the list, since the commit of that
--- number may not be durable yet
+-- a job that is answered with a conflict, whose number is above its snapshot: no more is known by the list, since the commit of
+-- that number may not be durable yet
 pub record IsInConflict (shape : Shape) (from : ℕ) (list : List Commit) (job : Job) (number : ℕ) : Type 0 where
   pub draft : Transaction
   pub drafted : IsDraft shape from list job.changes.items draft

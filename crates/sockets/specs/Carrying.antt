@@ -9,10 +9,12 @@ pub data Fate : Type 0 where
   Sent : Fate
   Lost : Fate
 
+-- a datagram that was to be sent, and what became of it
 pub record Sending : Type 0 where
   pub out : Out
   pub fate : Fate
 
+-- that datagram
 abbrev pub out_of : Sending → Out
 out_of sending = sending.out
 

@@ -20,7 +20,7 @@ pub data Call : Type 0 where
   Answers : List ℕ → List Out → Call
   Loses : List ℕ → Call
 
--- what is told of a list of commits is what a primary sends of which just that list is durable
+-- what is sent of a list of commits is what a primary sends of which just that list is durable
 abbrev pub Tells : List (List ℕ × List Kind) → ℕ → List Commit → Call → Type 0
 Tells schema workers list Looks = Unit {0}
 Tells schema workers list (Pushes worker seq packet) = pushed (primary_of schema workers list) worker seq ≡ Some packet

@@ -20,10 +20,11 @@ DoesAll {S} Makes says old (act ∷ acts) new =
 abbrev pub heard_in : {C : Type 0} → (C → List (List ℕ)) → List (Act C) → List (List ℕ)
 heard_in hears acts = flat_map (λ act. hears act.call) acts
 
+-- and what became of the datagrams that they were to send
 abbrev pub sendings_in : {C : Type 0} → List (Act C) → List Sending
 sendings_in acts = flat_map (λ act. act.sendings) acts
 
--- the turns of a call, and those that are left: no more; where they have no end, none is used up
+-- the turns of a call, and those that are left: no more; if they have no end, none is used up
 abbrev pub TurnsLeft : Option ℕ → Option ℕ → Type 0
 TurnsLeft None None = Unit {0}
 TurnsLeft None (Some left) = ⊥

@@ -2,23 +2,23 @@
 
 use rows::{Row, RowId, Value};
 
-/// One change of a job: the arguments of the call of a seat that makes it.
+/// One change of a job, with the arguments of the seat's call that makes it.
 #[derive(Debug, Drop)]
 pub enum Change {
-    /// Puts a new row into a table.
+    /// Inserts a row into a table.
     Insert {
         table: u8,
         row: RowId,
         values: Row,
     },
-    /// Gives one column of a row another value.
+    /// Sets one column of a row to another value.
     Set {
         table: u8,
         row: RowId,
         column: usize,
         value: Value,
     },
-    /// Takes a row out of a table.
+    /// Deletes a row from a table.
     Delete {
         table: u8,
         row: RowId,

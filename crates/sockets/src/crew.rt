@@ -1,4 +1,4 @@
-//! Workers that commit at once, one thread each.
+//! Workers that commit concurrently, one thread each.
 
 ghost use Rattle.std.specs.Prelude.{◌≡◌, ◌⊎◌, ◌<◌, ◌≤◌, List, length, All, IfOk, IfErr, vec_len};
 ghost use mathlib.Core.List.{IsPrefix};
@@ -20,15 +20,17 @@ use std::sync::Wait;
 use std::thread;
 use std::thread::Threads;
 
-/// Has each of so many workers do its jobs in a thread of its own, at a seat that the line gives out for
-/// it, and answers all jobs in their order. Each job's worker has to be below that number (the test is
-/// `are_of_workers`), and that number no more than the primary's workers. It may wait. The seats are used
-/// up, so that the line can no more be ended; a caller that keeps the seats hands a crew to `run_crew`.
+/// Lets this many workers do their jobs, each in a thread of its own and at a seat that the line
+/// gives out for it, and answers all jobs in their order. Each job's worker has to be below that
+/// number (`are_of_workers` tests this), and the number may not exceed that of the primary's
+/// workers. It may wait. The seats are used up, so the line can no longer be ended; a caller that
+/// keeps the seats hands a crew to `run_crew`.
 ///
-/// Fails with the first of these: `Journal`, the journal failed for a worker; `Memory`, memory was refused
-/// to a worker, or before any job was begun; `NoSeat`, the line has fewer seats left than there are
-/// workers: no job was begun, and the seats that were left are used up. A worker whom a fault ends leaves
-/// its further jobs undone, and the other workers do theirs; which of them are committed is not told.
+/// Fails with the first of these: `Journal`, the journal failed for a worker; `Memory`, a worker
+/// was out of memory, or there was none before any job was begun; `NoSeat`, the line has fewer
+/// seats left than there are workers: no job was begun, and the remaining seats are used up. A
+/// worker that ends by a fault leaves its further jobs undone, and the other workers do theirs;
+/// which of them are committed is not reported.
 pub fn run_workers<
     L: Origin + Send + Sync,
     J: JournalStore + Drop + Send,
@@ -53,7 +55,7 @@ pub fn run_workers<
     run_crew(rt, alloc, line, &mut crew, jobs, gate)
 }
 
-/// So many workers, each at a seat that was not given out before.
+/// This many workers, each at a seat that was not given out before.
 fn crew_of<L: Origin, J: JournalStore, H: Wait + Drop, W: Wait>(
     rt: &W,
     alloc: Global,
@@ -76,15 +78,16 @@ fn crew_of<L: Origin, J: JournalStore, H: Wait + Drop, W: Wait>(
     Ok(crew)
 }
 
-/// Has each worker of a crew do its jobs in a thread of its own, and answers all jobs in their order. A
-/// worker's number is its place in the crew; each job has to be of one of them (the test is
-/// `are_of_workers`), and there may be no more of them than the primary has workers. All their seats meet
-/// when all jobs are done. It may wait. Where no thread can be made, workers go one after the other.
+/// Lets each worker of a crew do its jobs in a thread of its own, and answers all jobs in their
+/// order. A worker's number is its place in the crew; each job has to be of one of them
+/// (`are_of_workers` tests this), and there may be no more of them than the primary has workers.
+/// When all jobs are done, all their seats meet. It may wait. If no thread can be made, the workers
+/// run one after the other.
 ///
-/// Fails with the first of these: `Journal`, the journal failed for a worker; `Memory`, memory was refused
-/// to a worker, or before any job was begun, and then the crew is as it was. A worker whom a fault ends
-/// leaves its further jobs undone, and the other workers do theirs. What each answered before stands with
-/// the workers. `NoSeat` never comes.
+/// Fails with the first of these: `Journal`, the journal failed for a worker; `Memory`, a worker
+/// was out of memory, or there was none before any job was begun, and then the crew is unchanged. A
+/// worker that ends by a fault leaves its further jobs undone, and the other workers do theirs. The
+/// workers keep what each answered before. `NoSeat` never occurs.
 pub fn run_crew<
     L: Origin + Send + Sync,
     J: JournalStore + Drop + Send,
@@ -124,7 +127,7 @@ pub fn run_crew<
     }
 }
 
-/// Has each worker do its jobs in a thread of its own.
+/// Lets each worker do its jobs in a thread of its own.
 fn work_at_once<
     L: Origin + Send + Sync,
     J: JournalStore + Drop + Send,

@@ -18,18 +18,20 @@ use shared::{Line, Origin, Seat, Settled};
 use std::alloc::Global;
 use std::sync::Wait;
 
-/// Does one job at a seat: begins a transaction, makes the job's changes in their order, commits it for
-/// the job's worker, makes all that is pending durable, and settles the ticket. The gate is told of the
-/// commit before and after it; `index` is what it is told of the job. It may wait.
+/// Does one job at a seat: begins a transaction, makes the job's changes in their order, commits it
+/// for the job's worker, makes everything pending durable, and settles the ticket. The gate is
+/// notified before and after the commit; `index` is the job's number for the gate. It may wait.
 ///
-/// `Ticket`: the commit is durable, and the seat has seen it under that number. `Conflict`: the commit is
-/// refused for the last one above its snapshot that touches one of its rows. `Refused`: a change is
-/// refused, the commit is for any other reason (no changes, or a number used up), or a call could not
-/// read what is published, and could not when it was tried again 1000 times; nothing is committed then.
+/// `Ticket`: the commit is durable, and the seat has seen it under that number. `Conflict`: the
+/// commit is refused because of the last one above its snapshot that touches one of its rows.
+/// `Refused`: a change is refused, or the commit is for any other reason (no changes, or a number
+/// used up), or a call could not read what is published, even when it was tried again 1000 times;
+/// nothing is committed then.
 ///
-/// Fails with `Journal` if the journal failed, before or while this commit was written, or with `Memory`
-/// if memory was refused, also to publish what is durable. The job may have been committed then, and may
-/// be durable or become so, but nobody was told: only a ticket is acknowledged. `NoSeat` never comes.
+/// Fails with `Journal` if the journal failed, before or while this commit was written, or with
+/// `Memory` if out of memory, also for publishing what is durable. The job may then have been
+/// committed, and may be durable or become durable, but that was not reported: only a ticket is
+/// acknowledged. `NoSeat` never occurs.
 pub fn do_job<L: Origin, J: JournalStore + Drop, R: Wait + Drop, W: Wait, G: Gate>(
     rt: &W,
     alloc: Global,
@@ -63,11 +65,17 @@ pub fn do_job<L: Origin, J: JournalStore + Drop, R: Wait + Drop, W: Wait, G: Gat
     }
 }
 
-/// Makes all that is pending durable, and acknowledges the ticket if its commit is settled.
+/// Makes everything pending durable, and acknowledges the ticket of a commit if the commit is settled:
+/// it is then durable, and the seat has seen it under its number. What the seat has seen must be known
+/// to be legal, as it is after `look`. It may wait.
 ///
-/// A commit that is `Lost`, or `NotYet` durable, after a flush of all that was pending is one that the
-/// journal did not take as it should have: no schedule meets that, and it is told as `Journal`.
-fn acknowledged<L: Origin, J: JournalStore + Drop, R: Wait + Drop, W: Wait>(
+/// Fails with `Journal` if the journal failed, or with `Memory` if memory was refused, also to publish
+/// what is durable; the commit may then be durable. `NoSeat` is never returned.
+///
+/// A commit that is `Lost`, or `NotYet` durable, after a flush of everything pending is one that
+/// the journal did not take as it should have. This never happens, whatever the schedule, and is
+/// reported as `Journal`.
+pub fn acknowledged<L: Origin, J: JournalStore + Drop, R: Wait + Drop, W: Wait>(
     rt: &W,
     alloc: Global,
     line: &Line<L, J, R>,
@@ -96,12 +104,12 @@ fn acknowledged<L: Origin, J: JournalStore + Drop, R: Wait + Drop, W: Wait>(
     }
 }
 
-/// Has a seat look at what is published: what it has seen then is known to be legal.
-pub(crate) fn look<L: Origin>(alloc: Global, seat: &mut Seat<L>)
+/// Lets a seat look at what is published: what it has then seen is known to be legal.
+pub fn look<L: Origin>(alloc: Global, seat: &mut Seat<L>)
     ensures legal { IsJournaled L.workers (shape_of L.schema) seat.new.list }
     ensures later { IsPrefix seat.old.list seat.new.list }
     ensures same { seat.new ≡ record seat.old { list = seat.new.list } }
 {
-    // A seat tells of its list where it begins a transaction.
+    // When a seat begins a transaction, its contract states that its list is legal.
     let _ = seat.begin(alloc);
 }

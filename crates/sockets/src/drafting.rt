@@ -14,19 +14,20 @@ use shared::{LineFault, Origin, Seat};
 use std::alloc::Global;
 use std::thread;
 
-/// How often a call that could not read what is published is tried again, at most.
+/// How often a call that could not read what is published is repeated, at most.
 pub const TRIES_AGAIN: u32 = 1000;
 
-/// Why a job comes to no commit.
+/// Why a job does not commit.
 #[derive(Clone, Copy)]
-pub(crate) enum Stop {
+pub enum Stop {
     /// A change is refused, or what is published could not be read.
     Refused,
+    /// Out of memory.
     Memory,
 }
 
-/// The transaction that these changes make, on the newest version that is published or a newer one that
-/// the seat has seen.
+/// The transaction that these changes make, on the newest published version or a newer one that the
+/// seat has seen.
 pub(crate) fn drafted<L: Origin>(
     alloc: Global,
     seat: &mut Seat<L>,
@@ -39,13 +40,16 @@ pub(crate) fn drafted<L: Origin>(
 {
     let mut transaction = begun(alloc, seat)?;
     for change in changes {
-        make(seat, &mut transaction, change)?;
+        make_change(seat, &mut transaction, change)?;
     }
     Ok(transaction)
 }
 
-/// Begins a transaction, and tries again if what is published cannot be entered.
-fn begun<L: Origin>(alloc: Global, seat: &mut Seat<L>) -> Result<Transaction, Stop>
+/// Begins a transaction on the newest version that is published, or on a newer one that the seat has seen,
+/// and tries again up to 1000 times if what is published cannot be entered. It has no entries.
+///
+/// Fails with `Refused` if it never could be.
+pub fn begun<L: Origin>(alloc: Global, seat: &mut Seat<L>) -> Result<Transaction, Stop>
     ensures legal { IsJournaled L.workers (shape_of L.schema) seat.new.list }
     ensures later { IsPrefix seat.old.list seat.new.list }
     ensures same { seat.new ≡ record seat.old { list = seat.new.list } }
@@ -63,9 +67,12 @@ fn begun<L: Origin>(alloc: Global, seat: &mut Seat<L>) -> Result<Transaction, St
     }
 }
 
-/// Makes a change, and tries again if what is published cannot be read. A refusal leaves the transaction
-/// as it was.
-fn make<L: Origin>(
+/// Makes a change in a transaction, and tries again up to 1000 times if what is published cannot be
+/// read.
+///
+/// Fails with `Refused` if the change is refused or what is published could never be read, and with
+/// `Memory`. A refusal leaves the transaction unchanged.
+pub fn make_change<L: Origin>(
     seat: &mut Seat<L>,
     transaction: &mut Transaction,
     change: &Change,
@@ -111,7 +118,7 @@ fn make_once<L: Origin>(
     }
 }
 
-/// What a change that is not tried again means for its job.
+/// The outcome for the job of a change that is not tried again.
 fn told(made: Result<(), LineFault>) -> Result<(), Stop>
     ensures { OnOk result (made ≡ Ok tt) }
 {

@@ -1,4 +1,4 @@
-//! What is done once all workers of a crew have ended.
+//! What is done after all workers of a crew have ended.
 
 ghost use Rattle.std.specs.Prelude.{◌≡◌, ◌<◌, ◌≤◌, [], length, All, IfOk, MatchBool, MatchOption, vec_capacity, replicate};
 ghost use Rattle.std.specs.List.{Any};
@@ -15,7 +15,7 @@ use crate::worker::Worker;
 use shared::Origin;
 use std::alloc::{AllocError, Global};
 
-/// Has all seats meet: the first has then seen all that any of them has.
+/// Lets all seats meet: the first has then seen everything that any of them has seen.
 pub(crate) fn meet_all<L: Origin>(crew: &mut [Worker<L>])
     requires { All (λ worker. IsJournaled L.workers (shape_of L.schema) worker.seat.list) crew.old }
     ensures met { EachMet L.workers (shape_of L.schema) crew.old crew.new }
@@ -28,7 +28,7 @@ pub(crate) fn meet_all<L: Origin>(crew: &mut [Worker<L>])
     meet_first(&mut front[0], others);
 }
 
-/// Has the first worker's seat meet each other one.
+/// Lets the first worker's seat meet each of the others.
 fn meet_first<L: Origin>(first: &mut Worker<L>, others: &mut [Worker<L>])
     requires { IsJournaled L.workers (shape_of L.schema) first.old.seat.list }
     ensures first { HasMet L.workers (shape_of L.schema) first.old first.new }
@@ -62,7 +62,7 @@ fn is_ended_by<L: Origin>(crew: &[Worker<L>], fault: WorkersFault) -> bool
     crew.iter().any(|worker| worker.fault() == Some(fault))
 }
 
-/// So many zeros. Fails only when out of memory.
+/// This many zeros. Fails only if out of memory.
 pub(crate) fn zeros(alloc: Global, count: usize) -> Result<Vec<usize>, AllocError>
     ensures { IfOk result (λ zeros. zeros.items ≡ replicate count 0) }
 {

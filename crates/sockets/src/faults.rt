@@ -5,29 +5,31 @@ use thiserror::Error;
 /// Why a call on a port failed. The port has counted it.
 #[derive(Clone, Copy, Debug, PartialEq, Eq, Error)]
 pub enum PortFault {
-    /// The device could not say whether a datagram came, or could not hand it over.
+    /// The device could not report whether a datagram arrived, or could not hand it over.
     #[error("a datagram could not be received")]
     Receive,
-    /// The device did not take the datagram, or took it for some of its addresses alone; it may be lost.
+    /// The device did not take the datagram, or took it for only some of its addresses; it may be
+    /// lost.
     #[error("a datagram could not be sent")]
     Send,
 }
 
-/// Why a node serves no longer.
+/// Why a node stops serving.
 #[derive(Clone, Copy, Debug, PartialEq, Eq, Error)]
 pub enum ServeFault {
     /// The port failed at a receive; it has counted that.
     #[error("a datagram could not be received")]
     Socket,
-    /// The replica is broken: what came is not of one list of commits, or it was out of memory while it
-    /// applied commits. It has to be started anew, with another boot number.
+    /// The replica is broken: what arrived is not of one list of commits, or it ran out of memory
+    /// while it applied commits. It has to be restarted, with another boot number.
     #[error("the replica is broken")]
     Broken,
     #[error("out of memory")]
     Memory,
 }
 
-/// Why workers ended before their last job, or did not begin: the first that stands, in this order.
+/// Why workers ended before their last job, or did not begin: the first that applies, in this
+/// order.
 #[derive(Clone, Copy, Debug, PartialEq, Eq, Error)]
 pub enum WorkersFault {
     /// The journal did not take the commits of a flush, or has failed before.

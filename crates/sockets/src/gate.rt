@@ -1,18 +1,19 @@
-//! Who is told of each commit.
+//! What is notified of each commit.
 
-/// Who is told, in the worker's own thread, of each commit before it and after it, and may hold the
-/// worker there. A job of which a change is refused comes to no commit, and the gate is not told of it.
-/// Where no thread can be made, workers go one after the other: a gate that holds one has to let it go by
-/// itself in the end.
+/// It is notified, in the worker's own thread, before and after each commit, and may block the
+/// worker there. A job with a refused change does not commit, and the gate is not notified of it.
+/// If no thread can be made, the workers run one after the other: a gate that blocks one has to
+/// release it by itself eventually.
 pub trait Gate {
-    /// A worker is about to commit the job of that index.
+    /// A worker is about to commit the job with that index.
     fn before(&self, worker: u8, job: usize);
 
-    /// The commit of the job of that index was answered, whatever the answer. It is not durable yet.
+    /// The commit of the job with that index was answered, whatever the answer. It is not durable
+    /// yet.
     fn answered(&self, worker: u8, job: usize);
 }
 
-/// A gate that holds nobody.
+/// A gate that never blocks.
 #[derive(Clone, Copy, Debug)]
 pub struct OpenGate;
 

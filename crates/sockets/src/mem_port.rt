@@ -10,17 +10,17 @@ use std::alloc::{AllocError, Global};
 use std::marker::Model;
 use wire::Out;
 
-/// A port in memory: it hands out the datagrams that it was given, in order, and keeps what it is to
-/// send. It never waits. One of its calls can be told to fail. It is honest.
+/// A port in memory: it hands out the datagrams that it was given, in order, and keeps what it is
+/// to send. It never waits. One of its calls can be made to fail. It is honest.
 ///
-/// Contracts see the datagrams that it has handed out, those that it has still to hand out, what was
-/// sent, and its faults.
+/// Contracts see the datagrams that it has handed out, those that it has still to hand out, what
+/// was sent, and its faults.
 #[derive(Debug, Drop)]
 pub struct MemPort {
     datagrams: Vec<ByteList>,
     handed_out: usize,
     sent: Vec<Out>,
-    /// How many calls are still to succeed before one fails; the greatest number where none is to.
+    /// How many calls still succeed before one fails; the greatest number if none is to fail.
     calls_before_fault: u64,
     faults: u64,
 }
@@ -42,7 +42,7 @@ impl Model for MemPort {
 }
 
 impl MemPort {
-    /// A port to which nothing came, none of whose calls fails. Takes no memory.
+    /// A port without arrived datagrams, none of whose calls fails. Takes no memory.
     pub fn new(alloc: Global) -> MemPort
         ensures { result ≡ record { came = []; coming = []; sent = []; faults = 0 } }
     {
@@ -55,15 +55,15 @@ impl MemPort {
         }
     }
 
-    /// Has one receive or send fail: the one that comes after so many others. Takes no memory.
+    /// Makes one receive or send fail: the one after this many others. Takes no memory.
     pub fn fail_after(&mut self, calls: u64)
         ensures { self.new ≡ self.old }
     {
         self.calls_before_fault = calls;
     }
 
-    /// Puts a datagram behind those that are still to be handed out; one of 1,201 bytes stands for all
-    /// that are longer than a good one. Fails only when out of memory, and then nothing has changed.
+    /// Adds a datagram to those that are still to be handed out; one of 1,201 bytes represents all
+    /// that are too long. Fails only if out of memory.
     pub fn deliver(&mut self, datagram: ByteList) -> Result<(), AllocError>
         requires { length datagram ≤ datagram_max + 1 }
         ensures ok { OnOk result (self.new ≡ record self.old { coming = self.old.coming ++ datagram ∷ [] }) }
@@ -79,7 +79,7 @@ impl MemPort {
         self.sent.as_slice()
     }
 
-    /// Whether this call is to fail.
+    /// Whether this call has to fail.
     fn is_to_fail(&mut self) -> bool
         ensures { self.new ≡ self.old }
     {
@@ -115,7 +115,7 @@ impl Port for MemPort {
         Ok(Some(len))
     }
 
-    /// Keeps the datagram. It also fails when out of memory for that.
+    /// Keeps the datagram. It also fails if out of memory for that.
     fn send(&mut self, out: Out) -> Result<(), PortFault> {
         if self.is_to_fail() || self.sent.push(out).is_err() {
             self.faults += 1;

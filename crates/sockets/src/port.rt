@@ -10,7 +10,7 @@ ghost use Rattle.sockets.specs.declared.faults.PortFault.TheVariants.{Receive, S
 use crate::faults::PortFault;
 use wire::Out;
 
-/// Whether a receive may wait for a datagram that has not come yet.
+/// Whether a receive may wait for a datagram that has not arrived yet.
 #[derive(Clone, Copy, Debug, PartialEq, Eq)]
 pub enum Patience {
     /// It waits at most 10 ms.
@@ -19,12 +19,13 @@ pub enum Patience {
     Takes,
 }
 
-/// What receives datagrams and sends them.
+/// The interface to a device that receives and sends datagrams.
 ///
-/// Contracts see the datagrams that it has handed out, those that it has sent, how many faults there
-/// were, and whether ports of its type are honest: whether these lists are what its calls say. No
-/// contract can know that of a socket, so none counts as honest. A fault is counted, and comes only
-/// where the count grew. No call is made once as many faults are counted as 64 bits can count.
+/// Contracts see the datagrams that it has handed out, those that it has sent, how many faults
+/// there were, and whether ports of its type are honest: whether these lists are what its calls
+/// say. No contract can know that of a socket, so none counts as honest. Each fault is counted: a
+/// call fails with one only if the count grew. No call is made after as many faults are counted as
+/// 64 bits can count.
 pub trait Port {
     ghost use Rattle.std.specs.Prelude.{ℕ, List, Bool};
     ghost use Rattle.wire.specs.declared.out.Out.{Out};
@@ -41,9 +42,10 @@ pub trait Port {
     /// Whether the two lists are what the calls say.
     ghost is_honest: { Bool };
 
-    /// Receives one datagram, if one came: puts its bytes at the front of the buffer, and answers how
-    /// many there are, which may be none. Of one that is longer than the buffer the front is taken, so
-    /// the buffer has room for a byte more than any good datagram has. `None`: none came.
+    /// Receives one datagram, if one arrived: puts its bytes at the front of the buffer, and
+    /// answers their number, which may be 0. Of a datagram that is longer than the buffer, the
+    /// front is taken, so the buffer has to be one byte longer than any good datagram. `None`: none
+    /// arrived.
     ///
     /// Fails with `Receive`, and then no datagram was handed out.
     fn recv(&mut self, buffer: &mut [u8], patience: Patience) -> Result<Option<usize>, PortFault>

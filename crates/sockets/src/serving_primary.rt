@@ -1,4 +1,4 @@
-//! A primary that serves: it pushes what is durable to its replicas, and answers what comes.
+//! A serving primary: it pushes what is durable to its replicas, and answers what arrives.
 
 ghost use Rattle.std.specs.Prelude.{◌≡◌, ◌<◌, ◌≤◌, ◌⊎◌, [], length, Some, IfOk, IfErr, IsTrue};
 ghost use Rattle.rows.specs.Limits.{datagram_max, workers_max};
@@ -17,19 +17,20 @@ use std::sync::Wait;
 use wire::{Out, To};
 
 /// How many frames are pushed in a turn, at most, over all workers.
-const TURN_PUSHES: usize = 64;
+const TURN_PUSHES: usize = 1024;
 
 /// How many frames of one worker are pushed in a turn, at most.
-const WORKER_PUSHES: usize = 16;
+const WORKER_PUSHES: usize = 256;
 
-/// Serves until the turns are used up; `None` turns have no end. `counters` has for each worker the seq of
-/// the first frame that was not pushed yet, at first 0; another call goes on where this one stopped.
+/// Serves until the turns are used up; `None` means no limit. For each worker, `counters` has the
+/// seq of the first frame that was not pushed yet, initially 0; another call continues where this
+/// one stopped.
 ///
-/// In a turn it pushes the next durable frames of each worker, 64 at most, to all replicas, each once;
-/// then it answers what comes, for which it waits at most 10 ms with nothing coming. A datagram for which
-/// there is no memory is as one that was lost, and so is one that cannot be sent.
+/// In a turn it first pushes the next durable frames of each worker, 1024 at most, to all replicas,
+/// each once; then it answers what arrives, and waits at most 10 ms while nothing does. A datagram
+/// for which there is no memory counts as lost, and so does one that cannot be sent.
 ///
-/// It also ends where the port has counted as many faults as it can. Fails with `Socket` where a receive
+/// It also ends if the port has counted as many faults as it can. Fails with `Socket` if a receive
 /// failed; it may be called again.
 pub fn serve_primary<L: Origin, J: JournalStore, H: Wait + Drop, P: Port, R: Wait>(
     rt: &R,
@@ -81,7 +82,7 @@ fn push_all<L: Origin, J: JournalStore, H: Wait + Drop, P: Port, R: Wait>(
     }
 }
 
-/// How many frames of each worker are pushed in a turn, at most, where there are so many workers.
+/// How many frames of each worker are pushed in a turn, at most, with this many workers.
 fn pushes_of_each(workers: usize) -> usize {
     if workers <= TURN_PUSHES / WORKER_PUSHES {
         WORKER_PUSHES
@@ -90,8 +91,8 @@ fn pushes_of_each(workers: usize) -> usize {
     }
 }
 
-/// Pushes the frames of a worker from a seq on, so many at most, and answers the first seq that was not
-/// pushed.
+/// Pushes at most this many frames of a worker from a seq on, and answers the first seq that was
+/// not pushed.
 fn push_worker<L: Origin, J: JournalStore, H: Wait + Drop, P: Port, R: Wait>(
     rt: &R,
     line: &Line<L, J, H>,
@@ -115,8 +116,8 @@ fn push_worker<L: Origin, J: JournalStore, H: Wait + Drop, P: Port, R: Wait>(
     seq
 }
 
-/// Pushes a frame, and answers whether there was one. None is pushed whose seq is the last of 64 bits,
-/// which no stream has.
+/// Pushes a frame, and answers whether there was one. Never pushes the frame whose seq is the
+/// greatest 64-bit number, which no stream has.
 fn push<L: Origin, J: JournalStore, H: Wait + Drop, P: Port, R: Wait>(
     rt: &R,
     line: &Line<L, J, H>,
@@ -136,7 +137,8 @@ fn push<L: Origin, J: JournalStore, H: Wait + Drop, P: Port, R: Wait>(
     match line.push(rt, seat, worker, seq) {
         Ok(Some(packet)) => {
             let to = To::Replicas;
-            // One that could not be sent is lost, as it may be on its way; the replicas ask for it.
+            // One that could not be sent is lost, as it may be on its way; the replicas will ask
+            // for it.
             let _ = port.send(Out { to, packet });
             true
         }
@@ -145,7 +147,7 @@ fn push<L: Origin, J: JournalStore, H: Wait + Drop, P: Port, R: Wait>(
     }
 }
 
-/// Receives and answers what comes: it waits for the first datagram alone.
+/// Receives and answers what arrives: it waits only for the first datagram.
 fn hear_all<L: Origin, J: JournalStore, H: Wait + Drop, P: Port, R: Wait>(
     rt: &R,
     line: &Line<L, J, H>,
@@ -171,7 +173,7 @@ fn hear_all<L: Origin, J: JournalStore, H: Wait + Drop, P: Port, R: Wait>(
     Ok(())
 }
 
-/// Receives one datagram and answers it; says whether one came.
+/// Receives one datagram and answers it; answers whether one arrived.
 fn hear<L: Origin, J: JournalStore, H: Wait + Drop, P: Port, R: Wait>(
     rt: &R,
     line: &Line<L, J, H>,
@@ -202,8 +204,8 @@ fn hear<L: Origin, J: JournalStore, H: Wait + Drop, P: Port, R: Wait>(
     }
 }
 
-/// Sends datagrams, in their order. Those that come after the port has counted as many faults as it can
-/// are lost.
+/// Sends datagrams, in their order. Those after the port has counted as many faults as it can are
+/// lost.
 fn send_all<P: Port>(port: &mut P, outs: Vec<Out>)
     ensures { SendsAll P.is_honest P.came P.sent P.fault_count port.old port.new outs.items }
 {

@@ -1,4 +1,4 @@
-//! A replica that serves: it takes queries from a queue, asks, receives, and reports.
+//! A serving replica: it takes queries from a queue, asks, receives, and reports.
 
 ghost use Rattle.std.specs.Prelude.{◌≡◌, ◌<◌, ◌⊎◌, [], length, true, None, Some, Err, IfOk, IfErr};
 ghost use Rattle.rows.specs.Limits.{datagram_max};
@@ -12,7 +12,7 @@ ghost use Rattle.sockets.specs.declared.faults.ServeFault.TheVariants.{Broken};
 
 use crate::faults::ServeFault;
 use crate::port::{Patience, Port};
-use crate::turns::{BUFFER_LEN, ROUND_DATAGRAMS, TURN_ROUNDS, take_turn};
+use crate::turns::{AWAITING_DATAGRAMS, BUFFER_LEN, ROUND_DATAGRAMS, TURN_ROUNDS, take_turn};
 use dispatcher::{AskFault, Got, OpenFault, ReplicaCore, Run};
 use plans::Plan;
 use queue::{Pass, QueryQueue};
@@ -21,20 +21,23 @@ use std::alloc::Global;
 use std::marker::Sync;
 use std::sync::Wait;
 use store::ApplyStore;
+use wire::{Datagram, read};
 
-/// Serves until a batch is answered, whose report it gives, or until the turns are used up; `None` turns
-/// have no end. It may be called again and goes on where it stopped.
+/// Serves until a batch is answered, and gives its report, or until the turns are used up; `None`
+/// means no limit. It may be called again and continues where it stopped.
 ///
-/// In a turn it asks while nothing was fetched for the batch, or takes the queries of the queue for a new
-/// batch where there is none, of which one that does not fit the schema is dropped; runs the batch, and
-/// sends the Want of a frame that is missing; and receives, for which it waits at most 10 ms with nothing
-/// coming. A Want that was answered in full is followed by the next in the same turn. A datagram for which
-/// there is no memory is as one that was lost, and so is one that cannot be sent.
+/// In a turn it asks while nothing is fetched for the batch; or, if there is no batch, it takes the
+/// queries of the queue for a new one, and drops those that do not fit the schema. It then runs the
+/// batch, and sends the Want of a missing frame. Then it receives, and waits at most 10 ms while
+/// nothing arrives. A Want is followed by the next one in the same turn once the last frame of its
+/// answer has arrived, and not before, unless that is late.
+/// A datagram for which there is no memory counts as lost, and so does one that cannot be sent.
 ///
-/// It also ends without a report where the replica's request is the last of 64 bits, or the port has
-/// counted as many faults as it can. Fails with `Socket` where a receive failed; with `Broken` where the
-/// replica is broken; with `Memory` where the queries could not be taken or opened, some of which are then
-/// dropped, or the batch could not be answered; it stands, and the call may be made again.
+/// It also ends without a report if the replica's request number is the greatest of 64 bits, or the
+/// port has counted as many faults as it can. Fails with `Socket` if a receive failed; with
+/// `Broken` if the replica is broken; with `Memory` if the queries could not be taken or opened,
+/// some of which are then dropped, or if the batch could not be answered: the batch is then still
+/// there, and the call may be repeated.
 pub fn serve_replica<S: ApplyStore + Sync, P: Port, R: Wait>(
     rt: &R,
     alloc: Global,
@@ -153,17 +156,18 @@ fn offer_all<S: ApplyStore + Sync>(
     Ok(())
 }
 
-/// What a run of the batch came to.
+/// The outcome of a run of the batch.
 #[derive(Debug, Drop)]
 enum Ran {
     /// The report.
     Answered(ByteList),
-    /// There is none yet. The first datagram is waited for, and those behind it with this patience.
+    /// There is none yet. The first datagram is waited for, and the others are received with this
+    /// patience.
     Hears(Patience),
 }
 
-/// Runs the batch and receives, round after round, until it is answered or nothing came in a round that
-/// would have had more.
+/// Runs the batch and receives, round after round, until the batch is answered or nothing arrived
+/// in a round that could have had more.
 fn run_and_hear<S: ApplyStore + Sync, P: Port>(
     replica: &mut ReplicaCore<S>,
     port: &mut P,
@@ -174,13 +178,14 @@ fn run_and_hear<S: ApplyStore + Sync, P: Port>(
         (failures result) (handed result) }
     ensures broken { IfErr result (λ fault. fault ≡ Broken → replica.new.broken ≡ true) }
 {
+    let mut last = None;
     for _ in 0..TURN_ROUNDS {
-        let patience = match run(replica, port) {
+        let patience = match run(replica, port, &mut last) {
             Ok(Ran::Answered(report)) => return Ok(Some(report)),
             Ok(Ran::Hears(patience)) => patience,
             Err(fault) => return Err(fault),
         };
-        match hear_round(replica, port, buffer, patience) {
+        match hear_round(replica, port, buffer, patience, last) {
             Ok(true) => {}
             Ok(false) => return Ok(None),
             Err(fault) => return Err(fault),
@@ -189,21 +194,25 @@ fn run_and_hear<S: ApplyStore + Sync, P: Port>(
     Ok(None)
 }
 
-/// Runs the batch, and sends the Want of a frame that is missing.
+/// Runs the batch, and sends the Want of a frame that is missing; `last` is then the last frame of its
+/// answer.
 fn run<S: ApplyStore + Sync, P: Port>(
     replica: &mut ReplicaCore<S>,
     port: &mut P,
+    last: &mut Option<(u8, u64)>,
 ) -> Result<Ran, ServeFault>
     ensures steps { Steps P.is_honest P.came P.sent P.fault_count port.old port.new replica.old replica.new 0 (report_in result) }
     ensures no_failure { failures result ≡ 0 }
     ensures broken { IfErr result (λ fault. fault ≡ Broken → replica.new.broken ≡ true) }
 {
+    *last = None;
     if port.faults() == u64::MAX {
         return Ok(Ran::Hears(Patience::Takes));
     }
     match replica.run() {
         Run::Answered(report) => Ok(Ran::Answered(report)),
-        Run::Waiting { want, .. } => {
+        Run::Waiting { worker, seq, want } => {
+            *last = Some((worker, seq.saturating_add(ROUND_DATAGRAMS as u64 - 1)));
             // One that could not be sent is lost, as it may be on its way; it is sent again in the next turn.
             let _ = port.send(want);
             Ok(Ran::Hears(Patience::Waits))
@@ -216,23 +225,36 @@ fn run<S: ApplyStore + Sync, P: Port>(
     }
 }
 
-/// Receives as many datagrams as answer one Want, and answers whether so many came. It waits for the
-/// first; for the others as it is told.
+/// Receives until the last frame of a Want's answer has arrived, but no more than so many datagrams
+/// that the answer must be late; without a Want, as many datagrams as one would bring. Answers false
+/// if nothing arrived any more. It waits for the first datagram, and receives the others with the
+/// given patience.
+///
+/// So a Want follows another only if that one was answered, or its answer is late. To count all
+/// datagrams would not do: every 16 pushed frames would cause one more Want, which brings 16 frames
+/// more, until the primary has no time for anything but Wants of old frames.
 fn hear_round<S: ApplyStore + Sync, P: Port>(
     replica: &mut ReplicaCore<S>,
     port: &mut P,
     buffer: &mut [u8],
     then: Patience,
+    last: Option<(u8, u64)>,
 ) -> Result<bool, ServeFault>
     requires room { datagram_max < length buffer.old }
     ensures steps { Steps P.is_honest P.came P.sent P.fault_count port.old port.new replica.old replica.new (failures result) [] }
     ensures broken { IfErr result (λ fault. fault ≡ Broken → replica.new.broken ≡ true) }
 {
+    let most = if last.is_some() {
+        AWAITING_DATAGRAMS
+    } else {
+        ROUND_DATAGRAMS
+    };
     let mut patience = Patience::Waits;
-    for _ in 0..ROUND_DATAGRAMS {
-        match hear(replica, port, buffer, patience) {
-            Ok(true) => {}
-            Ok(false) => return Ok(false),
+    for _ in 0..most {
+        match hear(replica, port, buffer, patience, last) {
+            Ok(Heard::Datagram) => {}
+            Ok(Heard::Last) => return Ok(true),
+            Ok(Heard::Nothing) => return Ok(false),
             Err(fault) => return Err(fault),
         }
         patience = then;
@@ -240,26 +262,49 @@ fn hear_round<S: ApplyStore + Sync, P: Port>(
     Ok(true)
 }
 
-/// Receives one datagram, and answers whether one came.
+/// The outcome of a receive.
+#[derive(Debug)]
+enum Heard {
+    /// Nothing arrived.
+    Nothing,
+    /// A datagram.
+    Datagram,
+    /// The last frame of the answer to a Want.
+    Last,
+}
+
+/// Receives one datagram. `last` is the last frame of the answer to a Want, as its worker and seq.
 fn hear<S: ApplyStore + Sync, P: Port>(
     replica: &mut ReplicaCore<S>,
     port: &mut P,
     buffer: &mut [u8],
     patience: Patience,
-) -> Result<bool, ServeFault>
+    last: Option<(u8, u64)>,
+) -> Result<Heard, ServeFault>
     requires room { datagram_max < length buffer.old }
     ensures steps { Steps P.is_honest P.came P.sent P.fault_count port.old port.new replica.old replica.new (failures result) [] }
     ensures broken { IfErr result (λ fault. fault ≡ Broken → replica.new.broken ≡ true) }
 {
     if port.faults() == u64::MAX {
-        return Ok(false);
+        return Ok(Heard::Nothing);
     }
     match port.recv(buffer, patience) {
         Ok(Some(len)) => match replica.on_bytes(&buffer[..len]) {
             Got::Broken => Err(ServeFault::Broken),
-            _ => Ok(true),
+            _ => Ok(taken_for(&buffer[..len], last)),
         },
-        Ok(None) => Ok(false),
+        Ok(None) => Ok(Heard::Nothing),
         Err(_) => Err(ServeFault::Socket),
+    }
+}
+
+/// What these bytes are to a replica that awaits this frame.
+fn taken_for(bytes: &[u8], last: Option<(u8, u64)>) -> Heard {
+    let Some((of, end)) = last else {
+        return Heard::Datagram;
+    };
+    match read(bytes) {
+        Ok(Datagram::Frame { worker, seq, .. }) if worker == of && seq == end => Heard::Last,
+        _ => Heard::Datagram,
     }
 }

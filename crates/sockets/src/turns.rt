@@ -1,19 +1,23 @@
-//! The turns of a serve call, and how much one does.
+//! The turns of a serve call, and the work of one turn.
 
 ghost use Rattle.std.specs.Prelude.{◌≡◌, Some, false};
 ghost use Rattle.sockets.specs.Serving.{TurnsLeft};
 
 use rows::limits::DATAGRAM_MAX;
 
-/// One byte more than a datagram has, so that a longer one is not taken for its front.
+/// One byte more than the longest datagram, so that a longer one is not mistaken for its front.
 pub const BUFFER_LEN: usize = DATAGRAM_MAX + 1;
 
 /// How many datagrams are received in a row, at most, before a node does something else: as many as
 /// answer one Want.
 pub const ROUND_DATAGRAMS: usize = 16;
 
-/// How many rounds of receives a turn has, at most. All of them take no more than the receive buffer of a
-/// socket holds.
+/// How many datagrams are received, at most, while the last frame of the answer to a Want is awaited:
+/// pushed frames arrive between those of the answer.
+pub const AWAITING_DATAGRAMS: usize = 256;
+
+/// How many rounds of receives a turn has, at most. Together they take no more datagrams than the
+/// receive buffer of a socket holds.
 pub const TURN_ROUNDS: usize = 4;
 
 /// Uses up one turn, if one is left; `None` is no limit.

@@ -18,10 +18,10 @@ use wire::{Out, To};
 /// How long a receive waits, at most, in milliseconds.
 const WAIT_MILLIS: u64 = 10;
 
-/// A UDP socket, the addresses that datagrams go to, and what waits for the socket.
+/// A UDP socket, the addresses to which datagrams go, and what waits for the socket.
 ///
-/// Contracts see how many faults there were. No contract says which datagrams come or go, nor to which
-/// addresses.
+/// Contracts see how many faults there were. No contract states which datagrams arrive or are sent,
+/// nor to which addresses.
 #[derive(Drop)]
 pub struct UdpPort {
     socket: UdpSocket,
@@ -30,7 +30,7 @@ pub struct UdpPort {
     primary: Option<SocketAddr>,
     replicas: Vec<SocketAddr>,
     faults: u64,
-    /// The newest of them, as the system said it.
+    /// The newest fault, in the system's words.
     last_fault: Option<io::Error>,
 }
 
@@ -45,10 +45,11 @@ impl Model for UdpPort {
 }
 
 impl UdpPort {
-    /// A socket on an address, and where the primary is and each replica, in the order of their numbers;
-    /// what is to go where no address is known is dropped. Port 0 has the system choose one.
+    /// A socket on an address, with the address of the primary and those of the replicas, in the
+    /// order of their numbers; a datagram to an unknown address is dropped. With port 0 the system
+    /// chooses one.
     ///
-    /// Fails where the system refuses the socket, and when out of memory.
+    /// Fails if the system refuses the socket, or if out of memory.
     pub fn bind<N: Net>(
         net: &N,
         alloc: Global,
@@ -58,7 +59,7 @@ impl UdpPort {
     ) -> io::Result<UdpPort>
         ensures { IfOk result (λ port. port ≡ 0) }
     {
-        // The socket is never connected to an address: a connected one would fail at a receive where
+        // The socket is never connected to an address: a connected one would fail at a receive if
         // nobody listens at the other end.
         let mut socket = UdpSocket::bind(net, listen)?;
         let poll = Poll::new(net)?;
@@ -76,21 +77,21 @@ impl UdpPort {
         })
     }
 
-    /// The address that the socket is bound to: its port is known only now where 0 was asked for. Fails
-    /// where the system does not tell.
+    /// The address to which the socket is bound: if port 0 was asked for, its port is known only
+    /// now. Fails if the system does not report it.
     pub fn local_addr(&self) -> io::Result<SocketAddr> {
         self.socket.local_addr()
     }
 
-    /// Names the addresses of the replicas anew, in the order of their numbers. Takes no memory.
+    /// Replaces the addresses of the replicas, in the order of their numbers. Takes no memory.
     pub fn set_replicas(&mut self, replicas: Vec<SocketAddr>)
         ensures { self.new ≡ self.old }
     {
         self.replicas = replicas;
     }
 
-    /// Why the newest call that failed did, in the system's words; `None` exactly while none has failed.
-    /// Takes no memory.
+    /// Why the newest failed call failed, in the system's words; `None` exactly while none has
+    /// failed. Takes no memory.
     pub fn last_fault(&self) -> Option<io::Error>
         ensures { is_some result ≡ nat_lt 0 self.now }
     {
@@ -106,8 +107,8 @@ impl UdpPort {
         self.last_fault = Some(error);
     }
 
-    /// Sends bytes to each address that a datagram is for; to none where none is known. One address that
-    /// fails keeps it from no other; the last error is told.
+    /// Sends bytes to each address that a datagram is for; to none if none is known. A failure at
+    /// one address does not keep it from the others; the last error is reported.
     fn send_to_all(&self, out: &Out) -> io::Result<()> {
         let bytes = out.packet.bytes();
         match out.to {
@@ -130,7 +131,7 @@ fn send_to(socket: &UdpSocket, bytes: &[u8], address: SocketAddr) -> io::Result<
     Ok(())
 }
 
-/// Sends bytes to all of these addresses, and tells the last error.
+/// Sends bytes to all of these addresses, and reports the last error.
 fn send_to_each(socket: &UdpSocket, bytes: &[u8], addresses: &[SocketAddr]) -> io::Result<()> {
     let mut ended = Ok(());
     for address in addresses {
@@ -141,8 +142,8 @@ fn send_to_each(socket: &UdpSocket, bytes: &[u8], addresses: &[SocketAddr]) -> i
     ended
 }
 
-/// Takes a datagram that is there. That an earlier datagram was refused on its way is no fault of a
-/// receive, and tells nothing.
+/// Takes a datagram that is there. An error that reports an earlier datagram as refused on its way
+/// is not a fault of a receive, and is ignored.
 fn take(socket: &UdpSocket, buffer: &mut [u8]) -> io::Result<Option<usize>>
     ensures { IfOk result (IsWithin (length buffer.new)) }
 {
@@ -157,8 +158,8 @@ fn take(socket: &UdpSocket, buffer: &mut [u8]) -> io::Result<Option<usize>>
     }
 }
 
-/// Takes a datagram, for which it may wait. It waits only where none is there, since what waits is told
-/// of changes alone.
+/// Takes a datagram, for which it may wait. It waits only if none is there, since the wait is
+/// notified only of changes.
 fn take_or_wait(
     socket: &UdpSocket,
     poll: &mut Poll,
@@ -204,8 +205,8 @@ impl Port for UdpPort {
         }
     }
 
-    /// Sends a datagram to each address that it is for. One that has no address is dropped, which is no
-    /// fault.
+    /// Sends a datagram to each address that it is for. One that has no address is dropped, which
+    /// is not a fault.
     fn send(&mut self, out: Out) -> Result<(), PortFault> {
         match self.send_to_all(&out) {
             Ok(()) => Ok(()),

@@ -18,10 +18,10 @@ use std::alloc::Global;
 use std::marker::Model;
 use std::sync::Wait;
 
-/// A worker: its seat, and how far it came with its jobs.
+/// A worker: its seat, and how many of its jobs it has done.
 ///
-/// Contracts see the seat, the answers of its first jobs, in their order, and why it ended before its
-/// last one, if it did.
+/// Contracts see the seat, the answers of its first jobs, in their order, and why it ended before
+/// its last one, if it did.
 #[derive(Drop)]
 pub struct Worker<L: Origin> {
     seat: Seat<L>,
@@ -49,7 +49,7 @@ impl<L: Origin> Worker<L> {
         }
     }
 
-    /// The answers of its first jobs, in their order, lent: of all, unless it ended by a fault.
+    /// The answers of its first jobs, in their order, lent: of all jobs, unless a fault ended it.
     pub fn answers(&self) -> &[JobAnswer]
         ensures { result.now ≡ self.now.answers }
     {
@@ -63,7 +63,7 @@ impl<L: Origin> Worker<L> {
         self.fault
     }
 
-    /// Its seat; its answers are gone. Takes no memory.
+    /// Its seat; its answers are dropped. Takes no memory.
     pub fn into_seat(self) -> Seat<L>
         ensures { result ≡ self.seat }
     {
@@ -71,8 +71,8 @@ impl<L: Origin> Worker<L> {
         seat
     }
 
-    /// Does the jobs of the worker of that number, in their order, up to the first that a fault ends. What
-    /// it answered before is forgotten. It may wait.
+    /// Does the jobs of the worker of that number, in their order, up to the first one that ends by
+    /// a fault. Earlier answers are forgotten. It may wait.
     pub fn works<J: JournalStore + Drop, R: Wait + Drop, W: Wait, G: Gate>(
         &mut self,
         rt: &W,
@@ -99,7 +99,7 @@ impl<L: Origin> Worker<L> {
         }
     }
 
-    /// Forgets all answers, and has the seat look at what is published.
+    /// Forgets all answers, and lets the seat look at what is published.
     fn ready(&mut self, alloc: Global)
         ensures met { HasMet L.workers (shape_of L.schema) (record self.old { answers = []; fault = None }) self.new }
     {
@@ -108,7 +108,8 @@ impl<L: Origin> Worker<L> {
         look(alloc, &mut self.seat);
     }
 
-    /// Does one job, and keeps its answer. Room for that is taken first, so that no answer is lost.
+    /// Does one job, and keeps its answer. Room for the answer is taken first, so that no answer is
+    /// lost.
     fn does<J: JournalStore + Drop, R: Wait + Drop, W: Wait, G: Gate>(
         &mut self,
         rt: &W,
@@ -135,7 +136,7 @@ impl<L: Origin> Worker<L> {
         Ok(())
     }
 
-    /// Has its seat meet another worker's: both take the longer of their lists. Takes no memory.
+    /// Lets its seat meet another worker's: both take the longer of their lists. Takes no memory.
     pub(crate) fn meets(&mut self, other: &mut Worker<L>)
         ensures one { self.new.seat.list ≡ other.new.seat.list }
         ensures mine { HasMet L.workers (shape_of L.schema) self.old self.new }

@@ -13,21 +13,22 @@ loop-change-preserved g c =
     let shape = shape_of g.L.Line.schema in
     let inv = c.loop-change.invariant in
     let old = c.loop-change.seat.list in
-    let new = c.make.new.seat.list in
-    let kept = change-kept shape new c.loop-change.transaction c.make.new.transaction c.change-item.result c.in_ok-make.ensures.ok in
-    let longer = prefix_length old new c.make.ensures.later in
+    let new = c.make_change.new.seat.list in
+    let kept = change-kept shape new c.loop-change.transaction c.make_change.new.transaction c.change-item.result
+    c.in_ok-make_change.ensures.ok in
+    let longer = prefix_length old new c.make_change.ensures.later in
     let within : c.loop-change.transaction.snapshot ≤ length new = omega (arith, inv.within, longer) in
     record {
-      legal = c.make.ensures.legal;
-      later = prefix_trans c.args.seat.now.list old new inv.later c.make.ensures.later;
-      same = c.make.ensures.same ∙ ap (λ (s : SeatState). record s { list = new }) inv.same;
+      legal = c.make_change.ensures.legal;
+      later = prefix_trans c.args.seat.now.list old new inv.later c.make_change.ensures.later;
+      same = c.make_change.ensures.same ∙ ap (λ (s : SeatState). record s { list = new }) inv.same;
       begun = omega (arith, kept, inv.begun);
       within = omega (arith, kept, within);
       made = (λ all begins.
           ap (λ n. changes_answer shape all (record { snapshot = n; entries = [] }) c.args.changes.now) kept
-          ∙ (inv.made all (prefix_trans old new all c.make.ensures.later begins)
-          ∙ one-more shape new all c.loop-change.transaction c.make.new.transaction c.args.changes.now c.loop-change.change-index
-          c.change-item.result begins within c.loop-change-test.true c.change-item.is c.in_ok-make.ensures.ok));
+          ∙ (inv.made all (prefix_trans old new all c.make_change.ensures.later begins)
+          ∙ one-more shape new all c.loop-change.transaction c.make_change.new.transaction c.args.changes.now c.loop-change.change-index
+          c.change-item.result begins within c.loop-change-test.true c.change-item.is c.in_ok-make_change.ensures.ok));
     }
 
 pub returns-clause-ok : goal.returns-clause-ok
