@@ -1,22 +1,22 @@
 -- The words that the program is called with, and what they ask for.
-use Rattle.std.specs.Prelude.{ℕ, List, [], ◌∷◌, Bool, codes, ◌&&◌, ◌||◌, if◌then◌else◌}
+use Rattle.std.specs.Prelude.{ℕ, List, [], ◌∷◌, Bool, false, codes, ◌&&◌, ◌||◌, if◌then◌else◌}
 use Rattle.std.specs.Str.{bytes_eq}
 use Rattle.world.specs.declared.script_running.Echo.TheVariants as echoes
 use Rattle.batchdb.specs.declared.words.Asked.{Asked}
-use Rattle.batchdb.specs.declared.words.Asked.TheVariants.{Simulator, Help, Version, Other}
+use Rattle.batchdb.specs.declared.words.Asked.TheVariants.{Simulator, Help, Version, Node, Other}
 
 -- whether a word asks for the help, wherever it stands
 abbrev pub is_help : List ℕ → Bool
 is_help word = bytes_eq word (codes "--help") || bytes_eq word (codes "-h")
 
--- what one word asks for, behind the program's own name
+-- what one word asks for, after the program's own name
 abbrev pub asked_by_one : List ℕ → Asked
 asked_by_one word =
     if bytes_eq word (codes "sim") then Simulator echoes.No else
     if bytes_eq word (codes "help") || is_help word then Help else
     if bytes_eq word (codes "--version") || bytes_eq word (codes "-V") then Version else Other
 
--- what a word behind `sim` asks for; `--` ends the words
+-- what a word after `sim` asks for; `--` ends the words
 abbrev pub asked_of_sim : List ℕ → Asked
 asked_of_sim word =
     if bytes_eq word (codes "--echo") then Simulator echoes.Events else
@@ -34,11 +34,22 @@ abbrev pub asked_by_three : List ℕ → List ℕ → List ℕ → Asked
 asked_by_three word next last =
     if bytes_eq word (codes "sim") && bytes_eq next (codes "--echo") && bytes_eq last (codes "--") then Simulator echoes.Events else Other
 
+-- whether the word after the program's own name is that of a node
+abbrev pub is_of_node : List (List ℕ) → Bool
+is_of_node [] = false
+is_of_node (name ∷ []) = false
+is_of_node (name ∷ word ∷ words) =
+    bytes_eq word (codes "primary") || bytes_eq word (codes "replica") || bytes_eq word (codes "demo") || bytes_eq word (codes "journal")
+
+-- what words ask for that are no node's
+abbrev pub asked_besides : List (List ℕ) → Asked
+asked_besides [] = Other
+asked_besides (name ∷ []) = Other
+asked_besides (name ∷ word ∷ []) = asked_by_one word
+asked_besides (name ∷ word ∷ next ∷ []) = asked_by_two word next
+asked_besides (name ∷ word ∷ next ∷ last ∷ []) = asked_by_three word next last
+asked_besides (name ∷ word ∷ next ∷ last ∷ more ∷ words) = Other
+
 -- what words ask for, the first of which is the program's own name
 abbrev pub asked_for : List (List ℕ) → Asked
-asked_for [] = Other
-asked_for (name ∷ []) = Other
-asked_for (name ∷ word ∷ []) = asked_by_one word
-asked_for (name ∷ word ∷ next ∷ []) = asked_by_two word next
-asked_for (name ∷ word ∷ next ∷ last ∷ []) = asked_by_three word next last
-asked_for (name ∷ word ∷ next ∷ last ∷ more ∷ words) = Other
+asked_for words = if is_of_node words then Node else asked_besides words

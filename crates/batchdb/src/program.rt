@@ -2,16 +2,26 @@
 
 ghost use Rattle.std.specs.Prelude.{◌≡◌, ◌≤◌, ◌++◌, ◌∷◌, ℕ, List, [], OnOk, map};
 ghost use Rattle.std.specs.Io.KnownBytes.{Appends, Keeps};
-ghost use Rattle.world.specs.Scripts.{fault_text};
 ghost use Rattle.batchdb.specs.Words.{asked_for};
-ghost use Rattle.batchdb.specs.Status.{fault_status, status_max, HasAnswered, HasRun};
+ghost use Rattle.batchdb.specs.Status.{fault_line, fault_status, status_max, HasAnswered, HasRun, IsUnwritten};
 
+use crate::commands::{Asking, Unasked, read_words};
+use crate::demo::run_demo;
+use crate::journal_file::run_journal;
+use crate::polled_input::PolledInput;
+use crate::primary_program::run_primary;
+use crate::replica_program::run_replica;
 use crate::words::{Asked, asked_for};
+use clap::Error;
 use clap::error::ErrorKind;
-use clap::{Arg, ArgAction, Command, Error};
 use std::alloc::Global;
+use std::fs::File;
 use std::io;
 use std::io::{Read, Write};
+use std::net::Net;
+use std::rt::{Clock, Files};
+use std::sync::Wait;
+use std::thread::Threads;
 use world::{Echo, RunFault, run_script};
 
 /// The work was done.
@@ -24,7 +34,7 @@ const FAILED: u8 = 1;
 const NOT_READ: u8 = 2;
 
 /// What `--version` prints behind the program's name.
-const VERSION: &str = "0.1.0";
+pub const VERSION: &str = "0.2.0";
 
 /// What `--help` prints.
 const HELP: &str = "\
@@ -33,38 +43,80 @@ batchdb: a replicated engine for transactions and analytics
 Usage:
   batchdb sim [--echo] < SCRIPT   runs a script, and prints what each of its events answers;
                                   with --echo each event stands before that, behind \"> \"
+  batchdb primary SCHEMA JOURNAL LISTEN [REPLICA]... [--turns N] [--live] [--say] < JOBS
+                                  does the jobs, and prints a line for each; then serves N turns
+  batchdb replica SCHEMA NUMBER BOOT LISTEN PRIMARY [--turns N] [--live] [--say] < BATCHES
+                                  prints the report of each batch of queries, and ends
+  batchdb demo                    a primary and two replicas in one process
+  batchdb journal SCHEMA JOURNAL [--dump | --cut BYTES [--yes]]
+                                  tells what a journal keeps, prints its commits as jobs, or cuts it
   batchdb --help, batchdb help    prints this
   batchdb --version               prints the version
 
-Example:
+  SCHEMA   a file of settings: workers N, replicas N, and a line for each table
+  JOURNAL  a file, made where there is none
+  LISTEN, REPLICA, PRIMARY
+           an address: a dotted IPv4 address or localhost, a colon, a port; LISTEN may have port 0
+  NUMBER   the replica's number; the n-th REPLICA of the primary, counted from 0, is replica n
+  BOOT     a number that this replica was never started with before, as \"$(date +%s)\"
+  --turns  how often a node looks for datagrams, 10 ms at the most; 1000 if not said, 0 without end.
+           A live primary counts them from the end of its input on, a live replica for each batch
+  --live   jobs or batches are taken as they come, while the node serves
+  --say    says on standard error what the node does
+
+A job that is not answered may be committed, as after Ctrl-C: only a line tells.
+
+Examples:
   batchdb sim --echo < examples/first-commit.script
+  batchdb demo
 
 Exit status:
   0  all was done
-  1  a read or a write failed, or there was too little memory
-  2  the words or the script do not read; no event was run
+  1  a file, a socket, the journal or memory failed, or the replica is broken
+  2  the words, the script, the schema or the input do not read
+  3  the turns are used up, and a batch is not answered
 ";
 
 /// Runs the program with these words, the first of which is its own name, and answers its exit
-/// status: 0, all was done; 1, a read or a write failed, or it is out of memory; 2, the words or
-/// the script do not read, and nothing was written. But for 0 one line on `errors` says why.
-pub fn run_words<R: Read, W: Write, E: Write>(
-    alloc: Global,
-    words: &[&str],
-    reader: &mut R,
-    writer: &mut W,
-    errors: &mut E,
-) -> u8
+/// status: 0, all was done; 1, a file, a socket, a read or a write failed, or it is out of memory, or the
+/// replica is broken; 2, the words, the script, the schema or the input do not read, and but for jobs
+/// that were taken live nothing was done; 3, a node's turns are used up, and a batch is not answered. But
+/// for 0 one line on `errors` says why.
+pub fn run_words<
+    T: Threads + Wait + Net + Files<File = File> + Clock + Sync,
+    R: Read + Send,
+    W: Write + Send,
+    E: Write + Send,
+>(rt: &T, alloc: Global, words: &[&str], reader: &mut R, writer: &mut W, errors: &mut E) -> u8
     ensures status { result ≤ status_max (asked_for (map (λ word. word.now) words.now)) }
     ensures done { result ≡ 0 → HasAnswered (asked_for (map (λ word. word.now) words.now))
         (R.remaining reader.old) (R.remaining reader.new) (W.contents writer.old) (W.contents writer.new) }
-    ensures unwritten { result ≡ 2 → Keeps (W.contents writer.old) (W.contents writer.new) }
+    ensures unwritten { result ≡ 2 → IsUnwritten (asked_for (map (λ word. word.now) words.now))
+        (W.contents writer.old) (W.contents writer.new) }
 {
     match asked_for(words) {
+        Asked::Node => run_node(rt, alloc, words, reader, writer, errors),
         Asked::Simulator(echo) => simulate(alloc, echo, reader, writer, errors),
         Asked::Help => print(HELP, writer, errors),
         Asked::Version => print_version(alloc, writer, errors),
         Asked::Other => answer_other(alloc, words, writer, errors),
+    }
+}
+
+/// Runs the program with these words, which are a live node's, on input that is waited for only for a
+/// moment at a time, so that the node can end while nothing comes.
+pub fn run_live<
+    T: Threads + Wait + Net + Files<File = File> + Clock + Sync,
+    R: Read + Drop + Send,
+    W: Write + Send,
+    E: Write + Send,
+>(rt: &T, alloc: Global, words: &[&str], input: R, writer: &mut W, errors: &mut E) -> u8 {
+    match PolledInput::new(rt, alloc, input) {
+        Ok(mut input) => run_words(rt, alloc, words, &mut input, writer, errors),
+        Err(fault) => {
+            let _ = writeln!(errors, "batchdb: standard input: {fault}");
+            FAILED
+        }
     }
 }
 
@@ -74,7 +126,7 @@ fn print_version<W: Write, E: Write>(alloc: Global, writer: &mut W, errors: &mut
     ensures done { result ≡ 0 → (text : List ℕ) × Appends (W.contents writer.old) (W.contents writer.new) text }
 {
     let Ok(text) = format!(in alloc; "batchdb {VERSION}\n") else {
-        say(errors, "out of memory");
+        say(errors, "batchdb: out of memory");
         return FAILED;
     };
     print(text.as_str(), writer, errors)
@@ -86,7 +138,7 @@ fn print<W: Write, E: Write>(text: &str, writer: &mut W, errors: &mut E) -> u8
     ensures done { result ≡ 0 → Appends (W.contents writer.old) (W.contents writer.new) text.now }
 {
     if writer.write_all(text.as_bytes()).is_err() || writer.flush().is_err() {
-        say(errors, "the output could not be written");
+        say(errors, "batchdb: the output could not be written");
         return FAILED;
     }
     DONE
@@ -105,52 +157,93 @@ fn answer_other<W: Write, E: Write>(
     ensures unwritten { result ≡ 2 → Keeps (W.contents writer.old) (W.contents writer.new) }
 {
     match parse(alloc, words) {
-        Ok(()) => {
+        Ok(_) => {
             say(
                 errors,
-                "error: a word is missing: `sim`; see `batchdb --help`",
+                "batchdb: a word is missing: `sim`, `primary`, `replica`, `demo` or `journal`; see `batchdb --help`",
             );
             NOT_READ
         }
-        Err(answer) => tell(alloc, answer, writer, errors),
+        Err(Unasked::Told(answer)) => tell(alloc, words, answer, writer, errors),
+        Err(Unasked::Wrong(failure)) => failure.tell(errors).min(NOT_READ),
     }
 }
 
-/// Parses the words, and fails with what is to be said of them: help, the version, or what is wrong
-/// with them.
-fn parse(alloc: Global, words: &[&str]) -> Result<(), Error> {
-    let echo = Arg::new(alloc, "echo")
-        .long("echo")
-        .action(ArgAction::SetTrue);
-    let sim = Command::new(alloc, "sim").override_help(HELP).arg(echo)?;
-    let command = Command::new(alloc, "batchdb")
-        .version(VERSION)
-        .override_help(HELP)
-        .subcommand(sim)?;
-    command.try_get_matches_from(words)?;
-    Ok(())
+/// Runs a node.
+fn run_node<
+    T: Threads + Wait + Net + Files<File = File> + Clock + Sync,
+    R: Read + Send,
+    W: Write + Send,
+    E: Write + Send,
+>(rt: &T, alloc: Global, words: &[&str], reader: &mut R, writer: &mut W, errors: &mut E) -> u8
+    ensures { result ≤ 3 }
+{
+    let asking = match parse(alloc, words) {
+        Ok(asking) => asking,
+        Err(Unasked::Told(answer)) => return tell(alloc, words, answer, writer, errors),
+        Err(Unasked::Wrong(failure)) => return failure.tell(errors),
+    };
+    let ended = match asking {
+        Asking::Primary(words) => run_primary(rt, alloc, words, reader, writer, errors),
+        Asking::Replica(words) => run_replica(rt, alloc, &words, reader, writer, errors),
+        Asking::Demo => run_demo(rt, alloc, writer),
+        Asking::Journal(words) => run_journal(rt, alloc, &words, writer),
+        Asking::Nothing => Ok(()),
+    };
+    match ended {
+        Ok(()) => DONE,
+        Err(failure) => failure.tell(errors),
+    }
+}
+
+/// What the words ask for, as far as they are parsed.
+fn parse<'a>(alloc: Global, words: &'a [&'a str]) -> Result<Asking<'a>, Unasked> {
+    read_words(alloc, HELP, VERSION, words)
 }
 
 /// Says what the words are answered with: help and the version on the output, what is wrong with
 /// them in one line on the errors.
-fn tell<W: Write, E: Write>(alloc: Global, answer: Error, writer: &mut W, errors: &mut E) -> u8
+fn tell<W: Write, E: Write>(
+    alloc: Global,
+    words: &[&str],
+    answer: Error,
+    writer: &mut W,
+    errors: &mut E,
+) -> u8
     ensures status { result ≤ 2 }
     ensures done { result ≡ 0 → (text : List ℕ)
         × Appends (W.contents writer.old) (W.contents writer.new) text }
     ensures unwritten { result ≡ 2 → Keeps (W.contents writer.old) (W.contents writer.new) }
 {
     let Some(text) = text_of(alloc, &answer) else {
-        say(errors, "out of memory");
+        say(errors, "batchdb: out of memory");
         return FAILED;
     };
     let text = text.as_str();
     if answer.use_stderr() {
-        // The first line says what is wrong; what follows it is advice.
-        let line = text.split_once('\n').map_or(text, |(line, _)| line);
-        let _ = writeln!(errors, "{line}; see `batchdb --help`");
+        say_wrong(errors, text, hint_of(words));
         return NOT_READ;
     }
     print(text, writer, errors)
+}
+
+/// Writes what is wrong with words, in one line: the first paragraph of a text; what follows that is advice.
+fn say_wrong<E: Write>(errors: &mut E, text: &str, hint: &str) {
+    let front = text.split_once("\n\n").map_or(text, |(front, _)| front);
+    let front = front.strip_prefix("error: ").unwrap_or(front);
+    let _ = write!(errors, "batchdb:");
+    for word in front.split_whitespace() {
+        let _ = write!(errors, " {word}");
+    }
+    let _ = writeln!(errors, "{hint}; see `batchdb --help`");
+}
+
+/// What is said besides of wrong words of the simulator, which is often given a file's name.
+fn hint_of(words: &[&str]) -> &'static str {
+    match words {
+        [_, word, ..] if *word == "sim" => "; a script is read from standard input",
+        _ => "",
+    }
 }
 
 /// What words are answered with, as text; `None` when out of memory, then or now.
@@ -167,11 +260,11 @@ pub fn without_words<E: Write>(fault: io::ErrorKind, errors: &mut E) -> u8
 {
     match fault {
         io::ErrorKind::InvalidData => {
-            say(errors, "error: a word is no text; see `batchdb --help`");
+            say(errors, "batchdb: a word is no text; see `batchdb --help`");
             NOT_READ
         }
         _ => {
-            say(errors, "out of memory");
+            say(errors, "batchdb: out of memory");
             FAILED
         }
     }
@@ -200,11 +293,15 @@ fn simulate<R: Read, W: Write, E: Write>(
     }
 }
 
-/// Writes the line of a fault.
+/// Writes the line of a fault: of a script that does not read its own line, else what failed, behind the
+/// program's name.
 fn say_fault<E: Write>(errors: &mut E, fault: RunFault) -> io::Result<()>
-    ensures { OnOk result (Appends (E.contents errors.old) (E.contents errors.new) (fault_text fault ++ 10 ∷ [])) }
+    ensures { OnOk result (Appends (E.contents errors.old) (E.contents errors.new) (fault_line fault ++ 10 ∷ [])) }
 {
-    writeln!(errors, "{fault}")
+    match fault {
+        RunFault::Script { .. } => writeln!(errors, "{fault}"),
+        RunFault::Read | RunFault::Write | RunFault::Memory => writeln!(errors, "batchdb: {fault}"),
+    }
 }
 
 /// The exit status of a script that was not run to its end.

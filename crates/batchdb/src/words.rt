@@ -1,7 +1,7 @@
 //! What the program's words ask for.
 
 ghost use Rattle.std.specs.Prelude.{◌≡◌, map};
-ghost use Rattle.batchdb.specs.Words.{asked_for, asked_by_one, asked_by_two, asked_by_three, asked_of_sim, is_help};
+ghost use Rattle.batchdb.specs.Words.{asked_for, is_of_node, asked_by_one, asked_by_two, asked_by_three, asked_of_sim, is_help};
 
 use world::Echo;
 
@@ -14,6 +14,8 @@ pub enum Asked {
     Help,
     /// To print the version.
     Version,
+    /// What is a node's, whatever the other words are.
+    Node,
     /// Nothing that the program knows.
     Other,
 }
@@ -22,11 +24,26 @@ pub enum Asked {
 pub fn asked_for(words: &[&str]) -> Asked
     ensures { result ≡ asked_for (map (λ word. word.now) words.now) }
 {
+    if is_of_node(words) {
+        return Asked::Node;
+    }
     match words {
         [_, word] => asked_by_one(word),
         [_, word, next] => asked_by_two(word, next),
         [_, word, next, last] => asked_by_three(word, next, last),
         _ => Asked::Other,
+    }
+}
+
+/// Whether the word behind the program's own name is that of a node.
+fn is_of_node(words: &[&str]) -> bool
+    ensures { result ≡ is_of_node (map (λ word. word.now) words.now) }
+{
+    match words {
+        [_, word, ..] => {
+            *word == "primary" || *word == "replica" || *word == "demo" || *word == "journal"
+        }
+        _ => false,
     }
 }
 

@@ -1,0 +1,14 @@
+-- The line: the name that was just made, and the primary that is handed in.
+use Rattle.batchdb.proofs.demo.named.Given as goal
+
+abbrev pub ghosts-on_line-L-Naming : goal.ghosts-on_line-L-Naming
+ghosts-on_line-L-Naming g a = record { book = a.start.opened.seen.book }
+
+abbrev pub ghosts-on_line-L-Line : goal.ghosts-on_line-L-Line
+ghosts-on_line-L-Line g a = record { schema = a.core.primary.schema; workers = a.core.primary.workers }
+
+abbrev pub ghosts-on_line-L-Ledger : goal.ghosts-on_line-L-Ledger
+ghosts-on_line-L-Ledger g a = record { name = a.start.blank.name; parts = a.start.blank.parts }
+
+abbrev pub ghosts-on_line-L-Origin : goal.ghosts-on_line-L-Origin
+ghosts-on_line-L-Origin g a = record { first = a.core.primary; seats = a.start.seats }

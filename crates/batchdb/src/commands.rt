@@ -1,0 +1,301 @@
+//! The words of the nodes, read.
+
+use crate::addresses::{read_address, read_number};
+use crate::failure::{Failure, Status, shown};
+use clap::{Arg, ArgAction, ArgMatches, Command, Error};
+use std::alloc::{AllocError, Global};
+use std::net::SocketAddr;
+
+/// How many turns a node serves, if the words do not say.
+const TURNS: u64 = 1000;
+
+/// The most turns that may be asked for.
+const TURNS_MAX: u64 = 4_294_967_295;
+
+/// The words of a primary.
+#[derive(Drop)]
+pub struct PrimaryWords<'a> {
+    pub schema: &'a str,
+    pub journal: &'a str,
+    pub listen: SocketAddr,
+    pub replicas: Vec<SocketAddr>,
+    /// `None`: they have no end.
+    pub turns: Option<u64>,
+    /// Whether jobs are taken while it serves.
+    pub is_live: bool,
+    /// Whether it says what it does.
+    pub says: bool,
+}
+
+/// The words of a replica.
+#[derive(Drop)]
+pub struct ReplicaWords<'a> {
+    pub schema: &'a str,
+    pub number: u64,
+    pub boot: u64,
+    pub listen: SocketAddr,
+    pub primary: SocketAddr,
+    /// `None`: they have no end.
+    pub turns: Option<u64>,
+    /// Whether batches are taken while it serves.
+    pub is_live: bool,
+    /// Whether it says what it does.
+    pub says: bool,
+}
+
+/// The words that have a journal looked at.
+#[derive(Drop)]
+pub struct JournalWords<'a> {
+    pub schema: &'a str,
+    pub journal: &'a str,
+    /// Whether its commits are printed.
+    pub dumps: bool,
+    /// How many bytes it is to be cut to.
+    pub cut: Option<u64>,
+    /// Whether it is really cut.
+    pub is_sure: bool,
+}
+
+/// What the words of a node ask for.
+#[derive(Drop)]
+pub enum Asking<'a> {
+    Primary(PrimaryWords<'a>),
+    Replica(ReplicaWords<'a>),
+    Demo,
+    Journal(JournalWords<'a>),
+    /// Nothing: the word of a command is missing, or it is that of the simulator.
+    Nothing,
+}
+
+/// Why words ask for nothing that the program does.
+#[derive(Drop)]
+pub enum Unasked {
+    /// What is to be said of them: help, the version, or what is wrong with them.
+    Told(Error),
+    /// A word that does not read.
+    Wrong(Failure),
+}
+
+/// What these words ask for, the first of which is the program's own name.
+pub fn read_words<'a>(
+    alloc: Global,
+    help: &'a str,
+    version: &'a str,
+    words: &'a [&'a str],
+) -> Result<Asking<'a>, Unasked> {
+    let command = match command_of(alloc, help, version) {
+        Ok(command) => command,
+        Err(_) => return Err(Unasked::Wrong(Failure::Memory)),
+    };
+    let matches = match command.try_get_matches_from(words) {
+        Ok(matches) => matches,
+        Err(error) => return Err(Unasked::Told(error)),
+    };
+    match asked_by(alloc, &matches) {
+        Ok(asking) => Ok(asking),
+        Err(failure) => Err(Unasked::Wrong(failure)),
+    }
+}
+
+/// The commands, and what stands behind each.
+fn command_of<'a>(
+    alloc: Global,
+    help: &'a str,
+    version: &'a str,
+) -> Result<Command<'a>, AllocError> {
+    Command::new(alloc, "batchdb")
+        .version(version)
+        .override_help(help)
+        .subcommand(
+            Command::new(alloc, "sim")
+                .override_help(help)
+                .arg(flag(alloc, "echo"))?,
+        )?
+        .subcommand(primary_command(alloc, help)?)?
+        .subcommand(replica_command(alloc, help)?)?
+        .subcommand(Command::new(alloc, "demo").override_help(help))?
+        .subcommand(journal_command(alloc, help)?)
+}
+
+fn primary_command<'a>(alloc: Global, help: &'a str) -> Result<Command<'a>, AllocError> {
+    Command::new(alloc, "primary")
+        .override_help(help)
+        .arg(word(alloc, "SCHEMA"))?
+        .arg(word(alloc, "JOURNAL"))?
+        .arg(word(alloc, "LISTEN"))?
+        .arg(Arg::new(alloc, "REPLICA").num_args(0..))?
+        .arg(option(alloc, "turns"))?
+        .arg(flag(alloc, "live"))?
+        .arg(flag(alloc, "say"))
+}
+
+fn replica_command<'a>(alloc: Global, help: &'a str) -> Result<Command<'a>, AllocError> {
+    Command::new(alloc, "replica")
+        .override_help(help)
+        .arg(word(alloc, "SCHEMA"))?
+        .arg(word(alloc, "NUMBER"))?
+        .arg(word(alloc, "BOOT"))?
+        .arg(word(alloc, "LISTEN"))?
+        .arg(word(alloc, "PRIMARY"))?
+        .arg(option(alloc, "turns"))?
+        .arg(flag(alloc, "live"))?
+        .arg(flag(alloc, "say"))
+}
+
+fn journal_command<'a>(alloc: Global, help: &'a str) -> Result<Command<'a>, AllocError> {
+    Command::new(alloc, "journal")
+        .override_help(help)
+        .arg(word(alloc, "SCHEMA"))?
+        .arg(word(alloc, "JOURNAL"))?
+        .arg(flag(alloc, "dump"))?
+        .arg(option(alloc, "cut"))?
+        .arg(flag(alloc, "yes"))
+}
+
+/// A word that has to be there.
+fn word<'a>(alloc: Global, name: &'a str) -> Arg<'a> {
+    Arg::new(alloc, name).required(true)
+}
+
+/// A word behind an option.
+fn option<'a>(alloc: Global, name: &'a str) -> Arg<'a> {
+    Arg::new(alloc, name).long(name).action(ArgAction::Set)
+}
+
+/// An option by itself.
+fn flag<'a>(alloc: Global, name: &'a str) -> Arg<'a> {
+    Arg::new(alloc, name).long(name).action(ArgAction::SetTrue)
+}
+
+/// What words that were parsed ask for.
+fn asked_by<'a>(alloc: Global, matches: &ArgMatches<'a>) -> Result<Asking<'a>, Failure> {
+    let Some((name, words)) = matches.subcommand() else {
+        return Ok(Asking::Nothing);
+    };
+    if name == "primary" {
+        return Ok(Asking::Primary(primary_words(alloc, words)?));
+    }
+    if name == "replica" {
+        return Ok(Asking::Replica(replica_words(alloc, words)?));
+    }
+    if name == "journal" {
+        return Ok(Asking::Journal(journal_words(alloc, words)?));
+    }
+    if name == "demo" {
+        return Ok(Asking::Demo);
+    }
+    Ok(Asking::Nothing)
+}
+
+fn primary_words<'a>(alloc: Global, words: &ArgMatches<'a>) -> Result<PrimaryWords<'a>, Failure> {
+    Ok(PrimaryWords {
+        schema: given(alloc, words, "SCHEMA")?,
+        journal: given(alloc, words, "JOURNAL")?,
+        listen: address(alloc, words, "LISTEN")?,
+        replicas: addresses(alloc, words)?,
+        turns: turns(alloc, words)?,
+        is_live: words.get_flag("live"),
+        says: words.get_flag("say"),
+    })
+}
+
+fn replica_words<'a>(alloc: Global, words: &ArgMatches<'a>) -> Result<ReplicaWords<'a>, Failure> {
+    Ok(ReplicaWords {
+        schema: given(alloc, words, "SCHEMA")?,
+        number: number(alloc, words, "NUMBER")?,
+        boot: number(alloc, words, "BOOT")?,
+        listen: address(alloc, words, "LISTEN")?,
+        primary: address(alloc, words, "PRIMARY")?,
+        turns: turns(alloc, words)?,
+        is_live: words.get_flag("live"),
+        says: words.get_flag("say"),
+    })
+}
+
+fn journal_words<'a>(alloc: Global, words: &ArgMatches<'a>) -> Result<JournalWords<'a>, Failure> {
+    let cut = match words.get_str("cut") {
+        Some(_) => Some(number(alloc, words, "cut")?),
+        None => None,
+    };
+    let dumps = words.get_flag("dump");
+    let is_sure = words.get_flag("yes");
+    if dumps && cut.is_some() {
+        return Err(wrong(alloc, "--dump", "not with --cut"));
+    }
+    if is_sure && cut.is_none() {
+        return Err(wrong(alloc, "--yes", "not without --cut"));
+    }
+    Ok(JournalWords {
+        schema: given(alloc, words, "SCHEMA")?,
+        journal: given(alloc, words, "JOURNAL")?,
+        dumps,
+        cut,
+        is_sure,
+    })
+}
+
+/// The word of that name.
+fn given<'a>(alloc: Global, words: &ArgMatches<'a>, name: &str) -> Result<&'a str, Failure> {
+    match words.get_str(name) {
+        Some(word) => Ok(word),
+        None => Err(wrong(alloc, name, "")),
+    }
+}
+
+/// The address of that name.
+fn address(alloc: Global, words: &ArgMatches<'_>, name: &str) -> Result<SocketAddr, Failure> {
+    let word = given(alloc, words, name)?;
+    match read_address(word) {
+        Some(address) => Ok(address),
+        None => Err(wrong(alloc, name, word)),
+    }
+}
+
+/// The addresses of the replicas, in their order.
+fn addresses(alloc: Global, words: &ArgMatches<'_>) -> Result<Vec<SocketAddr>, Failure> {
+    let mut list = Vec::new(alloc);
+    let Some(replicas) = words.get_strs("REPLICA") else {
+        return Ok(list);
+    };
+    for word in replicas {
+        let Some(address) = read_address(word) else {
+            return Err(wrong(alloc, "REPLICA", word));
+        };
+        if list.push(address).is_err() {
+            return Err(Failure::Memory);
+        }
+    }
+    Ok(list)
+}
+
+/// The number of that name.
+fn number(alloc: Global, words: &ArgMatches<'_>, name: &str) -> Result<u64, Failure> {
+    let word = given(alloc, words, name)?;
+    match read_number(word) {
+        Some(number) => Ok(number),
+        None => Err(wrong(alloc, name, word)),
+    }
+}
+
+/// How many turns a node serves; 0 turns stand for turns without an end.
+fn turns(alloc: Global, words: &ArgMatches<'_>) -> Result<Option<u64>, Failure> {
+    let Some(word) = words.get_str("turns") else {
+        return Ok(Some(TURNS));
+    };
+    match read_number(word) {
+        Some(0) => Ok(None),
+        Some(turns) if turns <= TURNS_MAX => Ok(Some(turns)),
+        _ => Err(wrong(alloc, "--turns", word)),
+    }
+}
+
+/// What is wrong with a word.
+pub fn wrong(alloc: Global, name: &str, word: &str) -> Failure {
+    let Some(word) = shown(alloc, word) else {
+        return Failure::Memory;
+    };
+    Failure::new(
+        Status::NotRead,
+        format!(in alloc; "batchdb: bad {name}: {word}; see `batchdb --help`").ok(),
+    )
+}

@@ -1,0 +1,370 @@
+//! The demonstration: a primary and two replicas in one process, over the loopback.
+
+ghost use Rattle.std.specs.Prelude.{◌≡◌};
+
+use crate::failure::{Failure, Status};
+use crate::files::{refused, setup_of};
+use crate::listening::listening;
+use crate::printing::print;
+use crate::replica_program::{put_all, replica_of, serve_failure};
+use crate::serving::Server;
+use crate::watched_port::{Role, WatchedPort};
+use dispatcher::ReplicaCore;
+use journal::{JournalStore, MemJournal};
+use plans::Plan;
+use primary::PrimaryCore;
+use queue::QueryQueue;
+use rows::{ByteList, Row, RowId, Value};
+use script::{Setup, read_plan};
+use shared::{Line, Origin, Seat, Start};
+use sockets::{Change, Job, OpenGate, UdpPort, are_of_workers, run_workers, serve_replica};
+use std::alloc::{AllocError, Global};
+use std::io::Write;
+use std::marker::Brand;
+use std::net::{Ipv4Addr, Net, SocketAddr};
+use std::rt::Clock;
+use std::sync::Wait;
+use std::sync::atomic::{AtomicU64, Ordering};
+use std::thread::{Threads, join};
+use store::PlainStore;
+
+/// The settings of the demonstration.
+const SETTINGS: &str = "workers 2\nreplicas 2\ntable acct int int\n";
+
+/// What each replica is asked.
+const QUERY: &str = "query acct get count sum 0";
+
+/// How many transactions each worker commits.
+const EACH: u64 = 100;
+
+/// How many turns each node has.
+const TURNS: u64 = 1000;
+
+/// Workers.
+const WORKERS: u8 = 2;
+
+/// A seat for each worker, and one to serve.
+const SEATS: u8 = WORKERS + 1;
+
+/// Commits 100 transactions with each of two workers, has each of two replicas answer a query, and writes
+/// their reports and that their tables are the same.
+pub fn run_demo<T: Threads + Wait + Net + Clock + Sync, W: Write>(
+    rt: &T,
+    alloc: Global,
+    writer: &mut W,
+) -> Result<(), Failure> {
+    let setup = setup_of(alloc, SETTINGS.as_bytes())?;
+    let Ok(jobs) = jobs(alloc) else {
+        return Err(Failure::Memory);
+    };
+    let core = PrimaryCore::start(alloc, MemJournal::new(alloc), &setup.schema, setup.workers);
+    let Ok(core) = core else {
+        return Err(Failure::Memory);
+    };
+    let pair = named(rt, alloc, core, &setup, &jobs)?;
+    print_pair(alloc, &pair, writer)
+}
+
+/// What both replicas report of a primary on a new line.
+fn named<T: Threads + Wait + Net + Clock + Sync>(
+    rt: &T,
+    alloc: Global,
+    core: PrimaryCore<MemJournal>,
+    setup: &Setup,
+    jobs: &[Job],
+) -> Result<(Reported, Reported), Failure> {
+    let Ok(start) = Start::new(SEATS) else {
+        return Err(Failure::Memory);
+    };
+    on_line::<Brand, T>(rt, alloc, core, start, setup, jobs)
+}
+
+/// A replica, and what it reported.
+#[derive(Drop)]
+struct Reported {
+    replica: ReplicaCore<PlainStore>,
+    report: Option<ByteList>,
+}
+
+/// The jobs of both workers.
+fn jobs(alloc: Global) -> Result<Vec<Job>, AllocError> {
+    let mut jobs = Vec::new(alloc);
+    for worker in 0..WORKERS {
+        for i in 0..EACH {
+            jobs.push(job(alloc, worker, i)?)?;
+        }
+    }
+    Ok(jobs)
+}
+
+/// The job of a worker that inserts one row.
+fn job(alloc: Global, worker: u8, i: u64) -> Result<Job, AllocError> {
+    let mut values = Vec::new(alloc);
+    values.push(Value::Int((i % EACH) as i64))?;
+    values.push(Value::Int(worker as i64))?;
+    let mut changes = Vec::new(alloc);
+    changes.push(Change::Insert {
+        table: 0,
+        row: RowId(1000 * worker as u64 + i % EACH),
+        values: Row::from_vec(values),
+    })?;
+    Ok(Job { worker, changes })
+}
+
+/// What both replicas report of a primary on a line that has done these jobs.
+fn on_line<L: Origin + Send + Sync, T: Threads + Wait + Net + Clock + Sync>(
+    rt: &T,
+    alloc: Global,
+    core: PrimaryCore<MemJournal>,
+    start: Start,
+    setup: &Setup,
+    jobs: &[Job],
+) -> Result<(Reported, Reported), Failure>
+    requires book { start.opened.seen.book ≡ L.book }
+    requires schema { core.primary.schema ≡ L.schema }
+    requires workers { core.primary.workers ≡ L.workers }
+    requires first { core.primary ≡ L.first }
+    requires name { start.blank.name ≡ L.name }
+    requires parts { start.blank.parts ≡ L.parts }
+    requires seats { start.seats ≡ L.seats }
+{
+    let workers = core.workers();
+    let Ok(line) = Line::<L, MemJournal, &T>::new(alloc, rt, core, start) else {
+        return Err(Failure::Memory);
+    };
+    do_all(rt, alloc, &line, workers, jobs)?;
+    let Some(mut seat) = line.seat(rt) else {
+        return Err(Failure::Memory);
+    };
+    reported_by_both(rt, alloc, &line, &mut seat, setup)
+}
+
+/// Has the workers do their jobs.
+fn do_all<
+    L: Origin + Send + Sync,
+    J: JournalStore + Drop + Send,
+    H: Wait + Drop + Send,
+    T: Threads + Wait + Sync,
+>(rt: &T, alloc: Global, line: &Line<L, J, H>, workers: u8, jobs: &[Job]) -> Result<(), Failure>
+    requires { workers ≡ L.workers }
+{
+    if workers == 0 || !are_of_workers(jobs, workers as usize) {
+        return Err(Failure::Memory);
+    }
+    match run_workers(rt, alloc, line, workers, jobs, &OpenGate) {
+        Ok(_) => Ok(()),
+        Err(_) => Err(Failure::Memory),
+    }
+}
+
+/// The ports of a primary and of its two replicas.
+#[derive(Drop)]
+struct Ports {
+    primary: WatchedPort<UdpPort>,
+    first: WatchedPort<UdpPort>,
+    second: WatchedPort<UdpPort>,
+}
+
+/// Ports on the loopback that know each other.
+fn open_ports<H: Net>(rt: &H, alloc: Global) -> Result<Ports, Failure> {
+    let primary = port_of(rt, alloc, Role::Primary, None)?;
+    let address = primary.port.local_addr().ok();
+    let first = port_of(rt, alloc, Role::Replica, address)?;
+    let second = port_of(rt, alloc, Role::Replica, address)?;
+    let mut ports = Ports {
+        primary,
+        first,
+        second,
+    };
+    introduce(alloc, &mut ports)?;
+    Ok(ports)
+}
+
+/// Tells the primary's port where the replicas are.
+fn introduce(alloc: Global, ports: &mut Ports) -> Result<(), Failure> {
+    let mut addresses = Vec::new(alloc);
+    for port in [&ports.first, &ports.second] {
+        let address = match port.port.local_addr() {
+            Ok(address) => address,
+            Err(error) => return Err(refused(alloc, "127.0.0.1:0", "local address", error)),
+        };
+        if addresses.push(address).is_err() {
+            return Err(Failure::Memory);
+        }
+    }
+    ports.primary.port.set_replicas(addresses);
+    Ok(())
+}
+
+/// What both replicas report of a primary that serves them.
+fn reported_by_both<
+    L: Origin + Send + Sync,
+    J: JournalStore + Drop + Send,
+    H: Wait + Drop + Send + Sync,
+    T: Threads + Wait + Net + Clock + Sync,
+>(
+    rt: &T,
+    alloc: Global,
+    line: &Line<L, J, H>,
+    seat: &mut Seat<L>,
+    setup: &Setup,
+) -> Result<(Reported, Reported), Failure> {
+    let left = AtomicU64::new(2);
+    let any = SocketAddr::from((Ipv4Addr::LOCALHOST, 0));
+    let mut server = Server::new(alloc, any, WORKERS, false);
+    let Ports {
+        mut primary,
+        mut first,
+        mut second,
+    } = open_ports(rt, alloc)?;
+    let (served, pair) = join(
+        rt,
+        || server.serve_while(rt, line, seat, &mut primary, &left, TURNS),
+        || report_twice(rt, alloc, setup, &mut first, &mut second, &left),
+    );
+    match served {
+        Ok(()) => pair,
+        Err(failure) => Err(failure),
+    }
+}
+
+/// What two replicas report, each in a thread of its own.
+fn report_twice<T: Threads + Wait + Sync>(
+    rt: &T,
+    alloc: Global,
+    setup: &Setup,
+    first: &mut WatchedPort<UdpPort>,
+    second: &mut WatchedPort<UdpPort>,
+    left: &AtomicU64,
+) -> Result<(Reported, Reported), Failure> {
+    let (one, other) = join(
+        rt,
+        || report_once(rt, alloc, setup, 0, first, left),
+        || report_once(rt, alloc, setup, 1, second, left),
+    );
+    match (one, other) {
+        (Ok(one), Ok(other)) => Ok((one, other)),
+        (Err(failure), _) => Err(failure),
+        (_, Err(failure)) => Err(failure),
+    }
+}
+
+/// A port on the loopback whose number the system chooses.
+fn port_of<H: Net>(
+    rt: &H,
+    alloc: Global,
+    role: Role,
+    primary: Option<SocketAddr>,
+) -> Result<WatchedPort<UdpPort>, Failure> {
+    let any = SocketAddr::from((Ipv4Addr::LOCALHOST, 0));
+    let mut unsaid = Vec::new(alloc);
+    listening(
+        rt,
+        alloc,
+        role,
+        any,
+        primary,
+        Vec::new(alloc),
+        false,
+        &mut unsaid,
+    )
+}
+
+/// What a replica reports. One node less is left then.
+fn report_once<T: Wait>(
+    rt: &T,
+    alloc: Global,
+    setup: &Setup,
+    number: u8,
+    port: &mut WatchedPort<UdpPort>,
+    left: &AtomicU64,
+) -> Result<Reported, Failure> {
+    let reported = report_of(rt, alloc, setup, number, port);
+    left.fetch_sub(1, Ordering::SeqCst);
+    reported
+}
+
+/// What a replica reports within its turns.
+fn report_of<T: Wait>(
+    rt: &T,
+    alloc: Global,
+    setup: &Setup,
+    number: u8,
+    port: &mut WatchedPort<UdpPort>,
+) -> Result<Reported, Failure> {
+    let Some(mut replica) = replica_of(alloc, setup, number, 1) else {
+        return Err(Failure::Memory);
+    };
+    match answer(rt, alloc, setup, &mut replica, port) {
+        Ok(report) => Ok(Reported { replica, report }),
+        Err(failure) => Err(failure),
+    }
+}
+
+/// What a replica answers to the query, if it does within its turns.
+fn answer<T: Wait>(
+    rt: &T,
+    alloc: Global,
+    setup: &Setup,
+    replica: &mut ReplicaCore<PlainStore>,
+    port: &mut WatchedPort<UdpPort>,
+) -> Result<Option<ByteList>, Failure> {
+    let Ok(queue) = QueryQueue::new(alloc, 1) else {
+        return Err(Failure::Memory);
+    };
+    let Some(mut pass) = queue.pass() else {
+        return Err(Failure::Memory);
+    };
+    put_all(rt, &queue, query(alloc, setup)?);
+    let mut turns = Some(TURNS);
+    match serve_replica(rt, alloc, replica, &queue, &mut pass, port, &mut turns) {
+        Ok(report) => Ok(report),
+        Err(fault) => Err(serve_failure(
+            alloc,
+            SocketAddr::from((Ipv4Addr::LOCALHOST, 0)),
+            fault,
+            port,
+        )),
+    }
+}
+
+/// The query.
+fn query(alloc: Global, setup: &Setup) -> Result<Vec<Plan>, Failure> {
+    let mut plans = Vec::new(alloc);
+    match read_plan(alloc, QUERY.as_bytes(), setup) {
+        Ok(Some(plan)) => match plans.push(plan) {
+            Ok(()) => Ok(plans),
+            Err(_) => Err(Failure::Memory),
+        },
+        _ => Err(Failure::Memory),
+    }
+}
+
+/// Writes what both replicas reported, and that their tables are the same.
+fn print_pair<W: Write>(
+    alloc: Global,
+    pair: &(Reported, Reported),
+    writer: &mut W,
+) -> Result<(), Failure> {
+    let (first, second) = pair;
+    let (Some(one), Some(other)) = (&first.report, &second.report) else {
+        return Err(Failure::new(
+            Status::Unanswered,
+            format!(in alloc; "batchdb: no answer within {TURNS} turns").ok(),
+        ));
+    };
+    print(alloc, writer, b"replica 0\n")?;
+    print(alloc, writer, one.as_slice())?;
+    print(alloc, writer, b"replica 1\n")?;
+    print(alloc, writer, other.as_slice())?;
+    let (Ok(one), Ok(other)) = (first.replica.dump(), second.replica.dump()) else {
+        return Err(Failure::Memory);
+    };
+    if one.as_slice() != other.as_slice() {
+        return Err(Failure::new(
+            Status::Failed,
+            format!(in alloc; "batchdb: the tables of the replicas differ").ok(),
+        ));
+    }
+    print(alloc, writer, b"same tables\n")
+}

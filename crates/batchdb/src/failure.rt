@@ -1,0 +1,106 @@
+//! Why the program ends before its work is done.
+
+ghost use Rattle.std.specs.Prelude.{◌<◌, ◌≤◌};
+
+use std::alloc::Global;
+use std::io::Write;
+
+/// What the exit status says where the work is not done.
+#[derive(Clone, Copy)]
+pub enum Status {
+    /// A file, a socket, the journal or memory failed, or the replica is broken.
+    Failed,
+    /// The words, a script, a schema or the input do not read.
+    NotRead,
+    /// The turns are used up, and a batch is not answered.
+    Unanswered,
+}
+
+impl Status {
+    /// The number of the exit status.
+    pub fn code(self) -> u8
+        ensures some { 0 < result }
+        ensures most { result ≤ 3 }
+    {
+        match self {
+            Status::Failed => 1,
+            Status::NotRead => 2,
+            Status::Unanswered => 3,
+        }
+    }
+}
+
+/// Why the program ends before its work is done.
+#[derive(Drop)]
+pub enum Failure {
+    /// What this line says.
+    Said { status: Status, line: String },
+    Memory,
+    /// The journal failed. What it says of that is known only where the journal is.
+    Journal,
+}
+
+impl Failure {
+    /// A failure of this status, with its line; without one it is that of being out of memory.
+    pub fn new(status: Status, line: Option<String>) -> Failure {
+        match line {
+            Some(line) => Failure::Said { status, line },
+            None => Failure::Memory,
+        }
+    }
+
+    /// Writes its line, which is lost where it cannot be written, and answers its exit status.
+    pub fn tell<E: Write>(&self, errors: &mut E) -> u8
+        ensures some { 0 < result }
+        ensures most { result ≤ 3 }
+    {
+        match self {
+            Failure::Said { status, line } => {
+                let _ = writeln!(errors, "{line}");
+                status.code()
+            }
+            Failure::Memory => {
+                let _ = writeln!(errors, "batchdb: out of memory");
+                Status::Failed.code()
+            }
+            Failure::Journal => {
+                let _ = writeln!(errors, "batchdb: the journal failed");
+                Status::Failed.code()
+            }
+        }
+    }
+}
+
+/// How many bytes of a word a fault line shows, at most.
+const SHOWN_MAX: usize = 80;
+
+/// The most that one letter of a word takes where it is shown by its number.
+const LETTER_MAX: usize = 10;
+
+/// What stands for the rest of a word that is too long.
+const REST: &str = "..";
+
+/// A word as a fault line shows it: 80 bytes of it at the most, and control characters by their numbers.
+/// `None` when out of memory.
+pub fn shown(alloc: Global, word: &str) -> Option<String> {
+    let mut text = String::new(alloc);
+    for letter in word.chars() {
+        if text.len() > SHOWN_MAX - LETTER_MAX - REST.len() {
+            text.push_str(REST).ok()?;
+            return Some(text);
+        }
+        push_shown(&mut text, letter)?;
+    }
+    Some(text)
+}
+
+/// Pushes a letter, or the number of one that would not show.
+fn push_shown(text: &mut String, letter: char) -> Option<()> {
+    if letter.is_control() {
+        for part in letter.escape_unicode() {
+            text.push(part).ok()?;
+        }
+        return Some(());
+    }
+    text.push(letter).ok()
+}

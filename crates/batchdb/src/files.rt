@@ -1,0 +1,109 @@
+//! Files of the programs, and what is said where the system refuses one.
+
+ghost use Rattle.std.specs.Prelude.{◌<◌, ◌≤◌, IfOk};
+ghost use Rattle.rows.specs.Limits.{workers_max, replicas_max};
+
+use crate::failure::{Failure, Status, shown};
+use rows::limits::{REPLICAS_MAX, WORKERS_MAX};
+use script::{ScriptFault, Setup, read_settings};
+use std::alloc::Global;
+use std::fs::{File, metadata};
+use std::io::{self, Read};
+use std::os::fd::{AsRawFd, RawFd};
+use std::rt::Files;
+
+/// How many standard streams there are, which have the first descriptors: input, output, errors.
+const STREAMS: RawFd = 3;
+
+/// Opens the null device for each standard stream that the program was started without. The files are to be
+/// kept as long as it runs: a file that is opened later would get such a stream's descriptor, and be read as
+/// the input, or have written into it what is printed.
+pub fn fill_standard_streams<H: Files<File = File>>(
+    rt: &H,
+    alloc: Global,
+) -> io::Result<Vec<File>> {
+    let mut held = Vec::new(alloc);
+    for _ in 0..STREAMS {
+        let null = File::options()
+            .read(true)
+            .write(true)
+            .open(rt, "/dev/null")?;
+        if null.as_raw_fd() >= STREAMS {
+            return Ok(held);
+        }
+        held.push(null)?;
+    }
+    Ok(held)
+}
+
+/// The bytes of a file.
+pub fn file_bytes<H: Files<File = File>>(
+    rt: &H,
+    alloc: Global,
+    path: &str,
+) -> Result<Vec<u8>, Failure> {
+    let mut file = match File::open(rt, path) {
+        Ok(file) => file,
+        Err(error) => return Err(refused(alloc, path, "open", error)),
+    };
+    let mut bytes = Vec::new(alloc);
+    match file.read_to_end(&mut bytes) {
+        Ok(_) => Ok(bytes),
+        Err(error) => Err(refused(alloc, path, "read", error)),
+    }
+}
+
+/// How many bytes a file has; 0 where the system does not tell.
+pub fn len_of<H: Files<File = File>>(rt: &H, path: &str) -> u64 {
+    match metadata(rt, path) {
+        Ok(found) => found.len(),
+        Err(_) => 0,
+    }
+}
+
+/// The settings of a schema file.
+pub fn setup_at<H: Files<File = File>>(rt: &H, alloc: Global, path: &str) -> Result<Setup, Failure>
+    ensures { IfOk result (λ setup. (0 < setup.workers) × (setup.workers ≤ workers_max) × (setup.replicas ≤ replicas_max)) }
+{
+    let bytes = file_bytes(rt, alloc, path)?;
+    setup_of(alloc, bytes.as_slice())
+}
+
+/// The settings that a text has, and nothing else.
+pub fn setup_of(alloc: Global, text: &[u8]) -> Result<Setup, Failure>
+    ensures { IfOk result (λ setup. (0 < setup.workers) × (setup.workers ≤ workers_max) × (setup.replicas ≤ replicas_max)) }
+{
+    match read_settings(alloc, text) {
+        Ok(setup) => {
+            // What reads has these limits; a look brings them to the proof.
+            if setup.workers == 0 || setup.workers > WORKERS_MAX || setup.replicas > REPLICAS_MAX {
+                return Err(Failure::new(
+                    Status::NotRead,
+                    format!(in alloc; "line 1: bad setting").ok(),
+                ));
+            }
+            Ok(setup)
+        }
+        Err(ScriptFault::Memory) => Err(Failure::Memory),
+        Err(fault) => Err(Failure::new(Status::NotRead, format!(in alloc; "{fault}").ok())),
+    }
+}
+
+/// A call that the system refused at a path or an address, in its words.
+pub fn refused(alloc: Global, what: &str, call: &str, error: io::Error) -> Failure {
+    failed(alloc, what, format!(in alloc; "{call}: {error}").ok())
+}
+
+/// What failed at a path or an address, and why.
+pub fn failed(alloc: Global, what: &str, why: Option<String>) -> Failure {
+    let Some(what) = shown(alloc, what) else {
+        return Failure::Memory;
+    };
+    let Some(why) = why else {
+        return Failure::Memory;
+    };
+    Failure::new(
+        Status::Failed,
+        format!(in alloc; "batchdb: {what}: {why}").ok(),
+    )
+}

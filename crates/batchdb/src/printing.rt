@@ -1,0 +1,28 @@
+//! Lines of output, written at once.
+
+use crate::failure::{Failure, Status};
+use std::alloc::Global;
+use std::io::Write;
+use std::sync::{Mutex, Wait};
+
+/// Writes a text and flushes it.
+pub fn print<W: Write>(alloc: Global, writer: &mut W, text: &[u8]) -> Result<(), Failure> {
+    if writer.write_all(text).is_err() || writer.flush().is_err() {
+        return Err(Failure::new(
+            Status::Failed,
+            format!(in alloc; "batchdb: the output could not be written").ok(),
+        ));
+    }
+    Ok(())
+}
+
+/// Writes a text that other threads do not write into, and flushes it.
+pub fn print_whole<W: Write, R: Wait>(
+    rt: &R,
+    alloc: Global,
+    output: &Mutex<&mut W>,
+    text: &[u8],
+) -> Result<(), Failure> {
+    let mut output = output.lock(rt);
+    print(alloc, &mut *output, text)
+}
