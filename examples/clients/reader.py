@@ -1,0 +1,150 @@
+#!/usr/bin/env python3
+"""Follows a BatchDB primary as an analytic replica does, and prints its tables as `dump` does: once at the start, and once more
+for each line of standard input, each time at the newest durable version.
+
+    reader.py SCHEMA NUMBER BOOT LISTEN PRIMARY
+
+SCHEMA is the primary's schema file. NUMBER and LISTEN are those of one of the primary's replicas: the primary sends to the
+address that it was given for a replica, not to the one that a datagram came from. BOOT is a number with which this replica was
+never started before. The exit status is 3 if the primary does not answer.
+"""
+
+import socket
+import struct
+import sys
+import time
+
+FRAME, ASK, HEAD, WANT = 1, 2, 3, 4
+INSERT, PATCH, DELETE = 1, 2, 3
+ENTRY_FORMS = {INSERT: ">BBQH", PATCH: ">BBQHH", DELETE: ">BBQ"}
+WANT_MAX = 16  # frames that answer one Want at most
+SECONDS_OF_A_TRY = 0.1
+TRIES_MAX = 100  # without what was asked for
+
+
+def read_schema(path):
+    """Returns the number of workers and, for each table, its name and its columns' widths, where 0 stands for an int."""
+    lines = [line.split() for line in open(path, encoding="ascii") if line.strip() and not line.startswith("#")]
+    tables = [(words[1], [0 if kind == "int" else int(kind[len("bytes"):]) for kind in words[2:]]) for words in lines[2:]]
+    return int(lines[0][1]), tables
+
+
+def address(word):
+    host, _, port = word.partition(":")
+    return host, int(port)
+
+
+def datagram(kind, form, *fields):
+    body = struct.pack(">" + form, *fields)
+    return struct.pack(">2sBBH", b"BD", 1, kind, 6 + len(body)) + body
+
+
+def read_entries(body, count):
+    entries, at = [], 0
+    for _ in range(count):
+        form = ENTRY_FORMS[body[at]]
+        operation, table, row, *sizes = struct.unpack_from(form, body, at)
+        at += struct.calcsize(form)
+        offset = sizes[0] if operation == PATCH else 0
+        size = sizes[-1] if sizes else 0
+        entries.append((operation, table, row, offset, body[at:at + size]))
+        at += size
+    if at != len(body):
+        raise ValueError("length")
+    return entries
+
+
+class Reader:
+    def __init__(self, schema, number, boot, listen, primary):
+        self.workers, self.tables = read_schema(schema)
+        self.number, self.boot, self.request, self.primary = int(number), int(boot), 0, address(primary)
+        self.version, self.head = 0, None
+        self.rows = [{} for _ in self.tables]
+        self.frames = [{} for _ in range(self.workers)]  # by seq: the commit's number and the entries; until they are applied
+        self.applied = [0] * self.workers  # how many frames of each worker were applied
+        self.socket = socket.socket(socket.AF_INET, socket.SOCK_DGRAM)
+        self.socket.bind(address(listen))
+
+    def take(self, data):
+        """Takes one datagram: a Frame that is new, or the Head that is waited for. Everything else is ignored."""
+        if struct.unpack_from(">2sBxH", data) != (b"BD", 1, len(data)) or len(data) > 1200:
+            return
+        if data[3] == FRAME:
+            worker, seq, commit, _, count = struct.unpack_from(">BQQBH", data, 6)
+            if worker < self.workers and seq >= self.applied[worker] and seq not in self.frames[worker]:
+                self.frames[worker][seq] = commit, read_entries(data[26:], count)
+        elif data[3] == HEAD and self.head is None:
+            number, boot, request, version, _, *counts = struct.unpack(f">BQQQB{data[31]}Q", data[6:])
+            own = (self.number, self.boot, self.request, self.workers)
+            if (number, boot, request, len(counts)) == own and version >= self.version:
+                self.head = version, counts
+
+    def send_until(self, data, done):
+        """Sends a datagram, and again after each time without an answer, until done."""
+        for _ in range(TRIES_MAX):
+            self.socket.sendto(data, self.primary)
+            end = time.monotonic() + SECONDS_OF_A_TRY
+            while (left := end - time.monotonic()) > 0:
+                self.socket.settimeout(left)
+                try:
+                    self.take(self.socket.recv(65536))
+                except (TimeoutError, struct.error, LookupError, ValueError):
+                    continue  # nothing arrived, or no datagram
+                if done():
+                    return
+        raise TimeoutError
+
+    def update(self):
+        """Brings the tables to the version that is durable when the primary answers."""
+        self.request, self.head = self.request + 1, None
+        self.send_until(datagram(ASK, "BQQ", self.number, self.boot, self.request), lambda: self.head is not None)
+        version, counts = self.head
+        for worker, (kept, count) in enumerate(zip(self.frames, counts)):
+            for seq in range(self.applied[worker], count):
+                if seq not in kept:
+                    answer = range(seq, min(seq + WANT_MAX, count))
+                    self.send_until(datagram(WANT, "BBQ", self.number, worker, seq), lambda: all(it in kept for it in answer))
+        commits = {}
+        for worker, count in enumerate(counts):
+            for seq in range(self.applied[worker], count):
+                commit, entries = self.frames[worker].pop(seq)
+                commits.setdefault(commit, []).extend(entries)
+            self.applied[worker] = count
+        if sorted(commits) != list(range(self.version + 1, version + 1)):
+            raise ValueError(f"the frames of version {version} are not those of its commits")
+        for commit in range(self.version + 1, version + 1):
+            for operation, table, row, offset, data in commits[commit]:
+                if operation == DELETE:
+                    del self.rows[table][row]
+                else:  # an insert's data, with the offset 0, is the whole row
+                    self.rows[table].setdefault(row, bytearray())[offset:offset + len(data)] = data
+        self.version = version
+
+    def text(self):
+        lines = [f"version {self.version} rows {sum(map(len, self.rows))}"]
+        for (name, widths), rows in zip(self.tables, self.rows):
+            for row, data in sorted(rows.items()):
+                words, at = [name, str(row)], 0
+                for width in widths:
+                    part, at = data[at:at + (width or 8)], at + (width or 8)
+                    words.append("x" + part.hex() if width else str(int.from_bytes(part, "big", signed=True)))
+                lines.append(" ".join(words))
+        return "\n".join(lines)
+
+
+def main():
+    if len(sys.argv) != 6:
+        sys.exit("usage: reader.py SCHEMA NUMBER BOOT LISTEN PRIMARY")
+    reader = Reader(*sys.argv[1:])
+    try:
+        while True:
+            reader.update()
+            print(reader.text(), flush=True)
+            if not sys.stdin.readline():
+                return 0
+    except TimeoutError:
+        print("reader: no answer from " + sys.argv[5], file=sys.stderr)
+        return 3
+
+
+sys.exit(main())
