@@ -16,8 +16,7 @@ pub const ROUND_DATAGRAMS: usize = 16;
 /// pushed frames arrive between those of the answer.
 pub const AWAITING_DATAGRAMS: usize = 256;
 
-/// How many rounds of receives a turn has, at most. Together they take no more datagrams than the
-/// receive buffer of a socket holds.
+/// How many rounds of receives a turn has, at most.
 pub const TURN_ROUNDS: usize = 4;
 
 /// Uses up one turn, if one is left; `None` is no limit.
