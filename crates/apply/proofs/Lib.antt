@@ -10,5 +10,7 @@ pub mod Gathered
 pub mod Splits
 pub mod Viewed
 pub mod Placed
+pub mod Going
 pub mod Each
 pub mod Ended
+pub mod Lent

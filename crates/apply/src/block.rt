@@ -1,6 +1,6 @@
 //! Some rows of a table, as columns.
 
-ghost use Rattle.std.specs.Prelude.{◌≡◌, ◌<◌, ◌≤◌, [], length, take, drop, true, false, Some, IfOk, IfSome, OnOk, OnErr, is_some};
+ghost use Rattle.std.specs.Prelude.{◌≡◌, ◌+◌, ◌<◌, ◌≤◌, [], length, take, drop, true, false, Some, IfOk, IfSome, OnOk, OnErr, is_some};
 ghost use Rattle.std.specs.Prelude.{slice_get, nat_lt};
 ghost use Rattle.std.specs.Prelude.{vec_len, vec_capacity};
 ghost use Rattle.std.specs.List.{list_all, prefix_len, insert};
@@ -10,6 +10,7 @@ ghost use Rattle.std.specs.Map.{keys_of};
 ghost use Rattle.rows.specs.Shape.{row_width, is_good};
 ghost use Rattle.rows.specs.Values.{values_of};
 ghost use Rattle.rows.specs.Tables.{is_present, with_row, with_patch, without_row};
+ghost use Rattle.store.specs.Lent.{rows_from, column_in, AreLent};
 ghost use Rattle.apply.specs.Orders.{Rising, place_in};
 ghost use Rattle.apply.specs.Blocks.{cell_in};
 
@@ -18,6 +19,7 @@ use crate::edits::{empty_columns, insert_row, remove_row, reserve_row, rows_from
 use rows::{Kind, Value, column_at};
 use std::alloc::{AllocError, Global};
 use std::marker::Model;
+use store::Lent;
 
 /// How many rows a block reserves memory for at a time.
 const STEP: usize = 128;
@@ -109,6 +111,15 @@ impl Block {
         ensures { Some result ≡ cell_in self.now.rows at column }
     {
         self.columns[column].get(self.ids.len(), at)
+    }
+
+    /// The values of one column of this many rows from an index on, lent.
+    pub fn column_from(&self, from: usize, count: usize, column: usize) -> Lent<'_>
+        requires within { from + count ≤ length self.now.rows }
+        requires column { column < length self.now.kinds }
+        ensures { AreLent (column_in (rows_from self.now.rows from count) column) result }
+    {
+        self.columns[column].values_from(self.ids.len(), from, count)
     }
 
     /// Inserts a row that is not there, given by its bytes. Fails only if out of memory.

@@ -1,15 +1,17 @@
 //! The values of one column, side by side.
 
-ghost use Rattle.std.specs.Prelude.{◌≡◌, ◌+◌, ◌<◌, ◌≤◌, [], length, true, Some, slice_get, slice_set, OnOk, IfOk, take, drop, ◌++◌};
+ghost use Rattle.std.specs.Prelude.{◌≡◌, ◌+◌, ◌<◌, ◌≤◌, [], length, map, true, Some, slice_get, slice_set, OnOk, IfOk, take, drop, ◌++◌};
 ghost use Rattle.std.specs.Prelude.{vec_len, vec_capacity};
 ghost use Rattle.std.specs.List.{insert, remove};
 ghost use Rattle.rows.specs.Shape.{width_of, is_good};
 ghost use Rattle.rows.specs.Values.{value_of};
+ghost use Rattle.store.specs.Lent.{AreLent};
 ghost use Rattle.apply.specs.Columns.{kind_of, values_in, AreCells, HasRoom, Keeps, IsTail};
 
 use byteorder::{BigEndian, ByteOrder};
 use rows::{Kind, Octets, Value};
 use std::alloc::{AllocError, Global};
+use store::Lent;
 
 /// How many rows a column reserves memory for at a time.
 const STEP: usize = 128;
@@ -157,6 +159,28 @@ impl Cells {
                     Some(octets) => Value::Octets(octets),
                     None => unreachable!(),
                 }
+            }
+        }
+    }
+
+    /// The values of this many rows from one on, lent.
+    pub fn values_from(&self, rows: usize, from: usize, count: usize) -> Lent<'_>
+        requires cells { AreCells rows self.now }
+        requires within { from + count ≤ rows }
+        ensures { AreLent (map Some (take count (drop from (values_in rows self.now)))) result }
+    {
+        let _ = rows;
+        match self {
+            Cells::Numbers(numbers) => {
+                let (_, behind) = numbers.as_slice().split_at(from);
+                let (lent, _) = behind.split_at(count);
+                Lent::Numbers(lent)
+            }
+            Cells::Octets { width, bytes } => {
+                let width = *width as usize;
+                let (_, behind) = bytes.as_slice().split_at(from * width);
+                let (lent, _) = behind.split_at(count * width);
+                Lent::Octets { width, bytes: lent }
             }
         }
     }

@@ -9,14 +9,17 @@ ghost use Rattle.apply.specs.Limits.{partitions_max};
 ghost use Rattle.apply.specs.Partitions.{tables_in};
 
 use crate::part::Part;
-use crate::partitions::{change_parts, empty_parts, find, id_at, len, value};
+use crate::partitions::{
+    change_parts, column_from, empty_parts, find, id_at, ids_from, len, value,
+};
 use crate::spot::Spot;
+use crate::starter::Starter;
 use crate::together::apply_commits;
 use rows::{Commit, Entry, RowId, Schema, Value, laws};
 use std::alloc::{AllocError, Global};
 use std::marker::Model;
 use std::thread::Threads;
-use store::{ApplyFault, Store, StoreFault};
+use store::{ApplyFault, ApplyStore, Lent, Store, StoreFault};
 
 /// A store of rows in columns. A row is in the partition whose number is the remainder of its
 /// identifier, divided by the number of partitions; there its values are side by side with those of
@@ -62,7 +65,8 @@ impl ColumnStore {
     }
 
     /// Makes all changes of these commits, in their order. If they have at least 4,096 entries,
-    /// each partition makes those of its own rows, in threads.
+    /// each partition makes those of its own rows, in threads: each thread goes over the entries
+    /// once, for its share of the partitions.
     ///
     /// Fails with `Broken` if the store is not whole, with `Inconsistent` if one of the changes is
     /// refused, or with `Memory`, only if there is an entry to apply. After any failure the store
@@ -145,6 +149,43 @@ impl Store for ColumnStore {
         RowId(id_at(self.parts.as_slice(), table, i))
     }
 
+    /// The number of partitions: the rows of a piece are those of the partition of its number.
+    fn pieces(&self) -> usize
+        ensures some { 0 < result }
+        ensures parts { result ≡ length self.now.parts }
+    {
+        self.parts.len()
+    }
+
+    /// The identifiers of rows of a partition, lent: the rest of a block, from the row at an index
+    /// on. `None` if `pieces` is not the number of partitions, or if there is no such piece or table.
+    fn ids_from(&self, table: u8, pieces: usize, piece: usize, from: usize) -> Option<&[u64]> {
+        ids_from(self.parts.as_slice(), table, pieces, piece, from)
+    }
+
+    /// The values of one column of this many rows of a partition, lent. `None` if they are not all
+    /// in one block, if `pieces` is not the number of partitions, or if there is no such piece,
+    /// table or column.
+    fn column_from(
+        &self,
+        table: u8,
+        pieces: usize,
+        piece: usize,
+        from: usize,
+        count: usize,
+        column: usize,
+    ) -> Option<Lent<'_>> {
+        column_from(
+            self.parts.as_slice(),
+            table,
+            pieces,
+            piece,
+            from,
+            count,
+            column,
+        )
+    }
+
     /// Makes one change, or refuses it and changes nothing: `Broken`; `Unfit`; `Exists` or
     /// `Missing`; `Memory`; the first that applies.
     fn change(&mut self, entry: &Entry) -> Result<(), StoreFault> {
@@ -165,5 +206,16 @@ impl Store for ColumnStore {
             StoreFault::Memory => 4,
             StoreFault::Broken => 5,
         }
+    }
+}
+
+impl ApplyStore for ColumnStore {
+    /// Makes all changes of these commits, as `apply_together` does.
+    fn apply_all<R: Threads + Sync>(
+        &mut self,
+        rt: &R,
+        commits: &[Commit],
+    ) -> Result<(), ApplyFault> {
+        self.apply_together(&Starter::new(rt), commits)
     }
 }

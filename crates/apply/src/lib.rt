@@ -8,8 +8,11 @@
 //! column of the table. A column is `Cells`: numbers of 64 bits side by side, or bytes of one width
 //! side by side.
 //!
-//! Promised: a store of columns is a `store::Store`, and its answers do not depend on the number of
-//! its partitions; `apply_together` applies the commits to its tables, or breaks the store.
+//! Promised: a store of columns is a `store::ApplyStore`, and its answers do not depend on the
+//! number of its partitions; `apply_all` applies the commits to its tables, in threads if there are
+//! many entries, or breaks the store. It lends its rows in as many pieces as there are partitions:
+//! `ids_from` lends the identifiers of a block's rows from one on, `column_from` the values of one
+//! of their columns, numbers or bytes side by side, as they are stored. Lending copies nothing.
 //! Contracts see a piece and a block as a table of `rows`, and each change does to it what the
 //! definitions there specify, or leaves it unchanged if out of memory. Not promised: that the
 //! partitions of a store change at once. The definitions to review are `specs/Partitions.antt`,
@@ -24,16 +27,19 @@ mod cells;
 mod changing;
 mod column_store;
 mod edits;
+mod limits;
 mod own;
 mod part;
 mod partitions;
 mod piece;
 mod sequence;
 mod spot;
+mod starter;
 mod together;
 
 pub use block::Block;
 pub use cells::Cells;
 pub use column_store::ColumnStore;
+pub use limits::{PARTITIONS, PARTITIONS_MAX};
 pub use piece::Piece;
 pub use spot::Spot;

@@ -1,21 +1,19 @@
 //! One partition of a store.
 
-ghost use Rattle.std.specs.Prelude.{◌≡◌, ◌+◌, ◌<◌, ◌≤◌, length, [], true, Ok, OnOk, OnErr, IfOk, IfErr, IfSome, MatchOption, is_some};
+ghost use Rattle.std.specs.Prelude.{◌≡◌, ◌+◌, ◌≤◌, length, [], ◌∷◌, true, Ok, OnOk, OnErr, IfOk, IfErr, IfSome, MatchOption, is_some};
 ghost use Rattle.std.specs.Prelude.{slice_get};
 ghost use Rattle.std.specs.Option.{option_map};
 ghost use Rattle.rows.specs.Shape.{shape_of};
-ghost use Rattle.rows.specs.Tables.{opening, shape_in, kinds_of, rows_of, row_at, is_present, apply_entry, apply_entries};
+ghost use Rattle.rows.specs.Tables.{opening, shape_in, kinds_of, rows_of, row_at, is_present, apply_entry};
 ghost use Rattle.store.specs.Changes.{fault_kind};
-ghost use Rattle.store.specs.Faults.{number_of, have_entries};
+ghost use Rattle.store.specs.Faults.{number_of};
 ghost use Rattle.apply.specs.Limits.{rows_max};
-ghost use Rattle.apply.specs.Inner.Ends.{EndsAs};
-ghost use Rattle.apply.specs.Inner.Gathered.{entries_in, entries_of};
+ghost use Rattle.apply.specs.Inner.Ends.{GoesOn};
 ghost use Rattle.apply.specs.Orders.{AllUnder, place_in};
 
 use crate::changing::{change_tables, empty_tables};
-use crate::own::apply_own;
 use crate::piece::Piece;
-use rows::{Commit, Entry, Schema};
+use rows::{Entry, Schema};
 use std::alloc::{AllocError, Global};
 use store::{ApplyFault, StoreFault};
 
@@ -101,18 +99,18 @@ impl Part {
         change_tables(alloc, &mut self.tables, entry)
     }
 
-    /// As partition `part` of this many, makes the changes of those entries of commits that belong
-    /// to its rows, in their order, and keeps how that ended.
-    pub fn apply(&mut self, alloc: Global, commits: &[Commit], part: usize, parts: usize)
-        requires { 0 < parts }
-        ensures ends { EndsAs (have_entries commits.now)
-            (apply_entries self.old.tables.items (entries_in parts part (entries_of commits.now)))
-            self.new.tables.items self.new.fault }
+    /// Makes the change of one entry, unless one before it failed; keeps the first failure.
+    pub fn go_on(&mut self, alloc: Global, entry: &Entry)
+        ensures ends { GoesOn (entry.now ∷ []) self.old self.new }
         ensures kinds { shape_in self.new.tables.items ≡ shape_in self.old.tables.items }
     {
-        self.fault = match apply_own(alloc, &mut self.tables, commits, part, parts) {
-            Ok(()) => None,
-            Err(fault) => Some(fault),
-        };
+        if self.fault.is_some() {
+            return;
+        }
+        match change_tables(alloc, &mut self.tables, entry) {
+            Ok(()) => {}
+            Err(StoreFault::Memory) => self.fault = Some(ApplyFault::Memory),
+            Err(_) => self.fault = Some(ApplyFault::Inconsistent),
+        }
     }
 }

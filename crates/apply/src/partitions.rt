@@ -1,12 +1,14 @@
 //! All partitions of a store.
 
 ghost use Rattle.std.specs.Prelude.{◌≡◌, ℕ, ◌+◌, ◌<◌, ◌≤◌, ◌%◌, length, replicate, true, Ok, Some, OnOk, OnErr, IfOk, IfErr};
-ghost use Rattle.std.specs.Prelude.{IfSome, IsSome, is_some, slice_index_or};
+ghost use Rattle.std.specs.Prelude.{[], IfSome, IsSome, is_some, slice_index_or};
 ghost use Rattle.std.specs.List.{sum_by};
+ghost use Rattle.std.specs.Map.{keys_of};
 ghost use Rattle.rows.specs.Shape.{shape_of};
 ghost use Rattle.rows.specs.Tables.{Tables, RowsAreOfKinds, opening, shape_in, rows_of, row_at, is_row_at, apply_entry};
 ghost use Rattle.store.specs.Changes.{column_of, id_in, IsAboveAllBefore, fault_kind};
 ghost use Rattle.store.specs.Faults.{number_of};
+ghost use Rattle.store.specs.Lent.{rows_in, rows_from, column_in, AreLent};
 ghost use Rattle.apply.specs.Limits.{partitions_max};
 ghost use Rattle.apply.specs.Orders.{AllUnder, place_in};
 ghost use Rattle.apply.specs.Partitions.{tables_in, values_in};
@@ -18,7 +20,7 @@ use crate::part::Part;
 use crate::spot::Spot;
 use rows::{Entry, Schema, Value};
 use std::alloc::{AllocError, Global};
-use store::StoreFault;
+use store::{Lent, StoreFault};
 
 /// This many partitions of the tables of a schema, without rows. Fails only if out of memory.
 pub fn empty_parts(
@@ -36,7 +38,7 @@ pub fn empty_parts(
 }
 
 /// The partition of a row.
-fn home_of(row: u64, parts: usize) -> usize
+pub fn home_of(row: u64, parts: usize) -> usize
     requires { 0 < parts }
     ensures value { result ≡ row % parts }
     ensures within { result < parts }
@@ -70,6 +72,56 @@ pub fn value(parts: &[Part], table: u8, spot: Spot, column: usize) -> Value
         unreachable!();
     };
     piece.value(spot.position, column)
+}
+
+/// The identifiers of rows of a partition's part of a table, from an index on, lent: those of one
+/// block, and none only if there is no row from there on. `None` if this is not the number of
+/// partitions, or if the partition or the table is not there.
+pub fn ids_from(
+    parts: &[Part],
+    table: u8,
+    pieces: usize,
+    piece: usize,
+    from: usize,
+) -> Option<&[u64]>
+    requires parts { AreParts (views parts.now) }
+    ensures value { IfSome result (λ ids. ids.now
+        ≡ keys_of (rows_from (rows_in (rows_of (tables_in (views parts.now)) table) pieces piece) from (length ids.now))) }
+    ensures all { IfSome result
+        (λ ids. ids.now ≡ [] → length (rows_in (rows_of (tables_in (views parts.now)) table) pieces piece) ≤ from) }
+{
+    if pieces != parts.len() || piece >= pieces {
+        return None;
+    }
+    match parts[piece].piece(table) {
+        Some(rows) => Some(rows.ids_from(from)),
+        None => None,
+    }
+}
+
+/// The values of one column of this many rows of a partition's part of a table, from an index on,
+/// lent. `None` if this is not the number of partitions, if the partition, the table or the column
+/// is not there, or if the rows are not all in one block.
+pub fn column_from(
+    parts: &[Part],
+    table: u8,
+    pieces: usize,
+    piece: usize,
+    from: usize,
+    count: usize,
+    column: usize,
+) -> Option<Lent<'_>>
+    requires parts { AreParts (views parts.now) }
+    ensures { IfSome result
+        (AreLent (column_in (rows_from (rows_in (rows_of (tables_in (views parts.now)) table) pieces piece) from count) column)) }
+{
+    if pieces != parts.len() || piece >= pieces {
+        return None;
+    }
+    match parts[piece].piece(table) {
+        Some(rows) => rows.column_from(from, count, column),
+        None => None,
+    }
 }
 
 /// Makes the change of one entry, or refuses it and changes nothing.

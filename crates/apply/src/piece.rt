@@ -2,20 +2,24 @@
 
 ghost use Rattle.std.specs.Prelude.{◌≡◌, ◌+◌, ◌<◌, ◌≤◌, [], length, true, false, Some, IfOk, IfSome, OnOk, OnErr, is_some, slice_get};
 ghost use Rattle.std.specs.Option.{option_map};
+ghost use Rattle.std.specs.Map.{keys_of};
 ghost use Rattle.rows.specs.Shape.{AreColumns, row_width};
 ghost use Rattle.rows.specs.Values.{values_of};
 ghost use Rattle.rows.specs.Tables.{row_at, is_present, with_row, with_patch, without_row};
+ghost use Rattle.store.specs.Lent.{rows_from, column_in, AreLent};
 ghost use Rattle.apply.specs.Blocks.{cell_in};
 ghost use Rattle.apply.specs.Limits.{rows_max};
 ghost use Rattle.apply.specs.Orders.{AllUnder, place_in};
 
 use crate::block::Block;
 use crate::sequence::{
-    contains, find, greatest, patch_row, place, put_row, remove_row, rows_before, value,
+    column_from, contains, find, greatest, ids_from, patch_row, place, put_row, remove_row,
+    rows_before, value,
 };
 use rows::{Kind, KindList, Value};
 use std::alloc::{AllocError, Global};
 use std::marker::Model;
+use store::Lent;
 
 /// How many rows a piece has at most.
 const ROWS_MAX: usize = 1 << 57;
@@ -112,6 +116,37 @@ impl Piece {
             self.ends.as_slice(),
             self.kinds.as_slice(),
             at,
+            column,
+        )
+    }
+
+    /// The identifiers of rows from a position on, lent: those of one block from there on, and none
+    /// only if there is no row from there on.
+    pub fn ids_from(&self, from: usize) -> &[u64]
+        ensures value { result.now ≡ keys_of (rows_from self.now.rows from (length result.now)) }
+        ensures all { result.now ≡ [] → length self.now.rows ≤ from }
+    {
+        if from >= self.len() {
+            return &[];
+        }
+        ids_from(self.blocks.as_slice(), self.ends.as_slice(), from)
+    }
+
+    /// The values of one column of this many rows from a position on, lent; columns are counted
+    /// from 0. `None` if there is no such column or no row at the position, or if the rows are not
+    /// all in one block.
+    pub fn column_from(&self, from: usize, count: usize, column: usize) -> Option<Lent<'_>>
+        ensures { IfSome result (AreLent (column_in (rows_from self.now.rows from count) column)) }
+    {
+        if from >= self.len() || column >= self.kinds.as_slice().len() {
+            return None;
+        }
+        column_from(
+            self.blocks.as_slice(),
+            self.ends.as_slice(),
+            self.kinds.as_slice(),
+            from,
+            count,
             column,
         )
     }

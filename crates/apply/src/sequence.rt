@@ -4,9 +4,11 @@ ghost use Rattle.std.specs.Prelude.{◌≡◌, ◌+◌, ◌<◌, ◌≤◌, ◌^
 ghost use Rattle.std.specs.Prelude.{slice_index_or};
 ghost use Rattle.std.specs.Prelude.{vec_capacity};
 ghost use Rattle.std.specs.List.{list_all};
+ghost use Rattle.std.specs.Map.{keys_of};
 ghost use Rattle.rows.specs.Shape.{row_width, is_good};
 ghost use Rattle.rows.specs.Values.{values_of};
 ghost use Rattle.rows.specs.Tables.{is_present, with_row, with_patch, without_row};
+ghost use Rattle.store.specs.Lent.{rows_from, column_in, AreLent};
 ghost use Rattle.apply.specs.Blocks.{cell_in};
 ghost use Rattle.apply.specs.Orders.{AllUnder, Rising, place_in};
 ghost use Rattle.apply.specs.Inner.Joins.{joined, ends_from, end_before, AllHaveRows, AreBlocks, IsHome};
@@ -15,6 +17,7 @@ ghost use Rattle.apply.specs.Limits.{rows_max};
 use crate::block::Block;
 use rows::{Kind, Value};
 use std::alloc::{AllocError, Global};
+use store::Lent;
 
 /// How many rows a block has at most, apart from the one that it takes when it is cut.
 const BLOCK_ROWS: usize = 1024;
@@ -147,6 +150,20 @@ fn block_at(ends: &[usize], at: usize) -> usize
     low
 }
 
+/// The block that has the row at a position, and the index of the row in it, computed from the
+/// number of rows up to the end of each block.
+fn index_of(blocks: &[Block], ends: &[usize], at: usize) -> (usize, usize)
+    requires ends { ends.now ≡ ends_from 0 blocks.now }
+    requires within { at < length (joined blocks.now) }
+    ensures block { result.0 < length blocks.now }
+    ensures index { (d : _) → result.1 < length (slice_index_or blocks.now result.0 d).rows }
+    ensures position { at ≡ length (joined (take result.0 blocks.now)) + result.1 }
+{
+    let _ = blocks;
+    let block = block_at(ends, at);
+    (block, at - rows_before(ends, block))
+}
+
 /// The value of one column of the row at a position, computed from the number of rows up to the end
 /// of each block.
 pub fn value(blocks: &[Block], ends: &[usize], kinds: &[Kind], at: usize, column: usize) -> Value
@@ -157,8 +174,45 @@ pub fn value(blocks: &[Block], ends: &[usize], kinds: &[Kind], at: usize, column
     ensures { Some result ≡ cell_in (joined blocks.now) at column }
 {
     let _ = kinds;
-    let block = block_at(ends, at);
-    blocks[block].value(at - rows_before(ends, block), column)
+    let (block, index) = index_of(blocks, ends, at);
+    blocks[block].value(index, column)
+}
+
+/// The identifiers of the rows of a block from that at a position on, lent; the position is among
+/// all rows, and computed from the number of rows up to the end of each block.
+pub fn ids_from<'a>(blocks: &'a [Block], ends: &[usize], at: usize) -> &'a [u64]
+    requires ends { ends.now ≡ ends_from 0 blocks.now }
+    requires within { at < length (joined blocks.now) }
+    ensures value { result.now ≡ keys_of (rows_from (joined blocks.now) at (length result.now)) }
+    ensures some { 0 < length result.now }
+{
+    let (block, index) = index_of(blocks, ends, at);
+    let (_, ids) = blocks[block].ids().split_at(index);
+    ids
+}
+
+/// The values of one column of this many rows from a position on, lent, computed from the number of
+/// rows up to the end of each block; `None` if they are not all in one block.
+pub fn column_from<'a>(
+    blocks: &'a [Block],
+    ends: &[usize],
+    kinds: &[Kind],
+    at: usize,
+    count: usize,
+    column: usize,
+) -> Option<Lent<'a>>
+    requires blocks { AreBlocks kinds.now blocks.now }
+    requires ends { ends.now ≡ ends_from 0 blocks.now }
+    requires within { at < length (joined blocks.now) }
+    requires column { column < length kinds.now }
+    ensures { IfSome result (AreLent (column_in (rows_from (joined blocks.now) at count) column)) }
+{
+    let _ = kinds;
+    let (block, index) = index_of(blocks, ends, at);
+    if blocks[block].len() - index < count {
+        return None;
+    }
+    Some(blocks[block].column_from(index, count, column))
 }
 
 /// Inserts a row that is not there, given by its bytes, in its block. Fails only if out of memory,

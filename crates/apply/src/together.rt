@@ -12,8 +12,10 @@ ghost use Rattle.apply.specs.Partitions.{tables_in};
 ghost use Rattle.apply.specs.Inner.Gathered.{AreAlike, AreParts, entries_in, entries_of};
 ghost use Rattle.apply.specs.Inner.Views.{views};
 
+use crate::own::apply_own;
 use crate::part::Part;
 use crate::partitions::change_parts;
+use rayon::current_num_threads;
 use rayon::prelude::*;
 use rows::{Commit, Entry};
 use std::alloc::Global;
@@ -99,6 +101,7 @@ fn apply_in_order(alloc: Global, parts: &mut [Part], commits: &[Commit]) -> Resu
 }
 
 /// Makes the changes of these commits, each partition those of its own rows, and keeps the outcome.
+/// Each thread goes over the entries once, for all its partitions.
 fn change_each<R: Threads + Sync>(rt: &R, alloc: Global, parts: &mut [Part], commits: &[Commit])
     ensures ends { (k : ℕ) (d : _) → k < length parts.old → EndsAs (have_entries commits.now)
         (apply_entries (slice_index_or parts.old k d).tables.items (entries_in (length parts.old) k (entries_of commits.now)))
@@ -107,8 +110,9 @@ fn change_each<R: Threads + Sync>(rt: &R, alloc: Global, parts: &mut [Part], com
         → shape_in (slice_index_or parts.new k d).tables.items ≡ shape_in (slice_index_or parts.old k d).tables.items }
 {
     let count = parts.len();
-    par_for_each_mut(rt, parts, |k, part| {
-        part.apply(alloc, commits, k, count);
+    let share = count.div_ceil(current_num_threads(rt)).max(1);
+    par_chunks_mut_for_each(rt, parts, share, |first, chunk| {
+        apply_own(alloc, chunk, commits, first, count);
     });
 }
 

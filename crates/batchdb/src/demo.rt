@@ -9,6 +9,7 @@ use crate::printing::print;
 use crate::replica_program::{put_all, replica_of, serve_failure};
 use crate::serving::Server;
 use crate::watched_port::{Role, WatchedPort};
+use apply::ColumnStore;
 use dispatcher::ReplicaCore;
 use journal::{JournalStore, MemJournal};
 use plans::Plan;
@@ -26,7 +27,6 @@ use std::rt::Clock;
 use std::sync::Wait;
 use std::sync::atomic::{AtomicU64, Ordering};
 use std::thread::{Threads, join};
-use store::PlainStore;
 
 /// The settings of the demonstration.
 const SETTINGS: &str = "workers 2\nreplicas 2\ntable acct int int\n";
@@ -82,7 +82,7 @@ fn named<T: Threads + Wait + Net + Clock + Sync>(
 /// A replica, and what it reported.
 #[derive(Drop)]
 struct Reported {
-    replica: ReplicaCore<PlainStore>,
+    replica: ReplicaCore<ColumnStore>,
     report: Option<ByteList>,
 }
 
@@ -271,7 +271,7 @@ fn port_of<H: Net>(
 }
 
 /// What a replica reports. One node less is left then.
-fn report_once<T: Wait>(
+fn report_once<T: Threads + Wait + Sync>(
     rt: &T,
     alloc: Global,
     setup: &Setup,
@@ -285,7 +285,7 @@ fn report_once<T: Wait>(
 }
 
 /// What a replica reports within its turns.
-fn report_of<T: Wait>(
+fn report_of<T: Threads + Wait + Sync>(
     rt: &T,
     alloc: Global,
     setup: &Setup,
@@ -302,11 +302,11 @@ fn report_of<T: Wait>(
 }
 
 /// What a replica answers to the query, if it does within its turns.
-fn answer<T: Wait>(
+fn answer<T: Threads + Wait + Sync>(
     rt: &T,
     alloc: Global,
     setup: &Setup,
-    replica: &mut ReplicaCore<PlainStore>,
+    replica: &mut ReplicaCore<ColumnStore>,
     port: &mut WatchedPort<UdpPort>,
 ) -> Result<Option<ByteList>, Failure> {
     let Ok(queue) = QueryQueue::new(alloc, 1) else {

@@ -96,7 +96,7 @@ pub fn run_words<
 {
     match asked_for(words) {
         Asked::Node => run_node(rt, alloc, words, reader, writer, errors),
-        Asked::Simulator(echo) => simulate(alloc, echo, reader, writer, errors),
+        Asked::Simulator(echo) => simulate(rt, alloc, echo, reader, writer, errors),
         Asked::Help => print(HELP, writer, errors),
         Asked::Version => print_version(alloc, writer, errors),
         Asked::Other => answer_other(alloc, words, writer, errors),
@@ -271,7 +271,8 @@ pub fn without_words<E: Write>(fault: io::ErrorKind, errors: &mut E) -> u8
 }
 
 /// Runs the script.
-fn simulate<R: Read, W: Write, E: Write>(
+fn simulate<T: Threads + Sync, R: Read, W: Write, E: Write>(
+    rt: &T,
     alloc: Global,
     echo: Echo,
     reader: &mut R,
@@ -283,7 +284,7 @@ fn simulate<R: Read, W: Write, E: Write>(
         (W.contents writer.old) (W.contents writer.new) }
     ensures unwritten { result ≡ 2 → Keeps (W.contents writer.old) (W.contents writer.new) }
 {
-    match run_script(alloc, echo, reader, writer) {
+    match run_script(rt, alloc, echo, reader, writer) {
         Ok(()) => DONE,
         Err(fault) => {
             // The line is lost where it cannot be written; the status still tells.

@@ -9,6 +9,7 @@ use crate::lane::{Lane, Taken};
 use crate::listening::{listening, say_traffic, socket_failure, take_turn};
 use crate::printing::print;
 use crate::watched_port::{Role, WatchedPort};
+use apply::{ColumnStore, PARTITIONS};
 use dispatcher::ReplicaCore;
 use plans::Plan;
 use queue::QueryQueue;
@@ -22,7 +23,6 @@ use std::net::{Net, SocketAddr};
 use std::rt::Files;
 use std::sync::Wait;
 use std::thread::{Threads, join};
-use store::PlainStore;
 
 /// Runs a replica: has it answer the batches of the input, one after the other; live, it takes them while
 /// it serves, and otherwise it has read all of them before.
@@ -93,7 +93,7 @@ fn serve_at_socket<
     alloc: Global,
     words: &ReplicaWords<'_>,
     setup: &Setup,
-    replica: &mut ReplicaCore<PlainStore>,
+    replica: &mut ReplicaCore<ColumnStore>,
     batches: &Lane<Vec<Plan>>,
     reader: &mut R,
     writer: &mut W,
@@ -142,7 +142,7 @@ fn follow_live<T: Threads + Wait + Sync, R: Read + Send, W: Write + Send, E: Wri
     rt: &T,
     follower: &mut Follower,
     setup: &Setup,
-    replica: &mut ReplicaCore<PlainStore>,
+    replica: &mut ReplicaCore<ColumnStore>,
     port: &mut WatchedPort<UdpPort>,
     batches: &Lane<Vec<Plan>>,
     ending: &Ending,
@@ -176,12 +176,12 @@ pub fn replica_of(
     setup: &Setup,
     number: u8,
     boot: u64,
-) -> Option<ReplicaCore<PlainStore>> {
+) -> Option<ReplicaCore<ColumnStore>> {
     let workers = setup.workers;
     if workers == 0 || workers > WORKERS_MAX || number >= REPLICAS_MAX {
         return None;
     }
-    let store = PlainStore::new(alloc, &setup.schema).ok()?;
+    let store = ColumnStore::new(alloc, &setup.schema, PARTITIONS).ok()?;
     ReplicaCore::start(alloc, store, &setup.schema, workers, number, boot).ok()
 }
 
@@ -228,10 +228,10 @@ struct Follower {
 
 impl Follower {
     /// Serves until all batches are answered and no more come, or the node is to end.
-    fn follow<T: Wait, W: Write, E: Write>(
+    fn follow<T: Threads + Wait + Sync, W: Write, E: Write>(
         &mut self,
         rt: &T,
-        replica: &mut ReplicaCore<PlainStore>,
+        replica: &mut ReplicaCore<ColumnStore>,
         port: &mut WatchedPort<UdpPort>,
         batches: &Lane<Vec<Plan>>,
         ending: &Ending,
@@ -269,10 +269,10 @@ impl Follower {
     }
 
     /// Serves one turn, and writes the report if a batch is answered. Whether one is.
-    fn turn<T: Wait, W: Write, E: Write>(
+    fn turn<T: Threads + Wait + Sync, W: Write, E: Write>(
         &mut self,
         rt: &T,
-        replica: &mut ReplicaCore<PlainStore>,
+        replica: &mut ReplicaCore<ColumnStore>,
         queue: &QueryQueue,
         port: &mut WatchedPort<UdpPort>,
         writer: &mut W,

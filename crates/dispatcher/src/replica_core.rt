@@ -25,6 +25,7 @@ use rows::limits::WAITING_QUERIES_MAX;
 use rows::{ByteList, Commit, Schema};
 use std::alloc::{AllocError, Global};
 use std::marker::{Model, Sync};
+use std::thread::Threads;
 use store::{ApplyFault, ApplyStore};
 use update_log::Frame;
 use wire::{Counts, Datagram, LentEntries, Out, read};
@@ -239,12 +240,13 @@ impl<S: ApplyStore + Sync> ReplicaCore<S> {
     }
 
     /// Runs the batch: applies every commit up to the version that was fetched for it, and answers
-    /// all its queries on those rows. Frames that have been applied are no longer kept.
+    /// all its queries on those rows. It may use threads. Frames that have been applied are no longer
+    /// kept.
     ///
     /// If out of memory, it answers `Memory`: the batch and the known frames are unchanged, and the
     /// tables are at the old version or at the fetched one. If changes were being applied, it
     /// answers `Broken` instead. After `Inconsistent` or `Broken` the replica is broken for good.
-    pub fn run(&mut self) -> Run
+    pub fn run<R: Threads + Sync>(&mut self, rt: &R) -> Run
         ensures { MayRun self.old result self.new }
     {
         if self.broken {
@@ -266,8 +268,8 @@ impl<S: ApplyStore + Sync> ReplicaCore<S> {
         }
         let version = fetched.version;
         let counts = copy_of(&fetched.counts);
-        match self.catch_up(version, counts) {
-            Ok(()) => self.answer(),
+        match self.catch_up(rt, version, counts) {
+            Ok(()) => self.answer(rt),
             Err(CatchUpFault::Inconsistent) => Run::Inconsistent,
             Err(CatchUpFault::Memory) => Run::Memory,
             Err(CatchUpFault::Broken) => Run::Broken,
@@ -357,7 +359,12 @@ impl<S: ApplyStore + Sync> ReplicaCore<S> {
     /// Applies the commits above its version, of whose frames none below the counts is missing, and
     /// is then at `version`. The commits are merged before the first change: if that runs out of
     /// memory, nothing has changed.
-    fn catch_up(&mut self, version: u64, counts: Counts) -> Result<(), CatchUpFault>
+    fn catch_up<R: Threads + Sync>(
+        &mut self,
+        rt: &R,
+        version: u64,
+        counts: Counts,
+    ) -> Result<(), CatchUpFault>
         requires { ready_of self.old ≡ Some (record { version = version; counts = counts }) }
         ensures { CatchesUp self.old (record { version = version; counts = counts }) result self.new }
     {
@@ -371,7 +378,7 @@ impl<S: ApplyStore + Sync> ReplicaCore<S> {
             self.version,
             version,
         ) {
-            Ok(commits) => self.apply(&commits, version, counts),
+            Ok(commits) => self.apply(rt, &commits, version, counts),
             Err(OrderFault::Inconsistent) => {
                 self.broken = true;
                 Err(CatchUpFault::Inconsistent)
@@ -382,8 +389,9 @@ impl<S: ApplyStore + Sync> ReplicaCore<S> {
 
     /// Applies the commits that its frames hold, and is then at `version`, with these frames
     /// applied and no longer kept. If that fails, it is broken.
-    fn apply(
+    fn apply<R: Threads + Sync>(
         &mut self,
+        rt: &R,
         commits: &[Commit],
         version: u64,
         counts: Counts,
@@ -392,7 +400,7 @@ impl<S: ApplyStore + Sync> ReplicaCore<S> {
         ensures { Applies self.old (record { version = version; counts = counts }) commits.now result self.new }
     {
         known_frames_stay_kept();
-        let applied = self.store.apply_all(commits);
+        let applied = self.store.apply_all(rt, commits);
         self.broken = applied.is_err();
         match applied {
             Ok(()) => {
@@ -408,14 +416,14 @@ impl<S: ApplyStore + Sync> ReplicaCore<S> {
     }
 
     /// Answers the batch on the tables as they are, and ends it.
-    fn answer(&mut self) -> Run
+    fn answer<R: Threads + Sync>(&mut self, rt: &R) -> Run
         requires { self.old.broken ≡ false }
         ensures { MayAnswerBatch self.old result self.new }
     {
         let Some(batch) = &self.batch else {
             return Run::NoBatch;
         };
-        let Ok(answers) = answer_batch(self.alloc, &self.store, &batch.plans) else {
+        let Ok(answers) = answer_batch(rt, self.alloc, &self.store, &batch.plans) else {
             return Run::Memory;
         };
         let Ok(text) = report(self.alloc, self.version, &answers) else {

@@ -26,13 +26,16 @@ use Rattle.plans.specs.Inner.TotalOrder.{value_cmp_total}
 
 -- ---- the definition of an aggregate
 
+pub total-append : (numbers others : List ℤ) → total (numbers ++ others) ≡ total numbers +ℤ total others
+total-append [] others = omega (arith, ints)
+total-append (number ∷ numbers) others = let rest = total-append numbers others in omega (arith, ints, rest)
+
 total-push : (numbers : List ℤ) (number : ℤ) → total (numbers ++ number ∷ []) ≡ total numbers +ℤ number
-total-push [] number = omega (arith, ints)
-total-push (first ∷ numbers) number = let rest = total-push numbers number in omega (arith, ints, rest)
+total-push numbers number = let all = total-append numbers (number ∷ []) in omega (arith, ints, all)
 
 -- whichever of three values are looked at first, the same is picked
 module _ {R : Value → Value → Ordering} (o : IsTotalOrder R) where
-  abbrev pick : Value → Value → Value
+  abbrev pub pick : Value → Value → Value
   pick value other = cond (is_gt (R value other)) other value
 
   is_Greater : (r : Ordering) → is_gt r ≡ true → r ≡ Greater
@@ -55,33 +58,45 @@ module _ {R : Value → Value → Ordering} (o : IsTotalOrder R) where
       by false true p q = refl
       by false false p q = cond-false (is_gt (R x y)) y x p ∙ sym (cond-false (is_gt (R x z)) z x (upto o x y z p q))
 
--- values with one more behind them
-abbrev ending : (Value → Value → Value) → Option Value → Value → Value
-ending better None value = value
-ending better (Some held) value = better held value
+-- the better of two values that there may be none of
+module _ (better : Value → Value → Value) where
+  abbrev pub better_found : Option Value → Option Value → Option Value
+  better_found None other = other
+  better_found (Some value) None = Some value
+  better_found (Some value) (Some other) = Some (better value other)
+
+  beside-found : (value : Value) (other : Option Value) → Some (beside better value other) ≡ better_found (Some value) other
+  beside-found value None = refl
+  beside-found value (Some other) = refl
 
 module _ (better : Value → Value → Value) (assoc : (x y z : Value) → better x (better y z) ≡ better (better x y) z) where
-  best-push : (values : List Value) (value : Value) → best better (values ++ value ∷ []) ≡ Some (ending better (best better values) value)
-  best-push [] value = refl
-  best-push (first ∷ values) value = by (best better values) (best better (values ++ value ∷ [])) (best-push values value)
-    where
-      by : (before after : Option Value) → after ≡ Some (ending better before value)
-          → Some (beside better first after) ≡ Some (better (beside better first before) value)
-      by None after e = ap (λ found. Some (beside better first found)) e
-      by (Some other) after e = ap (λ found. Some (beside better first found)) e ∙ ap Some (assoc first other value)
+  pub better_found-assoc : (a b c : Option Value)
+      → better_found better a (better_found better b c) ≡ better_found better (better_found better a b) c
+  better_found-assoc None b c = refl
+  better_found-assoc (Some a) None c = refl
+  better_found-assoc (Some a) (Some b) None = refl
+  better_found-assoc (Some a) (Some b) (Some c) = ap Some (assoc a b c)
+
+  pub best-append : (values others : List Value)
+      → best better (values ++ others) ≡ better_found better (best better values) (best better others)
+  best-append [] others = refl
+  best-append (value ∷ values) others =
+      beside-found better value (best better (values ++ others)) ∙ ap (better_found better (Some value)) (best-append values others)
+      ∙ better_found-assoc (Some value) (best better values) (best better others)
+      ∙ ap (λ found. better_found better found (best better others)) (sym (beside-found better value (best better values)))
 
   extreme-push : (values : List Value) (value : Value)
       → field_of (best better (values ++ value ∷ [])) ≡ extreme better (field_of (best better values)) value
-  extreme-push values value = ap field_of (best-push values value) ∙ by (best better values)
+  extreme-push values value = ap field_of (best-append values (value ∷ [])) ∙ by (best better values)
     where
-      by : (held : Option Value) → Stored (ending better held value) ≡ extreme better (field_of held) value
+      by : (held : Option Value) → field_of (better_found better held (Some value)) ≡ extreme better (field_of held) value
       by None = refl
       by (Some held) = refl
 
-lesser-assoc : (x y z : Value) → lesser x (lesser y z) ≡ lesser (lesser x y) z
+pub lesser-assoc : (x y z : Value) → lesser x (lesser y z) ≡ lesser (lesser x y) z
 lesser-assoc = pick-assoc value_cmp_total
 
-greater-assoc : (x y z : Value) → greater x (greater y z) ≡ greater (greater x y) z
+pub greater-assoc : (x y z : Value) → greater x (greater y z) ≡ greater (greater x y) z
 greater-assoc = pick-assoc (back_total value_cmp_total)
 
 values_in-push : (column : Column) (rows : List JoinedRow) (row : JoinedRow)

@@ -1,7 +1,7 @@
 -- What is kept for a plan, with one row more; and its lines once all rows were looked at.
-use Rattle.std.proofs.Common.{◌≡◌, ℕ, ◌+◌, Bool, true, false, ◌||◌, cond, List, [], ◌∷◌, ◌++◌, length, map, take, Option, None, Some}
+use Rattle.std.proofs.Common.{◌≡◌, ℕ, ◌+◌, Bool, true, false, ◌||◌, cond, List, [], ◌∷◌, ◌++◌, map, take, Option, None, Some}
 use Rattle.std.proofs.Common.{slice_get, IfSome}
-use Rattle.std.proofs.Common.{refl, sym, ap, ◌∙◌, subst, arith}
+use Rattle.std.proofs.Common.{refl, sym, ap, ◌∙◌, subst, arith, append_assoc}
 use Rattle.std.specs.BTreeMap.{is_at}
 use Rattle.std.specs.List.{All, AllByRecursion, filter, filter_map, cons_option, list_all, list_any}
 use Rattle.std.specs.List.Sorted.{IsStrictlySortedBy}
@@ -10,12 +10,12 @@ use Rattle.std.specs.Option.{unwrap_or}
 use Rattle.std.specs.Ordering.{is_eq}
 use Rattle.std.proofs.lemmas.Bool.{or_parts, cond-false}
 use Rattle.std.proofs.lemmas.Int.{ints}
-use Rattle.std.proofs.lemmas.List.{map_push, take_more, take_all, append-nil}
+use Rattle.std.proofs.lemmas.List.{map-append, take_more, append-nil}
 use Rattle.std.proofs.lemmas.List.Elements.{All-from_recursion, filter-append, filter_map-append}
 use Rattle.std.proofs.lemmas.List.Folds.{list_any-append}
 use Rattle.std.proofs.lemmas.Option.{slice_get_within, get_or_from_slice_get, IfSome_then}
 use Rattle.rows.specs.declared.value.Value.{Value}
-use Rattle.rows.specs.Tables.{Tables, rows_of}
+use Rattle.rows.specs.Tables.{Rows, Tables, rows_of, row_at}
 use Rattle.plans.specs.declared.aggregate.Aggregate.{Aggregate}
 use Rattle.plans.specs.declared.aggregate.Aggregate.TheVariants.{Count, Sum, Min, Max}
 use Rattle.plans.specs.declared.column.Column.{Column}
@@ -26,8 +26,7 @@ use Rattle.plans.specs.Order.{group_cmp, rising}
 use Rattle.plans.specs.Answers.{JoinedRow, group_of, groups_of, rows_in, rows_among, joined_with, meets, aggregate_of, line_of}
 use Rattle.plans.specs.Answers.{answer_lines}
 use Rattle.plans.specs.Inner.Kept.{GroupList, IsWithin, AreWithin, grown_all, opening_of, opening_groups, with_joined_row, kept_at}
-use Rattle.plans.specs.Inner.Kept.{GroupsAreKept}
-use Rattle.plans.specs.Inner.Kept.{rows_before}
+use Rattle.plans.specs.Inner.Kept.{GroupsAreKept, AreKept, row_among}
 use Rattle.plans.specs.Inner.TotalOrder.{group_cmp_total}
 use Rattle.plans.proofs.Orders.{group_cmp-exact, same_group, is_itself, flips, same_entries}
 use Rattle.plans.proofs.Rising.{paired, keys_of-paired, lookup-paired, rising-sorted, rising-any}
@@ -37,37 +36,46 @@ or_none : (b : Bool) → (b || false) ≡ b
 or_none true = refl
 or_none false = refl
 
-or_all : (b : Bool) → (b || true) ≡ true
+pub or_all : (b : Bool) → (b || true) ≡ true
 or_all true = refl
 or_all false = refl
 
-or_itself : (b : Bool) → (b || false) ≡ ((b || false) || b)
+pub or_itself : (b : Bool) → (b || false) ≡ ((b || false) || (b || false))
 or_itself true = refl
 or_itself false = refl
 
--- ---- the groups of rows with one row more
+-- ---- the groups of rows with others behind them
 
-abbrev is_group : List Column → List JoinedRow → List Value → Bool
+abbrev pub is_group : List Column → List JoinedRow → List Value → Bool
 is_group columns rows group = list_any (λ other. is_eq (group_cmp group other)) (groups_of columns rows)
+
+pub is_group-append : (columns : List Column) (rows others : List JoinedRow) (group : List Value)
+    → is_group columns (rows ++ others) group ≡ (is_group columns rows group || is_group columns others group)
+is_group-append [] rows others group = or_itself (is_eq (group_cmp group []))
+is_group-append (column ∷ columns) rows others group =
+    let key : JoinedRow → List Value = group_of (column ∷ columns) in
+    let test : List Value → Bool = λ other. is_eq (group_cmp group other) in
+    ap (list_any test) (map-append key rows others) ∙ list_any-append test (map key rows) (map key others)
+
+-- one row more
+is_group-one : (columns : List Column) (row : JoinedRow) (group : List Value)
+    → is_group columns (row ∷ []) group ≡ is_eq (group_cmp group (group_of columns row))
+is_group-one [] row group = or_none (is_eq (group_cmp group []))
+is_group-one (column ∷ columns) row group = or_none (is_eq (group_cmp group (group_of (column ∷ columns) row)))
 
 is_group-push : (columns : List Column) (rows : List JoinedRow) (row : JoinedRow) (group : List Value)
     → is_group columns (rows ++ row ∷ []) group ≡ (is_group columns rows group || is_eq (group_cmp group (group_of columns row)))
-is_group-push [] rows row group = or_itself (is_eq (group_cmp group []))
-is_group-push (column ∷ columns) rows row group =
-    let key : JoinedRow → List Value = group_of (column ∷ columns) in
-    let test : List Value → Bool = λ other. is_eq (group_cmp group other) in
-    ap (list_any test) (map_push key rows row)
-    ∙ list_any-append test (map key rows) (key row ∷ [])
-    ∙ ap (λ b. list_any test (map key rows) || b) (or_none (test (key row)))
+is_group-push columns rows row group =
+    is_group-append columns rows (row ∷ []) group ∙ ap (λ b. is_group columns rows group || b) (is_group-one columns row group)
 
 rows_in-push : (columns : List Column) (rows : List JoinedRow) (row : JoinedRow) (group : List Value)
     → rows_in columns group (rows ++ row ∷ [])
     ≡ rows_in columns group rows ++ cond (is_eq (group_cmp group (group_of columns row))) (row ∷ []) []
 rows_in-push columns rows row group = filter-append (λ row. is_eq (group_cmp group (group_of columns row))) rows (row ∷ [])
 
-filter-none : (test : JoinedRow → Bool) (rows : List JoinedRow) → ((row : JoinedRow) → test row ≡ false) → filter test rows ≡ []
+pub filter-none : {X : Type 0} (test : X → Bool) (xs : List X) → ((x : X) → test x ≡ false) → filter test xs ≡ []
 filter-none test [] h = refl
-filter-none test (row ∷ rows) h = cond-false (test row) (row ∷ filter test rows) (filter test rows) (h row) ∙ filter-none test rows h
+filter-none test (x ∷ xs) h = cond-false (test x) (x ∷ filter test xs) (filter test xs) (h x) ∙ filter-none test xs h
 
 filter-absent : (key : JoinedRow → List Value) (test : List Value → Bool) (rows : List JoinedRow) → list_any test (map key rows) ≡ false
     → filter (λ row. test (key row)) rows ≡ []
@@ -78,7 +86,7 @@ filter-absent key test (row ∷ rows) h =
     ∙ filter-absent key test rows parts.1
 
 -- what is no group has no rows
-absent-rows : (columns : List Column) (rows : List JoinedRow) (group : List Value) → is_group columns rows group ≡ false
+pub absent-rows : (columns : List Column) (rows : List JoinedRow) (group : List Value) → is_group columns rows group ≡ false
     → rows_in columns group rows ≡ []
 absent-rows [] rows group h =
     filter-none (λ row. is_eq (group_cmp group (group_of [] row))) rows
@@ -140,7 +148,7 @@ module _ (plan : Plan) (rows : List JoinedRow) (row : JoinedRow) where
       by false h = sym (kept-other group (flips group key ∙ h))
 
   -- a row is added to what is kept of those before it
-  pub kept-more : (count : ℕ) (groups after : GroupList) → GroupsAreKept plan rows count groups
+  kept-more : (count : ℕ) (groups after : GroupList) → GroupsAreKept plan rows count groups
       → ((group : List Value) → lookup (is_at (group_cmp group)) after ≡ with_joined_row row plan groups group)
       → AreWithin (count + 1) after
       → GroupsAreKept plan (rows ++ row ∷ []) (count + 1) after
@@ -155,65 +163,68 @@ module _ (plan : Plan) (rows : List JoinedRow) (row : JoinedRow) where
   }
 
 -- a row that is not looked at
-pub kept-skip : (plan : Plan) (rows : List JoinedRow) (count : ℕ) (groups : GroupList) → GroupsAreKept plan rows count groups
-    → GroupsAreKept plan rows (count + 1) groups
-kept-skip plan rows count groups kept = record {
-  found = kept.found;
-  within = λ group.
-      IfSome_then (lookup (is_at (group_cmp group)) groups) (kept.within group) (λ fields all. All-IsWithin-more count fields all);
-}
+pub kept-skip : (plan : Plan) (rows one : List JoinedRow) (count : ℕ) (groups : GroupList) → one ≡ [] → GroupsAreKept plan rows count groups
+    → GroupsAreKept plan (rows ++ one) (count + 1) groups
+kept-skip plan rows one count groups none kept =
+    subst (λ list. GroupsAreKept plan list (count + 1) groups) (sym (ap (λ list. rows ++ list) none ∙ append-nil rows))
+    (record {
+      found = kept.found;
+      within = λ group.
+          IfSome_then (lookup (is_at (group_cmp group)) groups) (kept.within group) (λ fields all. All-IsWithin-more count fields all);
+    })
 
--- ---- the rows before a place
+-- a row that is looked at
+pub kept-one : (plan : Plan) (rows one : List JoinedRow) (row : JoinedRow) (count : ℕ) (groups after : GroupList) → one ≡ row ∷ []
+    → GroupsAreKept plan rows count groups
+    → ((group : List Value) → lookup (is_at (group_cmp group)) after ≡ with_joined_row row plan groups group)
+    → AreWithin (count + 1) after
+    → GroupsAreKept plan (rows ++ one) (count + 1) after
+kept-one plan rows one row count groups after is kept finds within =
+    subst (λ list. GroupsAreKept plan list (count + 1) after) (sym (ap (λ list. rows ++ list) is))
+    (kept-more plan rows row count groups after kept finds within)
+
+-- ---- the rows of the plan's table
 
 module _ (tables : Tables) (plan : Plan) where
-  abbrev rows : List (ℕ × List Value)
-  rows = rows_of tables plan.table
-
   abbrev passing : List JoinedRow → List JoinedRow
   passing found = filter (λ row. list_all (meets row) plan.conditions) found
 
-  before-step : (i id : ℕ) (own : List Value) → slice_get rows i ≡ Some (id, own)
-      → rows_before tables plan (i + 1) ≡ rows_before tables plan i ++ passing (cons_option (joined_with tables plan.join own) [])
-  before-step i id own e =
-      let joined : ℕ × List Value → Option JoinedRow = λ row. joined_with tables plan.join row.1 in
+  abbrev joined : ℕ × List Value → Option JoinedRow
+  joined row = joined_with tables plan.join row.1
+
+  pub rows_among-append : (rows others : Rows)
+      → rows_among tables plan (rows ++ others) ≡ rows_among tables plan rows ++ rows_among tables plan others
+  rows_among-append rows others =
+      ap passing (filter_map-append joined rows others)
+      ∙ filter-append (λ row. list_all (meets row) plan.conditions) (filter_map joined rows) (filter_map joined others)
+
+  pub among-none : (id : ℕ) (own : List Value) → joined_with tables plan.join own ≡ None → rows_among tables plan ((id, own) ∷ []) ≡ []
+  among-none id own h = ap (λ found. passing (cons_option found [])) h
+
+  pub among-not : (id : ℕ) (own : List Value) (row : JoinedRow) → joined_with tables plan.join own ≡ Some row
+      → list_all (meets row) plan.conditions ≡ false → rows_among tables plan ((id, own) ∷ []) ≡ []
+  among-not id own row h fails =
+      ap (λ found. passing (cons_option found [])) h ∙ ap (λ b. cond b (row ∷ []) []) fails
+
+  pub among-one : (id : ℕ) (own : List Value) (row : JoinedRow) → joined_with tables plan.join own ≡ Some row
+      → list_all (meets row) plan.conditions ≡ true → rows_among tables plan ((id, own) ∷ []) ≡ row ∷ []
+  among-one id own row h passes =
+      ap (λ found. passing (cons_option found [])) h ∙ ap (λ b. cond b (row ∷ []) []) passes
+
+  -- the row at an index, behind others
+  pub kept-next : (rows more : Rows) (i id count : ℕ) (own : List Value) (groups : GroupList) → slice_get rows i ≡ Some (id, own)
+      → row_at (rows_of tables plan.table) id ≡ Some own
+      → GroupsAreKept plan (rows_among tables plan (more ++ take i rows) ++ row_among tables plan id) count groups
+      → AreKept tables plan (more ++ take (i + 1) rows) count groups
+  kept-next rows more i id count own groups e there kept =
       let one : take (i + 1) rows ≡ take i rows ++ (id, own) ∷ [] =
       take_more rows i (id, own) (slice_get_within rows i (id, own) e)
       ∙ ap (λ row. take i rows ++ row ∷ []) (get_or_from_slice_get rows i (id, own) (id, own) e) in
-      ap (λ some. passing (filter_map joined some)) one
-      ∙ ap passing (filter_map-append joined (take i rows) ((id, own) ∷ []))
-      ∙ filter-append (λ row. list_all (meets row) plan.conditions) (filter_map joined (take i rows)) (filter_map joined ((id, own) ∷ []))
-
-  pub before-none : (i id : ℕ) (own : List Value) → slice_get rows i ≡ Some (id, own) → joined_with tables plan.join own ≡ None
-      → rows_before tables plan (i + 1) ≡ rows_before tables plan i
-  before-none i id own e h =
-      before-step i id own e
-      ∙ ap (λ found. rows_before tables plan i ++ passing (cons_option found [])) h
-      ∙ append-nil (rows_before tables plan i)
-
-  found-step : (i id : ℕ) (own : List Value) (row : JoinedRow) → slice_get rows i ≡ Some (id, own)
-      → joined_with tables plan.join own ≡ Some row
-      → rows_before tables plan (i + 1)
-      ≡ rows_before tables plan i ++ cond (list_all (meets row) plan.conditions) (row ∷ []) []
-  found-step i id own row e h =
-      before-step i id own e ∙ ap (λ found. rows_before tables plan i ++ passing (cons_option found [])) h
-
-  pub before-not : (i id : ℕ) (own : List Value) (row : JoinedRow) → slice_get rows i ≡ Some (id, own)
-      → joined_with tables plan.join own ≡ Some row → list_all (meets row) plan.conditions ≡ false
-      → rows_before tables plan (i + 1) ≡ rows_before tables plan i
-  before-not i id own row e h fails =
-      found-step i id own row e h
-      ∙ ap (λ b. rows_before tables plan i ++ cond b (row ∷ []) []) fails
-      ∙ append-nil (rows_before tables plan i)
-
-  pub before-more : (i id : ℕ) (own : List Value) (row : JoinedRow) → slice_get rows i ≡ Some (id, own)
-      → joined_with tables plan.join own ≡ Some row → list_all (meets row) plan.conditions ≡ true
-      → rows_before tables plan (i + 1) ≡ rows_before tables plan i ++ row ∷ []
-  before-more i id own row e h passes =
-      found-step i id own row e h ∙ ap (λ b. rows_before tables plan i ++ cond b (row ∷ []) []) passes
-
-  -- before the end of the table stand all its rows
-  pub before-all : rows_before tables plan (length rows) ≡ rows_among tables plan rows
-  before-all = ap (rows_among tables plan) (take_all (length rows) rows (omega arith))
+      subst (λ list. GroupsAreKept plan list count groups)
+      (ap (λ found. rows_among tables plan (more ++ take i rows) ++ rows_among tables plan ((id, unwrap_or found []) ∷ [])) there
+      ∙ sym (rows_among-append (more ++ take i rows) ((id, own) ∷ []))
+      ∙ ap (rows_among tables plan) (append_assoc more (take i rows) ((id, own) ∷ []) ∙ ap (λ list. more ++ list) (sym one)))
+      kept
 
 -- ---- before any row
 

@@ -2,6 +2,8 @@ pub mod Orders
 pub mod Rising
 pub mod Aggregates
 pub mod Keeping
+pub mod Merging
+pub mod Pieces
 pub mod Columns
 pub mod Taking
 pub mod Texts

@@ -18,7 +18,7 @@ use Rattle.rows.specs.declared.value.Value.TheVariants.{Int, Octets}
 use Rattle.plans.specs.Order.{value_cmp, group_cmp}
 use Rattle.plans.specs.Inner.TotalOrder.{group_cmp_total}
 
-value_cmp-exact : (x y : Value) → value_cmp x y ≡ Equal → x ≡ y
+pub value_cmp-exact : (x y : Value) → value_cmp x y ≡ Equal → x ≡ y
 value_cmp-exact (Int a) (Int b) e = ap Int (exact_signed a b e)
 value_cmp-exact (Int a) (Octets b) e = cc
 value_cmp-exact (Octets a) (Int b) e = cc

@@ -3,6 +3,7 @@ pub mod Checking
 pub mod Order
 pub mod Answers
 pub mod Report
+pub mod Merged
 pub mod Laws
 pub mod Worked
 pub mod Inner

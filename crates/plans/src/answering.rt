@@ -1,12 +1,12 @@
 //! Answering plans on a store.
 
-ghost use Rattle.std.specs.Prelude.{◌≡◌, ◌+◌, ◌<◌, [], true, length, map, Ok, IsSome, IfOk, OnOk};
+ghost use Rattle.std.specs.Prelude.{◌≡◌, ◌+◌, ◌++◌, List, [], true, map, Ok, IsSome, IfOk, OnOk};
 ghost use Rattle.std.specs.List.{AllByRecursion, list_all};
 ghost use Rattle.std.specs.Option.{option_map, unwrap_or};
-ghost use Rattle.rows.specs.Tables.{shape_in, rows_of};
+ghost use Rattle.rows.specs.Tables.{shape_in, rows_of, row_at};
 ghost use Rattle.plans.specs.Checking.{checked};
-ghost use Rattle.plans.specs.Answers.{column_in, id_of, joined_with, meets, plain_answer};
-ghost use Rattle.plans.specs.Inner.Kept.{IsKeptBefore, HasJoin};
+ghost use Rattle.plans.specs.Answers.{JoinedRow, column_in, id_of, joined_with, meets, plain_answer};
+ghost use Rattle.plans.specs.Inner.Kept.{GroupsAreKept, row_among, AreWithin, HasJoin};
 ghost use Rattle.plans.specs.Inner.Places.{row_at_place};
 
 use crate::answer::Answer;
@@ -15,14 +15,21 @@ use crate::condition::Condition;
 use crate::groups::Groups;
 use crate::plan::Plan;
 use crate::row_place::{RowPlace, joined_value};
+use crate::scanning::answer_by_pieces;
 use rows::{RowId, Value};
 use std::alloc::{AllocError, Global};
 use std::marker::Sync;
+use std::thread::Threads;
 use store::{Store, rows_stand_in_order};
 
 /// The answers of plans on the rows of a store, in their order. Each plan was checked against the
-/// kinds of the store's tables, and the store is whole. Fails only if out of memory.
-pub fn answer_batch<S: Store + Sync>(
+/// kinds of the store's tables, and the store is whole. It may use threads. Fails only if out of
+/// memory.
+///
+/// Costs: for each plan and row one `find`, and one more if the plan joins; the row's identifier is
+/// one of those that the store lends, or else takes an `id_at`.
+pub fn answer_batch<S: Store + Sync, R: Threads + Sync>(
+    rt: &R,
     alloc: Global,
     store: &S,
     plans: &[Plan],
@@ -31,6 +38,7 @@ pub fn answer_batch<S: Store + Sync>(
     requires checked { AllByRecursion (λ plan. checked (shape_in (S.tables store.now)) plan ≡ Ok tt) plans.now }
     ensures { IfOk result (λ answers. answers.items ≡ map (plain_answer (S.tables store.now)) plans.now) }
 {
+    let _ = rt;
     let mut answers = Vec::with_capacity(alloc, plans.len())?;
     for plan in plans {
         answers.push(answer(alloc, store, plan)?)?;
@@ -44,31 +52,46 @@ fn answer<S: Store>(alloc: Global, store: &S, plan: &Plan) -> Result<Answer, All
     requires checked { checked (shape_in (S.tables store.now)) plan.now ≡ Ok tt }
     ensures { IfOk result (λ answer. answer ≡ plain_answer (S.tables store.now) plan.now) }
 {
+    if let Some(answer) = answer_by_pieces(alloc, store, plan)? {
+        return Ok(answer);
+    }
+    answer_in_order(alloc, store, plan)
+}
+
+/// The answer of one plan, from the rows in rising order, which any store has. Fails only if out of
+/// memory.
+fn answer_in_order<S: Store>(alloc: Global, store: &S, plan: &Plan) -> Result<Answer, AllocError>
+    requires whole { S.is_whole store.now ≡ true }
+    requires checked { checked (shape_in (S.tables store.now)) plan.now ≡ Ok tt }
+    ensures { IfOk result (λ answer. answer ≡ plain_answer (S.tables store.now) plan.now) }
+{
+    rows_stand_in_order();
     let mut groups = Groups::new(alloc, plan)?;
     for i in 0..store.len(plan.table) {
-        take_row(alloc, store, plan, i, &mut groups)?;
+        let id = store.id_at(plan.table, i);
+        take_row(alloc, store, plan, id, i, &mut groups)?;
     }
     groups.answer(alloc)
 }
 
-/// Adds the row at an index of the plan's table, if the plan selects it, to what was computed from
-/// the rows before it. Fails only if out of memory; nothing is then known of the groups.
-fn take_row<S: Store>(
+/// Adds the row of an identifier, if the plan selects it, to what was computed from this many rows
+/// before it. Fails only if out of memory; nothing is then known of the groups.
+pub fn take_row<S: Store>(
     alloc: Global,
     store: &S,
     plan: &Plan,
-    i: usize,
+    id: RowId,
+    count: usize,
     groups: &mut Groups,
 ) -> Result<(), AllocError>
     requires whole { S.is_whole store.now ≡ true }
     requires checked { checked (shape_in (S.tables store.now)) plan.now ≡ Ok tt }
-    requires within { i < length (rows_of (S.tables store.now) plan.now.table) }
-    requires kept { IsKeptBefore (S.tables store.now) plan.now i groups.old }
-    ensures { OnOk result (IsKeptBefore (S.tables store.now) plan.now (i + 1) groups.new) }
+    requires there { IsSome (row_at (rows_of (S.tables store.now) plan.now.table) id.0) }
+    requires within { AreWithin count groups.old }
+    ensures { OnOk result ((rows : List JoinedRow) → GroupsAreKept plan.now rows count groups.old
+        → GroupsAreKept plan.now (rows ++ row_among (S.tables store.now) plan.now id.0) (count + 1) groups.new) }
 {
     store.keeps_kinds();
-    rows_stand_in_order();
-    let id = store.id_at(plan.table, i);
     let Some(place) = store.find(plan.table, id) else {
         unreachable!();
     };
@@ -78,7 +101,7 @@ fn take_row<S: Store>(
     if !meets_all(store, &row, plan.conditions.as_slice()) {
         return Ok(());
     }
-    groups.add(alloc, store, plan, &row, i)
+    groups.add(alloc, store, plan, &row, count)
 }
 
 /// The place of a row of the plan's table, with that of the row that it is joined with; `None` if

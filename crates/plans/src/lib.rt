@@ -4,16 +4,18 @@
 //! its columns names. It selects the rows that meet all conditions, groups them, and computes for
 //! each group what the plan asks: the number of rows, sums, least and greatest values.
 //! `specs/Checking.antt` defines which plans fit a schema, `Order.antt` how values are ordered,
-//! `Answers.antt` the plain answer of a plan on tables, and `Report.antt` the text of answers.
-//! `Inner` only helps proofs.
+//! `Answers.antt` the plain answer of a plan on tables, `Merged.antt` how what is computed of parts
+//! of a table makes that of all, and `Report.antt` the text of answers. `Inner` only helps proofs.
 //!
 //! Promised: `Plan::check` answers the first fault; `answer_batch` gives the plain answer of each
 //! plan on the rows of any whole store, except that it may run out of memory; `report` is the text
 //! of answers.
 //!
-//! It uses `rows` and `store`. A query finds each row of its table once, and the row that it joins;
-//! it reads their values in place, and copies only the groups' values. If a call fails for lack of
-//! memory, its value is unchanged unless the call says otherwise.
+//! It uses `rows` and `store`. A query goes over the identifiers that the store lends, piece by
+//! piece; if the store lends none, over the rows in rising order, one `id_at` a row. It finds each
+//! row of its table once, and the row that it joins; it reads their values in place, and copies only
+//! the groups' values. If a call fails for lack of memory, its value is unchanged unless the call
+//! says otherwise.
 #![tactic(auto)]
 
 mod aggregate;
@@ -37,6 +39,7 @@ pub mod limits;
 mod plan;
 mod reporting;
 mod row_place;
+mod scanning;
 mod worked;
 
 pub use aggregate::Aggregate;

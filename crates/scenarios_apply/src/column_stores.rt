@@ -11,7 +11,7 @@ use scenarios_common::wanted::{FIVE, SIX, Wanted, all_made, bank, made};
 use std::alloc::{AllocError, Global};
 use std::test::Fail;
 use std::thread::Threads;
-use store::{ApplyFault, PlainStore, Store};
+use store::{ApplyFault, ApplyStore, PlainStore, Store};
 
 /// Numbers of partitions.
 const PARTITIONS: [usize; 4] = [1, 2, 7, 64];
@@ -94,7 +94,7 @@ fn is_broken<R: Threads + Sync>(rt: &R, store: &mut ColumnStore) -> bool {
     };
     !store.whole()
         && kind_of_change(store, &delete) == 5
-        && store.apply_together(rt, &[]) == Err(ApplyFault::Broken)
+        && store.apply_all(rt, &[]) == Err(ApplyFault::Broken)
 }
 
 /// Whether it answers this step as it should.
@@ -298,7 +298,7 @@ fn are_odd<S: Store>(store: &S) -> bool {
         return false;
     }
     for i in 0..store.len(0) {
-        if store.id_at(0, i).0 % 2 != 1 {
+        if store.id_at(0, i).0 / 2 != i as u64 || store.id_at(0, i).0 % 2 != 1 {
             return false;
         }
     }

@@ -2,10 +2,14 @@
 #![tactic(auto)]
 
 #[cfg(test)]
+mod applying;
+#[cfg(test)]
 mod blocks;
 #[cfg(test)]
 mod column_stores;
 #[cfg(test)]
 mod column_values;
+#[cfg(test)]
+mod lending;
 #[cfg(test)]
 mod pieces;

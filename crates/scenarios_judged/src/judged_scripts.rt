@@ -7,6 +7,7 @@ use scenarios_model::slow_tally::Tally;
 use std::alloc::Global;
 use std::process::Abort;
 use std::test::Fail;
+use std::thread::Threads;
 use world::{Echo, run_script};
 
 /// How many scripts are drawn.
@@ -80,19 +81,24 @@ const MUST: [(&str, &[&str]); 22] = [
 ];
 
 /// What a script prints.
-pub fn printed(alloc: Global, script: &[u8]) -> Result<Vec<u8>, Fail> {
+pub fn printed<R: Threads + Sync>(rt: &R, alloc: Global, script: &[u8]) -> Result<Vec<u8>, Fail> {
     let mut reader = script;
     let mut text = Vec::new(alloc);
-    run_script(alloc, Echo::No, &mut reader, &mut text)?;
+    run_script(rt, alloc, Echo::No, &mut reader, &mut text)?;
     Ok(text)
 }
 
 /// Judges what the script of a seed prints: the index of the first event whose lines are not
 /// allowed.
-fn judged(alloc: Global, seed: u64, tally: &mut Tally) -> Result<Option<usize>, Fail> {
+fn judged<R: Threads + Sync>(
+    rt: &R,
+    alloc: Global,
+    seed: u64,
+    tally: &mut Tally,
+) -> Result<Option<usize>, Fail> {
     let script = drawn_script(alloc, seed)?;
     let text = text_of(alloc, &script)?;
-    let printed = printed(alloc, text.as_bytes())?;
+    let printed = printed(rt, alloc, text.as_bytes())?;
     Ok(judge(alloc, &script, printed.as_slice(), tally)?)
 }
 
@@ -112,7 +118,7 @@ fn expect_all(rt: &impl Abort, tally: &Tally) {
 fn drawn_scripts_print_what_is_allowed(rt: HostRuntime) -> Result<(), Fail> {
     let mut tally = Tally::new(rt.alloc())?;
     for seed in 0..SCRIPTS {
-        let index = judged(rt.alloc(), seed, &mut tally)?;
+        let index = judged(&rt, rt.alloc(), seed, &mut tally)?;
         assert_eq!(rt; index, None, "at seed {seed}");
     }
     expect_all(&rt, &tally);

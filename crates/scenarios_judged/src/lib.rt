@@ -14,4 +14,6 @@ mod judged_scripts;
 #[cfg(test)]
 mod judged_stories;
 #[cfg(test)]
+mod partitions;
+#[cfg(test)]
 mod turned_scripts;

@@ -9,6 +9,7 @@ use scenarios_model::slow_judge::judge;
 use scenarios_model::slow_tally::Tally;
 use std::alloc::{AllocError, Global};
 use std::test::Fail;
+use std::thread::Threads;
 
 /// What a line may be exchanged for.
 const LINES: [&str; 22] = [
@@ -134,10 +135,15 @@ fn are_refused(
 }
 
 /// Whether the judge refuses what the script of a seed prints, once it is turned.
-fn is_refused(alloc: Global, seed: u64, tries: usize) -> Result<bool, Fail> {
+fn is_refused<R: Threads + Sync>(
+    rt: &R,
+    alloc: Global,
+    seed: u64,
+    tries: usize,
+) -> Result<bool, Fail> {
     let script = drawn_script(alloc, seed)?;
     let text = text_of(alloc, &script)?;
-    let printed = printed(alloc, text.as_bytes())?;
+    let printed = printed(rt, alloc, text.as_bytes())?;
     let mut state = seed;
     Ok(are_refused(&mut state, alloc, &script, printed.as_slice(), tries)?)
 }
@@ -145,7 +151,7 @@ fn is_refused(alloc: Global, seed: u64, tries: usize) -> Result<bool, Fail> {
 #[test]
 fn turned_texts_are_refused(rt: HostRuntime) -> Result<(), Fail> {
     for seed in 0..100 {
-        assert!(rt; is_refused(rt.alloc(), seed, 30)?, "at seed {seed}");
+        assert!(rt; is_refused(&rt, rt.alloc(), seed, 30)?, "at seed {seed}");
     }
     Ok(())
 }

@@ -10,6 +10,7 @@ use scenarios_plans_common::plain_queries::plain_report;
 use scenarios_plans_common::wishes::{Cell, Line, Tables, Wish, report_of};
 use std::alloc::{AllocError, Global};
 use std::test::Fail;
+use std::thread::Threads;
 
 /// Two tables, each with two columns of numbers and one of octets.
 const TABLES: Tables<'static> = &[
@@ -106,7 +107,13 @@ fn drawn_aggregate(state: &mut u64, columns: &[Column], numbers: &[Column]) -> A
 
 /// Whether the answer of a plan that is drawn, over rows that are, is that of the plain program. It
 /// names these columns, sums those of numbers, and joins where one of them is joined.
-fn agrees(alloc: Global, seed: u64, columns: &[Column], numbers: &[Column]) -> Result<bool, Fail>
+fn agrees<R: Threads + Sync>(
+    rt: &R,
+    alloc: Global,
+    seed: u64,
+    columns: &[Column],
+    numbers: &[Column],
+) -> Result<bool, Fail>
     requires any { 0 < length columns.now }
     requires number { 0 < length numbers.now }
 {
@@ -138,16 +145,16 @@ fn agrees(alloc: Global, seed: u64, columns: &[Column], numbers: &[Column]) -> R
         aggregates: &aggregates,
     };
     let wanted = plain_report(alloc, lines.as_slice(), &wish)?;
-    let found = report_of(alloc, TABLES, lines.as_slice(), &[wish])?;
+    let found = report_of(rt, alloc, TABLES, lines.as_slice(), &[wish])?;
     Ok(found.as_slice() == wanted.as_bytes())
 }
 
 #[test]
 fn drawn_queries_have_plain_answers(rt: HostRuntime) -> Result<(), Fail> {
     for seed in 0..150 {
-        let alone = agrees(rt.alloc(), seed, &OWN, &OWN[..2])?;
+        let alone = agrees(&rt, rt.alloc(), seed, &OWN, &OWN[..2])?;
         assert!(rt; alone, "without a join, at seed {seed}");
-        let joined = agrees(rt.alloc(), seed, &BOTH, &BOTH[..4])?;
+        let joined = agrees(&rt, rt.alloc(), seed, &BOTH, &BOTH[..4])?;
         assert!(rt; joined, "with a join, at seed {seed}");
     }
     Ok(())

@@ -14,6 +14,7 @@ use scenarios_plans_common::wishes::{
 };
 use std::alloc::{AllocError, Global};
 use std::test::Fail;
+use std::thread::Threads;
 use store::PlainStore;
 
 /// Accounts by the sites that their first column names: account 13 names one that is not there, and
@@ -63,7 +64,7 @@ const FIRST_COLUMN: Wish<'static> = Wish {
 
 #[test]
 fn queries_are_answered(rt: HostRuntime) -> Result<(), Fail> {
-    let text = report_of(rt.alloc(), SHOP, &ROWS, &WISHES)?;
+    let text = report_of(&rt, rt.alloc(), SHOP, &ROWS, &WISHES)?;
     assert_eq!(rt; text.as_slice(), REPORT);
     Ok(())
 }
@@ -71,10 +72,10 @@ fn queries_are_answered(rt: HostRuntime) -> Result<(), Fail> {
 /// Two of the greatest number there is, and no row.
 #[test]
 fn sums_are_exact(rt: HostRuntime) -> Result<(), Fail> {
-    let text = report_of(rt.alloc(), SHOP, &GREATEST, &[SUM])?;
+    let text = report_of(&rt, rt.alloc(), SHOP, &GREATEST, &[SUM])?;
     let wanted = b"version 7 queries 1\nquery 0 rows 1\n18446744073709551614\n";
     assert_eq!(rt; text.as_slice(), wanted.as_slice());
-    let text = report_of(rt.alloc(), SHOP, &[], &[FIRST_COLUMN])?;
+    let text = report_of(&rt, rt.alloc(), SHOP, &[], &[FIRST_COLUMN])?;
     let wanted = b"version 7 queries 1\nquery 0 rows 1\n0 0 -\n";
     assert_eq!(rt; text.as_slice(), wanted.as_slice());
     Ok(())
@@ -98,22 +99,32 @@ fn plans_that_do_not_fit_are_refused(rt: HostRuntime) -> Result<(), Fail> {
 }
 
 /// Whether the report on these plans is that on accounts and sites.
-fn is_reported(alloc: Global, store: &PlainStore, plans: &[Plan]) -> Result<bool, AllocError>
+fn is_reported<R: Threads + Sync>(
+    rt: &R,
+    alloc: Global,
+    store: &PlainStore,
+    plans: &[Plan],
+) -> Result<bool, AllocError>
     requires whole { store.now.whole ≡ true }
     requires checked { AllByRecursion (λ plan. checked (shape_in store.now.tables) plan ≡ Ok tt) plans.now }
 {
-    let text = reported(alloc, store, plans)?;
+    let text = reported(rt, alloc, store, plans)?;
     Ok(text.as_slice() == REPORT)
 }
 
 /// The same, asked for once more where memory was refused to it.
-fn is_reported_at_last(alloc: Global, store: &PlainStore, plans: &[Plan]) -> bool
+fn is_reported_at_last<R: Threads + Sync>(
+    rt: &R,
+    alloc: Global,
+    store: &PlainStore,
+    plans: &[Plan],
+) -> bool
     requires whole { store.now.whole ≡ true }
     requires checked { AllByRecursion (λ plan. checked (shape_in store.now.tables) plan ≡ Ok tt) plans.now }
 {
-    match is_reported(alloc, store, plans) {
+    match is_reported(rt, alloc, store, plans) {
         Ok(is_same) => is_same,
-        Err(_) => is_reported(alloc, store, plans).unwrap_or(false),
+        Err(_) => is_reported(rt, alloc, store, plans).unwrap_or(false),
     }
 }
 
@@ -124,6 +135,6 @@ fn answers_without_memory_leave_the_store(rt: HostRuntime) -> Result<(), Fail> {
     let schema = Schema::new(rt.alloc(), SHOP)?;
     let store = filled(rt.alloc(), &schema, &ROWS)?;
     let plans = plans_of(rt.alloc(), &schema, &WISHES)?;
-    assert!(rt; is_reported_at_last(rt.alloc(), &store, plans.as_slice()));
+    assert!(rt; is_reported_at_last(&rt, rt.alloc(), &store, plans.as_slice()));
     Ok(())
 }

@@ -14,6 +14,7 @@ use rows::laws::changes_keep_kinds;
 use rows::{Entry, Kind, Octets, RowId, Schema, Value, row_bytes};
 use std::alloc::{AllocError, Global};
 use std::test::Fail;
+use std::thread::Threads;
 use store::{PlainStore, Store};
 
 /// What a column holds.
@@ -129,16 +130,22 @@ pub fn plans_of(alloc: Global, schema: &Schema, wishes: &[Wish<'_>]) -> Result<V
 }
 
 /// The report of the answers of plans, at version 7.
-pub fn reported(alloc: Global, store: &PlainStore, plans: &[Plan]) -> Result<Vec<u8>, AllocError>
+pub fn reported<R: Threads + Sync>(
+    rt: &R,
+    alloc: Global,
+    store: &PlainStore,
+    plans: &[Plan],
+) -> Result<Vec<u8>, AllocError>
     requires whole { store.now.whole ≡ true }
     requires checked { AllByRecursion (λ plan. checked (shape_in store.now.tables) plan ≡ Ok tt) plans.now }
 {
-    let answers = answer_batch(alloc, store, plans)?;
+    let answers = answer_batch(rt, alloc, store, plans)?;
     report(alloc, 7, answers.as_slice())
 }
 
 /// The report of the answers of the plans that are wished for, on a store with these rows.
-pub fn report_of(
+pub fn report_of<R: Threads + Sync>(
+    rt: &R,
     alloc: Global,
     tables: Tables<'_>,
     lines: &[Line],
@@ -147,7 +154,7 @@ pub fn report_of(
     let schema = Schema::new(alloc, tables)?;
     let store = filled(alloc, &schema, lines)?;
     let plans = plans_of(alloc, &schema, wishes)?;
-    Ok(reported(alloc, &store, plans.as_slice())?)
+    Ok(reported(rt, alloc, &store, plans.as_slice())?)
 }
 
 /// Accounts of two numbers, and sites of two octets.

@@ -67,7 +67,7 @@ const STORIES: [Story; 2] = [
 
 #[test]
 fn dumps_tell_the_tables_at_the_version(rt: HostRuntime) -> Result<(), Fail> {
-    assert_eq!(rt; other_story(rt.alloc(), &STORIES)?, None);
+    assert_eq!(rt; other_story(&rt, rt.alloc(), &STORIES)?, None);
     Ok(())
 }
 
@@ -85,7 +85,7 @@ const ONE_ROW: [Step<'static>; 7] = [
 /// Whichever allocation is refused: a dump that is out of memory can be asked for again.
 #[test]
 fn a_dump_without_memory_changes_nothing(rt: HostRuntime) -> Result<(), Fail> {
-    let other = other_step(rt.alloc(), 1, &NUMBERS, &ONE_ROW)?;
+    let other = other_step(&rt, rt.alloc(), 1, &NUMBERS, &ONE_ROW)?;
     // A step before the dump is answered otherwise only where memory is refused to it.
     if other.is_some_and(|index| index < 5) {
         return Err("out of memory".into());

@@ -52,6 +52,6 @@ const STORIES: [Story; 3] = [
 
 #[test]
 fn frames_are_kept_within_the_window(rt: HostRuntime) -> Result<(), Fail> {
-    assert_eq!(rt; other_story(rt.alloc(), &STORIES)?, None);
+    assert_eq!(rt; other_story(&rt, rt.alloc(), &STORIES)?, None);
     Ok(())
 }

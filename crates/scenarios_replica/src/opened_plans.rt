@@ -89,7 +89,7 @@ const STORIES: [Story; 4] = [
 
 #[test]
 fn plans_are_taken_or_refused_as_they_should(rt: HostRuntime) -> Result<(), Fail> {
-    assert_eq!(rt; other_story(rt.alloc(), &STORIES)?, None);
+    assert_eq!(rt; other_story(&rt, rt.alloc(), &STORIES)?, None);
     Ok(())
 }
 
@@ -118,7 +118,7 @@ const RUN_TWICE: [Step<'static>; 6] = [
 /// replica.
 #[test]
 fn a_run_of_groups_without_memory_stands_or_breaks(rt: HostRuntime) -> Result<(), Fail> {
-    let other = other_step(rt.alloc(), 1, &NUMBERS, &RUN_TWICE)?;
+    let other = other_step(&rt, rt.alloc(), 1, &NUMBERS, &RUN_TWICE)?;
     // A step before the run is answered otherwise only where memory is refused to it.
     if other.is_some_and(|index| index < 5) {
         return Err("out of memory".into());

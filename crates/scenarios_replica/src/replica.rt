@@ -10,6 +10,7 @@ use scenarios_common::worker_datagrams::{
 use scenarios_plans_common::wishes::{COUNT, Wish, plan_of};
 use std::alloc::{AllocError, Global};
 use std::test::Fail;
+use std::thread::Threads;
 use store::PlainStore;
 use wire::{Out, To};
 
@@ -81,9 +82,13 @@ pub type Story = (u8, &'static [Table], &'static [Step<'static>]);
 
 /// The first of these stories that goes otherwise, and the index of its step; each begins at a
 /// fresh replica.
-pub fn other_story(alloc: Global, stories: &[Story]) -> Result<Option<(usize, usize)>, Fail> {
+pub fn other_story<R: Threads + Sync>(
+    rt: &R,
+    alloc: Global,
+    stories: &[Story],
+) -> Result<Option<(usize, usize)>, Fail> {
     for (number, (workers, tables, story)) in stories.iter().enumerate() {
-        if let Some(index) = other_step(alloc, *workers, tables, story)? {
+        if let Some(index) = other_step(rt, alloc, *workers, tables, story)? {
             return Ok(Some((number, index)));
         }
     }
@@ -91,14 +96,15 @@ pub fn other_story(alloc: Global, stories: &[Story]) -> Result<Option<(usize, us
 }
 
 /// The index of the first step that a fresh replica answers otherwise.
-pub fn other_step(
+pub fn other_step<R: Threads + Sync>(
+    rt: &R,
     alloc: Global,
     workers: u8,
     tables: &[Table],
     story: &[Step<'_>],
 ) -> Result<Option<usize>, Fail> {
     let mut replica = fresh(alloc, workers, tables)?;
-    Ok(other_step_of(alloc, &mut replica, story))
+    Ok(other_step_of(rt, alloc, &mut replica, story))
 }
 
 /// A fresh replica of so many workers, of these tables.
@@ -112,13 +118,14 @@ fn fresh(alloc: Global, workers: u8, tables: &[Table]) -> Result<ReplicaCore<Pla
 }
 
 /// The index of the first step that a replica answers otherwise.
-fn other_step_of(
+fn other_step_of<R: Threads + Sync>(
+    rt: &R,
     alloc: Global,
     replica: &mut ReplicaCore<PlainStore>,
     story: &[Step<'_>],
 ) -> Option<usize> {
     for (index, step) in story.iter().enumerate() {
-        if !is_answered(alloc, replica, step) {
+        if !is_answered(rt, alloc, replica, step) {
             return Some(index);
         }
     }
@@ -126,7 +133,12 @@ fn other_step_of(
 }
 
 /// Whether it answers one step as it should.
-fn is_answered(alloc: Global, replica: &mut ReplicaCore<PlainStore>, step: &Step<'_>) -> bool {
+fn is_answered<R: Threads + Sync>(
+    rt: &R,
+    alloc: Global,
+    replica: &mut ReplicaCore<PlainStore>,
+    step: &Step<'_>,
+) -> bool {
     match step {
         Step::Open(table, count) => opens(alloc, replica, &count_of(*table), Ok(*count)),
         Step::OpenAll(count) => are_opened(alloc, replica, *count),
@@ -150,9 +162,9 @@ fn is_answered(alloc: Global, replica: &mut ReplicaCore<PlainStore>, step: &Step
         Step::GetHead(request, version, counts, answer) => {
             gets(replica, &head_of(*request, *version, *counts), *answer)
         }
-        Step::Run(ran) => runs(replica, ran),
-        Step::RunTwice(report) => runs_twice(replica, report),
-        Step::RunAll(count) => runs_all(alloc, replica, *count),
+        Step::Run(ran) => runs(rt, replica, ran),
+        Step::RunTwice(report) => runs_twice(rt, replica, report),
+        Step::RunAll(count) => runs_all(rt, alloc, replica, *count),
         Step::Request(number) => replica.request() == *number,
         Step::Version(number) => replica.version() == *number,
         Step::Dump(text) => dumps(replica, text),
@@ -241,8 +253,8 @@ fn is_ask_refused(replica: &mut ReplicaCore<PlainStore>, fault: AskFault) -> boo
 }
 
 /// Whether this becomes of a run.
-fn runs(replica: &mut ReplicaCore<PlainStore>, ran: &Ran<'_>) -> bool {
-    match replica.run() {
+fn runs<R: Threads + Sync>(rt: &R, replica: &mut ReplicaCore<PlainStore>, ran: &Ran<'_>) -> bool {
+    match replica.run(rt) {
         Run::NoBatch => matches!(ran, Ran::NoBatch),
         Run::WaitingHead => matches!(ran, Ran::WaitingHead),
         Run::Waiting { worker, seq, want } => is_waiting(ran, worker, seq, &want),
@@ -273,13 +285,17 @@ fn is_report(ran: &Ran<'_>, text: &[u8]) -> bool {
 
 /// Whether the batch is answered with this report and is then none; or stands where memory is
 /// refused, and is answered when it is run again; or the replica breaks and stays at its version.
-fn runs_twice(replica: &mut ReplicaCore<PlainStore>, report: &[u8]) -> bool {
-    match replica.run() {
+fn runs_twice<R: Threads + Sync>(
+    rt: &R,
+    replica: &mut ReplicaCore<PlainStore>,
+    report: &[u8],
+) -> bool {
+    match replica.run(rt) {
         Run::Answered(text) if text.as_slice() == report => {
-            runs(replica, &Ran::NoBatch) && replica.version() == 1
+            runs(rt, replica, &Ran::NoBatch) && replica.version() == 1
         }
-        Run::Memory => runs(replica, &Ran::Answered(report)) && replica.version() == 1,
-        Run::Broken => runs(replica, &Ran::Broken) && replica.version() == 0,
+        Run::Memory => runs(rt, replica, &Ran::Answered(report)) && replica.version() == 1,
+        Run::Broken => runs(rt, replica, &Ran::Broken) && replica.version() == 0,
         _ => false,
     }
 }
@@ -310,9 +326,14 @@ fn is_dump_refused(replica: &ReplicaCore<PlainStore>, fault: DumpFault) -> bool 
 }
 
 /// Whether the batch is answered with the report of so many counts of no rows, at version 0.
-fn runs_all(alloc: Global, replica: &mut ReplicaCore<PlainStore>, count: usize) -> bool {
+fn runs_all<R: Threads + Sync>(
+    rt: &R,
+    alloc: Global,
+    replica: &mut ReplicaCore<PlainStore>,
+    count: usize,
+) -> bool {
     match report_of_counts(alloc, count) {
-        Ok(report) => runs(replica, &Ran::Answered(report.as_bytes())),
+        Ok(report) => runs(rt, replica, &Ran::Answered(report.as_bytes())),
         Err(_) => false,
     }
 }

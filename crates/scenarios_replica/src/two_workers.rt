@@ -232,7 +232,7 @@ const STORIES: [Story; 10] = [
 
 #[test]
 fn a_replica_of_two_workers_answers_as_it_should(rt: HostRuntime) -> Result<(), Fail> {
-    assert_eq!(rt; other_story(rt.alloc(), &STORIES)?, None);
+    assert_eq!(rt; other_story(&rt, rt.alloc(), &STORIES)?, None);
     Ok(())
 }
 
@@ -277,7 +277,7 @@ const WINDOWS_OF_EACH: [Story; 2] = [(2, &NUMBERS, &WINDOWS), (16, &NUMBERS, &SI
 
 #[test]
 fn each_worker_has_frames_of_its_own(rt: HostRuntime) -> Result<(), Fail> {
-    assert_eq!(rt; other_story(rt.alloc(), &WINDOWS_OF_EACH)?, None);
+    assert_eq!(rt; other_story(&rt, rt.alloc(), &WINDOWS_OF_EACH)?, None);
     Ok(())
 }
 
@@ -295,7 +295,7 @@ const RUN_TWICE: [Step<'static>; 6] = [
 /// breaks the replica.
 #[test]
 fn a_merge_without_memory_stands_or_breaks(rt: HostRuntime) -> Result<(), Fail> {
-    let other = other_step(rt.alloc(), 2, &NUMBERS, &RUN_TWICE)?;
+    let other = other_step(&rt, rt.alloc(), 2, &NUMBERS, &RUN_TWICE)?;
     // A step before the run is answered otherwise only where memory is refused to it.
     if other.is_some_and(|index| index < 5) {
         return Err("out of memory".into());

@@ -12,6 +12,7 @@ use rows::{ByteList, Commit, Entry, EntryRef, Kind, Octets, RowId, Schema, Value
 use scenarios_common::wanted::{FIVE, SIX, Wanted, all_made, bank, made};
 use std::alloc::{AllocError, Global};
 use std::test::Fail;
+use std::thread::Threads;
 use store::{ApplyFault, ApplyStore, PlainStore, Store, run};
 
 /// What is done with a store of the bank, and last what it answers.
@@ -36,9 +37,13 @@ enum Step {
 
 /// The first of these stories that goes otherwise, and the index of its step; each begins at a
 /// store without rows.
-fn other_story(alloc: Global, stories: &[&[Step]]) -> Result<Option<(usize, usize)>, Fail> {
+fn other_story<R: Threads + Sync>(
+    rt: &R,
+    alloc: Global,
+    stories: &[&[Step]],
+) -> Result<Option<(usize, usize)>, Fail> {
     for (number, story) in stories.iter().enumerate() {
-        if let Some(index) = other_step(alloc, story)? {
+        if let Some(index) = other_step(rt, alloc, story)? {
             return Ok(Some((number, index)));
         }
     }
@@ -46,20 +51,25 @@ fn other_story(alloc: Global, stories: &[&[Step]]) -> Result<Option<(usize, usiz
 }
 
 /// The index of the first step that a fresh store answers otherwise.
-fn other_step(alloc: Global, story: &[Step]) -> Result<Option<usize>, Fail> {
+fn other_step<R: Threads + Sync>(
+    rt: &R,
+    alloc: Global,
+    story: &[Step],
+) -> Result<Option<usize>, Fail> {
     let schema = bank(alloc)?;
     let mut store = PlainStore::new(alloc, &schema)?;
-    other_step_of(alloc, &mut store, story)
+    other_step_of(rt, alloc, &mut store, story)
 }
 
 /// The index of the first step that a store answers otherwise.
-fn other_step_of(
+fn other_step_of<R: Threads + Sync>(
+    rt: &R,
     alloc: Global,
     store: &mut PlainStore,
     story: &[Step],
 ) -> Result<Option<usize>, Fail> {
     for (index, step) in story.iter().enumerate() {
-        if !is_answered(alloc, store, step)? {
+        if !is_answered(rt, alloc, store, step)? {
             return Ok(Some(index));
         }
     }
@@ -67,7 +77,12 @@ fn other_step_of(
 }
 
 /// Whether it answers this step as it should.
-fn is_answered(alloc: Global, store: &mut PlainStore, step: &Step) -> Result<bool, Fail> {
+fn is_answered<R: Threads + Sync>(
+    rt: &R,
+    alloc: Global,
+    store: &mut PlainStore,
+    step: &Step,
+) -> Result<bool, Fail> {
     match step {
         Step::Change(wanted, kind) => {
             let entry = made(alloc, wanted)?;
@@ -79,7 +94,7 @@ fn is_answered(alloc: Global, store: &mut PlainStore, step: &Step) -> Result<boo
         }
         Step::Apply(lists, expected) => {
             let commits = made_commits(alloc, lists)?;
-            Ok(is_applied(store, &commits, *expected))
+            Ok(is_applied(rt, store, &commits, *expected))
         }
         Step::Ids(ids) => Ok(are_ids(store, ids)),
         Step::Audits(count) => Ok(store.len(1) == *count),
@@ -155,38 +170,43 @@ fn made_commits(alloc: Global, lists: &[&[Wanted<'_>]]) -> Result<Vec<Commit>, A
 
 /// How many accounts there are once these commits are applied to a store without rows. The clauses
 /// of the bound alone say that it is what the commits make.
-fn count_after<S: ApplyStore + Sync>(store: &mut S, commits: &[Commit]) -> Result<usize, ApplyFault>
+fn count_after<S: ApplyStore + Sync, R: Threads + Sync>(
+    rt: &R,
+    store: &mut S,
+    commits: &[Commit],
+) -> Result<usize, ApplyFault>
     ensures { IfOk result (λ count. IsOkAnd (apply_commits (S.tables store.old) commits.now)
         (λ after. count ≡ length (rows_of after 0))) }
 {
-    store.apply_all(commits)?;
+    store.apply_all(rt, commits)?;
     Ok(store.len(0))
 }
 
 /// Whether the list of commits is applied, and so many accounts are there then; or it is refused
 /// for that, or for memory, and the store is broken.
-fn is_applied<S: ApplyStore + Sync>(
+fn is_applied<S: ApplyStore + Sync, R: Threads + Sync>(
+    rt: &R,
     store: &mut S,
     commits: &[Commit],
     expected: Result<usize, ApplyFault>,
 ) -> bool {
-    match count_after(store, commits) {
+    match count_after(rt, store, commits) {
         Ok(count) => expected == Ok(count) && store.whole(),
-        Err(ApplyFault::Memory) => is_broken(store),
-        Err(fault) => expected == Err(fault) && is_broken(store),
+        Err(ApplyFault::Memory) => is_broken(rt, store),
+        Err(fault) => expected == Err(fault) && is_broken(rt, store),
     }
 }
 
 /// Whether the store is broken: it is not whole, and refuses each change and each list of commits
 /// as a broken one does.
-fn is_broken<S: ApplyStore + Sync>(store: &mut S) -> bool {
+fn is_broken<S: ApplyStore + Sync, R: Threads + Sync>(rt: &R, store: &mut S) -> bool {
     let delete = Entry::Delete {
         table: 0,
         row: RowId(1),
     };
     !store.whole()
         && kind_of_change(store, &delete) == 5
-        && store.apply_all(&[]) == Err(ApplyFault::Broken)
+        && store.apply_all(rt, &[]) == Err(ApplyFault::Broken)
 }
 
 /// A patch of no column is unfit.
@@ -265,7 +285,7 @@ const STORIES: [&[Step]; 6] = [
 
 #[test]
 fn stores_answer_as_they_should(rt: HostRuntime) -> Result<(), Fail> {
-    assert_eq!(rt; other_story(rt.alloc(), &STORIES)?, None);
+    assert_eq!(rt; other_story(&rt, rt.alloc(), &STORIES)?, None);
     Ok(())
 }
 
@@ -288,7 +308,7 @@ const COMMIT: [Step; 1] = [Step::Apply(
 /// is made when it is asked for again; commits that were refused for memory leave a broken store.
 #[test]
 fn stores_without_memory_stand_or_break(rt: HostRuntime) -> Result<(), Fail> {
-    assert_eq!(rt; other_story(rt.alloc(), &[&CHANGE, &COMMIT])?, None);
+    assert_eq!(rt; other_story(&rt, rt.alloc(), &[&CHANGE, &COMMIT])?, None);
     Ok(())
 }
 

@@ -6,6 +6,7 @@ use rows::{ByteList, Kind};
 use script::write_text_of;
 use std::alloc::Global;
 use std::test::Fail;
+use std::thread::Threads;
 use world::{Echo, Output, Reason, ScriptFault, read_settings};
 
 /// Each number at the ends of the ranges of 8, 16, 32, 63 and 64 bits. With the events shown, a
@@ -164,7 +165,8 @@ const PAST_16: [&str; 11] = [
 ];
 
 /// The index of the first of these lines of which something else is said behind the settings.
-fn other_said(
+fn other_said<R: Threads + Sync>(
+    rt: &R,
     alloc: Global,
     settings: &str,
     lines: &[&str],
@@ -172,7 +174,7 @@ fn other_said(
 ) -> Result<Option<usize>, Fail> {
     for (index, line) in lines.iter().enumerate() {
         let script = format!(in alloc; "{settings}{line}")?;
-        if refusal(alloc, script.as_bytes())?.as_str() != said {
+        if refusal(rt, alloc, script.as_bytes())?.as_str() != said {
             return Ok(Some(index));
         }
     }
@@ -181,9 +183,9 @@ fn other_said(
 
 #[test]
 fn numbers_past_their_ranges_are_refused(rt: HostRuntime) -> Result<(), Fail> {
-    let other = other_said(rt.alloc(), SETTINGS, &PAST, "line 4: bad words")?;
+    let other = other_said(&rt, rt.alloc(), SETTINGS, &PAST, "line 4: bad words")?;
     assert_eq!(rt; other, None);
-    let other = other_said(rt.alloc(), SIXTEEN, &PAST_16, "line 4: bad words")?;
+    let other = other_said(&rt, rt.alloc(), SIXTEEN, &PAST_16, "line 4: bad words")?;
     assert_eq!(rt; other, None);
     Ok(())
 }
@@ -207,29 +209,34 @@ fn raw_line(alloc: Global, times: usize) -> Result<String, Fail> {
 }
 
 /// Whether that line is read, and shown as it is written.
-fn is_line_read(alloc: Global, times: usize) -> Result<bool, Fail> {
+fn is_line_read<R: Threads + Sync>(rt: &R, alloc: Global, times: usize) -> Result<bool, Fail> {
     let line = raw_line(alloc, times)?;
     let story = [(line.as_str(), "ignored")];
     let script = script_of(alloc, SETTINGS, &story)?;
-    let text = printed_with(alloc, Echo::Events, script.as_bytes())?;
+    let text = printed_with(rt, alloc, Echo::Events, script.as_bytes())?;
     Ok(is_text_of(alloc, Echo::Events, &story, text.as_slice())?)
 }
 
 /// Whether that line with these digits behind it is bad words.
-fn is_line_refused(alloc: Global, times: usize, digits: &str) -> Result<bool, Fail> {
+fn is_line_refused<R: Threads + Sync>(
+    rt: &R,
+    alloc: Global,
+    times: usize,
+    digits: &str,
+) -> Result<bool, Fail> {
     let front = raw_line(alloc, times)?;
     let line = format!(in alloc; "{front}{digits}")?;
-    let other = other_said(alloc, SETTINGS, &[line.as_str()], "line 4: bad words")?;
+    let other = other_said(rt, alloc, SETTINGS, &[line.as_str()], "line 4: bad words")?;
     Ok(other.is_none())
 }
 
 #[test]
 fn bytes_of_any_number_are_read(rt: HostRuntime) -> Result<(), Fail> {
     for times in &TIMES {
-        assert!(rt; is_line_read(rt.alloc(), *times)?, "{times} times");
+        assert!(rt; is_line_read(&rt, rt.alloc(), *times)?, "{times} times");
         for digits in &["0", "0F", "F0", "-", " "] {
             assert!(rt;
-                is_line_refused(rt.alloc(), *times, digits)?,
+                is_line_refused(&rt, rt.alloc(), *times, digits)?,
                 "{times} times, {digits}"
             );
         }
@@ -255,11 +262,16 @@ const SURROUNDINGS: [(&str, &str, u64); 4] = [
 ];
 
 /// The index of the first surroundings in which something else is said of a line.
-fn other_surroundings(alloc: Global, line: &str, reason: &str) -> Result<Option<usize>, Fail> {
+fn other_surroundings<R: Threads + Sync>(
+    rt: &R,
+    alloc: Global,
+    line: &str,
+    reason: &str,
+) -> Result<Option<usize>, Fail> {
     for (index, (before, behind, number)) in SURROUNDINGS.iter().enumerate() {
         let script = format!(in alloc; "{SETTINGS}{before}{line}{behind}")?;
         let said = format!(in alloc; "line {number}: {reason}")?;
-        if refusal(alloc, script.as_bytes())?.as_str() != said.as_str() {
+        if refusal(rt, alloc, script.as_bytes())?.as_str() != said.as_str() {
             return Ok(Some(index));
         }
     }
@@ -300,9 +312,13 @@ const BAD_SETTINGS: [(&str, &str); 8] = [
 ];
 
 /// The index of the first of these scripts of which something else is said.
-fn other_script(alloc: Global, scripts: &[(&str, &str)]) -> Result<Option<usize>, Fail> {
+fn other_script<R: Threads + Sync>(
+    rt: &R,
+    alloc: Global,
+    scripts: &[(&str, &str)],
+) -> Result<Option<usize>, Fail> {
     for (index, (script, said)) in scripts.iter().enumerate() {
-        if refusal(alloc, script.as_bytes())?.as_str() != *said {
+        if refusal(rt, alloc, script.as_bytes())?.as_str() != *said {
             return Ok(Some(index));
         }
     }
@@ -312,9 +328,9 @@ fn other_script(alloc: Global, scripts: &[(&str, &str)]) -> Result<Option<usize>
 #[test]
 fn a_fault_is_named_at_the_top_in_the_middle_and_at_the_end(rt: HostRuntime) -> Result<(), Fail> {
     for (line, reason) in &FAULTS {
-        assert_eq!(rt; other_surroundings(rt.alloc(), line, reason)?, None);
+        assert_eq!(rt; other_surroundings(&rt, rt.alloc(), line, reason)?, None);
     }
-    assert_eq!(rt; other_script(rt.alloc(), &BAD_SETTINGS)?, None);
+    assert_eq!(rt; other_script(&rt, rt.alloc(), &BAD_SETTINGS)?, None);
     Ok(())
 }
 
@@ -327,7 +343,7 @@ fn each_of_3000_events_is_answered(rt: HostRuntime) -> Result<(), Fail> {
         let line = format!(in rt.alloc(); "tx {number} at 0\n")?;
         expected.push_str(line.as_str())?;
     }
-    let text = printed(rt.alloc(), script.as_bytes())?;
+    let text = printed(&rt, rt.alloc(), script.as_bytes())?;
     assert_eq!(rt; text.as_slice(), expected.as_bytes());
     Ok(())
 }

@@ -3,6 +3,7 @@
 use crate::scripts::{SETTINGS, printed, refusal};
 use std::alloc::Global;
 use std::test::Fail;
+use std::thread::Threads;
 
 /// What is said of scripts, and these: each stands behind the same front.
 pub type Group = (&'static str, &'static [&'static str]);
@@ -238,7 +239,8 @@ const REFUSED: [(&str, &str, &[Group]); 7] = [
 ];
 
 /// Whether that is said of a text behind the settings and a front.
-fn is_refused(
+fn is_refused<R: Threads + Sync>(
+    rt: &R,
     alloc: Global,
     settings: &str,
     front: &str,
@@ -246,13 +248,14 @@ fn is_refused(
     said: &str,
 ) -> Result<bool, Fail> {
     let script = format!(in alloc; "{settings}{front}{text}")?;
-    let found = refusal(alloc, script.as_bytes())?;
+    let found = refusal(rt, alloc, script.as_bytes())?;
     Ok(found.as_str() == said)
 }
 
 /// The index of the first of these texts, behind the settings and a front, of which something else
 /// is said.
-fn other_text(
+fn other_text<R: Threads + Sync>(
+    rt: &R,
     alloc: Global,
     settings: &str,
     front: &str,
@@ -260,7 +263,7 @@ fn other_text(
 ) -> Result<Option<usize>, Fail> {
     let (said, texts) = group;
     for (index, text) in texts.iter().enumerate() {
-        if !is_refused(alloc, settings, front, text, said)? {
+        if !is_refused(rt, alloc, settings, front, text, said)? {
             return Ok(Some(index));
         }
     }
@@ -268,14 +271,15 @@ fn other_text(
 }
 
 /// The same of groups of texts: the first group that has such a text, and its index.
-pub fn other_refusal(
+pub fn other_refusal<R: Threads + Sync>(
+    rt: &R,
     alloc: Global,
     settings: &str,
     front: &str,
     groups: &[Group],
 ) -> Result<Option<(usize, usize)>, Fail> {
     for (number, group) in groups.iter().enumerate() {
-        if let Some(index) = other_text(alloc, settings, front, group)? {
+        if let Some(index) = other_text(rt, alloc, settings, front, group)? {
             return Ok(Some((number, index)));
         }
     }
@@ -286,7 +290,7 @@ pub fn other_refusal(
 #[test]
 fn faults_are_named(rt: HostRuntime) -> Result<(), Fail> {
     for (settings, front, groups) in &REFUSED {
-        let other = other_refusal(rt.alloc(), settings, front, groups)?;
+        let other = other_refusal(&rt, rt.alloc(), settings, front, groups)?;
         assert_eq!(rt; other, None, "behind {settings}{front}");
     }
     Ok(())
@@ -309,16 +313,21 @@ const READ: [(&str, &str); 3] = [
 ];
 
 /// Whether a text behind the settings prints that.
-fn is_read(alloc: Global, text: &str, expected: &str) -> Result<bool, Fail> {
+fn is_read<R: Threads + Sync>(
+    rt: &R,
+    alloc: Global,
+    text: &str,
+    expected: &str,
+) -> Result<bool, Fail> {
     let script = format!(in alloc; "{SETTINGS}{text}")?;
-    let found = printed(alloc, script.as_bytes())?;
+    let found = printed(rt, alloc, script.as_bytes())?;
     Ok(found.as_slice() == expected.as_bytes())
 }
 
 #[test]
 fn the_most_and_the_widest_are_read(rt: HostRuntime) -> Result<(), Fail> {
     for (text, expected) in &READ {
-        assert!(rt; is_read(rt.alloc(), text, expected)?, "{text}");
+        assert!(rt; is_read(&rt, rt.alloc(), text, expected)?, "{text}");
     }
     Ok(())
 }

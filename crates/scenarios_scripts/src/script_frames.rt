@@ -4,6 +4,7 @@
 use crate::scripts::{SETTINGS, TWO_WORKERS, is_text_of, printed, script_of};
 use std::alloc::{AllocError, Global};
 use std::test::Fail;
+use std::thread::Threads;
 use world::Echo;
 
 /// Settings, the number of rows that a transaction puts in, numbered from 0, and what follows.
@@ -176,9 +177,9 @@ fn behind_rows(alloc: Global, text: &[u8], rows: u64) -> Result<Option<&[u8]>, A
 }
 
 /// Whether the script of a story prints what it should.
-fn is_printed(alloc: Global, story: &Story) -> Result<bool, Fail> {
+fn is_printed<R: Threads + Sync>(rt: &R, alloc: Global, story: &Story) -> Result<bool, Fail> {
     let script = script_of_story(alloc, story)?;
-    let text = printed(alloc, script.as_bytes())?;
+    let text = printed(rt, alloc, script.as_bytes())?;
     match behind_rows(alloc, text.as_slice(), story.1)? {
         Some(behind) => Ok(is_text_of(alloc, Echo::No, story.2, behind)?),
         None => Ok(false),
@@ -186,9 +187,9 @@ fn is_printed(alloc: Global, story: &Story) -> Result<bool, Fail> {
 }
 
 /// The index of the first story that prints something else.
-fn other_story(alloc: Global) -> Result<Option<usize>, Fail> {
+fn other_story<R: Threads + Sync>(rt: &R, alloc: Global) -> Result<Option<usize>, Fail> {
     for (index, story) in STORIES.iter().enumerate() {
-        if !is_printed(alloc, story)? {
+        if !is_printed(rt, alloc, story)? {
             return Ok(Some(index));
         }
     }
@@ -197,6 +198,6 @@ fn other_story(alloc: Global) -> Result<Option<usize>, Fail> {
 
 #[test]
 fn a_commit_of_many_rows_is_sent_and_kept_whole(rt: HostRuntime) -> Result<(), Fail> {
-    assert_eq!(rt; other_story(rt.alloc())?, None);
+    assert_eq!(rt; other_story(&rt, rt.alloc())?, None);
     Ok(())
 }

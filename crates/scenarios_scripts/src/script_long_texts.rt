@@ -4,6 +4,7 @@
 use crate::scripts::{SETTINGS, printed, push_line};
 use std::alloc::{AllocError, Global};
 use std::test::Fail;
+use std::thread::Threads;
 use world::{Echo, RunFault, run_script};
 
 /// A script, what it prints, and what it prints with its events.
@@ -106,14 +107,15 @@ fn wide_story(alloc: Global) -> Result<Story, AllocError> {
 
 /// Whether a story prints what it should, or nothing where it is out of memory; one event of it may
 /// be out of memory too.
-fn is_whole_or_not_begun(
+fn is_whole_or_not_begun<R: Threads + Sync>(
+    rt: &R,
     alloc: Global,
     story: &Story,
     echo: Echo,
     text: &mut Vec<u8>,
 ) -> Result<bool, RunFault> {
     let mut reader = story.script.as_bytes();
-    match run_script(alloc, echo, &mut reader, text) {
+    match run_script(rt, alloc, echo, &mut reader, text) {
         Ok(()) => Ok(text.as_slice() == story.text(echo).as_bytes() || has_memory_line(text)),
         Err(RunFault::Memory) => Ok(text.is_empty()),
         Err(fault) => Err(fault),
@@ -132,7 +134,7 @@ fn has_memory_line(text: &[u8]) -> bool {
 fn a_late_long_line_without_memory_is_whole_or_not_begun(rt: HostRuntime) -> Result<(), Fail> {
     let story = wide_story(rt.alloc())?;
     let mut text = Vec::with_capacity(rt.alloc(), 40_000)?;
-    assert!(rt; is_whole_or_not_begun(rt.alloc(), &story, Echo::No, &mut text)?);
+    assert!(rt; is_whole_or_not_begun(&rt, rt.alloc(), &story, Echo::No, &mut text)?);
     Ok(())
 }
 
@@ -143,7 +145,7 @@ fn a_late_long_line_behind_its_event_without_memory_is_whole_or_not_begun(
 ) -> Result<(), Fail> {
     let story = wide_story(rt.alloc())?;
     let mut text = Vec::with_capacity(rt.alloc(), 40_000)?;
-    assert!(rt; is_whole_or_not_begun(rt.alloc(), &story, Echo::Events, &mut text)?);
+    assert!(rt; is_whole_or_not_begun(&rt, rt.alloc(), &story, Echo::Events, &mut text)?);
     Ok(())
 }
 
@@ -172,7 +174,7 @@ fn batch_story(alloc: Global) -> Result<Story, AllocError> {
 #[test]
 fn a_full_batch_is_answered(rt: HostRuntime) -> Result<(), Fail> {
     let story = batch_story(rt.alloc())?;
-    let text = printed(rt.alloc(), story.script.as_bytes())?;
+    let text = printed(&rt, rt.alloc(), story.script.as_bytes())?;
     assert_eq!(rt; text.as_slice(), story.plain.as_bytes());
     Ok(())
 }

@@ -3,6 +3,7 @@
 use crate::scripts::{SETTINGS, expect, is_text_of, printed, push_line, script_of};
 use std::alloc::{AllocError, Global};
 use std::test::Fail;
+use std::thread::Threads;
 use world::{Echo, RunFault, run_script};
 
 /// Every kind of event: changes of the primary, of what was sent, and of a replica, and looks at
@@ -120,9 +121,14 @@ fn has_one_more_line(text: &[u8], index: usize, other: &[u8]) -> bool {
 
 /// Whether a text is what the story answers without one event, with the line `memory` for that one.
 /// One request is refused at the most, so that memory is ample then.
-fn is_allowed_without(alloc: Global, text: &[u8], line: usize) -> Result<bool, Fail> {
+fn is_allowed_without<R: Threads + Sync>(
+    rt: &R,
+    alloc: Global,
+    text: &[u8],
+    line: usize,
+) -> Result<bool, Fail> {
     let script = script_without(alloc, event_at(line))?;
-    let other = printed(alloc, script.as_bytes())?;
+    let other = printed(rt, alloc, script.as_bytes())?;
     Ok(has_one_more_line(text, line, other.as_slice()))
 }
 
@@ -139,25 +145,25 @@ fn is_cut_short(alloc: Global, text: &[u8], answers: &[&str]) -> Result<bool, Al
 }
 
 /// Whether a text is what the story answers, or one of those.
-fn is_allowed(alloc: Global, text: &[u8]) -> Result<bool, Fail> {
+fn is_allowed<R: Threads + Sync>(rt: &R, alloc: Global, text: &[u8]) -> Result<bool, Fail> {
     for answers in &CUT_SHORT {
         if is_cut_short(alloc, text, answers)? {
             return Ok(true);
         }
     }
     match line_of_memory(text) {
-        Some(line) => is_allowed_without(alloc, text, line),
+        Some(line) => is_allowed_without(rt, alloc, text, line),
         None => Ok(is_text_of(alloc, Echo::No, &STORY, text)?),
     }
 }
 
 /// Whether this script of the story ends as it may: out of memory with nothing written, or with a
 /// text that is allowed.
-fn ends_as_allowed(alloc: Global, script: &[u8]) -> Result<bool, Fail> {
+fn ends_as_allowed<R: Threads + Sync>(rt: &R, alloc: Global, script: &[u8]) -> Result<bool, Fail> {
     let mut reader = script;
     let mut text = Vec::with_capacity(alloc, 1000)?;
-    match run_script(alloc, Echo::No, &mut reader, &mut text) {
-        Ok(()) => is_allowed(alloc, text.as_slice()),
+    match run_script(rt, alloc, Echo::No, &mut reader, &mut text) {
+        Ok(()) => is_allowed(rt, alloc, text.as_slice()),
         Err(RunFault::Memory) => Ok(text.is_empty()),
         Err(fault) => Err(fault.into()),
     }
@@ -168,6 +174,6 @@ fn ends_as_allowed(alloc: Global, script: &[u8]) -> Result<bool, Fail> {
 #[test]
 fn an_event_without_memory_changes_nothing(rt: HostRuntime) -> Result<(), Fail> {
     let script = script_of(rt.alloc(), SETTINGS, &STORY)?;
-    assert!(rt; ends_as_allowed(rt.alloc(), script.as_bytes())?);
+    assert!(rt; ends_as_allowed(&rt, rt.alloc(), script.as_bytes())?);
     Ok(())
 }

@@ -133,9 +133,12 @@ fn faults_of_plans_are_named(rt: HostRuntime) -> Result<(), Fail> {
         NO_TABLE.as_slice(),
         TWO_FAULTS.as_slice(),
     ] {
-        assert_eq!(rt; other_refusal(rt.alloc(), SHOP, "open 0 ", groups)?, None);
+        assert_eq!(rt;
+            other_refusal(&rt, rt.alloc(), SHOP, "open 0 ", groups)?,
+            None
+        );
     }
-    let other = other_refusal(rt.alloc(), SHOP, "open 1 ", &OF_REPLICA_1)?;
+    let other = other_refusal(&rt, rt.alloc(), SHOP, "open 1 ", &OF_REPLICA_1)?;
     assert_eq!(rt; other, None);
     Ok(())
 }

@@ -3,6 +3,7 @@
 use crate::scripts::{TWO_WORKERS, expect, printed_with, push_line};
 use std::alloc::{AllocError, Global};
 use std::test::Fail;
+use std::thread::Threads;
 use world::Echo;
 
 /// Two workers and two replicas; accounts of two numbers, and sites of two bytes.
@@ -270,17 +271,17 @@ fn report(
 }
 
 /// Whether the script prints what it is to.
-fn prints_as_told(alloc: Global, told: &Told) -> Result<bool, Fail> {
-    let text = printed_with(alloc, Echo::No, told.script.as_bytes())?;
+fn prints_as_told<R: Threads + Sync>(rt: &R, alloc: Global, told: &Told) -> Result<bool, Fail> {
+    let text = printed_with(rt, alloc, Echo::No, told.script.as_bytes())?;
     if text.as_slice() != told.printed.as_bytes() {
         return Ok(false);
     }
-    let text = printed_with(alloc, Echo::Events, told.script.as_bytes())?;
+    let text = printed_with(rt, alloc, Echo::Events, told.script.as_bytes())?;
     Ok(text.as_slice() == told.echoed.as_bytes())
 }
 
 /// Whether the queries are answered as one batch by replica 0, and one by one by replica 1.
-fn are_answered_in_batches(alloc: Global) -> Result<bool, Fail> {
+fn are_answered_in_batches<R: Threads + Sync>(rt: &R, alloc: Global) -> Result<bool, Fail> {
     let mut told = told_behind(alloc, SHOP)?;
     tell_all(&mut told, &FILLED)?;
     open_all(alloc, &mut told, 0, &QUERIES)?;
@@ -293,13 +294,13 @@ fn are_answered_in_batches(alloc: Global) -> Result<bool, Fail> {
         report(alloc, &mut told, 1, 2, &[*query])?;
         index = index.wrapping_add(2);
     }
-    prints_as_told(alloc, &told)
+    prints_as_told(rt, alloc, &told)
 }
 
 /// In one batch or each in its own, a query has one answer.
 #[test]
 fn queries_are_answered_in_batches(rt: HostRuntime) -> Result<(), Fail> {
-    assert!(rt; are_answered_in_batches(rt.alloc())?);
+    assert!(rt; are_answered_in_batches(&rt, rt.alloc())?);
     Ok(())
 }
 
@@ -322,7 +323,7 @@ const FULL: [(&str, &str); 2] = [
 ];
 
 /// Whether two batches of 64 queries are answered, one behind the other.
-fn is_full_batch_answered(alloc: Global) -> Result<bool, Fail> {
+fn is_full_batch_answered<R: Threads + Sync>(rt: &R, alloc: Global) -> Result<bool, Fail> {
     let mut queries = Vec::new(alloc);
     for _ in 0..16 {
         queries.extend_from_slice(&ON_NO_ROWS)?;
@@ -334,11 +335,11 @@ fn is_full_batch_answered(alloc: Global) -> Result<bool, Fail> {
         fetch(alloc, &mut told, 0, index, 0)?;
         report(alloc, &mut told, 0, 0, queries.as_slice())?;
     }
-    prints_as_told(alloc, &told)
+    prints_as_told(rt, alloc, &told)
 }
 
 #[test]
 fn a_batch_of_64_queries_is_answered(rt: HostRuntime) -> Result<(), Fail> {
-    assert!(rt; is_full_batch_answered(rt.alloc())?);
+    assert!(rt; is_full_batch_answered(&rt, rt.alloc())?);
     Ok(())
 }

@@ -4,6 +4,7 @@
 use crate::scripts::{SETTINGS, TWO_WORKERS, expect, printed, script_of};
 use std::alloc::Global;
 use std::test::Fail;
+use std::thread::Threads;
 
 /// A record is 43 bytes of one insert; a stop behind all of them keeps the commit.
 const KEPT: [(&str, &str); 8] = [
@@ -260,19 +261,24 @@ const LEFT: [(u64, u64); 11] = [
 ];
 
 /// Whether a stop that leaves so many bytes of the two records leaves so many durable commits.
-fn is_left(alloc: Global, bytes: u64, durable: u64) -> Result<bool, Fail> {
+fn is_left<R: Threads + Sync>(
+    rt: &R,
+    alloc: Global,
+    bytes: u64,
+    durable: u64,
+) -> Result<bool, Fail> {
     let front = script_of(alloc, SETTINGS, &TWO_PENDING)?;
     let front = front.as_str();
     let script = format!(in alloc; "{front}stop {bytes}\nstart\n")?;
-    let text = printed(alloc, script.as_bytes())?;
+    let text = printed(rt, alloc, script.as_bytes())?;
     let end = format!(in alloc; "ticket 3\nstopped\ndurable {durable}\n")?;
     Ok(text.as_slice().ends_with(end.as_bytes()))
 }
 
 /// The index of the first stop that leaves something else.
-fn other_left(alloc: Global) -> Result<Option<usize>, Fail> {
+fn other_left<R: Threads + Sync>(rt: &R, alloc: Global) -> Result<Option<usize>, Fail> {
     for (index, (bytes, durable)) in LEFT.iter().enumerate() {
-        if !is_left(alloc, *bytes, *durable)? {
+        if !is_left(rt, alloc, *bytes, *durable)? {
             return Ok(Some(index));
         }
     }
@@ -281,6 +287,6 @@ fn other_left(alloc: Global) -> Result<Option<usize>, Fail> {
 
 #[test]
 fn a_stop_keeps_the_records_that_were_written_whole(rt: HostRuntime) -> Result<(), Fail> {
-    assert_eq!(rt; other_left(rt.alloc())?, None);
+    assert_eq!(rt; other_left(&rt, rt.alloc())?, None);
     Ok(())
 }

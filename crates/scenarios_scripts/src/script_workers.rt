@@ -3,6 +3,7 @@
 use crate::scripts::{TWO_WORKERS, expect, refusal};
 use std::alloc::Global;
 use std::test::Fail;
+use std::thread::Threads;
 
 /// One commit of worker 0 is reported by replica 0.
 const FIRST: [(&str, &str); 11] = [
@@ -294,10 +295,15 @@ const NOT_THERE: [(&str, &[&str]); 2] = [
 ];
 
 /// The index of the first of these lines behind the settings that is not refused as bad words.
-fn other_words(alloc: Global, settings: &str, lines: &[&str]) -> Result<Option<usize>, Fail> {
+fn other_words<R: Threads + Sync>(
+    rt: &R,
+    alloc: Global,
+    settings: &str,
+    lines: &[&str],
+) -> Result<Option<usize>, Fail> {
     for (index, line) in lines.iter().enumerate() {
         let script = format!(in alloc; "{settings}{line}")?;
-        if refusal(alloc, script.as_bytes())?.as_str() != "line 4: bad words" {
+        if refusal(rt, alloc, script.as_bytes())?.as_str() != "line 4: bad words" {
             return Ok(Some(index));
         }
     }
@@ -307,7 +313,7 @@ fn other_words(alloc: Global, settings: &str, lines: &[&str]) -> Result<Option<u
 #[test]
 fn a_worker_or_replica_that_is_not_there_is_refused(rt: HostRuntime) -> Result<(), Fail> {
     for (settings, lines) in &NOT_THERE {
-        assert_eq!(rt; other_words(rt.alloc(), settings, lines)?, None);
+        assert_eq!(rt; other_words(&rt, rt.alloc(), settings, lines)?, None);
     }
     Ok(())
 }

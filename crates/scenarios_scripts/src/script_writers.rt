@@ -5,6 +5,7 @@ use std::alloc::Global;
 use std::io;
 use std::io::{ErrorKind, Read, Write};
 use std::test::Fail;
+use std::thread::Threads;
 use world::{Echo, RunFault, run_script};
 
 /// A writer that takes a few bytes at once.
@@ -72,7 +73,8 @@ const PRINTED: &str = "tx 0 at 0\nno batch\nnever sent\n";
 const ECHOED: &str = "> begin\ntx 0 at 0\n> run 0\nno batch\n> show 0\nnever sent\n";
 
 /// Whether the script ends so, and has written that beginning of the text and no more.
-fn ends_with(
+fn ends_with<R: Threads + Sync>(
+    rt: &R,
     writer: &mut Narrow,
     alloc: Global,
     echo: Echo,
@@ -80,7 +82,7 @@ fn ends_with(
     ends: Result<(), RunFault>,
 ) -> bool {
     let mut reader = SCRIPT.as_bytes();
-    let end = run_script(alloc, echo, &mut reader, writer);
+    let end = run_script(rt, alloc, echo, &mut reader, writer);
     let text = text.as_bytes();
     let count = text.len().min(writer.room);
     end == ends && writer.text.as_slice() == &text[..count]
@@ -91,10 +93,10 @@ fn ends_with(
 fn a_text_is_written_whole_by_short_writes(rt: HostRuntime) -> Result<(), Fail> {
     for step in [1usize, 2, 7, 100] {
         let mut writer = writer_taking(rt.alloc(), step, 1000);
-        let is_whole = ends_with(&mut writer, rt.alloc(), Echo::No, PRINTED, Ok(()));
+        let is_whole = ends_with(&rt, &mut writer, rt.alloc(), Echo::No, PRINTED, Ok(()));
         assert!(rt; is_whole, "{step}");
         let mut writer = writer_taking(rt.alloc(), step, 1000);
-        let is_whole = ends_with(&mut writer, rt.alloc(), Echo::Events, ECHOED, Ok(()));
+        let is_whole = ends_with(&rt, &mut writer, rt.alloc(), Echo::Events, ECHOED, Ok(()));
         assert!(rt; is_whole, "{step}");
     }
     Ok(())
@@ -107,7 +109,7 @@ fn a_failed_write_leaves_a_beginning(rt: HostRuntime) -> Result<(), Fail> {
     for room in [0usize, 1, 10, 29] {
         let mut writer = writer_taking(rt.alloc(), 4, room);
         let fault = Err(RunFault::Write);
-        let is_beginning = ends_with(&mut writer, rt.alloc(), Echo::No, PRINTED, fault);
+        let is_beginning = ends_with(&rt, &mut writer, rt.alloc(), Echo::No, PRINTED, fault);
         assert!(rt; is_beginning, "{room}");
     }
     Ok(())
@@ -119,7 +121,7 @@ fn an_interrupted_write_is_tried_again(rt: HostRuntime) -> Result<(), Fail> {
     let mut writer = writer_taking(rt.alloc(), 4, 1000);
     writer.is_interrupted = true;
     writer.interrupts = true;
-    assert!(rt; ends_with(&mut writer, rt.alloc(), Echo::No, PRINTED, Ok(())));
+    assert!(rt; ends_with(&rt, &mut writer, rt.alloc(), Echo::No, PRINTED, Ok(())));
     Ok(())
 }
 
@@ -142,7 +144,7 @@ impl Write for Full {
 fn a_write_of_no_byte_fails(rt: HostRuntime) -> Result<(), Fail> {
     for echo in [Echo::No, Echo::Events] {
         let mut reader = SCRIPT.as_bytes();
-        let end = run_script(rt.alloc(), echo, &mut reader, &mut Full);
+        let end = run_script(&rt, rt.alloc(), echo, &mut reader, &mut Full);
         assert_eq!(rt; end, Err(RunFault::Write), "{echo:?}");
     }
     Ok(())
@@ -152,12 +154,13 @@ fn a_write_of_no_byte_fails(rt: HostRuntime) -> Result<(), Fail> {
 #[test]
 fn a_failed_flush_is_told(rt: HostRuntime) -> Result<(), Fail> {
     let mut writer = writer_taking(rt.alloc(), 100, 1000);
-    assert!(rt; ends_with(&mut writer, rt.alloc(), Echo::No, PRINTED, Ok(())));
+    assert!(rt; ends_with(&rt, &mut writer, rt.alloc(), Echo::No, PRINTED, Ok(())));
     assert_eq!(rt; writer.flushes, 1);
     let mut writer = writer_taking(rt.alloc(), 100, 1000);
     writer.can_flush = false;
     assert!(rt;
         ends_with(
+            &rt,
             &mut writer,
             rt.alloc(),
             Echo::No,
@@ -193,7 +196,7 @@ fn a_failed_read_writes_nothing(rt: HostRuntime) -> Result<(), Fail> {
     for end in [0usize, 10, 45, SCRIPT.len()] {
         let mut reader = Torn { read: 0, end };
         let mut text = Vec::new(rt.alloc());
-        let end_of_run = run_script(rt.alloc(), Echo::No, &mut reader, &mut text);
+        let end_of_run = run_script(&rt, rt.alloc(), Echo::No, &mut reader, &mut text);
         assert_eq!(rt; end_of_run, Err(RunFault::Read), "{end}");
         assert!(rt; text.is_empty(), "{end}");
     }
@@ -234,17 +237,21 @@ fn is_long_text(text: &[u8]) -> bool {
 }
 
 /// What a long script prints, and how it ends.
-fn ends_long(alloc: Global, text: &mut Vec<u8>) -> Result<Result<(), RunFault>, Fail> {
+fn ends_long<R: Threads + Sync>(
+    rt: &R,
+    alloc: Global,
+    text: &mut Vec<u8>,
+) -> Result<Result<(), RunFault>, Fail> {
     let script = long_script(alloc)?;
     let mut reader = script.as_bytes();
-    Ok(run_script(alloc, Echo::No, &mut reader, text))
+    Ok(run_script(rt, alloc, Echo::No, &mut reader, text))
 }
 
 /// A text longer than what is written at once is whole.
 #[test]
 fn a_long_text_is_whole(rt: HostRuntime) -> Result<(), Fail> {
     let mut text = Vec::new(rt.alloc());
-    assert_eq!(rt; ends_long(rt.alloc(), &mut text)?, Ok(()));
+    assert_eq!(rt; ends_long(&rt, rt.alloc(), &mut text)?, Ok(()));
     assert!(rt; is_long_text(text.as_slice()));
     Ok(())
 }
@@ -254,7 +261,7 @@ fn a_long_text_is_whole(rt: HostRuntime) -> Result<(), Fail> {
 #[test]
 fn a_long_text_without_memory_is_whole_or_not_begun(rt: HostRuntime) -> Result<(), Fail> {
     let mut text = Vec::with_capacity(rt.alloc(), 20000)?;
-    match ends_long(rt.alloc(), &mut text)? {
+    match ends_long(&rt, rt.alloc(), &mut text)? {
         Ok(()) => assert!(rt; text.ends_with(b"\n")),
         Err(RunFault::Memory) => assert!(rt; text.is_empty()),
         Err(fault) => return Err(fault.into()),

@@ -5,21 +5,27 @@ use scenarios_common::wanted::NUMBERS;
 use std::alloc::{AllocError, Global};
 use std::process::Abort;
 use std::test::Fail;
+use std::thread::Threads;
 use world::{
     Echo, Event, Node, Output, RunFault, Setup, allowed_runs_are_exact, read_script, run,
-    run_script, runs_keep_promises, stops_keep_what_stands, worked_scripts,
+    run_script, stops_keep_what_stands, worked_scripts,
 };
 
 /// What a script prints.
-pub fn printed(alloc: Global, script: &[u8]) -> Result<Vec<u8>, Fail> {
-    printed_with(alloc, Echo::No, script)
+pub fn printed<R: Threads + Sync>(rt: &R, alloc: Global, script: &[u8]) -> Result<Vec<u8>, Fail> {
+    printed_with(rt, alloc, Echo::No, script)
 }
 
 /// What a script prints, with its events or without.
-pub fn printed_with(alloc: Global, echo: Echo, script: &[u8]) -> Result<Vec<u8>, Fail> {
+pub fn printed_with<R: Threads + Sync>(
+    rt: &R,
+    alloc: Global,
+    echo: Echo,
+    script: &[u8],
+) -> Result<Vec<u8>, Fail> {
     let mut reader = script;
     let mut text = Vec::new(alloc);
-    run_script(alloc, echo, &mut reader, &mut text)?;
+    run_script(rt, alloc, echo, &mut reader, &mut text)?;
     Ok(text)
 }
 
@@ -34,15 +40,15 @@ pub const TWO_TABLES: &str = "workers 1\nreplicas 1\ntable acct int int\ntable i
 
 /// Refuses what the events behind these settings print, unless it is what stands beside them; and
 /// what they print where events are shown, unless each event stands there as it is written here.
-pub fn expect(
-    rt: &impl Abort,
+pub fn expect<R: Abort + Threads + Sync>(
+    rt: &R,
     alloc: Global,
     settings: &str,
     story: &[(&str, &str)],
 ) -> Result<(), Fail> {
     let script = script_of(alloc, settings, story)?;
-    assert!(rt; is_printed(alloc, Echo::No, script.as_bytes(), story)?);
-    assert!(rt; is_printed(alloc, Echo::Events, script.as_bytes(), story)?);
+    assert!(rt; is_printed(rt, alloc, Echo::No, script.as_bytes(), story)?);
+    assert!(rt; is_printed(rt, alloc, Echo::Events, script.as_bytes(), story)?);
     Ok(())
 }
 
@@ -60,13 +66,14 @@ pub fn script_of(
 }
 
 /// Whether the script prints what stands beside its events.
-fn is_printed(
+fn is_printed<R: Threads + Sync>(
+    rt: &R,
     alloc: Global,
     echo: Echo,
     script: &[u8],
     story: &[(&str, &str)],
 ) -> Result<bool, Fail> {
-    let text = printed_with(alloc, echo, script)?;
+    let text = printed_with(rt, alloc, echo, script)?;
     Ok(is_text_of(alloc, echo, story, text.as_slice())?)
 }
 
@@ -95,10 +102,10 @@ pub fn push_line(text: &mut String, front: &str, line: &str) -> Result<(), Alloc
 }
 
 /// The line that says why a script does not run; nothing where it does, or where it wrote anything.
-pub fn refusal(alloc: Global, script: &[u8]) -> Result<String, Fail> {
+pub fn refusal<R: Threads + Sync>(rt: &R, alloc: Global, script: &[u8]) -> Result<String, Fail> {
     let mut reader = script;
     let mut text = Vec::new(alloc);
-    match run_script(alloc, Echo::No, &mut reader, &mut text) {
+    match run_script(rt, alloc, Echo::No, &mut reader, &mut text) {
         Err(RunFault::Script { line, reason }) if text.is_empty() => {
             Ok(format!(in alloc; "line {line}: {reason}")?)
         }
@@ -215,7 +222,7 @@ const FRAME: &str = "\
 
 #[test]
 fn a_frame_is_shown_to_the_byte(rt: HostRuntime) -> Result<(), Fail> {
-    let text = printed(rt.alloc(), SHOWN.as_bytes())?;
+    let text = printed(&rt, rt.alloc(), SHOWN.as_bytes())?;
     assert!(rt; text.as_slice().ends_with(FRAME.as_bytes()));
     Ok(())
 }
@@ -277,13 +284,17 @@ fn reads_as_more_events(alloc: Global) -> Result<bool, Fail> {
 }
 
 /// Whether a run on this schema answers each event.
-fn answers_each_event(alloc: Global, schema: Schema) -> Result<bool, Fail> {
+fn answers_each_event<R: Threads + Sync>(
+    rt: &R,
+    alloc: Global,
+    schema: Schema,
+) -> Result<bool, Fail> {
     let setup = Setup {
         schema,
         workers: 1,
         replicas: 1,
     };
-    let outputs = run(alloc, &setup, &[Event::Begin, Event::Show { index: 0 }])?;
+    let outputs = run(rt, alloc, &setup, &[Event::Begin, Event::Show { index: 0 }])?;
     Ok(matches!(
         outputs.as_slice(),
         [
@@ -299,13 +310,12 @@ fn answers_each_event(alloc: Global, schema: Schema) -> Result<bool, Fail> {
 /// The laws can be called too.
 #[test]
 fn scripts_are_read_and_events_run(rt: HostRuntime) -> Result<(), Fail> {
-    runs_keep_promises();
     allowed_runs_are_exact();
     stops_keep_what_stands();
     worked_scripts();
     assert!(rt; reads_as_its_events(rt.alloc())?);
     assert!(rt; reads_as_more_events(rt.alloc())?);
     let schema = Schema::new(rt.alloc(), &NUMBERS)?;
-    assert!(rt; answers_each_event(rt.alloc(), schema)?);
+    assert!(rt; answers_each_event(&rt, rt.alloc(), schema)?);
     Ok(())
 }

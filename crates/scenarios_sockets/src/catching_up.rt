@@ -108,7 +108,7 @@ fn counts_all(alloc: Global, report: &[u8], load: Load) -> Option<bool> {
 }
 
 /// Whether a replica answers one query, that counts the rows, with the report of all rows of a load.
-fn answers_count<R: Wait>(
+fn answers_count<R: Threads + Wait + Sync>(
     rt: &R,
     alloc: Global,
     replica: &mut ReplicaCore<PlainStore>,
@@ -125,7 +125,7 @@ fn answers_count<R: Wait>(
 }
 
 /// How long a replica takes from its start to its report, in microseconds. One node less is left then.
-fn timed<R: Wait + Clock>(
+fn timed<R: Threads + Wait + Clock + Sync>(
     rt: &R,
     alloc: Global,
     port: &mut UdpPort,

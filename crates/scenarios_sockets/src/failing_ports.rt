@@ -18,6 +18,7 @@ use std::alloc::Global;
 use std::marker::Brand;
 use std::sync::Wait;
 use std::test::Fail;
+use std::thread::Threads;
 use store::PlainStore;
 use wire::{Out, To};
 
@@ -46,7 +47,7 @@ enum Turned {
 
 /// One turn of a replica. `None` where it answers with another report than that of its row, or fails
 /// otherwise than at a receive.
-fn turn_of<R: Wait>(
+fn turn_of<R: Threads + Wait + Sync>(
     rt: &R,
     alloc: Global,
     replica: &mut ReplicaCore<PlainStore>,
@@ -69,7 +70,7 @@ fn turn_of<R: Wait>(
 
 /// How many calls of a node with one query fail until it answers: the first opens the query, and what comes
 /// then is a frame and the Head of its Ask.
-fn failures_of<R: Wait>(
+fn failures_of<R: Threads + Wait + Sync>(
     rt: &R,
     alloc: Global,
     replica: &mut ReplicaCore<PlainStore>,
@@ -92,7 +93,11 @@ fn failures_of<R: Wait>(
 }
 
 /// How many calls of a new replica's node fail until it answers one query.
-fn failures_over<R: Wait>(rt: &R, alloc: Global, port: &mut MemPort) -> Option<usize> {
+fn failures_over<R: Threads + Wait + Sync>(
+    rt: &R,
+    alloc: Global,
+    port: &mut MemPort,
+) -> Option<usize> {
     let mut replica = replica_of(alloc, 0)?;
     let queue = QueryQueue::new(alloc, 1).ok()?;
     put_one(rt, alloc, &queue, &COUNT_AND_SUM)?;
@@ -100,7 +105,11 @@ fn failures_over<R: Wait>(rt: &R, alloc: Global, port: &mut MemPort) -> Option<u
 }
 
 /// How a replica ends whose port fails at the call that comes after so many.
-fn ending_of_replica<R: Wait>(rt: &R, alloc: Global, calls: u64) -> Option<Ending> {
+fn ending_of_replica<R: Threads + Wait + Sync>(
+    rt: &R,
+    alloc: Global,
+    calls: u64,
+) -> Option<Ending> {
     let mut port = MemPort::new(alloc);
     port.fail_after(calls);
     let failed = failures_over(rt, alloc, &mut port)?;

@@ -105,7 +105,7 @@ fn is_answered_through_losses<L: Origin + Send + Sync, R: Threads + Wait + Net +
 
 /// Whether a replica of that number, which starts now, answers so many queries, which it puts itself. One
 /// node less is left then.
-fn answers_own<R: Wait>(
+fn answers_own<R: Threads + Wait + Sync>(
     rt: &R,
     alloc: Global,
     number: u8,
@@ -118,7 +118,7 @@ fn answers_own<R: Wait>(
 }
 
 /// Puts queries, and answers how many a replica that starts now has answered of them.
-fn puts_and_answers<R: Wait>(
+fn puts_and_answers<R: Threads + Wait + Sync>(
     rt: &R,
     alloc: Global,
     number: u8,

@@ -16,6 +16,7 @@ use std::marker::Sync;
 use std::sync::Wait;
 use std::sync::atomic::{AtomicU64, Ordering};
 use std::thread;
+use std::thread::Threads;
 use store::ApplyStore;
 
 /// How many times a node is called at most. None of these tests needs nearly as many; they keep one that
@@ -24,7 +25,7 @@ const CALLS_MAX: usize = 100_000;
 
 /// Serves as a replica until so many queries were answered, and answers how many were. `None` where a
 /// report is not that of the rows at its version, or the node failed.
-pub fn answers<S: ApplyStore + Sync, P: Port, R: Wait>(
+pub fn answers<S: ApplyStore + Sync, P: Port, R: Threads + Wait + Sync>(
     rt: &R,
     alloc: Global,
     replica: &mut ReplicaCore<S>,
@@ -104,7 +105,7 @@ pub fn put_one<R: Wait>(rt: &R, alloc: Global, queue: &QueryQueue, wish: &Wish<'
 }
 
 /// Serves as a replica for so many turns: the report, if there is one, or why the node failed.
-pub fn report_of<S: ApplyStore + Sync, P: Port, R: Wait>(
+pub fn report_of<S: ApplyStore + Sync, P: Port, R: Threads + Wait + Sync>(
     rt: &R,
     alloc: Global,
     replica: &mut ReplicaCore<S>,

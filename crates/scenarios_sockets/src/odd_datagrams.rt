@@ -13,6 +13,7 @@ use std::io;
 use std::net::{Ipv4Addr, Net, SocketAddr};
 use std::sync::Wait;
 use std::test::Fail;
+use std::thread::Threads;
 use store::PlainStore;
 use wire::{Datagram, Out, Packet, To};
 
@@ -43,7 +44,7 @@ fn sends_odd_ones(alloc: Global, socket: &UdpSocket, to: SocketAddr) -> io::Resu
 const REPORT: &[u8] = b"version 1 queries 1\nquery 0 rows 1\n1 -1\n";
 
 /// How long the report is that ten turns give; 0 where they give none. `None` where the node fails.
-fn length_of_report<R: Wait>(
+fn length_of_report<R: Threads + Wait + Sync>(
     rt: &R,
     alloc: Global,
     replica: &mut ReplicaCore<PlainStore>,
@@ -59,7 +60,7 @@ fn length_of_report<R: Wait>(
 
 /// How long the reports are that a replica gives with one query: before anything good came, and after a
 /// frame and a Head came from an address that it does not know.
-fn lengths_at<R: Wait>(
+fn lengths_at<R: Threads + Wait + Sync>(
     rt: &R,
     alloc: Global,
     port: &mut UdpPort,
@@ -82,7 +83,10 @@ fn lengths_at<R: Wait>(
 }
 
 /// The same over new sockets. `None` also where the port counted a fault.
-fn lengths_of_reports<N: Net + Wait>(rt: &N, alloc: Global) -> Option<(usize, usize)> {
+fn lengths_of_reports<N: Threads + Net + Wait + Sync>(
+    rt: &N,
+    alloc: Global,
+) -> Option<(usize, usize)> {
     let mut port = UdpPort::bind(rt, alloc, any(), None, Vec::new(alloc)).ok()?;
     let here = port.local_addr().ok()?;
     let stranger = UdpSocket::bind(rt, any()).ok()?;

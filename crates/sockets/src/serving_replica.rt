@@ -20,6 +20,7 @@ use rows::ByteList;
 use std::alloc::Global;
 use std::marker::Sync;
 use std::sync::Wait;
+use std::thread::Threads;
 use store::ApplyStore;
 use wire::{Datagram, read};
 
@@ -28,17 +29,17 @@ use wire::{Datagram, read};
 ///
 /// In a turn it asks while nothing is fetched for the batch; or, if there is no batch, it takes the
 /// queries of the queue for a new one, and drops those that do not fit the schema. It then runs the
-/// batch, and sends the Want of a missing frame. Then it receives, and waits at most 10 ms while
-/// nothing arrives. A Want is followed by the next one in the same turn once the last frame of its
-/// answer has arrived, and not before, unless that is late.
-/// A datagram for which there is no memory counts as lost, and so does one that cannot be sent.
+/// batch, which may use threads, and sends the Want of a missing frame. Then it receives, and waits
+/// at most 10 ms while nothing arrives. A Want is followed by the next one in the same turn once the
+/// last frame of its answer has arrived, and not before, unless that is late. A datagram for which
+/// there is no memory counts as lost, and so does one that cannot be sent.
 ///
 /// It also ends without a report if the replica's request number is the greatest of 64 bits, or the
 /// port has counted as many faults as it can. Fails with `Socket` if a receive failed; with
 /// `Broken` if the replica is broken; with `Memory` if the queries could not be taken or opened,
 /// some of which are then dropped, or if the batch could not be answered: the batch is then still
 /// there, and the call may be repeated.
-pub fn serve_replica<S: ApplyStore + Sync, P: Port, R: Wait>(
+pub fn serve_replica<S: ApplyStore + Sync, P: Port, R: Threads + Wait + Sync>(
     rt: &R,
     alloc: Global,
     replica: &mut ReplicaCore<S>,
@@ -71,7 +72,7 @@ pub fn serve_replica<S: ApplyStore + Sync, P: Port, R: Wait>(
 }
 
 /// One turn.
-fn turn<S: ApplyStore + Sync, P: Port, R: Wait>(
+fn turn<S: ApplyStore + Sync, P: Port, R: Threads + Wait + Sync>(
     rt: &R,
     alloc: Global,
     replica: &mut ReplicaCore<S>,
@@ -96,7 +97,7 @@ fn turn<S: ApplyStore + Sync, P: Port, R: Wait>(
         },
         Err(AskFault::Broken) => return Err(ServeFault::Broken),
     }
-    run_and_hear(replica, port, buffer)
+    run_and_hear(rt, replica, port, buffer)
 }
 
 /// Asks for the newest version, and sends the Ask.
@@ -168,7 +169,8 @@ enum Ran {
 
 /// Runs the batch and receives, round after round, until the batch is answered or nothing arrived
 /// in a round that could have had more.
-fn run_and_hear<S: ApplyStore + Sync, P: Port>(
+fn run_and_hear<S: ApplyStore + Sync, P: Port, R: Threads + Sync>(
+    rt: &R,
     replica: &mut ReplicaCore<S>,
     port: &mut P,
     buffer: &mut [u8],
@@ -180,7 +182,7 @@ fn run_and_hear<S: ApplyStore + Sync, P: Port>(
 {
     let mut last = None;
     for _ in 0..TURN_ROUNDS {
-        let patience = match run(replica, port, &mut last) {
+        let patience = match run(rt, replica, port, &mut last) {
             Ok(Ran::Answered(report)) => return Ok(Some(report)),
             Ok(Ran::Hears(patience)) => patience,
             Err(fault) => return Err(fault),
@@ -196,7 +198,8 @@ fn run_and_hear<S: ApplyStore + Sync, P: Port>(
 
 /// Runs the batch, and sends the Want of a frame that is missing; `last` is then the last frame of its
 /// answer.
-fn run<S: ApplyStore + Sync, P: Port>(
+fn run<S: ApplyStore + Sync, P: Port, R: Threads + Sync>(
+    rt: &R,
     replica: &mut ReplicaCore<S>,
     port: &mut P,
     last: &mut Option<(u8, u64)>,
@@ -209,7 +212,7 @@ fn run<S: ApplyStore + Sync, P: Port>(
     if port.faults() == u64::MAX {
         return Ok(Ran::Hears(Patience::Takes));
     }
-    match replica.run() {
+    match replica.run(rt) {
         Run::Answered(report) => Ok(Ran::Answered(report)),
         Run::Waiting { worker, seq, want } => {
             *last = Some((worker, seq.saturating_add(ROUND_DATAGRAMS as u64 - 1)));

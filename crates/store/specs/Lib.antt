@@ -1,4 +1,5 @@
 pub mod Changes
+pub mod Lent
 pub mod Laws
 pub mod State
 pub mod Faults

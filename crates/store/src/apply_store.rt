@@ -8,15 +8,17 @@ ghost use Rattle.store.specs.Faults.{FailsAs, have_entries};
 use crate::faults::ApplyFault;
 use crate::store::Store;
 use rows::Commit;
+use std::marker::Sync;
+use std::thread::Threads;
 
 /// A store to which lists of commits can be applied.
 pub trait ApplyStore: Store {
-    /// Makes all changes of these commits, in their order.
+    /// Makes all changes of these commits, in their order. It may use threads.
     ///
     /// Fails with `Broken` if the store is not whole, with `Inconsistent` if one of the changes is
     /// refused, or with `Memory`, only if there is an entry to apply. After any failure the store
     /// is never whole again.
-    fn apply_all(&mut self, commits: &[Commit]) -> Result<(), ApplyFault>
+    fn apply_all<R: Threads + Sync>(&mut self, rt: &R, commits: &[Commit]) -> Result<(), ApplyFault>
         ensures ok { OnOk result (apply_commits (Self.tables self.old) commits.now ≡ Ok (Self.tables self.new)) }
         ensures only_whole { OnOk result (Self.is_whole self.old ≡ true) }
         ensures stays_whole { OnOk result (Self.is_whole self.new ≡ true) }

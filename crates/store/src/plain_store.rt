@@ -11,7 +11,8 @@ use crate::store::Store;
 use crate::table_map::TableMap;
 use rows::{Commit, Entry, RowId, Schema, Value, laws};
 use std::alloc::{AllocError, Global};
-use std::marker::Model;
+use std::marker::{Model, Sync};
+use std::thread::Threads;
 
 /// A store that keeps the rows of each table in an ordered map, and their identifiers in a list.
 ///
@@ -149,8 +150,13 @@ impl Store for PlainStore {
 
 impl ApplyStore for PlainStore {
     /// Makes all changes of these commits, in their order; otherwise `Broken`, `Inconsistent` or
-    /// `Memory`, after which the store is never whole again.
-    fn apply_all(&mut self, commits: &[Commit]) -> Result<(), ApplyFault> {
+    /// `Memory`, after which the store is never whole again. It uses no threads.
+    fn apply_all<R: Threads + Sync>(
+        &mut self,
+        rt: &R,
+        commits: &[Commit],
+    ) -> Result<(), ApplyFault> {
+        let _ = rt;
         if !self.whole {
             return Err(ApplyFault::Broken);
         }

@@ -1,9 +1,12 @@
 //! The interface to a store of rows.
 
-ghost use Rattle.std.specs.Prelude.{◌≡◌, ℕ, ◌<◌, length, true, Ok, Some, is_some, IsSome, IfSome, OnOk, OnErr, IfErr};
+ghost use Rattle.std.specs.Prelude.{◌≡◌, ℕ, ◌+◌, ◌<◌, ◌≤◌, [], length, true, Ok, Some, is_some, IsSome, IfSome, OnOk, OnErr, IfErr};
+ghost use Rattle.std.specs.Map.{keys_of};
 ghost use Rattle.rows.specs.Tables.{shape_in, rows_of, row_at, is_row_at, RowsAreOfKinds, apply_entry};
 ghost use Rattle.store.specs.Changes.{column_of, id_in, IsAboveAllBefore, fault_kind};
+ghost use Rattle.store.specs.Lent.{rows_in, rows_from, column_in, AreLent};
 
+use crate::lent::Lent;
 use rows::{Entry, RowId, Value};
 
 /// A store of rows: a map from a table and a row to the row's values, and the way to change it.
@@ -65,6 +68,49 @@ pub trait Store {
         requires within { i < length (rows_of (tables self.now) table) }
         ensures value { Some result.0 ≡ id_in (rows_of (tables self.now) table) i }
         ensures rises { IsAboveAllBefore (rows_of (tables self.now) table) i result.0 };
+
+    /// In how many pieces it lends the rows of a table, a row being in the piece whose number is the
+    /// remainder of its identifier, divided by this.
+    fn pieces(&self) -> usize
+        ensures { 0 < result }
+    {
+        1
+    }
+
+    /// The identifiers of rows of a piece of a table, of so many pieces, in rising order and side by
+    /// side: from an index among the piece's rows on, and none only if there is no row from there
+    /// on. `None` if the store does not lend them.
+    fn ids_from(&self, table: u8, pieces: usize, piece: usize, from: usize) -> Option<&[u64]>
+        requires whole { is_whole self.now ≡ true }
+        requires some { 0 < pieces }
+        ensures value { IfSome result (λ ids. ids.now
+            ≡ keys_of (rows_from (rows_in (rows_of (tables self.now) table) pieces piece) from (length ids.now))) }
+        ensures all { IfSome result (λ ids. ids.now ≡ [] → length (rows_in (rows_of (tables self.now) table) pieces piece) ≤ from) }
+    {
+        let _ = (table, pieces, piece, from);
+        None
+    }
+
+    /// The values of one column of this many rows of a piece of a table, of so many pieces, from an
+    /// index among the piece's rows on; columns are counted from 0. `None` if the store does not
+    /// lend them, as it may if they are not side by side.
+    fn column_from(
+        &self,
+        table: u8,
+        pieces: usize,
+        piece: usize,
+        from: usize,
+        count: usize,
+        column: usize,
+    ) -> Option<Lent<'_>>
+        requires whole { is_whole self.now ≡ true }
+        requires some { 0 < pieces }
+        ensures { IfSome result
+            (AreLent (column_in (rows_from (rows_in (rows_of (tables self.now) table) pieces piece) from count) column)) }
+    {
+        let _ = (table, pieces, piece, from, count, column);
+        None
+    }
 
     /// Makes one change, or refuses it and changes nothing.
     ///

@@ -1,11 +1,12 @@
 -- Each step of a fresh world is, as users see it, one of the database.
-use Rattle.std.proofs.Common.{◌≡◌, ℕ, zero, suc, ◌+◌, inl, inr, Bool, true, false, cond, ◌&&◌, ◌==◌, List, []}
+use Rattle.std.proofs.Common.{◌≡◌, ℕ, zero, suc, ◌+◌, ◌≤◌, inl, inr, Bool, true, false, cond, ◌&&◌, ◌==◌, List, []}
 use Rattle.std.proofs.Common.{◌∷◌, ◌++◌}
 use Rattle.std.proofs.Common.{length, map, replicate, Option, None, Some, Result, Ok, Err, nat_le, refl, sym, ap, subst, ◌∙◌}
 use Rattle.std.specs.List.{slice_get, slice_set, AllByRecursion}
 use Rattle.std.specs.Option.{option_map}
 use Rattle.std.proofs.lemmas.Option.{none-some}
 use Rattle.rows.specs.declared.limits.TheConstants.{WAITING_QUERIES_MAX}
+use Rattle.rows.specs.Limits.{replicas_max}
 use Rattle.rows.specs.declared.kind.Kind.{Kind}
 use Rattle.rows.specs.declared.value.Value.{Value}
 use Rattle.rows.specs.Shape.{shape_of}
@@ -31,7 +32,10 @@ use Rattle.script.specs.declared.event.Node.{Node}
 use Rattle.script.specs.declared.event.Node.TheVariants as nodes
 use Rattle.script.specs.declared.output.Output.{Output}
 use Rattle.script.specs.declared.output.Output.TheVariants as outputs
+use Rattle.script.specs.declared.setup.Setup.{Setup}
+use Rattle.script.specs.Events.{IsPossible}
 use Rattle.world.specs.Database.{Reader, Database, new_reader, HasAsked, IsFetched, IsMoved, IsAnswered, Becomes, Says, IsDatabaseStep}
+use Rattle.world.specs.Database.{IsDatabaseRun, IsPromised, new_database}
 use Rattle.world.specs.Steps.{World, Member, AskedBatch, fresh_from, open_transaction, happens, unless_stopped, on_transaction}
 use Rattle.world.specs.Steps.{change_happens, durable_tables}
 use Rattle.world.specs.Steps.{commit_happens}
@@ -40,7 +44,7 @@ use Rattle.world.specs.Steps.{delivered, deliver_happens, is_forged, shown, open
 use Rattle.world.specs.Steps.{fetched_happens}
 use Rattle.world.specs.Steps.{answer_happens, first_lacked, dump_at, send, ask_bytes, abort_happens, opening_world, stop_happens}
 use Rattle.world.specs.Steps.{restarted, restart_happens, had_boot}
-use Rattle.world.specs.Allowed.{RunIsInterrupted, RunIsInterruptedAt, MayHappen, RunsBy, Runs}
+use Rattle.world.specs.Allowed.{RunIsInterrupted, RunIsInterruptedAt, MayHappen, RunsBy, Runs, Allowed}
 use Rattle.world.specs.Theorem.{seen_batch, reader_of, database_of, RunsAreOfDatabase}
 use Rattle.world.specs.Outputs.{of_change, of_look}
 use Rattle.world.specs.Inner.Fresh.{IsFreshBatch, IsFreshReading, Fresh, HasBoot}
@@ -424,3 +428,22 @@ runs-of-database laws setup todo done end few possible run =
     (ap (λ (readers : List Reader). record { commits = []; readers = readers }) (readers-started setup.workers 0 setup.replicas))
     (runs-tell laws setup.schema (opening_world setup) end todo done (possible-boots setup.workers setup.replicas todo possible)
     (opening-fresh setup few) refl run)
+
+-- a run by events is one by its outputs alone
+by-outputs : (schema : List (List ℕ × List Kind)) (old end : Database) (todo : List Event) (done : List Output)
+    → RunsBy (λ old event output new. IsDatabaseStep schema old output new) old todo done end → IsDatabaseRun schema old done end
+by-outputs schema old end [] [] run = run
+by-outputs schema old end [] (output ∷ done) run = absurd run
+by-outputs schema old end (event ∷ todo) [] run = absurd run
+by-outputs schema old end (event ∷ todo) (output ∷ done) run =
+    (run.0, run.1, by-outputs schema run.0 end todo done run.2)
+
+-- the promise of each run by events that are possible
+pub run-promised : (laws : StepLaws) (setup : Setup) (todo : List Event) (done : List Output) → setup.replicas ≤ replicas_max
+    → AllByRecursion (IsPossible setup.workers setup.replicas) todo → Allowed setup todo done
+    → IsPromised setup.schema setup.replicas done
+run-promised laws setup todo done few possible allowed = (
+  database_of allowed.0,
+  by-outputs setup.schema (new_database setup.replicas) (database_of allowed.0) todo done
+      (runs-of-database laws setup todo done allowed.0 few possible allowed.1),
+)

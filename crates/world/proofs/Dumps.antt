@@ -17,8 +17,9 @@ use Rattle.world.specs.Parts.{Parts, parts_started}
 use Rattle.world.specs.Steps.{World}
 use Rattle.world.specs.Allowed.{RunsBy}
 use Rattle.world.specs.Standing.{world_of}
-use Rattle.world.specs.Theorem.{SaysRows, IsCoreStep, OfEachRun, TellsVersion, HasOneDumpOfVersion}
+use Rattle.world.specs.Theorem.{SaysRows, IsCoreStep, TellsVersion, HasOneDumpOfVersion}
 use Rattle.world.proofs.Lists.{All-get}
+use Rattle.world.proofs.Reports.{OfEachRun}
 use Rattle.world.proofs.Requested.{step-counts}
 
 -- ---- the version that a text tells

@@ -14,12 +14,10 @@ use Rattle.script.specs.declared.output.Output.{Output}
 use Rattle.world.specs.Parts.{Parts, replicas_from, parts_started}
 use Rattle.world.specs.Allowed.{RunsBy, Passes}
 use Rattle.world.specs.Standing.{world_of, AreFed, TablesAgree}
-use Rattle.world.specs.Theorem.{IsCoreStep, OfEachRun, CoresStand, StandsStep}
-use Rattle.world.specs.Inner.StepLaws.{StepLaws}
+use Rattle.world.specs.Theorem.{IsCoreStep, CoresStand}
 use Rattle.world.proofs.Durable.{tables-stay}
-use Rattle.world.proofs.Undamaged.{step-fine}
 use Rattle.world.proofs.Lists.{All-get}
-use Rattle.world.proofs.Reports.{run-grows, run-seen}
+use Rattle.world.proofs.Reports.{OfEachRun, run-grows}
 use Rattle.world.proofs.Requested.{step-counts}
 use Rattle.world.proofs.Slots.{all_weaker}
 use Rattle.world.proofs.Worlds.{world-started}
@@ -49,35 +47,35 @@ fed-hold schema p same fed =
 abbrev Told : List (List ℕ × List Kind) → List Commit → Parts → Type 0
 Told schema commits p = (p.primary.schema ≡ schema) × AllHold (shape_of schema) commits p
 
-ends-grown : (laws : StepLaws) (old end : Parts) (todo : List Event) (done : List Output) → RunsBy StandsStep old todo done end
-    → IsBeginning old.primary.durable end.primary.durable
-ends-grown laws old end todo done run =
-    run-grows (λ (p : Parts). p.primary.durable) StandsStep
-    (λ first event output second step. (step-fine laws (world_of first) event output (world_of second) step.0).grows) old end todo done run
+ends-grown : (commits : List Commit) (old end : Parts) (todo : List Event) (done : List Output)
+    → RunsBy (IsCoreStep commits) old todo done end → IsBeginning old.primary.durable end.primary.durable
+ends-grown commits old end todo done run =
+    run-grows (λ (p : Parts). p.primary.durable) (IsCoreStep commits) (λ first event output second step. step.0.durable) old end todo done run
 
-told-now : (laws : StepLaws) (schema : List (List ℕ × List Kind)) (old end : Parts) (todo : List Event) (done : List Output)
-    → RunsBy StandsStep old todo done end
+told-now : (commits : List Commit) (schema : List (List ℕ × List Kind)) (old end : Parts) (todo : List Event)
+    (done : List Output)
+    → RunsBy (IsCoreStep commits) old todo done end
     → Told schema old.primary.durable old → Told schema end.primary.durable old
-told-now laws schema old end todo done run told =
-    let grown = ends-grown laws old end todo done run in (
+told-now commits schema old end todo done run told =
+    let grown = ends-grown commits old end todo done run in (
       told.0,
       subst (λ (l : List Commit). AllHold (shape_of schema) l old) (sym grown.1)
           (hold-longer (shape_of schema) old.primary.durable grown.0 old told.1),
     )
 
-passes-told : (laws : StepLaws) (schema : List (List ℕ × List Kind)) (old end : Parts) (todo : List Event) (done : List Output)
-    (run : RunsBy StandsStep old todo done end) (p : Parts) → Told schema old.primary.durable old
-    → Passes StandsStep old todo done end run p → Told schema end.primary.durable p
-passes-told laws schema old end [] [] run p told passes =
-    subst (Told schema end.primary.durable) (sym passes) (told-now laws schema old end [] [] run told)
-passes-told laws schema old end [] (output ∷ done) run p told passes = absurd run
-passes-told laws schema old end (event ∷ todo) [] run p told passes = absurd run
-passes-told laws schema old end (event ∷ todo) (output ∷ done) run p told (inl here) =
-    subst (Told schema end.primary.durable) (sym here) (told-now laws schema old end (event ∷ todo) (output ∷ done) run told)
-passes-told laws schema old end (event ∷ todo) (output ∷ done) run p told (inr later) =
+passes-told : (commits : List Commit) (schema : List (List ℕ × List Kind)) (old end : Parts) (todo : List Event)
+    (done : List Output) (run : RunsBy (IsCoreStep commits) old todo done end) (p : Parts) → Told schema old.primary.durable old
+    → Passes (IsCoreStep commits) old todo done end run p → Told schema end.primary.durable p
+passes-told commits schema old end [] [] run p told passes =
+    subst (Told schema end.primary.durable) (sym passes) (told-now commits schema old end [] [] run told)
+passes-told commits schema old end [] (output ∷ done) run p told passes = absurd run
+passes-told commits schema old end (event ∷ todo) [] run p told passes = absurd run
+passes-told commits schema old end (event ∷ todo) (output ∷ done) run p told (inl here) =
+    subst (Told schema end.primary.durable) (sym here) (told-now commits schema old end (event ∷ todo) (output ∷ done) run told)
+passes-told commits schema old end (event ∷ todo) (output ∷ done) run p told (inr later) =
     let mid = run.0 in
-    let same = (step-counts (world_of old) event output (world_of mid) run.1.0).schema ∙ told.0 in
-    passes-told laws schema mid end todo done run.2 p (same, fed-hold schema mid same run.1.1) later
+    let same = (step-counts (world_of old) event output (world_of mid) run.1.0.happens).schema ∙ told.0 in
+    passes-told commits schema mid end todo done run.2 p (same, fed-hold schema mid same run.1.1) later
 
 -- replicas at the beginning have no rows, and none are durable
 started-hold : (schema : List (List ℕ × List Kind)) (workers number count : ℕ)
@@ -92,16 +90,12 @@ told-agree schema commits p q one two i j r other here there whole sound same =
     ∙ ap (tables_after (shape_of schema) commits) same
     ∙ sym (All-get (Holds (shape_of schema) commits) q.replicas two.1 j other there sound).1
 
-pub run-stands : (laws : StepLaws) → OfEachRun CoresStand
-run-stands laws setup todo done run =
-    let seen =
-    run-seen (λ (p : Parts). p) (IsCoreStep run.end.primary.durable) StandsStep
-    (λ old event output new step. (step.0.happens, step.1, step.2, step.3)) (parts_started setup) run.end todo done run.steps in
-    let told = passes-told laws setup.schema (parts_started setup) run.end todo done seen in
+pub run-stands : OfEachRun CoresStand
+run-stands setup todo done run =
+    let told = passes-told run.end.primary.durable setup.schema (parts_started setup) run.end todo done run.steps in
     let start : Told setup.schema [] (parts_started setup) = (refl, started-hold setup.schema setup.workers 0 setup.replicas) in (
       world-started setup,
-      run.end,
-      seen,
+      run,
       λ p q one two.
           told-agree setup.schema run.end.primary.durable p q (told p start one) (told q start two),
     )

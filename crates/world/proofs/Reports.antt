@@ -1,5 +1,5 @@
 -- Each step of a run is by the one list of commits that is durable at its end.
-use Rattle.std.proofs.Common.{List, [], ◌∷◌, ◌++◌, sym, ap, subst, ◌∙◌}
+use Rattle.std.proofs.Common.{◌≡◌, suc, List, [], ◌∷◌, ◌++◌, length, refl, sym, ap, subst, ◌∙◌}
 use Rattle.std.specs.List.{AllByRecursion}
 use Rattle.std.proofs.lemmas.List.{append-nil, append_assoc}
 use Rattle.rows.specs.declared.commit.Commit.{Commit}
@@ -17,7 +17,7 @@ use Rattle.world.specs.Parts.{Parts, parts_started}
 use Rattle.world.specs.Steps.{World, opening_world}
 use Rattle.world.specs.Allowed.{MayHappen, RunsBy, Runs, Allowed}
 use Rattle.world.specs.Standing.{world_of}
-use Rattle.world.specs.Theorem.{SaysRows, IsFaultless, IsStep, IsCoreStep, OfEachRun, HasExactReports}
+use Rattle.world.specs.Theorem.{SaysRows, IsFaultless, IsStep, IsCoreStep, IsRun, HasExactReports}
 use Rattle.world.specs.Theorem.{HasGrowingList, HasLegalList, HasNoFault, AllowedRunsAreExact}
 use Rattle.world.specs.Inner.Fresh.{Fresh, HasBoot}
 use Rattle.world.specs.Inner.Undamaged.{IsUndamaged}
@@ -115,6 +115,18 @@ allowed-exact laws setup todo done end few possible run =
     (opening-fresh setup few) run
 
 -- ---- what follows of a run of the cores
+
+-- a fact of the outputs of each run
+abbrev pub OfEachRun : (Setup → List Event → List Output → Type 0) → Type 0
+OfEachRun Fact = (setup : Setup) (events : List Event) (outputs : List Output) → IsRun setup events outputs → Fact setup events outputs
+
+-- there is an output for each event
+pub run-each : {State : Type 0} (Step : State → Event → Output → State → Type 0) (old end : State) (todo : List Event)
+    (done : List Output) → RunsBy Step old todo done end → length done ≡ length todo
+run-each Step old end [] [] run = refl
+run-each Step old end [] (output ∷ done) run = absurd run
+run-each Step old end (event ∷ todo) [] run = absurd run
+run-each Step old end (event ∷ todo) (output ∷ done) run = ap suc (run-each Step run.0 end todo done run.2)
 
 -- a run of states that are seen in another way
 pub run-seen : {State Other : Type 0} (see : State → Other) (Step : State → Event → Output → State → Type 0)

@@ -1,6 +1,6 @@
 -- What reports promise, on one page: a list of commits that only grows, and for each replica a version and at most one batch.
 -- Reports and dumps are specified by the list alone. How datagrams, journals and memory bring that about is left out here.
-use Rattle.std.specs.Prelude.{◌≡◌, ℕ, ◌≤◌, List, [], length, replicate, Option, None, Some, slice_get, slice_set, ◌⊎◌}
+use Rattle.std.specs.Prelude.{◌≡◌, ℕ, ◌≤◌, List, [], ◌∷◌, length, replicate, Option, None, Some, slice_get, slice_set, ◌⊎◌}
 use Rattle.rows.specs.declared.commit.Commit.{Commit}
 use Rattle.rows.specs.declared.kind.Kind.{Kind}
 use Rattle.rows.specs.Shape.{shape_of}
@@ -91,3 +91,13 @@ Says schema old other new = new ≡ old.readers
 -- one step, whatever the event: the commits that were there are a beginning of those that are
 abbrev pub IsDatabaseStep : List (List ℕ × List Kind) → Database → Output → Database → Type 0
 IsDatabaseStep schema old output new = IsBeginning old.commits new.commits × Says schema old output new.readers
+
+-- a run: a step for each output, each from the database that the one before it left
+abbrev pub IsDatabaseRun : List (List ℕ × List Kind) → Database → List Output → Database → Type 0
+IsDatabaseRun schema old [] new = new ≡ old
+IsDatabaseRun schema old (output ∷ outputs) new =
+    (mid : Database) × IsDatabaseStep schema old output mid × IsDatabaseRun schema mid outputs new
+
+-- the promise: the outputs are those of a run of a new database with so many replicas
+abbrev pub IsPromised : List (List ℕ × List Kind) → ℕ → List Output → Type 0
+IsPromised schema replicas outputs = (end : Database) × IsDatabaseRun schema (new_database replicas) outputs end

@@ -20,8 +20,8 @@ use Rattle.script.specs.declared.output.Output.TheVariants.{Dump}
 use Rattle.script.specs.declared.setup.Setup.{Setup}
 use Rattle.world.specs.Parts.{Parts, parts_started}
 use Rattle.world.specs.Steps.{World, Member, AskedBatch, opening_world}
-use Rattle.world.specs.Allowed.{MayHappen, RunsBy, Passes, Runs}
-use Rattle.world.specs.Database.{Reader, Database, new_database, IsDatabaseStep}
+use Rattle.world.specs.Allowed.{MayHappen, RunsBy, Passes, Runs, Allowed}
+use Rattle.world.specs.Database.{Reader, Database, new_database, IsDatabaseStep, IsPromised}
 use Rattle.world.specs.Standing.{world_of, AreFed, TablesAgree, JournalStands, StopLeaves}
 
 -- ---- what a step keeps
@@ -85,10 +85,6 @@ pub record IsRun (setup : Setup) (events : List Event) (outputs : List Output) :
 
 -- ---- what follows of a run
 
--- a fact of the outputs of each run
-abbrev pub OfEachRun : (Setup → List Event → List Output → Type 0) → Type 0
-OfEachRun Fact = (setup : Setup) (events : List Event) (outputs : List Output) → IsRun setup events outputs → Fact setup events outputs
-
 -- a run of the world from its beginning on, at each step of which something holds besides, by the list that is durable at
 -- its end
 abbrev pub RunsWith : (List Commit → World → Event → Output → World → Type 0) → Setup → List Event → List Output → Type 0
@@ -127,20 +123,31 @@ HasLegalList setup events outputs =
 abbrev pub HasNoFault : Setup → List Event → List Output → Type 0
 HasNoFault setup events outputs = AllByRecursion IsFaultless outputs
 
--- one step of the cores that leaves every replica fed from what is durable, that on the journal, and after a stop the very bytes
--- that the stop names
-abbrev pub StandsStep : Parts → Event → Output → Parts → Type 0
-StandsStep old event output new =
-    MayHappen (world_of old) event output (world_of new) × AreFed new × JournalStands new × StopLeaves old event new
+-- the run goes through these cores
+abbrev pub GoesThrough : (setup : Setup) (events : List Event) (outputs : List Output) → IsRun setup events outputs → Parts → Type 0
+GoesThrough setup events outputs run p =
+    Passes (IsCoreStep run.end.primary.durable) (parts_started setup) events outputs run.end run.steps p
 
--- the cores stand where the world does from the beginning on, every replica is fed from what is durable there, the journal
--- contains that, and replicas at one version hold the same tables, at whatever two moments of the run
+-- the cores stand where the world does from the beginning of the run on, and replicas at one version hold the same tables, at
+-- whatever two moments of it
 abbrev pub CoresStand : Setup → List Event → List Output → Type 0
 CoresStand setup events outputs =
     (world_of (parts_started setup) ≡ opening_world setup)
-    × (end : Parts) × (run : RunsBy StandsStep (parts_started setup) events outputs end)
-    × ((p q : Parts) → Passes StandsStep (parts_started setup) events outputs end run p
-    → Passes StandsStep (parts_started setup) events outputs end run q → TablesAgree p q)
+    × (run : IsRun setup events outputs)
+    × ((p q : Parts) → GoesThrough setup events outputs run p → GoesThrough setup events outputs run q → TablesAgree p q)
+
+-- all that is promised of the outputs of events
+pub record KeepsPromises (setup : Setup) (events : List Event) (outputs : List Output) : Type 0 where
+  pub promise : IsPromised setup.schema setup.replicas outputs
+  pub each : length outputs ≡ length events
+  pub run : IsRun setup events outputs
+  pub cores : CoresStand setup events outputs
+  pub allowed : Allowed setup events outputs
+  pub reports : HasExactReports setup events outputs
+  pub dumps : HasOneDumpOfVersion setup events outputs
+  pub durable : HasGrowingList setup events outputs
+  pub legal : HasLegalList setup events outputs
+  pub faultless : HasNoFault setup events outputs
 
 -- and each run of the world itself by events that are possible, whoever makes it, is by the one list that is durable at its end
 abbrev pub AllowedRunsAreExact : Type 0

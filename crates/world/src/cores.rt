@@ -1,9 +1,11 @@
 //! The parts of a world: the cores, the open transactions, and what was sent.
 
-ghost use Rattle.std.specs.Prelude.{◌≡◌, ◌<◌, ◌≤◌, false, IfOk};
+ghost use Rattle.std.specs.Prelude.{◌≡◌, ◌<◌, ◌≤◌, true, false, IfOk};
+ghost use Rattle.apply.specs.Partitions.{tables_in};
 ghost use Rattle.rows.specs.Commits.{IsLegal};
 ghost use Rattle.rows.specs.Limits.{workers_max, replicas_max};
 ghost use Rattle.rows.specs.Shape.{shape_of};
+ghost use Rattle.rows.specs.Tables.{opening};
 ghost use Rattle.journal.specs.Text.{journal_text};
 ghost use Rattle.world.specs.Parts.{Parts, parts_started};
 ghost use Rattle.world.specs.Inner.CoreSteps.{KeepsStopped};
@@ -12,15 +14,14 @@ ghost use Rattle.world.specs.Inner.Sound.{PrimaryListsAreLegal};
 use crate::boot_list::BootList;
 use crate::primary_node::PrimaryNode;
 use crate::stopping::start_on;
+use apply::{ColumnStore, PARTITIONS_MAX};
 use dispatcher::ReplicaCore;
 use journal::MemJournal;
 use mvcc::Transaction;
-use rows::ByteList;
+use rows::{ByteList, Schema};
 use script::Setup;
 use std::alloc::{AllocError, Global};
 use std::marker::Model;
-use store::PlainStore;
-
 /// What the world was made for, the primary, each replica on a store of its own, the transactions
 /// in the order of their `begin` (none for one that is no longer open), every datagram that was
 /// ever sent, at its own length, and, for each replica, the boots that it has had and how many
@@ -32,7 +33,9 @@ pub struct Cores {
     pub primary: PrimaryNode,
     pub transactions: Vec<Option<Transaction>>,
     pub sent: Vec<ByteList>,
-    pub replicas: Vec<ReplicaCore<PlainStore>>,
+    pub replicas: Vec<ReplicaCore<ColumnStore>>,
+    /// How many partitions the store of each replica has.
+    pub partitions: usize,
     pub boots: Vec<BootList>,
     pub asked_at: Vec<u64>,
 }
@@ -57,9 +60,9 @@ impl Model for Cores {
 }
 
 impl Cores {
-    /// A primary without commits, and replicas without frames, each with boot 1. Fails only if out
-    /// of memory.
-    pub fn start(alloc: Global, setup: &Setup) -> Result<Cores, AllocError>
+    /// A primary without commits, and replicas without frames, each with boot 1, whose stores have
+    /// so many partitions. Fails only if out of memory.
+    pub fn start(alloc: Global, setup: &Setup, partitions: usize) -> Result<Cores, AllocError>
         requires some { 0 < setup.now.workers }
         requires workers { setup.now.workers ≤ workers_max }
         requires replicas { setup.now.replicas ≤ replicas_max }
@@ -71,7 +74,7 @@ impl Cores {
         let mut asked_at = Vec::new(alloc);
         let mut boots = Vec::new(alloc);
         for number in 0..setup.replicas {
-            let store = PlainStore::new(alloc, schema)?;
+            let store = store_of(alloc, schema, partitions)?;
             cores.push(ReplicaCore::start(alloc, store, schema, workers, number, 1)?)?;
             asked_at.push(0)?;
             boots.push(BootList::of_one(alloc, 1)?)?;
@@ -86,6 +89,7 @@ impl Cores {
             transactions: Vec::new(alloc),
             sent: Vec::new(alloc),
             replicas: cores,
+            partitions,
             boots,
             asked_at,
         })
@@ -123,4 +127,23 @@ fn copy_of(setup: &Setup) -> Result<Setup, AllocError>
         workers: setup.workers,
         replicas: setup.replicas,
     })
+}
+
+/// A store for a replica, without rows. Fails only if out of memory.
+pub fn store_of(
+    alloc: Global,
+    schema: &Schema,
+    partitions: usize,
+) -> Result<ColumnStore, AllocError>
+    ensures tables { IfOk result (λ store. tables_in store.parts ≡ opening (shape_of schema.now)) }
+    ensures whole { IfOk result (λ store. store.whole ≡ true) }
+{
+    let partitions = if partitions == 0 {
+        1
+    } else if partitions > PARTITIONS_MAX {
+        PARTITIONS_MAX
+    } else {
+        partitions
+    };
+    ColumnStore::new(alloc, schema, partitions)
 }

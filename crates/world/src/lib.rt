@@ -41,9 +41,7 @@ pub use script::{
     read_settings, read_value,
 };
 pub use script_running::{Echo, run_script};
-pub use simulator::run;
-pub use theorem::{
-    allowed_runs_are_exact, runs_are_of_database, runs_keep_promises, stops_keep_what_stands,
-};
+pub use simulator::{run, run_on};
+pub use theorem::{allowed_runs_are_exact, runs_are_of_database, stops_keep_what_stands};
 pub use worked::worked_scripts;
 pub use world::World;

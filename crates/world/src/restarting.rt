@@ -4,10 +4,9 @@ ghost use Rattle.std.specs.Prelude.{◌<◌, length};
 ghost use Rattle.world.specs.Inner.CoreSteps.{MayStep};
 ghost use Rattle.world.specs.Inner.Invariant.{IsReady};
 
-use crate::cores::Cores;
+use crate::cores::{Cores, store_of};
 use dispatcher::ReplicaCore;
 use script::{Event, Output};
-use store::PlainStore;
 
 impl Cores {
     /// Replaces a replica by a new one, in a boot that it never had: without frames, queries or a
@@ -23,7 +22,7 @@ impl Cores {
         }
         let schema = &self.setup.schema;
         let workers = self.setup.workers;
-        let Ok(store) = PlainStore::new(self.alloc, schema) else {
+        let Ok(store) = store_of(self.alloc, schema, self.partitions) else {
             return Output::Memory;
         };
         let Ok(replica) = ReplicaCore::start(self.alloc, store, schema, workers, number, boot)

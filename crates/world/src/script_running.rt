@@ -14,6 +14,8 @@ use script::{
 };
 use std::alloc::Global;
 use std::io::{ErrorKind, Read, Write};
+use std::marker::Sync;
+use std::thread::Threads;
 
 /// What precedes the lines of an event's output.
 #[derive(Clone, Copy, Debug, PartialEq, Eq)]
@@ -25,12 +27,13 @@ pub enum Echo {
 }
 
 /// Reads a script to its end, runs all its events, and then writes the text of their outputs and
-/// flushes it.
+/// flushes it. It may use threads.
 ///
 /// The contract specifies what was read and written as far as the types of the reader and the
 /// writer do. No clause states whether they failed. It is tested that the answer is `Read` or
 /// `Write` only if they did, and `Write` if the flush fails.
-pub fn run_script<R: Read, W: Write>(
+pub fn run_script<T: Threads + Sync, R: Read, W: Write>(
+    rt: &T,
     alloc: Global,
     echo: Echo,
     reader: &mut R,
@@ -63,7 +66,7 @@ pub fn run_script<R: Read, W: Write>(
         Err(ScriptFault::Memory) => return Err(RunFault::Memory),
     };
     let events = events.as_slice();
-    let Ok(outputs) = run(alloc, &setup, events) else {
+    let Ok(outputs) = run(rt, alloc, &setup, events) else {
         return Err(RunFault::Memory);
     };
     match write_run(alloc, echo, writer, &setup, events, outputs.as_slice()) {

@@ -1,38 +1,82 @@
 //! Runs of a list of events on a new world.
 
-ghost use Rattle.std.specs.Prelude.{◌<◌, ◌≤◌, IfOk};
+ghost use Rattle.std.specs.Prelude.{◌≡◌, ◌<◌, ◌≤◌, length, IfOk};
 ghost use Rattle.std.specs.List.{AllByRecursion};
 ghost use Rattle.script.specs.Events.{IsPossible};
-ghost use Rattle.world.specs.Theorem.{IsRun};
+ghost use Rattle.world.specs.Allowed.{Allowed};
+ghost use Rattle.world.specs.Database.{IsPromised};
+ghost use Rattle.world.specs.Theorem.{IsRun, HasExactReports, HasOneDumpOfVersion, HasGrowingList, HasLegalList, HasNoFault, CoresStand};
+ghost use Rattle.world.specs.Theorem.{KeepsPromises};
 ghost use Rattle.rows.specs.Limits.{workers_max, replicas_max};
 
+use crate::laws::steps_are_told;
 use crate::world::World;
+use apply::PARTITIONS;
 use script::{Event, Output, Setup};
 use std::alloc::{AllocError, Global};
+use std::marker::Sync;
+use std::thread::Threads;
 
-/// The outputs of the events, in order, starting from a primary without commits and replicas
-/// without frames: the main theorem. The workers and replicas that an event names are the setup's,
-/// and there are 1 to 16 workers. Fails only if out of memory, when the world cannot be made or the
-/// outputs cannot be kept.
+/// The outputs of the events, one for each, in order, starting from a primary without commits and
+/// replicas without frames: the main theorem. The workers and replicas that an event names are the
+/// setup's, and there are 1 to 16 workers. Fails only if out of memory, when the world cannot be
+/// made or the outputs cannot be kept.
 ///
-/// The outputs are those of one run, by one legal list of commits. At each step of the run, the
-/// world allows what is answered and left. A report has the plain answers on the rows after exactly
-/// the commits of that list up to the version fetched for its batch. What is durable only grows,
-/// also across crashes, and is on the primary's journal; every replica is fed from it; and no
-/// output reports damage. `runs_keep_promises` states what follows.
-pub fn run(alloc: Global, setup: &Setup, events: &[Event]) -> Result<Vec<Output>, AllocError>
+/// The promise: the outputs are those of a run of the database, as one page defines it. A report
+/// has the plain answers on the rows after exactly the commits of one list up to the version
+/// fetched for its batch, which is at least what was durable when the batch asked.
+///
+/// Behind it is one run of the cores, by one legal list of commits: at each of its steps the world
+/// allows what is answered and left, reports and dumps are exact by that list, what is durable only
+/// grows, also across crashes, and is on the primary's journal, every replica is fed from it, and
+/// no output reports damage. Replicas at one version hold the same tables, at whatever two moments
+/// of that run. The other clauses say parts of this by themselves.
+pub fn run<R: Threads + Sync>(
+    rt: &R,
+    alloc: Global,
+    setup: &Setup,
+    events: &[Event],
+) -> Result<Vec<Output>, AllocError>
     requires some { 0 < setup.now.workers }
     requires workers { setup.now.workers ≤ workers_max }
     requires replicas { setup.now.replicas ≤ replicas_max }
     requires possible { AllByRecursion (IsPossible setup.now.workers setup.now.replicas) events.now }
-    ensures { IfOk result (λ outputs. IsRun setup.now events.now outputs.items) }
+    ensures promise { IfOk result (λ outputs. IsPromised setup.now.schema setup.now.replicas outputs.items) }
+    ensures each { IfOk result (λ outputs. length outputs.items ≡ length events.now) }
+    ensures run { IfOk result (λ outputs. IsRun setup.now events.now outputs.items) }
+    ensures cores { IfOk result (λ outputs. CoresStand setup.now events.now outputs.items) }
+    ensures allowed { IfOk result (λ outputs. Allowed setup.now events.now outputs.items) }
+    ensures reports { IfOk result (λ outputs. HasExactReports setup.now events.now outputs.items) }
+    ensures dumps { IfOk result (λ outputs. HasOneDumpOfVersion setup.now events.now outputs.items) }
+    ensures durable { IfOk result (λ outputs. HasGrowingList setup.now events.now outputs.items) }
+    ensures legal { IfOk result (λ outputs. HasLegalList setup.now events.now outputs.items) }
+    ensures faultless { IfOk result (λ outputs. HasNoFault setup.now events.now outputs.items) }
 {
-    let mut world = World::new(alloc, setup)?;
+    run_on(rt, alloc, PARTITIONS, setup, events)
+}
+
+/// The same on replicas whose stores have this many partitions, on which nothing depends. It is
+/// taken as 1 if it is less, and as 64 if it is more.
+pub fn run_on<R: Threads + Sync>(
+    rt: &R,
+    alloc: Global,
+    partitions: usize,
+    setup: &Setup,
+    events: &[Event],
+) -> Result<Vec<Output>, AllocError>
+    requires some { 0 < setup.now.workers }
+    requires workers { setup.now.workers ≤ workers_max }
+    requires replicas { setup.now.replicas ≤ replicas_max }
+    requires possible { AllByRecursion (IsPossible setup.now.workers setup.now.replicas) events.now }
+    ensures { IfOk result (λ outputs. KeepsPromises setup.now events.now outputs.items) }
+{
+    let mut world = World::with_partitions(alloc, setup, partitions)?;
     let mut outputs = Vec::new(alloc);
     for event in events {
-        let output = world.step(event);
+        let output = world.step(rt, event);
         outputs.push(output)?;
     }
     world.keeps_legal();
+    steps_are_told();
     Ok(outputs)
 }

@@ -17,6 +17,8 @@ use primary::FlushFault;
 use rows::ByteList;
 use script::{Event, Node, Output, Sent, SentList};
 use std::alloc::{AllocError, Global};
+use std::marker::Sync;
+use std::thread::Threads;
 use wire::{Out, Packet, read};
 
 /// Bytes of an Ask.
@@ -24,7 +26,7 @@ const ASK_LEN: usize = 23;
 
 impl Cores {
     /// Lets an event happen, by the call that it stands for, and answers its output.
-    pub fn happen(&mut self, event: &Event) -> Output
+    pub fn happen<R: Threads + Sync>(&mut self, rt: &R, event: &Event) -> Output
         requires ready { IsReady self.old }
         requires possible { IsPossible self.old.primary.workers (length self.old.replicas) event.now }
         ensures { MayStep self.old event.now result self.new }
@@ -68,7 +70,7 @@ impl Cores {
             Event::Show { index } => self.show(*index),
             Event::Open { replica, plan } => self.open(*replica, plan),
             Event::Ask { replica } => self.ask(*replica),
-            Event::Run { replica } => self.run(*replica),
+            Event::Run { replica } => self.run(rt, *replica),
             Event::Version { replica } => self.version(*replica),
             Event::Dump { replica } => self.dump(*replica),
             Event::Restart { replica, boot } => self.restart(*replica, *boot),
@@ -277,12 +279,12 @@ impl Cores {
 
     /// Runs a batch. A run that waits has changed nothing at its replica, so room for its Want is
     /// taken afterwards.
-    fn run(&mut self, number: u8) -> Output
+    fn run<R: Threads + Sync>(&mut self, rt: &R, number: u8) -> Output
         requires { number < length self.old.replicas }
         ensures { MayStep self.old (Event.Run number) result self.new }
     {
         let replica = &mut self.replicas[number as usize];
-        match replica.run() {
+        match replica.run(rt) {
             Run::NoBatch => Output::NoBatch,
             Run::WaitingHead => Output::WaitingHead,
             Run::Waiting { worker, seq, want } => self.wait(worker, seq, &want.packet),

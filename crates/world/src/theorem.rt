@@ -1,32 +1,10 @@
-//! What follows of every run.
+//! What follows of every run that the world allows, whoever makes it, and of every stop.
 
-ghost use Rattle.world.specs.Allowed.{Allowed};
-ghost use Rattle.world.specs.Theorem.{OfEachRun, HasExactReports, HasOneDumpOfVersion, HasGrowingList, HasLegalList, HasNoFault};
-ghost use Rattle.world.specs.Theorem.{CoresStand};
 ghost use Rattle.world.specs.Theorem.{AllowedRunsAreExact, RunsAreOfDatabase};
 ghost use Rattle.world.specs.Stops.{StopIsRecovered, StopKeepsDurable, StopEndsTransactions};
 
 use crate::laws::steps_are_told;
 use journal::laws::stops_are_recovered;
-
-/// What holds for each run; the contract of `run` states that it is one. Its outputs are allowed.
-/// Each report has the plain answers at one version of the one list, no older than what was durable
-/// when its batch asked. Two dumps at one version are equal. What is durable stays durable. The one
-/// list is legal. No output reports damage. At every step the cores are where the world is: every
-/// replica is fed from what is durable, which is on the primary's journal; after a stop the journal
-/// has exactly the bytes that the stop names; and replicas that are at one version and not broken
-/// hold the same tables, at whatever two moments. No code takes part.
-pub fn runs_keep_promises()
-    ensures allowed { OfEachRun Allowed }
-    ensures reports { OfEachRun HasExactReports }
-    ensures dumps { OfEachRun HasOneDumpOfVersion }
-    ensures durable { OfEachRun HasGrowingList }
-    ensures legal { OfEachRun HasLegalList }
-    ensures faultless { OfEachRun HasNoFault }
-    ensures cores { OfEachRun CoresStand }
-{
-    steps_are_told();
-}
 
 /// What is durable after a stop is what the journal keeps of its bytes at that moment: what was
 /// durable, possibly with more after it. No transaction is open then. No code takes part.

@@ -13,10 +13,12 @@ ghost use Rattle.rows.specs.Limits.{workers_max, replicas_max};
 
 use crate::cores::Cores;
 use crate::laws::steps_are_told;
+use apply::PARTITIONS;
 use dispatcher::fed_replicas_stay_fed;
 use script::{Event, Output, Setup};
 use std::alloc::{AllocError, Global};
-use std::marker::Model;
+use std::marker::{Model, Sync};
+use std::thread::Threads;
 
 /// One primary on a journal in memory, its replicas, the open transactions, and every datagram that
 /// was ever sent. While the primary is stopped, only its journal is left of it.
@@ -40,8 +42,24 @@ impl Model for World {
 
 impl World {
     /// A primary without commits, on an empty journal, and replicas without frames, each with boot
-    /// 1. There are 1 to 16 workers. Fails only if out of memory.
+    /// 1 and on a store of columns with 8 partitions. There are 1 to 16 workers. Fails only if out
+    /// of memory.
     pub fn new(alloc: Global, setup: &Setup) -> Result<World, AllocError>
+        requires some { 0 < setup.now.workers }
+        requires workers { setup.now.workers ≤ workers_max }
+        requires replicas { setup.now.replicas ≤ replicas_max }
+        ensures { IfOk result (λ world. world ≡ parts_started setup.now) }
+    {
+        World::with_partitions(alloc, setup, PARTITIONS)
+    }
+
+    /// The same with another number of partitions, on which nothing that a world answers depends. It
+    /// is taken as 1 if it is less, and as 64 if it is more.
+    pub fn with_partitions(
+        alloc: Global,
+        setup: &Setup,
+        partitions: usize,
+    ) -> Result<World, AllocError>
         requires some { 0 < setup.now.workers }
         requires workers { setup.now.workers ≤ workers_max }
         requires replicas { setup.now.replicas ≤ replicas_max }
@@ -50,15 +68,15 @@ impl World {
         fed_replicas_stay_fed();
         steps_are_told();
         setup.schema.keeps_limits();
-        let cores = Cores::start(alloc, setup)?;
+        let cores = Cores::start(alloc, setup, partitions)?;
         Ok(World { cores })
     }
 
     /// Lets an event happen, and answers its output. The worker and the replica that it names
-    /// exist. It answers `memory` only if the event takes memory, and the world is then unchanged,
-    /// except after a run that was cut short. A stop leaves on the journal what that acknowledged,
+    /// exist. A replica's run may use threads. It answers `memory` only if the event takes memory,
+    /// and the world is then unchanged, except after a run that was cut short. A stop leaves on the journal what that acknowledged,
     /// and then as many bytes of the pending commits' records as it names.
-    pub fn step(&mut self, event: &Event) -> Output
+    pub fn step<R: Threads + Sync>(&mut self, rt: &R, event: &Event) -> Output
         requires possible { IsPossible self.old.primary.workers (length self.old.replicas) event.now }
         ensures happens { MayHappen (world_of self.old) event.now result (world_of self.new) }
         ensures rows { SaysRows self.old.primary.durable (world_of self.old) event.now result }
@@ -74,7 +92,7 @@ impl World {
         fed_replicas_stay_fed();
         steps_are_told();
         self.cores.keeps_core();
-        let output = self.cores.happen(event);
+        let output = self.cores.happen(rt, event);
         self.cores.keeps_core();
         output
     }

@@ -1,5 +1,5 @@
 -- What is kept for a plan while its rows are looked at one after the other: the aggregates of each group so far.
-use Rattle.std.specs.Prelude.{◌≡◌, ℕ, pos, neg_ℤ, ◌+ℤ◌, ◌≤ℤ◌, ◌*◌, ◌^◌, List, [], ◌∷◌, map, take, Option, None, Some, IsSome, IfSome}
+use Rattle.std.specs.Prelude.{◌≡◌, ℕ, pos, neg_ℤ, ◌+ℤ◌, ◌≤ℤ◌, ◌*◌, ◌^◌, List, [], ◌∷◌, map, Option, None, Some, IsSome, IfSome}
 use Rattle.std.specs.Prelude.{slice_get, if◌then◌else◌}
 use Rattle.std.specs.BTreeMap.{is_at}
 use Rattle.std.specs.List.{All, AllByRecursion, list_any}
@@ -8,7 +8,7 @@ use Rattle.std.specs.Option.{unwrap_or}
 use Rattle.std.specs.Ordering.{is_eq}
 use Rattle.rows.specs.declared.value.Value.{Value}
 use Rattle.rows.specs.declared.value.Value.TheVariants.{Int}
-use Rattle.rows.specs.Tables.{Tables, rows_of}
+use Rattle.rows.specs.Tables.{Rows, Tables, rows_of, row_at}
 use Rattle.plans.specs.declared.aggregate.Aggregate.{Aggregate}
 use Rattle.plans.specs.declared.aggregate.Aggregate.TheVariants.{Count, Sum, Min, Max}
 use Rattle.plans.specs.declared.column.Column.{Column}
@@ -121,10 +121,10 @@ pub record GroupsAreKept (plan : Plan) (rows : List JoinedRow) (count : ℕ) (gr
   pub found : (group : List Value) → lookup (is_at (group_cmp group)) groups ≡ kept_at plan rows group
   pub within : AreWithin count groups
 
--- the rows of a plan among those before an index of its table
-abbrev pub rows_before : Tables → Plan → ℕ → List JoinedRow
-rows_before tables plan i = rows_among tables plan (take i (rows_of tables plan.table))
+-- the row of an identifier, if its plan looks at it
+abbrev pub row_among : Tables → Plan → ℕ → List JoinedRow
+row_among tables plan id = rows_among tables plan ((id, unwrap_or (row_at (rows_of tables plan.table) id) []) ∷ [])
 
--- what is kept before an index of the plan's table
-abbrev pub IsKeptBefore : Tables → Plan → ℕ → GroupList → Type 0
-IsKeptBefore tables plan i groups = GroupsAreKept plan (rows_before tables plan i) i groups
+-- what is kept of these rows of the plan's table
+abbrev pub AreKept : Tables → Plan → Rows → ℕ → GroupList → Type 0
+AreKept tables plan rows count groups = GroupsAreKept plan (rows_among tables plan rows) count groups

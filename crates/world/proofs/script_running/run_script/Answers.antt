@@ -17,6 +17,7 @@ returns-in-Ok-flush-clause-printed g c =
       outputs = outputs;
       read = search rules;
       run = search rules;
+      promise = search rules;
       text_is = refl;
     } in
     (script, text, given, printed, search rules)
@@ -35,6 +36,7 @@ returns-in-Ok-write_run-clause-interrupted g c = λ same.
       outputs = outputs;
       read = search rules;
       run = search rules;
+      promise = search rules;
       text_is = refl;
     } in
     (script, text, given, printed, ([], (text, sym (append-nil text), search rules)))
@@ -53,6 +55,7 @@ returns-in-Err-Write-clause-interrupted g c = λ same.
       outputs = outputs;
       read = search rules;
       run = search rules;
+      promise = search rules;
       text_is = refl;
     } in
     (script, text, given, printed, search rules)

@@ -1,65 +1,38 @@
--- Each event is one step, and what follows it is a run behind it.
-use Rattle.std.proofs.Common.{List, [], ◌∷◌, ◌++◌, refl, sym, ap, subst, ◌∙◌, append_assoc}
-use Rattle.std.proofs.lemmas.List.{append-nil}
-use Rattle.std.proofs.lemmas.Option.{slice_get_read}
-use Rattle.script.specs.Events.{IsPossible}
-use Rattle.script.specs.declared.output.Output.{Output}
-use Rattle.world.specs.Allowed.{RunsBy}
-use Rattle.world.specs.Parts.{parts_started}
-use Rattle.world.specs.Theorem.{IsCoreStep}
-use Rattle.world.proofs.Continuing.{step_first, none_left}
-use Rattle.world.proofs.Slots.{all_at}
-use Rattle.world.proofs.Starting.{as_many}
+-- Each promise is one of those that a run on any number of partitions keeps.
+use Rattle.std.proofs.lemmas.Result.{IfOk-weaker}
+use Rattle.world.specs.Theorem.{KeepsPromises}
 use Rattle.world.proofs.simulator.run.Goals as goal
 
-pub loop-event-init : goal.loop-event-init
-loop-event-init c =
-    let setup = c.args.setup.now in
-    record {
-      schema = rw c.in_ok-world.ensures refl;
-      workers = rw c.in_ok-world.ensures refl;
-      replicas = rw c.in_ok-world.ensures (as_many setup);
-      behind = λ more end steps. rw c.new-outputs.ensures.items (rw c.in_ok-world.ensures at steps);
-    }
-
-pub loop-event-preserved : goal.loop-event-preserved
-loop-event-preserved c =
-    let done = c.step-output.ensures in
-    record {
-      schema = cc;
-      workers = cc;
-      replicas = cc;
-      behind = λ more end steps.
-          let setup = c.args.setup.now in
-          let done_before = c.loop-event.outputs.items in
-          let joined = ap (λ (l : List Output). l ++ more) c.in_ok-push.ensures.items
-          ∙ append_assoc done_before (c.step-output.result ∷ []) more in
-          subst (λ (l : List Output). RunsBy (IsCoreStep end.primary.durable) (parts_started setup) c.args.events.now l end) (sym joined)
-          (c.loop-event.invariant.behind (c.step-output.result ∷ more) end
-          (step_first _ _ end c.args.events.now c.loop-event.event-index c.event-item.result c.step-output.result more
-          c.loop-event-test.true c.event-item.is
-          (record { happens = done.happens; rows = done.rows; durable = done.durable; faultless = done.faultless })
-          done.fed done.journal done.leaves steps));
-    }
-
-pub step-output-requires : goal.step-output-requires
-step-output-requires c =
-    let setup = c.args.setup.now in
-    let at = slice_get_read c.args.events.now _ c.loop-event.event-index c.event-item.result refl c.loop-event-test.true c.event-item.is in
-    record {
-      possible = rw (c.loop-event.invariant.workers, c.loop-event.invariant.replicas)
-          (all_at (IsPossible setup.workers setup.replicas) c.args.events.now c.loop-event.event-index c.event-item.result at
-          c.requires.possible);
-    }
-
 pub returns : goal.returns
-returns c =
-    let end = c.loop-event.world in
-    let run = c.loop-event.invariant.behind [] end (none_left end c.args.events.now c.loop-event.event-index c.loop-event-test.false) in
-    record {
-      end = end;
-      legal = rw (← c.loop-event.invariant.schema, ← c.loop-event.invariant.workers) c.keeps_legal.ensures;
-      steps =
-          subst (λ (l : List Output). RunsBy (IsCoreStep end.primary.durable) (parts_started c.args.setup.now) c.args.events.now l end)
-          (append-nil c.loop-event.outputs.items) run;
-    }
+returns g c = record {
+  promise =
+      IfOk-weaker _ (λ outputs. KeepsPromises c.args.setup.now c.args.events.now outputs.items) _ (λ _ kept. kept.promise)
+      c.run_on.ensures;
+  each =
+      IfOk-weaker _ (λ outputs. KeepsPromises c.args.setup.now c.args.events.now outputs.items) _ (λ _ kept. kept.each)
+      c.run_on.ensures;
+  run =
+      IfOk-weaker _ (λ outputs. KeepsPromises c.args.setup.now c.args.events.now outputs.items) _ (λ _ kept. kept.run)
+      c.run_on.ensures;
+  cores =
+      IfOk-weaker _ (λ outputs. KeepsPromises c.args.setup.now c.args.events.now outputs.items) _ (λ _ kept. kept.cores)
+      c.run_on.ensures;
+  allowed =
+      IfOk-weaker _ (λ outputs. KeepsPromises c.args.setup.now c.args.events.now outputs.items) _ (λ _ kept. kept.allowed)
+      c.run_on.ensures;
+  reports =
+      IfOk-weaker _ (λ outputs. KeepsPromises c.args.setup.now c.args.events.now outputs.items) _ (λ _ kept. kept.reports)
+      c.run_on.ensures;
+  dumps =
+      IfOk-weaker _ (λ outputs. KeepsPromises c.args.setup.now c.args.events.now outputs.items) _ (λ _ kept. kept.dumps)
+      c.run_on.ensures;
+  durable =
+      IfOk-weaker _ (λ outputs. KeepsPromises c.args.setup.now c.args.events.now outputs.items) _ (λ _ kept. kept.durable)
+      c.run_on.ensures;
+  legal =
+      IfOk-weaker _ (λ outputs. KeepsPromises c.args.setup.now c.args.events.now outputs.items) _ (λ _ kept. kept.legal)
+      c.run_on.ensures;
+  faultless =
+      IfOk-weaker _ (λ outputs. KeepsPromises c.args.setup.now c.args.events.now outputs.items) _ (λ _ kept. kept.faultless)
+      c.run_on.ensures;
+}

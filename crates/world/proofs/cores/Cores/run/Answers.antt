@@ -6,7 +6,7 @@ use Rattle.world.proofs.Moving.{ran, run_waits}
 use Rattle.world.proofs.cores.Cores.run.Goals as goal
 
 pub returns-in-Waiting : goal.returns-in-Waiting
-returns-in-Waiting c =
+returns-in-Waiting g c =
     let there = rw (← c.self.view_is) at c.requires in
     let at =
     slice_get_read c.self.inside.replicas.items _ c.args.number c.index_mut-replica.result.now refl there
@@ -15,7 +15,7 @@ returns-in-Waiting c =
     c.in-Waiting.ensures _ _ c.wait.ensures
 
 pub returns-in-Answered : goal.returns-in-Answered
-returns-in-Answered c =
+returns-in-Answered g c =
     let there = rw (← c.self.view_is) at c.requires in
     let at =
     slice_get_read c.self.inside.replicas.items _ c.args.number c.index_mut-replica.result.now refl there
@@ -23,7 +23,7 @@ returns-in-Answered c =
     ran _ _ c.self.view_is c.args.number _ c.run.new.self at (runs.Answered c.in-Answered.report) c.in-Answered.ensures
 
 pub returns-in-Inconsistent : goal.returns-in-Inconsistent
-returns-in-Inconsistent c =
+returns-in-Inconsistent g c =
     let there = rw (← c.self.view_is) at c.requires in
     let at =
     slice_get_read c.self.inside.replicas.items _ c.args.number c.index_mut-replica.result.now refl there
@@ -31,7 +31,7 @@ returns-in-Inconsistent c =
     ran _ _ c.self.view_is c.args.number _ c.run.new.self at runs.Inconsistent c.in-Inconsistent.ensures
 
 pub returns-in-Broken : goal.returns-in-Broken
-returns-in-Broken c =
+returns-in-Broken g c =
     let there = rw (← c.self.view_is) at c.requires in
     let at =
     slice_get_read c.self.inside.replicas.items _ c.args.number c.index_mut-replica.result.now refl there
@@ -39,7 +39,7 @@ returns-in-Broken c =
     ran _ _ c.self.view_is c.args.number _ c.run.new.self at runs.Broken c.in-Broken.ensures
 
 pub returns-in-Memory : goal.returns-in-Memory
-returns-in-Memory c =
+returns-in-Memory g c =
     let there = rw (← c.self.view_is) at c.requires in
     let at =
     slice_get_read c.self.inside.replicas.items _ c.args.number c.index_mut-replica.result.now refl there

@@ -22,7 +22,7 @@ loop-number-preserved c =
 
 pub start_on-requires-clause-kept : goal.start_on-requires-clause-kept
 start_on-requires-clause-kept c =
-    ([], 0, nothing_kept c.args.setup.now.workers (shape_of c.args.setup.now.schema) c.new-2.result.bytes c.new-2.ensures)
+    ([], 0, nothing_kept c.args.setup.now.workers (shape_of c.args.setup.now.schema) c.new.result.bytes c.new.ensures)
 
 pub returns : goal.returns
 returns c =
@@ -31,7 +31,7 @@ returns c =
     let made = rw (none, append-nil) at c.loop-number.invariant.made in
     let first = rw (none, append-nil) at c.loop-number.invariant.first in
     let noted = rw (none, append-nil) at c.loop-number.invariant.noted in
-    let kept = nothing_kept setup.workers (shape_of setup.schema) c.new-2.result.bytes c.new-2.ensures in
-    parts_made setup c.in_ok-copy_of.field-0 c.in-Ok.primary c.new-3.result.items c.new-4.result.items c.loop-number.cores.items
+    let kept = nothing_kept setup.workers (shape_of setup.schema) c.new.result.bytes c.new.ensures in
+    parts_made setup c.in_ok-copy_of.field-0 c.in-Ok.primary c.new-2.result.items c.new-3.result.items c.loop-number.cores.items
     c.loop-number.boots.items c.loop-number.asked_at.items c.in_ok-copy_of.ensures (c.in-Ok.ensures.ok [] 0 kept)
-    c.in-Ok.ensures.written c.new-3.ensures.items c.new-4.ensures.items made first noted
+    c.in-Ok.ensures.written c.new-2.ensures.items c.new-3.ensures.items made first noted

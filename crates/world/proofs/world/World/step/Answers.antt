@@ -1,17 +1,18 @@
 -- What the event's call leaves is the world's again, and what it answers may happen there.
+use Rattle.std.proofs.Common.{rules}
 use Rattle.world.proofs.FedLaws.{FedLaws}
 use Rattle.world.proofs.Requested.{kept-ready}
 use Rattle.world.proofs.Whole.{step-keeps}
 use Rattle.world.proofs.world.World.step.Goals as goal
 
 pub happen-output-requires : goal.happen-output-requires
-happen-output-requires c = record {
-  ready = kept-ready c.self.inside.cores c.self.invariant;
-  possible = rw (← c.self.view_is) at c.requires.possible;
-}
+happen-output-requires g c = (
+  search rules,
+  (kept-ready c.self.inside.cores c.self.invariant, rw (← c.self.view_is) at c.requires.possible),
+)
 
 pub invariant_of-self : goal.invariant_of-self
-invariant_of-self c =
+invariant_of-self g c =
     let e = c.fed_replicas_stay_fed.ensures in
     let laws : FedLaws = record {
       fresh = e.fresh;
@@ -31,7 +32,7 @@ invariant_of-self c =
     c.keeps_core.ensures.lists c.happen-output.ensures).kept
 
 pub returns : goal.returns
-returns c =
+returns g c =
     let e = c.fed_replicas_stay_fed.ensures in
     let laws : FedLaws = record {
       fresh = e.fresh;

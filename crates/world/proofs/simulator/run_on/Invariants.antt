@@ -4,10 +4,10 @@ use Rattle.script.specs.declared.output.Output.{Output}
 use Rattle.world.specs.Parts.{Parts, parts_started}
 use Rattle.world.specs.Allowed.{RunsBy}
 use Rattle.world.specs.Theorem.{IsCoreStep}
-use Rattle.world.proofs.simulator.run.Given as goal
+use Rattle.world.proofs.simulator.run_on.Given as goal
 
 abbrev pub invariant-loop-event : goal.invariant-loop-event
-invariant-loop-event l = record {
+invariant-loop-event g l = record {
   schema : l.world.primary.schema ≡ l.setup.schema;
   workers : l.world.primary.workers ≡ l.setup.workers;
   replicas : length l.world.replicas ≡ l.setup.replicas;

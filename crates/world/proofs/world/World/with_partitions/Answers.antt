@@ -1,7 +1,7 @@
 -- The parts at the beginning are those of a world.
 use Rattle.world.proofs.FedLaws.{FedLaws}
 use Rattle.world.proofs.Whole.{started-kept}
-use Rattle.world.proofs.world.World.new.Goals as goal
+use Rattle.world.proofs.world.World.with_partitions.Goals as goal
 
 pub invariant_of-result : goal.invariant_of-result
 invariant_of-result c =

@@ -1,0 +1,165 @@
+-- One partition, given entry after entry.
+use Rattle.std.proofs.Common.{◌≡◌, ◌≢◌, ℕ, ◌+◌, ◌%◌, ◌<◌, Bool, true, false, cond, ◌==◌, ◌||◌, List, [], ◌∷◌, ◌++◌, length, get_or, take}
+use Rattle.std.proofs.Common.{slice_set, Option, None, Some, Result, Ok, Err, nat_lt, refl, sym, ap, subst, ◌∙◌, inl, inr, arith}
+use Rattle.std.specs.Result.{IsErr}
+use Rattle.std.proofs.lemmas.Bool.{false≢true, eqb-true, eq-eqb, cases_eq}
+use Rattle.std.proofs.lemmas.Bool.Decides.{nat_tests}
+use Rattle.std.proofs.lemmas.List.{length-append, append-nil, take_more, get_or-set_same, get_or-set_other, get_or_default}
+use Rattle.std.proofs.lemmas.List.Concat.{flat_map-append}
+use Rattle.std.proofs.lemmas.List.Elements.{filter-append}
+use Rattle.rows.specs.declared.commit.Commit.{Commit}
+use Rattle.rows.specs.declared.entry.Entry.{Entry}
+use Rattle.rows.specs.Tables.{Tables, Refusal, shape_in, apply_entries, and_then}
+use Rattle.store.specs.Faults.{FailsAs, have_entries}
+use Rattle.store.specs.declared.faults.ApplyFault.{ApplyFault}
+use Rattle.store.specs.declared.faults.ApplyFault.TheVariants.{Inconsistent, Memory, Broken}
+use Rattle.apply.specs.declared.part.Part.{Part}
+use Rattle.apply.specs.Inner.Ends.{EndsAs, GoesOn, GoesOnAs}
+use Rattle.apply.specs.Inner.Gathered.{row_of, is_in, entries_in, entries_of}
+use Rattle.apply.proofs.Splits.{entries-append}
+
+-- no entry changes nothing
+pub goes-nothing : (part : Part) → GoesOn [] part part
+goes-nothing part = by part.fault
+  where
+    by : (fault : Option ApplyFault) → GoesOnAs fault [] part.tables.items part.tables.items fault
+    by None = refl
+    by (Some fault) = refl
+
+-- what stops at the front stops
+pub stops : (rest : Tables → Result Tables Refusal) (first : Result Tables Refusal) → IsErr first → IsErr (and_then rest first)
+stops rest (Ok after) h = cc
+stops rest (Err refusal) h = refl
+
+more-front : (front back : List Entry) → nat_lt 0 (length front) ≡ true → nat_lt 0 (length (front ++ back)) ≡ true
+more-front front back some = grind (arith, nat_tests, length-append front back, some)
+
+more-back : (front back : List Entry) → nat_lt 0 (length back) ≡ true → nat_lt 0 (length (front ++ back)) ≡ true
+more-back front back some = grind (arith, nat_tests, length-append front back, some)
+
+-- entries, and others after them
+pub goes-more : (front back : List Entry) (first middle last : Part) → GoesOn front first middle → GoesOn back middle last
+    → GoesOn (front ++ back) first last
+goes-more front back first middle last one two = by first.fault middle.fault last.fault one two
+  where
+    all : apply_entries first.tables.items (front ++ back)
+        ≡ and_then (λ after. apply_entries after back) (apply_entries first.tables.items front)
+    all = entries-append first.tables.items front back
+
+    made : apply_entries first.tables.items front ≡ Ok middle.tables.items
+        → apply_entries first.tables.items (front ++ back) ≡ apply_entries middle.tables.items back
+    made h = all ∙ ap (and_then (λ after. apply_entries after back)) h
+
+    by : (f m l : Option ApplyFault) → GoesOnAs f front first.tables.items middle.tables.items m
+        → GoesOnAs m back middle.tables.items last.tables.items l → GoesOnAs f (front ++ back) first.tables.items last.tables.items l
+    by (Some failed) m l one two = subst (λ (m : Option ApplyFault). GoesOnAs m back middle.tables.items last.tables.items l) one two
+    by None None None one two = made one ∙ two
+    by None None (Some Inconsistent) one two = (refl, subst IsErr (sym (made one)) two.1)
+    by None None (Some Memory) one two = (refl, more-back front back two.1)
+    by None None (Some Broken) one two = two
+    by None (Some Inconsistent) l one two =
+        subst (GoesOnAs None (front ++ back) first.tables.items last.tables.items) (sym two)
+        (refl, subst IsErr (sym all) (stops (λ after. apply_entries after back) (apply_entries first.tables.items front) one.1))
+    by None (Some Memory) l one two =
+        subst (GoesOnAs None (front ++ back) first.tables.items last.tables.items) (sym two) (refl, more-front front back one.1)
+    by None (Some Broken) l one two = subst (GoesOnAs None (front ++ back) first.tables.items last.tables.items) (sym two) one
+
+-- ---- one entry, given to its partition of these
+
+own-one : (count part : ℕ) (entry : Entry) → row_of entry % count ≡ part → entries_in count part (entry ∷ []) ≡ entry ∷ []
+own-one count part entry is = ap (λ own. cond own (entry ∷ []) []) (eq-eqb (row_of entry % count) part is)
+
+own-none : (count part : ℕ) (entry : Entry) → row_of entry % count ≢ part → entries_in count part (entry ∷ []) ≡ []
+own-none count part entry other = by (row_of entry % count == part) refl
+  where
+    by : (own : Bool) → (row_of entry % count == part) ≡ own → entries_in count part (entry ∷ []) ≡ []
+    by true is = absurd (other (eqb-true (row_of entry % count) part is))
+    by false is = ap (λ own. cond own (entry ∷ []) []) is
+
+-- it is none of theirs
+pub goes-past : (count part : ℕ) (entry : Entry) (own : Part) → row_of entry % count ≢ part
+    → GoesOn (entries_in count part (entry ∷ [])) own own
+goes-past count part entry own other =
+    subst (λ (entries : List Entry). GoesOn entries own own) (sym (own-none count part entry other)) (goes-nothing own)
+
+-- it is one of theirs
+pub goes-given : (count first at k : ℕ) (entry : Entry) (parts : List Part) (own new d : Part) → at < length parts
+    → row_of entry % count ≡ first + at → GoesOn (entry ∷ []) (get_or parts at own) new → k < length parts
+    → GoesOn (entries_in count (first + k) (entry ∷ [])) (get_or parts k d) (get_or (slice_set parts at new) k d)
+goes-given count first at k entry parts own new d lt home goes within = elim (cases_eq k at) [
+  | inl here ↦ rw (here, get_or-set_same parts at new d lt, own-one count (first + at) entry home)
+      (subst (λ (own : Part). GoesOn (entry ∷ []) own new) (get_or_default parts at own d lt) goes)
+  | inr other ↦ rw (get_or-set_other parts at k new d other)
+      (goes-past count (first + k) entry (get_or parts k d) (λ same. other (omega (arith, same, home))))
+]
+
+-- and keeps its kinds
+pub kinds-given : (at k : ℕ) (parts : List Part) (own new d : Part) → at < length parts
+    → shape_in new.tables.items ≡ shape_in (get_or parts at own).tables.items
+    → shape_in (get_or (slice_set parts at new) k d).tables.items ≡ shape_in (get_or parts k d).tables.items
+kinds-given at k parts own new d lt kinds = elim (cases_eq k at) [
+  | inl here ↦ rw (here, get_or-set_same parts at new d lt)
+      (kinds ∙ ap (λ (own : Part). shape_in own.tables.items) (get_or_default parts at own d lt))
+  | inr other ↦ rw (get_or-set_other parts at k new d other) refl
+]
+
+-- ---- lists of them
+
+-- one entry more
+pub goes-next : (count part i : ℕ) (entries : List Entry) (entry : Entry) (first middle last : Part) → i < length entries
+    → entry ≡ get_or entries i entry → GoesOn (entries_in count part (take i entries)) first middle
+    → GoesOn (entries_in count part (entry ∷ [])) middle last → GoesOn (entries_in count part (take (i + 1) entries)) first last
+goes-next count part i entries entry first middle last lt is one two =
+    subst (λ (entries : List Entry). GoesOn entries first last)
+    (sym (ap (entries_in count part) (take_more entries i entry lt ∙ ap (λ entry. take i entries ++ entry ∷ []) (sym is))
+    ∙ filter-append (is_in count part) (take i entries) (entry ∷ [])))
+    (goes-more (entries_in count part (take i entries)) (entries_in count part (entry ∷ [])) first middle last one two)
+
+-- one commit more
+pub goes-commit : (count part i : ℕ) (commits : List Commit) (commit : Commit) (first middle last : Part) → i < length commits
+    → commit ≡ get_or commits i commit → GoesOn (entries_in count part (entries_of (take i commits))) first middle
+    → GoesOn (entries_in count part commit.entries) middle last
+    → GoesOn (entries_in count part (entries_of (take (i + 1) commits))) first last
+goes-commit count part i commits commit first middle last lt is one two =
+    let front = entries_of (take i commits) in
+    let entries : entries_of (take (i + 1) commits) ≡ front ++ commit.entries =
+    ap entries_of (take_more commits i commit lt ∙ ap (λ commit. take i commits ++ commit ∷ []) (sym is))
+    ∙ flat_map-append (λ (commit : Commit). commit.entries) (take i commits) (commit ∷ [])
+    ∙ ap (λ (own : List Entry). front ++ own) (append-nil commit.entries) in
+    subst (λ (entries : List Entry). GoesOn entries first last)
+    (sym (ap (entries_in count part) entries ∙ filter-append (is_in count part) front commit.entries))
+    (goes-more (entries_in count part front) (entries_in count part commit.entries) first middle last one two)
+
+-- ---- where no partition has failed before
+
+-- an entry of a partition is one of the commits
+have-own : (count part : ℕ) (commits : List Commit) → nat_lt 0 (length (entries_in count part (entries_of commits))) ≡ true
+    → have_entries commits ≡ true
+have-own count part [] some = absurd (false≢true some)
+have-own count part (commit ∷ commits) some = by commit.entries (have-own count part commits) some
+  where
+    by : (entries : List Entry)
+        → (nat_lt 0 (length (entries_in count part (entries_of commits))) ≡ true → have_entries commits ≡ true)
+        → nat_lt 0 (length (entries_in count part (entries ++ entries_of commits))) ≡ true
+        → (nat_lt 0 (length entries) || have_entries commits) ≡ true
+    by [] rest some = rest some
+    by (entry ∷ entries) rest some =
+        let here : nat_lt 0 (length (entry ∷ entries)) ≡ true = grind (arith, nat_tests) in
+        ap (λ own. own || have_entries commits) here
+
+ends-more : (some more : Bool) (changes : Result Tables Refusal) (tables : Tables) (fault : Option ApplyFault)
+    → (some ≡ true → more ≡ true) → EndsAs some changes tables fault → EndsAs more changes tables fault
+ends-more some more changes tables None all h = h
+ends-more some more changes tables (Some Inconsistent) all h = h
+ends-more some more changes tables (Some Memory) all h = (refl, all h.1)
+ends-more some more changes tables (Some Broken) all h = h
+
+pub goes-ends : (count part : ℕ) (commits : List Commit) (old cleared new : Part) → cleared.fault ≡ None → cleared.tables ≡ old.tables
+    → GoesOn (entries_in count part (entries_of commits)) cleared new
+    → EndsAs (have_entries commits) (apply_entries old.tables.items (entries_in count part (entries_of commits))) new.tables.items
+    new.fault
+goes-ends count part commits old cleared new none same goes =
+    let own = entries_in count part (entries_of commits) in
+    let ended = subst (λ (fault : Option ApplyFault). GoesOnAs fault own cleared.tables.items new.tables.items new.fault) none goes in
+    rw (← same) (ends-more (nat_lt 0 (length own)) (have_entries commits) (apply_entries cleared.tables.items own) new.tables.items
+    new.fault (have-own count part commits) ended)
