@@ -50,7 +50,8 @@ Told schema commits p = (p.primary.schema ≡ schema) × AllHold (shape_of schem
 ends-grown : (commits : List Commit) (old end : Parts) (todo : List Event) (done : List Output)
     → RunsBy (IsCoreStep commits) old todo done end → IsBeginning old.primary.durable end.primary.durable
 ends-grown commits old end todo done run =
-    run-grows (λ (p : Parts). p.primary.durable) (IsCoreStep commits) (λ first event output second step. step.0.durable) old end todo done run
+    run-grows (λ (p : Parts). p.primary.durable) (IsCoreStep commits) (λ first event output second step. step.0.durable) old end todo
+    done run
 
 told-now : (commits : List Commit) (schema : List (List ℕ × List Kind)) (old end : Parts) (todo : List Event)
     (done : List Output)
