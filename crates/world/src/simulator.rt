@@ -55,8 +55,8 @@ pub fn run<R: Threads + Sync>(
     run_on(rt, alloc, PARTITIONS, setup, events)
 }
 
-/// The same on replicas whose stores have this many partitions, on which nothing depends. It is
-/// taken as 1 if it is less, and as 64 if it is more.
+/// The same on replicas whose stores have this many partitions. What is promised is the same for
+/// each number, which is taken as 1 if it is less, and as 64 if it is more.
 pub fn run_on<R: Threads + Sync>(
     rt: &R,
     alloc: Global,

@@ -53,8 +53,8 @@ impl World {
         World::with_partitions(alloc, setup, PARTITIONS)
     }
 
-    /// The same with another number of partitions, on which nothing that a world answers depends. It
-    /// is taken as 1 if it is less, and as 64 if it is more.
+    /// The same with another number of partitions. What a world may answer is the same for each. The
+    /// number is taken as 1 if it is less, and as 64 if it is more.
     pub fn with_partitions(
         alloc: Global,
         setup: &Setup,
@@ -74,8 +74,9 @@ impl World {
 
     /// Lets an event happen, and answers its output. The worker and the replica that it names
     /// exist. A replica's run may use threads. It answers `memory` only if the event takes memory,
-    /// and the world is then unchanged, except after a run that was cut short. A stop leaves on the journal what that acknowledged,
-    /// and then as many bytes of the pending commits' records as it names.
+    /// and the world is then unchanged, except after a run that was cut short. A stop leaves on the
+    /// journal what that acknowledged, and then as many bytes of the pending commits' records as it
+    /// names.
     pub fn step<R: Threads + Sync>(&mut self, rt: &R, event: &Event) -> Output
         requires possible { IsPossible self.old.primary.workers (length self.old.replicas) event.now }
         ensures happens { MayHappen (world_of self.old) event.now result (world_of self.new) }
