@@ -20,7 +20,7 @@ use std::alloc::{AllocError, Global};
 use store::Lent;
 
 /// How many rows a block has at most, apart from the one that it takes when it is cut.
-const BLOCK_ROWS: usize = 1024;
+const BLOCK_ROWS: usize = 512;
 
 /// The index of the block that contains a row, or into which it would be inserted: the last one
 /// that begins at or below it, or else the first.
