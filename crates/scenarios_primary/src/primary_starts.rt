@@ -189,6 +189,13 @@ const CUT: Failure = Failure {
     bytes_left: 2,
 };
 
+/// The first cut fails, and leaves eight bytes more.
+const LONGER_CUT: Failure = Failure {
+    call: Failing::CutTo,
+    calls_before: 0,
+    bytes_left: 8,
+};
+
 /// The first append fails, and leaves two of its bytes.
 const FIRST_APPEND: Failure = Failure {
     call: Failing::Append,
@@ -239,7 +246,7 @@ const NOT_READ: [History; 2] = [
 
 /// A torn end that could not be cut away is torn still, whatever is left of it, and nothing else is
 /// lost.
-const NOT_CUT: [History; 3] = [
+const NOT_CUT: [History; 4] = [
     (
         (51, &[], &[]),
         CUT,
@@ -261,6 +268,19 @@ const NOT_CUT: [History; 3] = [
         CUT,
         &[
             (Started::Store, &[], (52, &[], &[0, 0])),
+            (Started::Durable(1), &[], (52, &[], &[])),
+        ],
+    ),
+    // What a stop behind 60 bytes leaves of two records, of which the second is cut to 8 bytes.
+    (
+        (
+            52,
+            &[],
+            &[0, 0, 0, 0x27, 0, 0, 0, 0, 0, 0, 0, 0, 2, 0, 1, 1, 0],
+        ),
+        LONGER_CUT,
+        &[
+            (Started::Store, &[], (52, &[], &[0, 0, 0, 0x27, 0, 0, 0, 0])),
             (Started::Durable(1), &[], (52, &[], &[])),
         ],
     ),
@@ -464,11 +484,20 @@ const EMPTY: [History; 1] = [(
     &[(Started::Durable(0), &MADE_AGAIN, (52, &[], &DELETE_7))],
 )];
 
+/// The first flush fails, and what is refused for that is refused.
+const FAILING_ONCE: [History; 1] = [(
+    (9, &[], &[]),
+    FIRST_FLUSH,
+    &[(Started::Durable(0), &FAILED, (9, &[], &[]))],
+)];
+
 /// Whichever request for memory is refused: a start that was refused for memory hands back a journal
-/// that keeps what it kept, and is answered when it is asked for again.
+/// that keeps what it kept, and is answered when it is asked for again; so are the calls after it, also
+/// where the journal fails.
 #[test]
 fn a_start_without_memory_loses_nothing(rt: HostRuntime) -> Result<(), Fail> {
-    assert_eq!(rt; other_history(rt.alloc(), &TORN)?, None);
-    assert_eq!(rt; other_history(rt.alloc(), &EMPTY)?, None);
+    for histories in [TORN.as_slice(), &EMPTY, &FAILING_ONCE] {
+        assert_eq!(rt; other_history(rt.alloc(), histories)?, None);
+    }
     Ok(())
 }

@@ -1,4 +1,4 @@
-//! Scenarios of `dispatcher`, by its public calls: frames, batches, the text of the tables.
+//! Scenarios of `dispatcher`, by its public calls: frames, batches, hostile bytes, the text of the tables.
 #![tactic(auto)]
 
 #[cfg(test)]
@@ -7,6 +7,8 @@ mod batches;
 mod dumps;
 #[cfg(test)]
 mod frames;
+#[cfg(test)]
+mod hostile_bytes;
 #[cfg(test)]
 mod opened_plans;
 #[cfg(test)]
