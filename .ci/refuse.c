@@ -1,7 +1,8 @@
 /*
- * Refuses one request for memory of a program, to show what the program makes of that.
+ * Refuses a request for memory of a program, or some, to show what the program makes of that.
  *
  *     LD_PRELOAD=./refuse.so REFUSED=7 PROGRAM       its seventh request is refused
+ *     LD_PRELOAD=./refuse.so REFUSED=7 MORE=2 PROGRAM    and so are the two after that
  *     LD_PRELOAD=./refuse.so COUNTED=FILE PROGRAM    none is, and FILE has their number so far, at each moment
  *
  * A request is a call of malloc, calloc, realloc, aligned_alloc or posix_memalign. What is not refused goes to the
@@ -21,7 +22,7 @@ int *__errno_location(void);
 
 enum { ENOMEM = 12, DIGITS = 20 };
 
-static unsigned long requests, refused;
+static unsigned long requests, refused, more;
 
 /* The file of the number of requests; none is open where it is negative. */
 static int counted = -1;
@@ -30,6 +31,8 @@ static int counted = -1;
 __attribute__((constructor)) static void begin(void) {
     const char *number = getenv("REFUSED");
     refused = number ? strtoul(number, 0, 10) : 0;
+    number = getenv("MORE");
+    more = number ? strtoul(number, 0, 10) : 0;
     requests = 0;
     const char *file = getenv("COUNTED");
     counted = file ? creat(file, 0600) : -1;
@@ -52,7 +55,7 @@ static int refuses(void) {
     unsigned long request = __atomic_add_fetch(&requests, 1, __ATOMIC_RELAXED);
     if (counted >= 0)
         tell(request);
-    if (request != refused)
+    if (!refused || request < refused || request - refused > more)
         return 0;
     *__errno_location() = ENOMEM;
     return 1;
