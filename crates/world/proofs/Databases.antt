@@ -44,7 +44,7 @@ use Rattle.world.specs.Steps.{delivered, deliver_happens, is_forged, shown, open
 use Rattle.world.specs.Steps.{fetched_happens}
 use Rattle.world.specs.Steps.{answer_happens, first_lacked, dump_at, send, ask_bytes, abort_happens, opening_world, stop_happens}
 use Rattle.world.specs.Steps.{restarted, restart_happens, had_boot}
-use Rattle.world.specs.Allowed.{RunIsInterrupted, RunIsInterruptedAt, MayHappen, RunsBy, Runs, Allowed}
+use Rattle.world.specs.Allowed.{RunIsInterrupted, RunIsInterruptedAt, MayHappen, RunsBy, Runs}
 use Rattle.world.specs.Theorem.{seen_batch, reader_of, database_of, RunsAreOfDatabase}
 use Rattle.world.specs.Outputs.{of_change, of_look}
 use Rattle.world.specs.Inner.Fresh.{IsFreshBatch, IsFreshReading, Fresh, HasBoot}
@@ -439,11 +439,11 @@ by-outputs schema old end (event ∷ todo) (output ∷ done) run =
     (run.0, run.1, by-outputs schema run.0 end todo done run.2)
 
 -- the promise of each run by events that are possible
-pub run-promised : (laws : StepLaws) (setup : Setup) (todo : List Event) (done : List Output) → setup.replicas ≤ replicas_max
-    → AllByRecursion (IsPossible setup.workers setup.replicas) todo → Allowed setup todo done
-    → IsPromised setup.schema setup.replicas done
-run-promised laws setup todo done few possible allowed = (
-  database_of allowed.0,
-  by-outputs setup.schema (new_database setup.replicas) (database_of allowed.0) todo done
-      (runs-of-database laws setup todo done allowed.0 few possible allowed.1),
+pub run-promised : (laws : StepLaws) (setup : Setup) (todo : List Event) (done : List Output) (end : World)
+    → setup.replicas ≤ replicas_max → AllByRecursion (IsPossible setup.workers setup.replicas) todo
+    → Runs (opening_world setup) todo done end → IsPromised setup.schema setup.replicas done
+run-promised laws setup todo done end few possible run = (
+  database_of end,
+  by-outputs setup.schema (new_database setup.replicas) (database_of end) todo done
+      (runs-of-database laws setup todo done end few possible run),
 )

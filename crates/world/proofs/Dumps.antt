@@ -13,13 +13,13 @@ use Rattle.dispatcher.specs.TableText.{names_of, row_count, rows_text, table_tex
 use Rattle.script.specs.declared.event.Event.{Event}
 use Rattle.script.specs.declared.output.Output.{Output}
 use Rattle.script.specs.declared.output.Output.TheVariants as outputs
+use Rattle.script.specs.declared.setup.Setup.{Setup}
 use Rattle.world.specs.Parts.{Parts, parts_started}
 use Rattle.world.specs.Steps.{World}
 use Rattle.world.specs.Allowed.{RunsBy}
 use Rattle.world.specs.Standing.{world_of}
-use Rattle.world.specs.Theorem.{SaysRows, IsCoreStep, TellsVersion, HasOneDumpOfVersion}
+use Rattle.world.specs.Theorem.{SaysRows, IsCoreStep, IsRun, TellsVersion, HasOneDumpOfVersion}
 use Rattle.world.proofs.Lists.{All-get}
-use Rattle.world.proofs.Reports.{OfEachRun}
 use Rattle.world.proofs.Requested.{step-counts}
 
 -- ---- the version that a text tells
@@ -78,7 +78,7 @@ dumps-by schema commits old end (event ∷ todo) (output ∷ done) same run =
       dumps-by schema commits run.0 end todo done (stays.schema ∙ same) run.2,
     )
 
-pub run-dumps : OfEachRun HasOneDumpOfVersion
+pub run-dumps : (setup : Setup) (todo : List Event) (done : List Output) → IsRun setup todo done → HasOneDumpOfVersion setup todo done
 run-dumps setup todo done run version i j text other fits here there one two =
     let schema = setup.schema in
     let commits = run.end.primary.durable in

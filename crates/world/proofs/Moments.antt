@@ -11,13 +11,14 @@ use Rattle.dispatcher.specs.Feeding.{IsFedFrom}
 use Rattle.dispatcher.specs.State.{Replica}
 use Rattle.script.specs.declared.event.Event.{Event}
 use Rattle.script.specs.declared.output.Output.{Output}
+use Rattle.script.specs.declared.setup.Setup.{Setup}
 use Rattle.world.specs.Parts.{Parts, replicas_from, parts_started}
 use Rattle.world.specs.Allowed.{RunsBy, Passes}
 use Rattle.world.specs.Standing.{world_of, AreFed, TablesAgree}
-use Rattle.world.specs.Theorem.{IsCoreStep, CoresStand}
+use Rattle.world.specs.Theorem.{IsCoreStep, OfEachRun, CoresStand}
 use Rattle.world.proofs.Durable.{tables-stay}
 use Rattle.world.proofs.Lists.{All-get}
-use Rattle.world.proofs.Reports.{OfEachRun, run-grows}
+use Rattle.world.proofs.Reports.{run-grows}
 use Rattle.world.proofs.Requested.{step-counts}
 use Rattle.world.proofs.Slots.{all_weaker}
 use Rattle.world.proofs.Worlds.{world-started}
@@ -91,12 +92,11 @@ told-agree schema commits p q one two i j r other here there whole sound same =
     ∙ ap (tables_after (shape_of schema) commits) same
     ∙ sym (All-get (Holds (shape_of schema) commits) q.replicas two.1 j other there sound).1
 
-pub run-stands : OfEachRun CoresStand
+pub run-stands : (setup : Setup) (todo : List Event) (done : List Output) → OfEachRun CoresStand setup todo done
 run-stands setup todo done run =
     let told = passes-told run.end.primary.durable setup.schema (parts_started setup) run.end todo done run.steps in
     let start : Told setup.schema [] (parts_started setup) = (refl, started-hold setup.schema setup.workers 0 setup.replicas) in (
       world-started setup,
-      run,
       λ p q one two.
           told-agree setup.schema run.end.primary.durable p q (told p start one) (told q start two),
     )

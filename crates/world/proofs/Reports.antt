@@ -15,9 +15,9 @@ use Rattle.script.specs.declared.output.Output.TheVariants as outputs
 use Rattle.script.specs.declared.setup.Setup.{Setup}
 use Rattle.world.specs.Parts.{Parts, parts_started}
 use Rattle.world.specs.Steps.{World, opening_world}
-use Rattle.world.specs.Allowed.{MayHappen, RunsBy, Runs, Allowed}
+use Rattle.world.specs.Allowed.{MayHappen, RunsBy, AtEach, Runs}
 use Rattle.world.specs.Standing.{world_of}
-use Rattle.world.specs.Theorem.{SaysRows, IsFaultless, IsStep, IsCoreStep, IsRun, HasExactReports}
+use Rattle.world.specs.Theorem.{SaysRows, IsFaultless, IsStep, IsCoreStep, IsRun, OfEachRun, HoldsAlong, IsAllowed, HasExactReports}
 use Rattle.world.specs.Theorem.{HasGrowingList, HasLegalList, HasNoFault, AllowedRunsAreExact}
 use Rattle.world.specs.Inner.Fresh.{Fresh, HasBoot}
 use Rattle.world.specs.Inner.Undamaged.{IsUndamaged}
@@ -116,10 +116,6 @@ allowed-exact laws setup todo done end few possible run =
 
 -- ---- what follows of a run of the cores
 
--- a fact of the outputs of each run
-abbrev pub OfEachRun : (Setup → List Event → List Output → Type 0) → Type 0
-OfEachRun Fact = (setup : Setup) (events : List Event) (outputs : List Output) → IsRun setup events outputs → Fact setup events outputs
-
 -- there is an output for each event
 pub run-each : {State : Type 0} (Step : State → Event → Output → State → Type 0) (old end : State) (todo : List Event)
     (done : List Output) → RunsBy Step old todo done end → length done ≡ length todo
@@ -139,44 +135,52 @@ run-seen see Step As sees old end (event ∷ todo) [] run = absurd run
 run-seen see Step As sees old end (event ∷ todo) (output ∷ done) run =
     (see run.0, sees old event output run.0 run.1, run-seen see Step As sees run.0 end todo done run.2)
 
--- the same from the opening world on
-world-seen : (setup : Setup) (commits : List Commit) (As : World → Event → Output → World → Type 0)
-    → ((old : World) (event : Event) (output : Output) (new : World) → IsStep commits old event output new → As old event output new)
-    → (end : Parts) (todo : List Event) (done : List Output)
-    → RunsBy (IsCoreStep commits) (parts_started setup) todo done end
-    → RunsBy As (opening_world setup) todo done (world_of end)
-world-seen setup commits As sees end todo done run =
-    subst (λ (w : World). RunsBy As w todo done (world_of end)) (world-started setup)
-    (run-seen world_of (IsCoreStep commits) As (λ old event output new step. sees (world_of old) event output (world_of new) step.0)
-    (parts_started setup) end todo done run)
-
 allowed-to : (setup : Setup) (commits : List Commit) (end : Parts) (todo : List Event) (done : List Output)
     → RunsBy (IsCoreStep commits) (parts_started setup) todo done end
     → Runs (opening_world setup) todo done (world_of end)
 allowed-to setup commits end todo done run =
-    world-seen setup commits MayHappen (λ old event output new step. step.happens) end todo done run
+    subst (λ (w : World). Runs w todo done (world_of end)) (world-started setup)
+    (run-seen world_of (IsCoreStep commits) MayHappen (λ old event output new step. step.0.happens) (parts_started setup) end todo done run)
 
-pub run-allowed : OfEachRun Allowed
-run-allowed setup todo done run =
-    (world_of run.end, allowed-to setup run.end.primary.durable run.end todo done run.steps)
+-- what follows of a step holds at each step of a run
+at-each : {State : Type 0} (Step Fact : State → Event → Output → State → Type 0)
+    → ((old : State) (event : Event) (output : Output) (new : State) → Step old event output new → Fact old event output new)
+    → (old end : State) (todo : List Event) (done : List Output) (run : RunsBy Step old todo done end)
+    → AtEach Step Fact old todo done end run
+at-each Step Fact holds old end [] [] run = tt
+at-each Step Fact holds old end [] (output ∷ done) run = absurd run
+at-each Step Fact holds old end (event ∷ todo) [] run = absurd run
+at-each Step Fact holds old end (event ∷ todo) (output ∷ done) run =
+    (holds old event output run.0 run.1, at-each Step Fact holds run.0 end todo done run.2)
 
-pub run-reports : OfEachRun HasExactReports
-run-reports setup todo done run = (
-  world_of run.end,
-  world-seen setup run.end.primary.durable _ (λ old event output new step. (step.happens, step.rows)) run.end todo done
-      run.steps,
+-- and so what follows of a step by the one list does along a run of the cores
+holds-along : (Fact : List Commit → World → Event → Output → World → Type 0)
+    → ((commits : List Commit) (old : World) (event : Event) (output : Output) (new : World) → IsStep commits old event output new
+    → Fact commits old event output new)
+    → (setup : Setup) (todo : List Event) (done : List Output) → OfEachRun (HoldsAlong Fact) setup todo done
+holds-along Fact holds setup todo done run =
+    let commits = run.end.primary.durable in
+    at-each (IsCoreStep commits) (λ old event output new. Fact commits (world_of old) event output (world_of new))
+    (λ old event output new step. holds commits (world_of old) event output (world_of new) step.0) (parts_started setup) run.end todo done
+    run.steps
+
+pub run-allowed : (setup : Setup) (todo : List Event) (done : List Output) → OfEachRun IsAllowed setup todo done
+run-allowed setup todo done run = (
+  allowed-to setup run.end.primary.durable run.end todo done run.steps,
+  holds-along (λ commits. MayHappen) (λ commits old event output new step. step.happens) setup todo done run,
 )
 
-pub run-growing : OfEachRun HasGrowingList
-run-growing setup todo done run = (
-  world_of run.end,
-  world-seen setup run.end.primary.durable _ (λ old event output new step. (step.happens, step.durable)) run.end todo done
-      run.steps,
-)
+pub run-reports : (setup : Setup) (todo : List Event) (done : List Output) → OfEachRun HasExactReports setup todo done
+run-reports =
+    holds-along (λ commits old event output new. SaysRows commits old event output) (λ commits old event output new step. step.rows)
 
-pub run-legal : OfEachRun HasLegalList
-run-legal setup todo done run =
-    (world_of run.end, allowed-to setup run.end.primary.durable run.end todo done run.steps, run.legal)
+pub run-growing : (setup : Setup) (todo : List Event) (done : List Output) → OfEachRun HasGrowingList setup todo done
+run-growing =
+    holds-along (λ commits old event output new. IsBeginning old.primary.durable new.primary.durable)
+    (λ commits old event output new step. step.durable)
+
+pub run-legal : (setup : Setup) (todo : List Event) (done : List Output) → OfEachRun HasLegalList setup todo done
+run-legal setup todo done run = run.legal
 
 steps-faultless : (commits : List Commit) (old end : Parts) (todo : List Event) (done : List Output)
     → RunsBy (IsCoreStep commits) old todo done end → AllByRecursion IsFaultless done
@@ -186,6 +190,6 @@ steps-faultless commits old end (event ∷ todo) [] run = tt
 steps-faultless commits old end (event ∷ todo) (output ∷ done) run =
     (run.1.0.faultless, steps-faultless commits run.0 end todo done run.2)
 
-pub run-faultless : OfEachRun HasNoFault
+pub run-faultless : (setup : Setup) (todo : List Event) (done : List Output) → IsRun setup todo done → HasNoFault setup todo done
 run-faultless setup todo done run =
     steps-faultless run.end.primary.durable (parts_started setup) run.end todo done run.steps

@@ -8,8 +8,7 @@ use Rattle.script.specs.declared.event.Event.{Event}
 use Rattle.script.specs.declared.event.Event.TheVariants as events
 use Rattle.script.specs.declared.output.Output.{Output}
 use Rattle.script.specs.declared.output.Output.TheVariants as outputs
-use Rattle.script.specs.declared.setup.Setup.{Setup}
-use Rattle.world.specs.Steps.{World, Member, AskedBatch, opening_world, happens, with_member, first_lacked}
+use Rattle.world.specs.Steps.{World, Member, AskedBatch, happens, with_member, first_lacked}
 
 -- what was fetched for the batch of a replica of which no frame is missing
 abbrev pub ready_member : Member → Option Fetched
@@ -77,10 +76,14 @@ Passes Step old (event ∷ events) (output ∷ outputs) new run state =
     (state ≡ old) ⊎ Passes Step run.0 events outputs new run.2 state
 Passes Step old events outputs new run state = ⊥
 
+-- something holds at each step of a run
+abbrev pub AtEach : {State : Type 0} (Step Fact : State → Event → Output → State → Type 0) (old : State) (events : List Event)
+    (outputs : List Output) (new : State) → RunsBy Step old events outputs new → Type 0
+AtEach Step Fact old [] [] new run = Unit {0}
+AtEach Step Fact old (event ∷ events) (output ∷ outputs) new run =
+    Fact old event output run.0 × AtEach Step Fact run.0 events outputs new run.2
+AtEach Step Fact old events outputs new run = ⊥
+
 -- a run of the world
 abbrev pub Runs : World → List Event → List Output → World → Type 0
 Runs old events outputs new = RunsBy MayHappen old events outputs new
-
--- the outputs that are allowed for the events, from the opening world on
-abbrev pub Allowed : Setup → List Event → List Output → Type 0
-Allowed setup events outputs = (end : World) × Runs (opening_world setup) events outputs end

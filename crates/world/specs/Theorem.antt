@@ -20,7 +20,7 @@ use Rattle.script.specs.declared.output.Output.TheVariants.{Dump}
 use Rattle.script.specs.declared.setup.Setup.{Setup}
 use Rattle.world.specs.Parts.{Parts, parts_started}
 use Rattle.world.specs.Steps.{World, Member, AskedBatch, opening_world}
-use Rattle.world.specs.Allowed.{MayHappen, RunsBy, Passes, Runs, Allowed}
+use Rattle.world.specs.Allowed.{MayHappen, RunsBy, Passes, AtEach, Runs}
 use Rattle.world.specs.Database.{Reader, Database, new_database, IsDatabaseStep, IsPromised}
 use Rattle.world.specs.Standing.{world_of, AreFed, TablesAgree, JournalStands, StopLeaves}
 
@@ -83,20 +83,31 @@ pub record IsRun (setup : Setup) (events : List Event) (outputs : List Output) :
   pub legal : IsLegal (shape_of setup.schema) setup.workers end.primary.durable
   pub steps : RunsBy (IsCoreStep end.primary.durable) (parts_started setup) events outputs end
 
--- ---- what follows of a run
+-- ---- what is promised of a run
 
--- a run of the world from its beginning on, at each step of which something holds besides, by the list that is durable at
--- its end
-abbrev pub RunsWith : (List Commit → World → Event → Output → World → Type 0) → Setup → List Event → List Output → Type 0
-RunsWith Fact setup events outputs =
-    (end : World)
-    × RunsBy (λ old event output new. MayHappen old event output new × Fact end.primary.durable old event output new)
-    (opening_world setup) events outputs end
+-- something is so of each run of the cores that has these outputs
+abbrev pub OfEachRun : ((setup : Setup) (events : List Event) (outputs : List Output) → IsRun setup events outputs → Type 0)
+    → Setup → List Event → List Output → Type 0
+OfEachRun Fact setup events outputs = (run : IsRun setup events outputs) → Fact setup events outputs run
+
+-- something holds at each step of a run, of the worlds that its cores make and by the list that is durable at its end
+abbrev pub HoldsAlong : (List Commit → World → Event → Output → World → Type 0) → (setup : Setup) (events : List Event)
+    (outputs : List Output) → IsRun setup events outputs → Type 0
+HoldsAlong Fact setup events outputs run =
+    AtEach (IsCoreStep run.end.primary.durable)
+    (λ old event output new. Fact run.end.primary.durable (world_of old) event output (world_of new))
+    (parts_started setup) events outputs run.end run.steps
+
+-- the world allows the run: it goes with these outputs from its opening to where the cores end, and each step of the cores is
+-- one of its
+abbrev pub IsAllowed : (setup : Setup) (events : List Event) (outputs : List Output) → IsRun setup events outputs → Type 0
+IsAllowed setup events outputs run =
+    Runs (opening_world setup) events outputs (world_of run.end) × HoldsAlong (λ commits. MayHappen) setup events outputs run
 
 -- each report and each dump is exact by the one list that is durable at the end, and no report is older than its batch
-abbrev pub HasExactReports : Setup → List Event → List Output → Type 0
-HasExactReports setup events outputs =
-    RunsWith (λ commits old event output new. SaysRows commits old event output) setup events outputs
+abbrev pub HasExactReports : (setup : Setup) (events : List Event) (outputs : List Output) → IsRun setup events outputs → Type 0
+HasExactReports setup events outputs run =
+    HoldsAlong (λ commits old event output new. SaysRows commits old event output) setup events outputs run
 
 -- a text that begins with this version, as that of a dump does
 abbrev pub TellsVersion : ℕ → List ℕ → Type 0
@@ -110,14 +121,13 @@ HasOneDumpOfVersion setup events outputs =
     → TellsVersion version text → TellsVersion version other → text ≡ other
 
 -- each step keeps what is durable
-abbrev pub HasGrowingList : Setup → List Event → List Output → Type 0
-HasGrowingList setup events outputs =
-    RunsWith (λ commits old event output new. IsBeginning old.primary.durable new.primary.durable) setup events outputs
+abbrev pub HasGrowingList : (setup : Setup) (events : List Event) (outputs : List Output) → IsRun setup events outputs → Type 0
+HasGrowingList setup events outputs run =
+    HoldsAlong (λ commits old event output new. IsBeginning old.primary.durable new.primary.durable) setup events outputs run
 
 -- the one list is legal
-abbrev pub HasLegalList : Setup → List Event → List Output → Type 0
-HasLegalList setup events outputs =
-    (end : World) × Runs (opening_world setup) events outputs end × IsLegal (shape_of setup.schema) setup.workers end.primary.durable
+abbrev pub HasLegalList : (setup : Setup) (events : List Event) (outputs : List Output) → IsRun setup events outputs → Type 0
+HasLegalList setup events outputs run = IsLegal (shape_of setup.schema) setup.workers run.end.primary.durable
 
 -- no output reports damage
 abbrev pub HasNoFault : Setup → List Event → List Output → Type 0
@@ -130,10 +140,9 @@ GoesThrough setup events outputs run p =
 
 -- the cores stand where the world does from the beginning of the run on, and replicas at one version hold the same tables, at
 -- whatever two moments of it
-abbrev pub CoresStand : Setup → List Event → List Output → Type 0
-CoresStand setup events outputs =
+abbrev pub CoresStand : (setup : Setup) (events : List Event) (outputs : List Output) → IsRun setup events outputs → Type 0
+CoresStand setup events outputs run =
     (world_of (parts_started setup) ≡ opening_world setup)
-    × (run : IsRun setup events outputs)
     × ((p q : Parts) → GoesThrough setup events outputs run p → GoesThrough setup events outputs run q → TablesAgree p q)
 
 -- all that is promised of the outputs of events
@@ -141,12 +150,12 @@ pub record KeepsPromises (setup : Setup) (events : List Event) (outputs : List O
   pub promise : IsPromised setup.schema setup.replicas outputs
   pub each : length outputs ≡ length events
   pub run : IsRun setup events outputs
-  pub cores : CoresStand setup events outputs
-  pub allowed : Allowed setup events outputs
-  pub reports : HasExactReports setup events outputs
+  pub cores : OfEachRun CoresStand setup events outputs
+  pub allowed : OfEachRun IsAllowed setup events outputs
+  pub reports : OfEachRun HasExactReports setup events outputs
   pub dumps : HasOneDumpOfVersion setup events outputs
-  pub durable : HasGrowingList setup events outputs
-  pub legal : HasLegalList setup events outputs
+  pub durable : OfEachRun HasGrowingList setup events outputs
+  pub legal : OfEachRun HasLegalList setup events outputs
   pub faultless : HasNoFault setup events outputs
 
 -- and each run of the world itself by events that are possible, whoever makes it, is by the one list that is durable at its end

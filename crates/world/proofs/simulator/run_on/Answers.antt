@@ -6,6 +6,7 @@ use Rattle.script.specs.Events.{IsPossible}
 use Rattle.script.specs.declared.output.Output.{Output}
 use Rattle.world.specs.Allowed.{RunsBy}
 use Rattle.world.specs.Parts.{parts_started}
+use Rattle.world.specs.Standing.{world_of}
 use Rattle.world.specs.Theorem.{IsCoreStep, IsRun}
 use Rattle.world.proofs.Continuing.{step_first, none_left}
 use Rattle.world.proofs.Databases.{run-promised}
@@ -72,16 +73,16 @@ returns g c =
           subst (λ (l : List Output). RunsBy (IsCoreStep end.primary.durable) (parts_started setup) todo l end)
           (append-nil done) steps;
     } in
-    let allowed = run-allowed setup todo done run in
     record {
-      promise = run-promised laws setup todo done c.requires.replicas c.requires.possible allowed;
+      promise =
+          run-promised laws setup todo done (world_of end) c.requires.replicas c.requires.possible (run-allowed setup todo done run).0;
       each = run-each (IsCoreStep end.primary.durable) (parts_started setup) end todo done run.steps;
       run = run;
-      cores = run-stands setup todo done run;
-      allowed = allowed;
-      reports = run-reports setup todo done run;
+      cores = run-stands setup todo done;
+      allowed = run-allowed setup todo done;
+      reports = run-reports setup todo done;
       dumps = run-dumps setup todo done run;
-      durable = run-growing setup todo done run;
-      legal = run-legal setup todo done run;
+      durable = run-growing setup todo done;
+      legal = run-legal setup todo done;
       faultless = run-faultless setup todo done run;
     }
