@@ -19,8 +19,8 @@ pub mod Whole
 pub mod Defined
 pub mod Undamaged
 pub mod Raw
+pub mod WorldMoves
 pub mod Fresh
-pub mod Serving
 pub mod FreshDatagrams
 pub mod Freshness
 pub mod Databases

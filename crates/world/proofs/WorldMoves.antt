@@ -1,0 +1,449 @@
+-- The few moves that a step of the world can be: whatever the event, and whatever it answers, it is one of them.
+use Rattle.std.proofs.Common.{◌≡◌, ℕ, ◌+◌, Bool, true, false, cond, ◌&&◌, ◌==◌, ◌⊎◌, inl, inr, List, [], ◌∷◌, ◌++◌, length, nat_le}
+use Rattle.std.proofs.Common.{Option, None, Some, Result, Ok, Err, refl, sym, ap, subst, ◌∙◌}
+use Rattle.std.specs.List.{slice_get, slice_set}
+use Rattle.std.specs.Option.{option_map, option_and_then, is_none}
+use Rattle.std.proofs.lemmas.Bool.{and_parts, eqb-true}
+use Rattle.std.proofs.lemmas.Option.{none-some}
+use Rattle.rows.specs.declared.limits.TheConstants.{WAITING_QUERIES_MAX}
+use Rattle.rows.specs.declared.value.Value.{Value}
+use Rattle.rows.specs.Shape.{shape_of}
+use Rattle.rows.specs.Tables.{shape_in}
+use Rattle.update_log.specs.declared.frame.Frame.{Frame}
+use Rattle.update_log.specs.Streams.{stream_of}
+use Rattle.wire.specs.declared.datagram.Datagram.{Datagram}
+use Rattle.wire.specs.declared.datagram.Datagram.TheVariants as datagrams
+use Rattle.wire.specs.declared.faults.WireFault.{WireFault}
+use Rattle.wire.specs.declared.out.Out.{Out}
+use Rattle.wire.specs.Spelling.{frame_spelling}
+use Rattle.wire.specs.Reading.{reading}
+use Rattle.mvcc.specs.declared.faults.TxFault.{TxFault}
+use Rattle.mvcc.specs.declared.faults.TxFault.TheVariants as refusals
+use Rattle.mvcc.specs.Transaction.{Transaction}
+use Rattle.mvcc.specs.Transactions.{insert_answer, set_answer, delete_answer, get_answer}
+use Rattle.intake.specs.Known.{is_known, is_ahead}
+use Rattle.primary.specs.declared.faults.CommitFault.{CommitFault}
+use Rattle.primary.specs.declared.faults.CommitFault.TheVariants as faults
+use Rattle.primary.specs.Steps.{commit_answer, committed, flushed}
+use Rattle.primary.specs.Sending.{answers}
+use Rattle.plans.specs.declared.plan.Plan.{Plan}
+use Rattle.plans.specs.declared.faults.PlanFault.{PlanFault}
+use Rattle.plans.specs.Checking.{checked}
+use Rattle.dispatcher.specs.State.{Fetched}
+use Rattle.dispatcher.specs.Steps.{ready}
+use Rattle.dispatcher.specs.Report.{report_of}
+use Rattle.script.specs.declared.event.Event.{Event}
+use Rattle.script.specs.declared.event.Event.TheVariants as events
+use Rattle.script.specs.declared.event.Node.{Node}
+use Rattle.script.specs.declared.event.Node.TheVariants as nodes
+use Rattle.script.specs.declared.output.Output.{Output}
+use Rattle.script.specs.declared.output.Output.TheVariants as outputs
+use Rattle.world.specs.Outputs.{of_change, of_look, of_commit, of_answers, packets_of}
+use Rattle.world.specs.Stops.{stopped_at, closed}
+use Rattle.world.specs.Steps.{World, Member, AskedBatch, open_transaction, happens, unless_stopped, on_transaction, change_happens}
+use Rattle.world.specs.Steps.{commit_happens, abort_happens, push_happens, with_member, known_seqs, with_known, head_happens}
+use Rattle.world.specs.Steps.{datagram_happens, on_member, delivered, deliver_happens, is_forged, shown, open_happens, ask_happens}
+use Rattle.world.specs.Steps.{new_batch}
+use Rattle.world.specs.Steps.{run_happens, fetched_happens, answer_happens, first_lacked, want_bytes, dump_at, send, ask_bytes}
+use Rattle.world.specs.Steps.{restarted, had_boot, durable_tables}
+use Rattle.world.specs.Theorem.{IsFaultless}
+use Rattle.world.specs.Allowed.{RunIsInterrupted, MayHappen}
+use Rattle.world.proofs.Raw.{unforged}
+
+-- ---- the moves
+
+-- an output that tells nothing of a replica's rows, version or start
+abbrev pub IsSilent : Output → Type 0
+IsSilent (outputs.Report text) = ⊥
+IsSilent (outputs.Dump text) = ⊥
+IsSilent (outputs.Version version) = ⊥
+IsSilent (outputs.Head version) = ⊥
+IsSilent (outputs.Boot boot) = ⊥
+IsSilent other = Unit {0}
+
+-- nor reports damage
+abbrev pub IsPlain : Output → Type 0
+IsPlain output = IsSilent output × IsFaultless output
+
+-- this is what bytes that were sent read as, or it is no datagram
+abbrev pub WasSent : World → Result Datagram WireFault → Type 0
+WasSent w read =
+    ((i : ℕ) × (bytes : List ℕ) × (slice_get w.sent i ≡ Some bytes) × (reading bytes ≡ read))
+    ⊎ ((fault : WireFault) × (read ≡ Err fault))
+
+-- what a transaction becomes by a change that is taken
+abbrev pub IsChanged : World → Transaction → Transaction → Type 0
+IsChanged w draft new =
+    ((table row : ℕ) × (values : List Value)
+    × (insert_answer (shape_of w.primary.schema) w.primary.durable draft table row values ≡ Ok new))
+    ⊎ ((table row column : ℕ) × (value : Value)
+    × (set_answer (shape_of w.primary.schema) w.primary.durable draft table row column value ≡ Ok new))
+    ⊎ ((table row : ℕ) × (delete_answer (shape_of w.primary.schema) w.primary.durable draft table row ≡ Ok new))
+
+-- datagrams that are sent: a frame, what the primary answers to bytes that were sent, the Ask of a batch again, a Want
+pub data AreSent (w : World) : List (List ℕ) → Type 0 where
+  framed : (frame : Frame) → AreSent w (frame_spelling frame ∷ [])
+  answered : (bytes : List ℕ) → WasSent w (reading bytes) → AreSent w (packets_of (answers w.primary bytes))
+  repeated : (i : ℕ) (m : Member) → slice_get w.members i ≡ Some m → AreSent w (ask_bytes m m.request ∷ [])
+  asked_for : (m : Member) (worker from : ℕ) → AreSent w (want_bytes m worker from ∷ [])
+
+-- what becomes of one replica, and what the event answers
+pub data Change (w : World) (event : Event) (i : ℕ) (m : Member) : Output → Member → Type 0 where
+  stays : (output : Output) → IsPlain output → Change w event i m output m
+  opens : (plan : Plan) → Change w event i m (outputs.Opened (length m.waiting + 1)) (record m { waiting = m.waiting ++ plan ∷ [] })
+  keeps : (worker seq : ℕ) → Change w event i m outputs.Stored (record m { known = with_known m.known worker seq })
+  fetches : (plans : List Plan) (asked_at version : ℕ) (counts : List ℕ)
+      → m.batch ≡ Some (record { plans = plans; asked_at = asked_at; fetched = None })
+      → WasSent w (Ok (datagrams.Head m.number m.boot m.request version counts))
+      → Change w event i m (outputs.Head version) (record m {
+        batch =
+            Some (record { plans = plans; asked_at = asked_at; fetched = Some (record { version = version; counts = counts }) });
+      })
+  reports : (plans : List Plan) (asked_at : ℕ) (fetched : Fetched) → event ≡ events.Run i
+      → m.batch ≡ Some (record { plans = plans; asked_at = asked_at; fetched = Some fetched })
+      → Change w event i m (outputs.Report (report_of (durable_tables w fetched.version) fetched.version plans))
+      (record m { version = fetched.version; batch = None })
+  -- out of memory behind its commits
+  moves : (plans : List Plan) (asked_at : ℕ) (fetched : Fetched)
+      → m.batch ≡ Some (record { plans = plans; asked_at = asked_at; fetched = Some fetched })
+      → Change w event i m outputs.Memory (record m { version = fetched.version })
+  -- or amid them
+  breaks : Change w event i m outputs.Broken (record m { broken = true })
+  restarts : (boot : ℕ) → event ≡ events.Restart i boot → had_boot m.boots boot ≡ false
+      → Change w event i m (outputs.Boot boot) (restarted w.primary.workers m boot)
+
+-- what an event answers, and the world that it leaves
+pub data Move (w : World) (event : Event) : Output → World → Type 0 where
+  -- nothing happens
+  idle : (output : Output) → IsPlain output → Move w event output w
+  fails : w.primary.failed ≡ true → Move w event outputs.Failed w
+  tells : (i : ℕ) (m : Member) → slice_get w.members i ≡ Some m → Move w event (outputs.Version m.version) w
+  dumps : (i : ℕ) (m : Member) → event ≡ events.Dump i → slice_get w.members i ≡ Some m
+      → Move w event (outputs.Dump (dump_at w m.version)) w
+  -- a transaction's slot
+  begins : Move w event (outputs.Tx (length w.transactions) (length w.primary.durable))
+      (record w { transactions = w.transactions ++ Some (record { snapshot = length w.primary.durable; entries = [] }) ∷ [] })
+  changes : (number : ℕ) (draft new : Transaction) → open_transaction w.transactions number ≡ Some draft → IsChanged w draft new
+      → Move w event outputs.Accepted (record w { transactions = slice_set w.transactions number (Some new) })
+  ends : (number : ℕ) → Move w event outputs.Accepted (record w { transactions = slice_set w.transactions number None })
+  refuses : (number worker : ℕ) (draft : Transaction) (fault : CommitFault) → open_transaction w.transactions number ≡ Some draft
+      → commit_answer w.primary worker draft ≡ Err fault
+      → Move w event (of_commit fault) (record w { transactions = slice_set w.transactions number None })
+  -- what is pending, and what is durable
+  commits : (number worker : ℕ) (draft : Transaction) (ticket : ℕ) → commit_answer w.primary worker draft ≡ Ok ticket
+      → Move w event (outputs.Ticket ticket)
+      (record w { primary = committed w.primary worker draft.entries; transactions = slice_set w.transactions number None })
+  flushes : (count : ℕ)
+      → Move w event (outputs.Durable (length (flushed w.primary count).durable)) (record w { primary = flushed w.primary count })
+  stops : (bytes : ℕ)
+      → Move w event outputs.Stopped
+      (record w { primary = stopped_at w.primary bytes; stopped = true; transactions = closed w.transactions })
+  starts : Move w event (outputs.Durable (length w.primary.durable)) (record w { stopped = false })
+  -- datagrams, and one replica
+  sends : (output : Output) (more : List (List ℕ)) → IsPlain output → AreSent w more
+      → Move w event output (record w { sent = w.sent ++ more })
+  asks : (i : ℕ) (m : Member) → slice_get w.members i ≡ Some m → m.batch ≡ None
+      → Move w event (send (with_member w (new_batch w m)) (ask_bytes m (m.request + 1))).0
+      (send (with_member w (new_batch w m)) (ask_bytes m (m.request + 1))).1
+  becomes : (i : ℕ) (m new : Member) (output : Output) → slice_get w.members i ≡ Some m → Change w event i m output new
+      → Move w event output (with_member w new)
+
+-- ---- outputs
+
+change-plain : (fault : TxFault) → IsPlain (of_change fault)
+change-plain refusals.Exists = (tt, tt)
+change-plain refusals.Missing = (tt, tt)
+change-plain refusals.Unfit = (tt, tt)
+change-plain refusals.TooManyEntries = (tt, tt)
+change-plain refusals.Memory = (tt, tt)
+
+look-plain : (answer : Result Value TxFault) → IsPlain (of_look answer)
+look-plain (Ok value) = (tt, tt)
+look-plain (Err fault) = change-plain fault
+
+pub commit-silent : (fault : CommitFault) → IsSilent (of_commit fault)
+commit-silent (faults.Conflict number) = tt
+commit-silent faults.ReadOnly = tt
+commit-silent faults.Failed = tt
+commit-silent faults.NumbersUsedUp = tt
+commit-silent faults.Memory = tt
+commit-silent faults.Foreign = tt
+
+answers-plain : (index : ℕ) (outs : List Out) → IsPlain (of_answers index outs)
+answers-plain index [] = (tt, tt)
+answers-plain index (out ∷ outs) = (tt, tt)
+
+-- ---- a datagram that comes to a replica
+
+module _ (w : World) (event : Event) (i : ℕ) (m : Member) where
+  -- what the replica answers and becomes is such a change
+  abbrev Changed : Output × Member → Type 0
+  Changed answer = Change w event i m answer.0 answer.1
+
+  frame_changes : (worker seq : ℕ) (known ahead : Bool)
+      → Changed (cond known (outputs.Repeat, m)
+      (cond ahead (outputs.Ahead, m) (outputs.Stored, record m { known = with_known m.known worker seq })))
+  frame_changes worker seq true ahead = stays outputs.Repeat (tt, tt)
+  frame_changes worker seq false true = stays outputs.Ahead (tt, tt)
+  frame_changes worker seq false false = keeps worker seq
+
+  fetched_changes : (version : ℕ) (counts : List ℕ) (plans : List Plan) (asked_at : ℕ) (fetched : Option Fetched)
+      → m.batch ≡ Some (record { plans = plans; asked_at = asked_at; fetched = fetched })
+      → WasSent w (Ok (datagrams.Head m.number m.boot m.request version counts))
+      → Changed (head_happens m version counts (Some (record { plans = plans; asked_at = asked_at; fetched = fetched })))
+  fetched_changes version counts plans asked_at (Some fetched) has sent = stays outputs.Ignored (tt, tt)
+  fetched_changes version counts plans asked_at None has sent = fetches plans asked_at version counts has sent
+
+  head_changes : (version : ℕ) (counts : List ℕ) (batch : Option AskedBatch) → m.batch ≡ batch
+      → WasSent w (Ok (datagrams.Head m.number m.boot m.request version counts)) → Changed (head_happens m version counts batch)
+  head_changes version counts None has sent = stays outputs.Ignored (tt, tt)
+  head_changes version counts (Some batch) has sent = fetched_changes version counts batch.plans batch.asked_at batch.fetched has sent
+
+  datagram_changes : (read : Result Datagram WireFault) → WasSent w read → Changed (datagram_happens m read)
+  datagram_changes (Err fault) sent = stays outputs.Ignored (tt, tt)
+  datagram_changes (Ok (datagrams.Frame worker seq commit last entries)) sent =
+      frame_changes worker seq (is_known (known_seqs m.known worker) seq) (is_ahead (known_seqs m.known worker) seq)
+  datagram_changes (Ok (datagrams.Ask replica boot request)) sent = stays outputs.Ignored (tt, tt)
+  datagram_changes (Ok (datagrams.Head replica boot request version counts)) sent =
+      by ((replica == m.number) && (boot == m.boot) && (request == m.request)) refl
+    where
+      by : (own : Bool) → ((replica == m.number) && (boot == m.boot) && (request == m.request)) ≡ own
+          → Changed (cond own (head_happens m version counts m.batch) (outputs.Ignored, m))
+      by false e = stays outputs.Ignored (tt, tt)
+      by true e =
+          let parts = and_parts ((replica == m.number) && (boot == m.boot)) (request == m.request) e in
+          let front = and_parts (replica == m.number) (boot == m.boot) parts.0 in
+          let number_is : replica ≡ m.number = eqb-true replica m.number front.0 in
+          let boot_is : boot ≡ m.boot = eqb-true boot m.boot front.1 in
+          let request_is : request ≡ m.request = eqb-true request m.request parts.1 in
+          let same : (replica, boot, request) ≡ (m.number, m.boot, m.request) = cc (number_is, boot_is, request_is) in
+          head_changes version counts m.batch refl
+          (subst (λ (x : ℕ × ℕ × ℕ). WasSent w (Ok (datagrams.Head x.0 x.1 x.2 version counts))) same sent)
+  datagram_changes (Ok (datagrams.Want replica worker from)) sent = stays outputs.Ignored (tt, tt)
+
+-- ---- any event
+
+-- what a replica is ready for was fetched
+ready-fetched : (broken : Bool) (lacks : List ℕ → Option (ℕ × ℕ)) (found : Option Fetched) (fetched : Fetched)
+    → ready broken lacks found ≡ Some fetched → found ≡ Some fetched
+ready-fetched true lacks found fetched h = absurd (none-some fetched h)
+ready-fetched false lacks None fetched h = absurd (none-some fetched h)
+ready-fetched false lacks (Some other) fetched h = by (is_none (lacks other.counts)) h
+  where
+    by : (b : Bool) → cond b (Some other) None ≡ Some fetched → Some other ≡ Some fetched
+    by true h = h
+    by false h = absurd (none-some fetched h)
+
+module _ (w : World) (event : Event) where
+  -- what the event answers and leaves is a move
+  abbrev Moved : Output × World → Type 0
+  Moved answer = Move w event answer.0 answer.1
+
+  served : (next : Output × World) → Moved next → Moved (unless_stopped w next)
+  served next moved = by w.stopped
+    where
+      by : (stopped : Bool) → Moved (cond stopped (outputs.Stopped, w) next)
+      by true = idle outputs.Stopped (tt, tt)
+      by false = moved
+
+  changing : (number : ℕ) (found : Option Transaction) (answer : Transaction → Result Transaction TxFault)
+      → open_transaction w.transactions number ≡ found
+      → ((draft new : Transaction) → answer draft ≡ Ok new → IsChanged w draft new)
+      → Moved (on_transaction w found (λ draft. change_happens w number (answer draft)))
+  changing number None answer here taken = idle outputs.NoTx (tt, tt)
+  changing number (Some draft) answer here taken = by (answer draft) (taken draft)
+    where
+      by : (made : Result Transaction TxFault) → ((new : Transaction) → made ≡ Ok new → IsChanged w draft new)
+          → Moved (change_happens w number made)
+      by (Ok new) taken = changes number draft new here (taken new refl)
+      by (Err fault) taken = idle (of_change fault) (change-plain fault)
+
+  looking : (found : Option Transaction) (answer : Transaction → Result Value TxFault)
+      → Moved (on_transaction w found (λ draft. (of_look (answer draft), w)))
+  looking None answer = idle outputs.NoTx (tt, tt)
+  looking (Some draft) answer = idle (of_look (answer draft)) (look-plain (answer draft))
+
+  committing : (number worker : ℕ) (found : Option Transaction) → open_transaction w.transactions number ≡ found
+      → Moved (on_transaction w found (λ draft. commit_happens w number worker draft (commit_answer w.primary worker draft)))
+  committing number worker None here = idle outputs.NoTx (tt, tt)
+  committing number worker (Some draft) here = by (commit_answer w.primary worker draft) refl
+    where
+      by : (answer : Result ℕ CommitFault) → commit_answer w.primary worker draft ≡ answer
+          → Moved (commit_happens w number worker draft answer)
+      by (Ok ticket) e = commits number worker draft ticket e
+      by (Err fault) e = refuses number worker draft fault here e
+
+  aborting : (number : ℕ) (found : Option Transaction) → Moved (on_transaction w found (λ draft. abort_happens w number))
+  aborting number None = idle outputs.NoTx (tt, tt)
+  aborting number (Some draft) = ends number
+
+  flushing : (count : ℕ) (failed : Bool) → w.primary.failed ≡ failed
+      → Moved (cond failed (outputs.Failed, w)
+      (outputs.Durable (length (flushed w.primary count).durable), record w { primary = flushed w.primary count }))
+  flushing count true e = fails e
+  flushing count false e = flushes count
+
+  starting : (stopped : Bool)
+      → Moved (cond stopped (outputs.Durable (length w.primary.durable), record w { stopped = false }) (outputs.Running, w))
+  starting true = starts
+  starting false = idle outputs.Running (tt, tt)
+
+  pushing : (found : Option Frame) → Moved (push_happens w (option_map frame_spelling found))
+  pushing None = idle outputs.NoFrame (tt, tt)
+  pushing (Some one) = sends (send w (frame_spelling one)).0 (frame_spelling one ∷ []) (tt, tt) (framed one)
+
+  at_member : (i : ℕ) (found : Option Member) (next : Member → Output × World) → slice_get w.members i ≡ found
+      → ((m : Member) → slice_get w.members i ≡ Some m → Moved (next m)) → Moved (on_member w found next)
+  at_member i None next here moved = idle outputs.Ignored (tt, tt)
+  at_member i (Some m) next here moved = moved m here
+
+  unless_broken : (broken : Bool) (next : Output × World) → Moved next → Moved (cond broken (outputs.Broken, w) next)
+  unless_broken true next moved = idle outputs.Broken (tt, tt)
+  unless_broken false next moved = moved
+
+  handing : (node : Node) (bytes : List ℕ) → WasSent w (reading bytes) → Moved (delivered w bytes node)
+  handing nodes.Primary bytes sent =
+      sends (of_answers (length w.sent) (answers w.primary bytes)) (packets_of (answers w.primary bytes))
+      (answers-plain (length w.sent) (answers w.primary bytes)) (answered bytes sent)
+  handing (nodes.Replica i) bytes sent =
+      at_member i (slice_get w.members i) _ refl
+      (λ m here. let answer = datagram_happens m (reading bytes) in
+      unless_broken m.broken _ (becomes i m answer.1 answer.0 here (datagram_changes w event i m (reading bytes) sent)))
+
+  delivering : (index : ℕ) (node : Node) (found : Option (List ℕ)) → slice_get w.sent index ≡ found → Moved (deliver_happens w node found)
+  delivering index node None there = idle outputs.NeverSent (tt, tt)
+  delivering index node (Some bytes) there = handing node bytes (inl (index, bytes, there, refl))
+
+  raw_handing : (node : Node) (bytes : List ℕ) (forged : Bool) → is_forged w.sent bytes ≡ forged
+      → Moved (cond forged (outputs.Forged, w) (delivered w bytes node))
+  raw_handing node bytes true e = idle outputs.Forged (tt, tt)
+  raw_handing node bytes false e =
+      handing node bytes
+      (unforged (WasSent w) w.sent bytes (λ fault. inr (fault, refl)) (λ index other there. inl (index, other, there, refl)) e)
+
+  showing : (found : Option (List ℕ)) → Moved (shown found, w)
+  showing None = idle outputs.NeverSent (tt, tt)
+  showing (Some bytes) = idle (outputs.Shown bytes) (tt, tt)
+
+  opening : (i : ℕ) (m : Member) (plan : Plan) (full : Bool) (check : Result (Unit {0}) PlanFault) → slice_get w.members i ≡ Some m
+      → Moved (cond full (outputs.BatchFull, w) (open_happens w m plan check))
+  opening i m plan true check here = idle outputs.BatchFull (tt, tt)
+  opening i m plan false (Err fault) here = idle (outputs.BadPlan fault) (tt, tt)
+  opening i m plan false (Ok fits) here = becomes i m (record m { waiting = m.waiting ++ plan ∷ [] }) _ here (opens plan)
+
+  asking : (i : ℕ) (m : Member) (batch : Option AskedBatch) → slice_get w.members i ≡ Some m → m.batch ≡ batch
+      → Moved (ask_happens w m batch)
+  asking i m None here has = by (length m.waiting == 0)
+    where
+      by : (none : Bool) → Moved (cond none (outputs.Empty, w) (send (with_member w (new_batch w m)) (ask_bytes m (m.request + 1))))
+      by true = idle outputs.Empty (tt, tt)
+      by false = asks i m here has
+  asking i m (Some batch) here has = by batch.fetched
+    where
+      by : (fetched : Option Fetched) → Moved (ask_happens w m (Some (record batch { fetched = fetched })))
+      by None = sends (send w (ask_bytes m m.request)).0 (ask_bytes m m.request ∷ []) (tt, tt) (repeated i m here)
+      by (Some fetched) = idle outputs.Busy (tt, tt)
+
+  running_fetched : (i : ℕ) (m : Member) (plans : List Plan) (asked_at : ℕ) (fetched : Option Fetched) → slice_get w.members i ≡ Some m
+      → event ≡ events.Run i → m.batch ≡ Some (record { plans = plans; asked_at = asked_at; fetched = fetched })
+      → Moved (fetched_happens w m plans fetched)
+  running_fetched i m plans asked_at None here is has = idle outputs.WaitingHead (tt, tt)
+  running_fetched i m plans asked_at (Some fetched) here is has = by (first_lacked m.known fetched.counts)
+    where
+      by : (lacked : Option (ℕ × ℕ)) → Moved (answer_happens w m plans fetched lacked)
+      by None = becomes i m (record m { version = fetched.version; batch = None }) _ here (reports plans asked_at fetched is has)
+      by (Some lacked) =
+          sends (answer_happens w m plans fetched (Some lacked)).0 (want_bytes m lacked.0 lacked.1 ∷ []) (tt, tt)
+          (asked_for m lacked.0 lacked.1)
+
+  running : (i : ℕ) (m : Member) (batch : Option AskedBatch) → slice_get w.members i ≡ Some m → event ≡ events.Run i → m.batch ≡ batch
+      → Moved (run_happens w m batch)
+  running i m None here is has = idle outputs.NoBatch (tt, tt)
+  running i m (Some batch) here is has = running_fetched i m batch.plans batch.asked_at batch.fetched here is has
+
+  restarting : (i : ℕ) (m : Member) (boot : ℕ) (used : Bool) → slice_get w.members i ≡ Some m → event ≡ events.Restart i boot
+      → had_boot m.boots boot ≡ used
+      → Moved (cond used (outputs.BootUsed, w) (outputs.Boot boot, with_member w (restarted w.primary.workers m boot)))
+  restarting i m boot true here is e = idle outputs.BootUsed (tt, tt)
+  restarting i m boot false here is e = becomes i m (restarted w.primary.workers m boot) _ here (restarts boot is e)
+
+  -- a run that is out of memory
+  cutting : (i : ℕ) (found : Option Member) (output : Output) (new : World) → slice_get w.members i ≡ found
+      → RunIsInterrupted w found output new → Moved (output, new)
+  cutting i None output new here cut = absurd cut
+  cutting i (Some m) output new here cut = elim cut.2 [
+    | inl memory ↦ is outputs.Memory (record m { version = cut.0.version }) memory.0 memory.1
+        (by m.batch refl
+        (ready-fetched m.broken (first_lacked m.known) (option_and_then (λ (b : AskedBatch). b.fetched) m.batch) cut.0 cut.1))
+    | inr broken ↦ is outputs.Broken (record m { broken = true }) broken.0 broken.1 breaks
+  ]
+    where
+      is : (answer : Output) (after : Member) → output ≡ answer → new ≡ with_member w after → Change w event i m answer after
+          → Moved (output, new)
+      is answer after told left change =
+          subst (λ (x : Output). Move w event x new) (sym told)
+          (subst (Move w event answer) (sym left) (becomes i m after answer here change))
+
+      by : (batch : Option AskedBatch) → m.batch ≡ batch → option_and_then (λ (b : AskedBatch). b.fetched) batch ≡ Some cut.0
+          → Change w event i m outputs.Memory (record m { version = cut.0.version })
+      by None has fetched = absurd (none-some cut.0 fetched)
+      by (Some batch) has fetched =
+          moves batch.plans batch.asked_at cut.0 (has ∙ ap (λ (f : Option Fetched). Some (record batch { fetched = f })) fetched)
+
+happening : (w : World) (event : Event) → Moved w event (happens w event)
+happening w events.Begin = served w _ _ begins
+happening w (events.Insert transaction table row values) =
+    served w _ _ (changing w _ transaction (open_transaction w.transactions transaction)
+    (λ draft. insert_answer (shape_of w.primary.schema) w.primary.durable draft table row.0 values) refl
+    (λ draft new e. inl (table, row.0, values, e)))
+happening w (events.Set transaction table row column value) =
+    served w _ _ (changing w _ transaction (open_transaction w.transactions transaction)
+    (λ draft. set_answer (shape_of w.primary.schema) w.primary.durable draft table row.0 column value) refl
+    (λ draft new e. inr (inl (table, row.0, column, value, e))))
+happening w (events.Delete transaction table row) =
+    served w _ _ (changing w _ transaction (open_transaction w.transactions transaction)
+    (λ draft. delete_answer (shape_of w.primary.schema) w.primary.durable draft table row.0) refl
+    (λ draft new e. inr (inr (table, row.0, e))))
+happening w (events.Get transaction table row column) =
+    served w _ _ (looking w _ (open_transaction w.transactions transaction)
+    (λ draft. get_answer (shape_of w.primary.schema) w.primary.durable draft table row.0 column))
+happening w (events.Commit transaction worker) =
+    served w _ _ (committing w _ transaction worker (open_transaction w.transactions transaction) refl)
+happening w (events.Abort transaction) = served w _ _ (aborting w _ transaction (open_transaction w.transactions transaction))
+happening w (events.Flush count) = served w _ _ (flushing w _ count w.primary.failed refl)
+happening w (events.Stop bytes) = served w _ _ (stops bytes)
+happening w events.Start = starting w _ w.stopped
+happening w (events.Push worker seq) = served w _ _ (pushing w _ (slice_get (stream_of w.primary.durable worker) seq))
+happening w (events.Deliver index nodes.Primary) = served w _ _ (delivering w _ index nodes.Primary (slice_get w.sent index) refl)
+happening w (events.Deliver index (nodes.Replica number)) = delivering w _ index (nodes.Replica number) (slice_get w.sent index) refl
+happening w (events.Show index) = showing w _ (slice_get w.sent index)
+happening w (events.Open replica plan) =
+    at_member w _ replica (slice_get w.members replica) _ refl
+    (λ m here. unless_broken w _ m.broken _
+    (opening w _ replica m plan (nat_le WAITING_QUERIES_MAX (length m.waiting)) (checked (shape_in (durable_tables w m.version)) plan)
+    here))
+happening w (events.Ask replica) =
+    at_member w _ replica (slice_get w.members replica) _ refl
+    (λ m here. unless_broken w _ m.broken _ (asking w _ replica m m.batch here refl))
+happening w (events.Run replica) =
+    at_member w _ replica (slice_get w.members replica) _ refl
+    (λ m here. unless_broken w _ m.broken _ (running w _ replica m m.batch here refl refl))
+happening w (events.Version replica) = at_member w _ replica (slice_get w.members replica) _ refl (λ m here. tells replica m here)
+happening w (events.Dump replica) =
+    at_member w _ replica (slice_get w.members replica) _ refl
+    (λ m here. unless_broken w _ m.broken _ (dumps replica m refl here))
+happening w (events.Restart replica boot) =
+    at_member w _ replica (slice_get w.members replica) _ refl
+    (λ m here. restarting w _ replica m boot (had_boot m.boots boot) here refl refl)
+happening w (events.Raw nodes.Primary bytes) = served w _ _ (raw_handing w _ nodes.Primary bytes (is_forged w.sent bytes) refl)
+happening w (events.Raw (nodes.Replica number) bytes) = raw_handing w _ (nodes.Replica number) bytes (is_forged w.sent bytes) refl
+
+-- whatever an event may answer and leave is a move
+pub step-moves : (w : World) (event : Event) (output : Output) (new : World) → MayHappen w event output new → Move w event output new
+step-moves w event output new (inl made) = subst (λ (x : Output × World). Move w event x.0 x.1) made (happening w event)
+step-moves w event output new (inr (inl memory)) =
+    subst (λ (x : Output). Move w event x new) (sym memory.0)
+    (subst (Move w event outputs.Memory) (sym memory.1) (idle outputs.Memory (tt, tt)))
+step-moves w (events.Run replica) output new (inr (inr cut)) =
+    cutting w (events.Run replica) replica (slice_get w.members replica) output new refl cut
+step-moves w other output new (inr (inr cut)) = absurd cut
