@@ -16,11 +16,6 @@ of-boot-stays boots boots' own own' boot Fact Other had is goes said = record {
   holds = λ same. goes (said.holds (same ∙ is));
 }
 
--- it had more boots
-pub of-boot-grows : (boots boots' : List ℕ) (own boot : ℕ) (Fact : Type 0) → (Contains boots boot → Contains boots' boot)
-    → IsOfBoot boots own boot Fact → IsOfBoot boots' own boot Fact
-of-boot-grows boots boots' own boot Fact grows said = record { had = grows said.had; holds = said.holds }
-
 -- it starts again in a boot that it never had, of which nothing was said
 pub of-new-boot : (boots boots' : List ℕ) (own new boot : ℕ) (Fact Other : Type 0) → (Contains boots boot → Contains boots' boot)
     → (Contains boots new → ⊥) → IsOfBoot boots own boot Fact → IsOfBoot boots' new boot Other

@@ -25,10 +25,10 @@ use Rattle.mvcc.specs.declared.faults.TxFault.{TxFault}
 use Rattle.primary.specs.declared.faults.CommitFault.{CommitFault}
 use Rattle.primary.specs.declared.faults.CommitFault.TheVariants as faults
 use Rattle.mvcc.specs.Transaction.{Transaction}
+use Rattle.dispatcher.specs.Feeding.{Tells}
 use Rattle.primary.specs.Steps.{commit_answer, flushed, is_foreign, next_number, has_numbers}
 use Rattle.primary.specs.Sending.{answers, answers_to, head_for, counts_of, wanted, frame_to}
 use Rattle.primary.specs.State.{Primary}
-use Rattle.dispatcher.specs.State.{Replica}
 use Rattle.script.specs.declared.event.Node.TheVariants as nodes
 use Rattle.script.specs.declared.output.Output.{Output}
 use Rattle.script.specs.declared.output.Output.TheVariants as outputs
@@ -38,16 +38,15 @@ use Rattle.world.specs.Steps.{World, open_transaction, change_happens, commit_ha
 use Rattle.world.specs.Steps.{deliver_happens}
 use Rattle.world.specs.Steps.{stop_happens, delivered, raw_happens, is_forged}
 use Rattle.world.specs.Stops.{stopped_at, whole_in, closed}
-use Rattle.world.specs.Inner.Boots.{IsOfBoot}
-use Rattle.world.specs.Inner.Sound.{Sound, PrimaryListsAreLegal, IsAnswer, Means}
-use Rattle.world.specs.Standing.{boots_at, world_of}
-use Rattle.world.proofs.Boots.{of-boot}
+use Rattle.world.specs.Inner.Sound.{Sound, PrimaryListsAreLegal}
+use Rattle.world.specs.Inner.Fresh.{Fresh}
+use Rattle.world.proofs.Arriving.{Means, sent-means, raw-means}
+use Rattle.world.specs.Standing.{world_of}
 use Rattle.world.proofs.Datagrams.{frame-read, head-read}
 use Rattle.world.proofs.Durable.{legal-front, stream-grows}
 use Rattle.world.proofs.FedLaws.{FedLaws}
 use Rattle.world.proofs.Lists.{get-set, get-append, get-one, All-get}
 use Rattle.world.proofs.Moves.{Sound-transactions, Sound-sent, Sound-one, Sound-pending, Sound-grown, Sound-apart}
-use Rattle.world.proofs.Raw.{unforged}
 use Rattle.world.proofs.Streams.{frame-at, get-take, get-drop, counts-length, counts-are, counts-spelled}
 use Rattle.world.proofs.Worlds.{beside_of}
 
@@ -218,19 +217,16 @@ start-sound shape p false sound = sound
 -- ---- what the primary sends
 
 -- a frame of the durable list tells the truth of it
-frame-means : (reads : SpelledAreRead) (p : Parts) (worker seq : ℕ) (frame : Frame) → PrimaryListsAreLegal p.primary
+frame-tells : (reads : SpelledAreRead) (p : Parts) (worker seq : ℕ) (frame : Frame) → PrimaryListsAreLegal p.primary
     → slice_get (stream_of p.primary.durable worker) seq ≡ Some frame
-    → Means p.primary.workers p.primary.durable p.boots p.replicas (reading (frame_spelling frame))
-frame-means reads p worker seq frame lists h =
+    → Tells p.primary.workers p.primary.durable (reading (frame_spelling frame))
+frame-tells reads p worker seq frame lists h =
     let durable = p.primary.durable in
     let at = frame-at durable worker seq frame h in
     let sendable = All-get IsSendable (stream_of durable worker) (lists.sendable worker) seq frame h in
-    subst (Means p.primary.workers durable p.boots p.replicas) (sym (frame-read reads frame sendable)) (record {
-      tells =
-          ap (λ (w : ℕ). slice_get (stream_of durable w) frame.seq) at.worker_is
-          ∙ ap (slice_get (stream_of durable worker)) at.seq_is ∙ h;
-      requests = tt;
-    })
+    subst (Tells p.primary.workers durable) (sym (frame-read reads frame sendable))
+    (ap (λ (w : ℕ). slice_get (stream_of durable w) frame.seq) at.worker_is
+    ∙ ap (slice_get (stream_of durable worker)) at.seq_is ∙ h)
 
 pub push-sound : (reads : SpelledAreRead) (shape : Shape) (p : Parts) (worker seq : ℕ) (found : Option Frame)
     → PrimaryListsAreLegal p.primary → Sound shape p
@@ -238,7 +234,7 @@ pub push-sound : (reads : SpelledAreRead) (shape : Shape) (p : Parts) (worker se
     → Sound shape (beside_of (push_happens (world_of p) (option_map frame_spelling found)).1 p)
 push-sound reads shape p worker seq None lists sound here = sound
 push-sound reads shape p worker seq (Some frame) lists sound here =
-    Sound-one shape p (frame_spelling frame) sound (frame-means reads p worker seq frame lists here)
+    Sound-one shape p (frame_spelling frame) sound (frame-tells reads p worker seq frame lists here)
 
 -- the streams of the durable list have numbers of 64 bits
 durable-below : (p : Primary) → PrimaryListsAreLegal p → (worker : ℕ) → length (stream_of p.durable worker) < 2 ^ 64
@@ -247,12 +243,11 @@ durable-below p lists worker =
     let grows = stream-grows p.durable p.pending worker in
     omega arith
 
-head-means : (reads : SpelledAreRead) (shape : Shape) (p : Parts) (replica boot request : ℕ) → PrimaryListsAreLegal p.primary
+head-tells : (reads : SpelledAreRead) (shape : Shape) (p : Parts) (replica boot request : ℕ) → PrimaryListsAreLegal p.primary
     → Sound shape p
     → IsAsk replica boot request
-    → ((r : Replica) → slice_get p.replicas replica ≡ Some r → IsOfBoot (boots_at p.boots replica) r.boot boot (request ≤ r.request))
-    → Means p.primary.workers p.primary.durable p.boots p.replicas (reading (spelling (head_for p.primary replica boot request)))
-head-means reads shape p replica boot request lists sound ask asked =
+    → Tells p.primary.workers p.primary.durable (reading (spelling (head_for p.primary replica boot request)))
+head-tells reads shape p replica boot request lists sound ask =
     let durable = p.primary.durable in
     let workers = p.primary.workers in
     let counts = counts_of durable (length durable) workers in
@@ -262,11 +257,8 @@ head-means reads shape p replica boot request lists sound ask asked =
     let read =
     head-read reads replica boot request (length durable) counts ask below
     (counts-spelled durable workers sound.primary_is.workers_some sound.primary_is.workers_few (durable-below p.primary lists)) in
-    subst (Means workers durable p.boots p.replicas) (sym read) (record {
-      tells = (omega arith, counts-length durable (length durable) workers, counts-are durable workers legal.each);
-      requests = λ r here. of-boot (boots_at p.boots replica) r.boot boot (request ≤ r.request) (IsAnswer r request (length durable))
-          (λ few. record { asked = few; fresh = λ waits same. (sound.fed replica r here).feeding.below }) (asked r here);
-    })
+    subst (Tells workers durable) (sym read)
+    (omega arith, counts-length durable (length durable) workers, counts-are durable workers legal.each)
 
 -- the bytes that go to a replica, where frames are sent
 packets-at : (replica : ℕ) (frames : List Frame) (i : ℕ) (bytes : List ℕ)
@@ -276,59 +268,52 @@ packets-at replica [] i bytes h = absurd (none-some bytes h)
 packets-at replica (frame ∷ frames) zero bytes h = (frame, refl, same_Some (frame_spelling frame) bytes h)
 packets-at replica (frame ∷ frames) (suc i) bytes h = packets-at replica frames i bytes h
 
-want-means : (reads : SpelledAreRead) (p : Parts) (replica worker from : ℕ) → PrimaryListsAreLegal p.primary → (i : ℕ) (bytes : List ℕ)
+want-tells : (reads : SpelledAreRead) (p : Parts) (replica worker from : ℕ) → PrimaryListsAreLegal p.primary → (i : ℕ) (bytes : List ℕ)
     → slice_get (packets_of (map (frame_to replica) (wanted p.primary worker from))) i ≡ Some bytes
-    → Means p.primary.workers p.primary.durable p.boots p.replicas (reading bytes)
-want-means reads p replica worker from lists i bytes h =
+    → Tells p.primary.workers p.primary.durable (reading bytes)
+want-tells reads p replica worker from lists i bytes h =
     let stream = stream_of p.primary.durable worker in
     let found = packets-at replica (wanted p.primary worker from) i bytes h in
     let at = sym (get-drop from stream i) ∙ get-take 16 (drop from stream) i found.0 found.1 in
-    subst (λ (b : List ℕ). Means p.primary.workers p.primary.durable p.boots p.replicas (reading b)) found.2
-    (frame-means reads p worker (from + i) found.0 lists at)
+    subst (λ (b : List ℕ). Tells p.primary.workers p.primary.durable (reading b)) found.2
+    (frame-tells reads p worker (from + i) found.0 lists at)
 
-answers-mean : (reads : SpelledAreRead) (shape : Shape) (p : Parts) (datagram : Result Datagram WireFault)
+answers-tell : (reads : SpelledAreRead) (shape : Shape) (p : Parts) (datagram : Result Datagram WireFault)
     → PrimaryListsAreLegal p.primary → Sound shape p
-    → Means p.primary.workers p.primary.durable p.boots p.replicas datagram
+    → Means p datagram
     → (i : ℕ) (bytes : List ℕ) → slice_get (packets_of (answers_to p.primary datagram)) i ≡ Some bytes
-    → Means p.primary.workers p.primary.durable p.boots p.replicas (reading bytes)
-answers-mean reads shape p (Err fault) lists sound means i bytes h = absurd (none-some bytes h)
-answers-mean reads shape p (Ok (datagrams.Frame worker seq commit last entries)) lists sound means i bytes h = absurd (none-some bytes h)
-answers-mean reads shape p (Ok (datagrams.Ask replica boot request)) lists sound means i bytes h =
-    subst (λ (b : List ℕ). Means p.primary.workers p.primary.durable p.boots p.replicas (reading b))
+    → Tells p.primary.workers p.primary.durable (reading bytes)
+answers-tell reads shape p (Err fault) lists sound means i bytes h = absurd (none-some bytes h)
+answers-tell reads shape p (Ok (datagrams.Frame worker seq commit last entries)) lists sound means i bytes h = absurd (none-some bytes h)
+answers-tell reads shape p (Ok (datagrams.Ask replica boot request)) lists sound means i bytes h =
+    subst (λ (b : List ℕ). Tells p.primary.workers p.primary.durable (reading b))
     (sym (get-one (spelling (head_for p.primary replica boot request)) i bytes h))
-    (head-means reads shape p replica boot request lists sound means.requests.0 means.requests.1)
-answers-mean reads shape p (Ok (datagrams.Head replica boot request version counts)) lists sound means i bytes h =
+    (head-tells reads shape p replica boot request lists sound means.fresh.0)
+answers-tell reads shape p (Ok (datagrams.Head replica boot request version counts)) lists sound means i bytes h =
     absurd (none-some bytes h)
-answers-mean reads shape p (Ok (datagrams.Want replica worker from)) lists sound means i bytes h =
-    want-means reads p replica worker from lists i bytes
+answers-tell reads shape p (Ok (datagrams.Want replica worker from)) lists sound means i bytes h =
+    want-tells reads p replica worker from lists i bytes
     h
 
 -- bytes that come to the primary
 hand-sound : (reads : SpelledAreRead) (shape : Shape) (p : Parts) (bytes : List ℕ) → PrimaryListsAreLegal p.primary → Sound shape p
-    → Means p.primary.workers p.primary.durable p.boots p.replicas (reading bytes)
+    → Means p (reading bytes)
     → Sound shape (beside_of (delivered (world_of p) bytes nodes.Primary).1 p)
 hand-sound reads shape p bytes lists sound means =
-    Sound-sent shape p (packets_of (answers p.primary bytes)) sound (answers-mean reads shape p (reading bytes) lists sound means)
+    Sound-sent shape p (packets_of (answers p.primary bytes)) sound (answers-tell reads shape p (reading bytes) lists sound means)
 
 pub deliver-sound : (reads : SpelledAreRead) (shape : Shape) (p : Parts) (index : ℕ) (found : Option (List ℕ))
-    → PrimaryListsAreLegal p.primary → Sound shape p
+    → PrimaryListsAreLegal p.primary → Sound shape p → Fresh (world_of p)
     → slice_get p.sent index ≡ found → Sound shape (beside_of (deliver_happens (world_of p) nodes.Primary found).1 p)
-deliver-sound reads shape p index None lists sound here = sound
-deliver-sound reads shape p index (Some bytes) lists sound here =
-    hand-sound reads shape p bytes lists sound (sound.sent_is index bytes here)
-
--- bytes that are not forged
-pub raw-means : (shape : Shape) (p : Parts) (bytes : List ℕ) → Sound shape p → is_forged p.sent bytes ≡ false
-    → Means p.primary.workers p.primary.durable p.boots p.replicas (reading bytes)
-raw-means shape p bytes sound =
-    unforged (Means p.primary.workers p.primary.durable p.boots p.replicas) p.sent bytes (λ fault. record { tells = tt; requests = tt })
-    sound.sent_is
+deliver-sound reads shape p index None lists sound fresh here = sound
+deliver-sound reads shape p index (Some bytes) lists sound fresh here =
+    hand-sound reads shape p bytes lists sound (sent-means shape p sound fresh index bytes here)
 
 pub raw-sound : (reads : SpelledAreRead) (shape : Shape) (p : Parts) (bytes : List ℕ) → PrimaryListsAreLegal p.primary → Sound shape p
-    → Sound shape (beside_of (raw_happens (world_of p) nodes.Primary bytes).1 p)
-raw-sound reads shape p bytes lists sound = by (is_forged p.sent bytes) refl
+    → Fresh (world_of p) → Sound shape (beside_of (raw_happens (world_of p) nodes.Primary bytes).1 p)
+raw-sound reads shape p bytes lists sound fresh = by (is_forged p.sent bytes) refl
   where
     by : (forged : Bool) → is_forged p.sent bytes ≡ forged
         → Sound shape (beside_of (cond forged (outputs.Forged, world_of p) (delivered (world_of p) bytes nodes.Primary)).1 p)
     by true e = sound
-    by false e = hand-sound reads shape p bytes lists sound (raw-means shape p bytes sound e)
+    by false e = hand-sound reads shape p bytes lists sound (raw-means shape p bytes sound fresh e)

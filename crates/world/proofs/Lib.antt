@@ -6,6 +6,7 @@ pub mod Streams
 pub mod Worlds
 pub mod Datagrams
 pub mod Moves
+pub mod Arriving
 pub mod Replicas
 pub mod Querying
 pub mod Running
@@ -14,7 +15,6 @@ pub mod Placing
 pub mod Changing
 pub mod Committing
 pub mod Told
-pub mod Named
 pub mod Whole
 pub mod Defined
 pub mod Undamaged

@@ -1,7 +1,7 @@
 -- The few moves of sound parts, each of which leaves them sound.
-use Rattle.std.proofs.Common.{◌≡◌, ℕ, ◌≤◌, Bool, true, List, [], ◌∷◌, ◌++◌, length, Option, Some, Result, Ok, Err, refl, sym, ap}
+use Rattle.std.proofs.Common.{◌≡◌, ℕ, ◌≤◌, Bool, List, [], ◌∷◌, ◌++◌, length, Option, Some, Result, Ok, Err, refl, sym, ap}
 use Rattle.std.proofs.Common.{subst, ◌∙◌, inl, inr, arith}
-use Rattle.std.specs.List.{slice_get, slice_set}
+use Rattle.std.specs.List.{slice_get}
 use Rattle.std.proofs.lemmas.List.{length-append, length-set}
 use Rattle.rows.specs.declared.commit.Commit.{Commit}
 use Rattle.rows.specs.Shape.{Shape}
@@ -13,27 +13,25 @@ use Rattle.wire.specs.Reading.{reading}
 use Rattle.mvcc.specs.Transaction.{Transaction}
 use Rattle.dispatcher.specs.Feeding.{IsFedFrom, Tells}
 use Rattle.dispatcher.specs.State.{Replica}
+use Rattle.dispatcher.specs.TableText.{names_of}
 use Rattle.script.specs.declared.output.Output.{Output}
 use Rattle.world.specs.Parts.{Parts}
 use Rattle.world.specs.Inner.CoreSteps.{with_replica, with_sent}
 use Rattle.world.specs.Steps.{World}
 use Rattle.world.proofs.Lists.{get-set, get-append, get-one, set-same}
-use Rattle.world.specs.Inner.Boots.{IsInBoot, IsOfBoot}
-use Rattle.world.specs.Inner.Sound.{Sound, IsFed, IsAnswer, IsOfRequests, Means, awaits}
+use Rattle.world.specs.Inner.Boots.{IsInBoot}
+use Rattle.world.specs.Inner.Sound.{Sound, IsFed}
 use Rattle.world.specs.Standing.{boots_at, world_of}
-use Rattle.world.proofs.Boots.{of-boot-stays}
 use Rattle.world.proofs.Durable.{frame-stays, counts-stay}
 use Rattle.world.proofs.FedLaws.{FedLaws}
 use Rattle.world.proofs.Worlds.{seen}
 
--- what a replica may become: its workers, number and boot stay, its requests grow, and while it waits for the Head of one its
--- version stays
+-- what a replica may become: its names, workers, number and boot stay
 pub record Moves (old new : Replica) : Type 0 where
+  pub names_stay : new.names ≡ old.names
   pub workers_stay : new.workers ≡ old.workers
   pub number_stays : new.number ≡ old.number
   pub boot_stays : new.boot ≡ old.boot
-  pub request_grows : old.request ≤ new.request
-  pub waits : awaits new ≡ true → new.request ≡ old.request → (awaits old ≡ true) × (new.version ≡ old.version)
 
 -- a replica that stays fed
 pub record Goes (shape : Shape) (durable : List Commit) (old new : Replica) : Type 0 where
@@ -46,55 +44,11 @@ Follows shape there here = (there ≡ seen here) × Sound shape here.1
 
 -- ---- one replica
 
-answer-moves : (old new : Replica) (request version : ℕ) → Moves old new → IsAnswer old request version → IsAnswer new request version
-answer-moves old new request version moves answer =
-    let grows = moves.request_grows in
-    let asked = answer.asked in
-    record {
-      asked = omega arith;
-      fresh = λ waits same.
-          let still = moves.waits waits (omega arith) in
-          let here = answer.fresh still.0 (omega arith) in
-          let version = still.1 in omega arith;
-    }
-
-requests-move : (boots : List (List ℕ)) (replicas : List Replica) (i : ℕ) (old new : Replica) → slice_get replicas i ≡ Some old
-    → Moves old new → (datagram : Result Datagram WireFault) → IsOfRequests boots replicas datagram
-    → IsOfRequests boots (slice_set replicas i new) datagram
-requests-move boots replicas i old new at moves (Err fault) h = tt
-requests-move boots replicas i old new at moves (Ok (datagrams.Frame worker seq commit last entries)) h = tt
-requests-move boots replicas i old new at moves (Ok (datagrams.Ask replica boot request)) h = (
-  h.0,
-  λ r here. elim (get-set replicas i new replica r here) [
-    | inl same ↦
-        let grows = moves.request_grows in
-        subst (λ (r : Replica). IsOfBoot (boots_at boots replica) r.boot boot (request ≤ r.request)) (sym same.1)
-        (of-boot-stays (boots_at boots replica) (boots_at boots replica) old.boot new.boot boot (request ≤ old.request)
-        (request ≤ new.request) refl moves.boot_stays (λ asked. omega arith) (h.1 old (ap (slice_get replicas) same.0 ∙ at)))
-    | inr other ↦ h.1 r other
-  ],
-)
-requests-move boots replicas i old new at moves (Ok (datagrams.Head replica boot request version counts)) h =
-    λ r here. elim (get-set replicas i new replica r here) [
-      | inl same ↦ subst (λ (r : Replica). IsOfBoot (boots_at boots replica) r.boot boot (IsAnswer r request version)) (sym same.1)
-          (of-boot-stays (boots_at boots replica) (boots_at boots replica) old.boot new.boot boot (IsAnswer old request version)
-          (IsAnswer new request version) refl moves.boot_stays (answer-moves old new request version moves)
-          (h old (ap (slice_get replicas) same.0 ∙ at)))
-      | inr other ↦ h r other
-    ]
-requests-move boots replicas i old new at moves (Ok (datagrams.Want replica worker from)) h = tt
-
-means-moves : (workers : ℕ) (durable : List Commit) (boots : List (List ℕ)) (replicas : List Replica) (i : ℕ) (old new : Replica)
-    → slice_get replicas i ≡ Some old → Moves old new
-    → (datagram : Result Datagram WireFault) → Means workers durable boots replicas datagram
-    → Means workers durable boots (slice_set replicas i new) datagram
-means-moves workers durable boots replicas i old new at moves datagram h =
-    record { tells = h.tells; requests = requests-move boots replicas i old new at moves datagram h.requests }
-
-goes-fed : (shape : Shape) (workers : ℕ) (durable : List Commit) (boots : List ℕ) (i : ℕ) (old new : Replica)
-    → IsFed shape workers durable boots i old → Goes shape durable old new → IsFed shape workers durable boots i new
-goes-fed shape workers durable boots i old new fed goes = record {
+goes-fed : (shape : Shape) (names : List (List ℕ)) (workers : ℕ) (durable : List Commit) (boots : List ℕ) (i : ℕ) (old new : Replica)
+    → IsFed shape names workers durable boots i old → Goes shape durable old new → IsFed shape names workers durable boots i new
+goes-fed shape names workers durable boots i old new fed goes = record {
   feeding = goes.feeding;
+  names_are = goes.moves.names_stay ∙ fed.names_are;
   workers_are = goes.moves.workers_stay ∙ fed.workers_are;
   number_is = goes.moves.number_stays ∙ fed.number_is;
   boot_is = subst (IsInBoot boots) (sym goes.moves.boot_stays) fed.boot_is;
@@ -102,7 +56,7 @@ goes-fed shape workers durable boots i old new fed goes = record {
 
 pub Sound-replica : (shape : Shape) (p : Parts) (i : ℕ) (old new : Replica) → Sound shape p → slice_get p.replicas i ≡ Some old
     → Goes shape p.primary.durable old new → Sound shape (with_replica p i new)
-Sound-replica shape p i old new sound at goes = record {
+Sound-replica shape p i old new sound at goes = let names = names_of p.primary.schema in record {
   setup_is = sound.setup_is;
   primary_is = sound.primary_is;
   transactions_are = sound.transactions_are;
@@ -110,14 +64,12 @@ Sound-replica shape p i old new sound at goes = record {
   asked_there = sound.asked_there ∙ sym (length-set p.replicas i new);
   few = let few = sound.few in omega (arith, length-set p.replicas i new);
   fed = λ j r here. elim (get-set p.replicas i new j r here) [
-    | inl same ↦ subst (λ (j : ℕ). IsFed shape p.primary.workers p.primary.durable (boots_at p.boots j) j r) (sym same.0)
-        (subst (λ (r : Replica). IsFed shape p.primary.workers p.primary.durable (boots_at p.boots i) i r) (sym same.1)
-        (goes-fed shape p.primary.workers p.primary.durable (boots_at p.boots i) i old new (sound.fed i old at) goes))
+    | inl same ↦ subst (λ (j : ℕ). IsFed shape names p.primary.workers p.primary.durable (boots_at p.boots j) j r) (sym same.0)
+        (subst (λ (r : Replica). IsFed shape names p.primary.workers p.primary.durable (boots_at p.boots i) i r) (sym same.1)
+        (goes-fed shape names p.primary.workers p.primary.durable (boots_at p.boots i) i old new (sound.fed i old at) goes))
     | inr other ↦ sound.fed j r other
   ];
-  sent_is =
-      λ j bytes here. means-moves p.primary.workers p.primary.durable p.boots p.replicas i old new at goes.moves (reading bytes)
-      (sound.sent_is j bytes here);
+  sent_is = sound.sent_is;
 }
 
 -- nothing of a replica changes
@@ -130,11 +82,10 @@ Follows-same shape p i r output sound at =
 
 pub Moves-same : (r : Replica) → Moves r r
 Moves-same r = record {
+  names_stay = refl;
   workers_stay = refl;
   number_stays = refl;
   boot_stays = refl;
-  request_grows = omega arith;
-  waits = λ waits same. (waits, refl);
 }
 
 -- what is noted of a replica changes
@@ -155,7 +106,7 @@ Sound-noted shape p asked_at sound same = record {
 
 pub Sound-sent : (shape : Shape) (p : Parts) (more : List (List ℕ)) → Sound shape p
     → ((i : ℕ) (bytes : List ℕ) → slice_get more i ≡ Some bytes
-    → Means p.primary.workers p.primary.durable p.boots p.replicas (reading bytes))
+    → Tells p.primary.workers p.primary.durable (reading bytes))
     → Sound shape (record p { sent = p.sent ++ more })
 Sound-sent shape p more sound means = record {
   setup_is = sound.setup_is;
@@ -171,11 +122,11 @@ Sound-sent shape p more sound means = record {
 }
 
 pub Sound-one : (shape : Shape) (p : Parts) (bytes : List ℕ) → Sound shape p
-    → Means p.primary.workers p.primary.durable p.boots p.replicas (reading bytes)
+    → Tells p.primary.workers p.primary.durable (reading bytes)
     → Sound shape (with_sent p bytes)
 Sound-one shape p bytes sound means =
     Sound-sent shape p (bytes ∷ []) sound
-    (λ i other here. subst (λ (bytes : List ℕ). Means p.primary.workers p.primary.durable p.boots p.replicas (reading bytes))
+    (λ i other here. subst (λ (bytes : List ℕ). Tells p.primary.workers p.primary.durable (reading bytes))
     (sym (get-one bytes i other here)) means)
 
 -- ---- transactions
@@ -214,12 +165,15 @@ Sound-pending shape p pending sound = record {
   sent_is = sound.sent_is;
 }
 
-fed-grows : (laws : FedLaws) (shape : Shape) (workers : ℕ) (durable more : List Commit) (boots : List ℕ) (i : ℕ) (r : Replica)
-    → IsLegal shape workers (durable ++ more) → IsFed shape workers durable boots i r → IsFed shape workers (durable ++ more) boots i r
-fed-grows laws shape workers durable more boots i r legal fed = record {
+fed-grows : (laws : FedLaws) (shape : Shape) (names : List (List ℕ)) (workers : ℕ) (durable more : List Commit) (boots : List ℕ)
+    (i : ℕ) (r : Replica)
+    → IsLegal shape workers (durable ++ more) → IsFed shape names workers durable boots i r
+    → IsFed shape names workers (durable ++ more) boots i r
+fed-grows laws shape names workers durable more boots i r legal fed = record {
   feeding =
       laws.commits shape durable more r (subst (λ (n : ℕ). IsLegal shape n (durable ++ more)) (sym fed.workers_are) legal)
       fed.feeding;
+  names_are = fed.names_are;
   workers_are = fed.workers_are;
   number_is = fed.number_is;
   boot_is = fed.boot_is;
@@ -234,12 +188,6 @@ tells-stay workers durable more (Ok (datagrams.Head replica boot request version
     let below = h.0 in
     (omega (arith, length-append durable more), h.1, counts-stay durable more version counts h.0 h.2)
 tells-stay workers durable more (Ok (datagrams.Want replica worker from)) h = tt
-
-means-grows : (workers : ℕ) (durable more : List Commit) (boots : List (List ℕ)) (replicas : List Replica)
-    (datagram : Result Datagram WireFault) → Means workers durable boots replicas datagram
-    → Means workers (durable ++ more) boots replicas datagram
-means-grows workers durable more boots replicas datagram h =
-    record { tells = tells-stay workers durable more datagram h.tells; requests = h.requests }
 
 -- what is durable grows, and other commits are pending behind it
 pub Sound-grown : (laws : FedLaws) (shape : Shape) (p : Parts) (more pending : List Commit)
@@ -261,8 +209,10 @@ Sound-grown laws shape p more pending legal sound =
       boots_there = sound.boots_there;
       asked_there = sound.asked_there;
       few = sound.few;
-      fed = λ i r here. fed-grows laws shape workers durable more (boots_at p.boots i) i r legal (sound.fed i r here);
-      sent_is = λ i bytes here. means-grows workers durable more p.boots p.replicas (reading bytes) (sound.sent_is i bytes here);
+      fed =
+          λ i r here. fed-grows laws shape (names_of p.primary.schema) workers durable more (boots_at p.boots i) i r legal
+          (sound.fed i r here);
+      sent_is = λ i bytes here. tells-stay workers durable more (reading bytes) (sound.sent_is i bytes here);
     }
 
 -- the primary fails, stops or starts, or its journal changes

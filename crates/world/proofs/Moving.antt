@@ -7,6 +7,8 @@ use Rattle.rows.specs.declared.value.Value.{Value}
 use Rattle.mvcc.specs.declared.faults.TxFault.{TxFault}
 use Rattle.mvcc.specs.declared.faults.TxFault.TheVariants as changes
 use Rattle.mvcc.specs.Transaction.{Transaction}
+use Rattle.mvcc.specs.Transactions.{insert_answer, set_answer, delete_answer}
+use Rattle.rows.specs.Shape.{shape_of}
 use Rattle.primary.specs.declared.faults.CommitFault.{CommitFault}
 use Rattle.primary.specs.declared.faults.CommitFault.TheVariants as commits
 use Rattle.rows.specs.Commits.{last_touching}
@@ -34,7 +36,7 @@ use Rattle.world.specs.Standing.{world_of}
 use Rattle.world.specs.Steps.{World, unless_stopped, open_transaction, happens, on_transaction, change_happens, commit_happens}
 use Rattle.world.specs.Steps.{abort_happens}
 use Rattle.world.specs.Inner.CoreSteps.{HappensBeside, MayStep, ReplicaRunsBy, with_replica, with_sent, opening_query, open_by, asking}
-use Rattle.world.specs.Inner.CoreSteps.{ask_by, run_output, waiting_for}
+use Rattle.world.specs.Inner.CoreSteps.{ask_by, run_output, waiting_for, ChangesTransaction, change_answer}
 use Rattle.world.proofs.Slots.{set_same, slot_same}
 
 -- ---- a commit
@@ -136,6 +138,31 @@ put_same p number slot left at is = ap (with_slots p) (sym (is ∙ slot_same p.t
 -- a change of a transaction, as the world has it
 abbrev change_in : World → ℕ → (Transaction → Result Transaction TxFault) → Option Transaction → Output × World
 change_in w number change slot = on_transaction w slot (λ draft. change_happens w number (change draft))
+
+-- an event that changes a transaction of a primary that runs
+pub change-is : (p : Parts) (number : ℕ) (event : Event) → ChangesTransaction number event → p.stopped ≡ false
+    → happens (world_of p) event
+    ≡ change_in (world_of p) number (change_answer (shape_of p.primary.schema) p.primary.durable event)
+    (open_transaction p.transactions number)
+change-is p number (events.Insert transaction table row values) is running =
+    runs_on p _ running ∙ ap (λ n. change_in (world_of p) n
+    (λ draft. insert_answer (shape_of p.primary.schema) p.primary.durable draft table row.0 values) (open_transaction p.transactions n))
+    (sym is)
+change-is p number (events.Set transaction table row column value) is running =
+    runs_on p _ running ∙ ap (λ n. change_in (world_of p) n
+    (λ draft. set_answer (shape_of p.primary.schema) p.primary.durable draft table row.0 column value)
+    (open_transaction p.transactions n)) (sym is)
+change-is p number (events.Delete transaction table row) is running =
+    runs_on p _ running ∙ ap (λ n. change_in (world_of p) n
+    (λ draft. delete_answer (shape_of p.primary.schema) p.primary.durable draft table row.0) (open_transaction p.transactions n))
+    (sym is)
+change-is p number other is running = absurd is
+
+pub change-asks : (w : World) (number : ℕ) (event : Event) → ChangesTransaction number event → AsksByAnswer w event
+change-asks w number (events.Insert transaction table row values) is answer takes = takes
+change-asks w number (events.Set transaction table row column value) is answer takes = takes
+change-asks w number (events.Delete transaction table row) is answer takes = takes
+change-asks w number other is answer takes = absurd is
 
 module _ (p old : Parts) (seen : p ≡ old) (running : p.stopped ≡ false) (number : ℕ) where
   -- a change of a transaction, which is taken out of its slot, changed or not, and put back

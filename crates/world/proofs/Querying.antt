@@ -1,10 +1,10 @@
 -- Opening a query and asking for a version do at a replica of sound parts what they do at its member.
-use Rattle.std.proofs.Common.{◌≡◌, ℕ, ◌+◌, ◌^◌, ◌%◌, ◌<◌, ◌≤◌, Bool, true, false, cond, ◌==◌, List, [], ◌∷◌, ◌++◌, length, Option, Some}
+use Rattle.std.proofs.Common.{◌≡◌, ℕ, ◌+◌, ◌^◌, ◌<◌, Bool, true, false, cond, ◌==◌, List, [], ◌∷◌, ◌++◌, length, Option, Some}
 use Rattle.std.proofs.Common.{None, Result, Ok, Err, nat_le, refl, sym, ap, subst, ◌∙◌, arith}
-use Rattle.std.specs.List.{slice_get, slice_set, slice_index, Contains}
+use Rattle.std.specs.List.{slice_get, slice_set, slice_index}
 use Rattle.std.specs.Option.{option_map}
 use Rattle.std.proofs.lemmas.List.{length-set}
-use Rattle.std.proofs.lemmas.Option.{same_Some, slice_get_within}
+use Rattle.std.proofs.lemmas.Option.{slice_get_within}
 use Rattle.rows.specs.declared.commit.Commit.{Commit}
 use Rattle.rows.specs.declared.limits.TheConstants.{REPLICAS_MAX, WAITING_QUERIES_MAX}
 use Rattle.rows.specs.Shape.{Shape}
@@ -22,20 +22,19 @@ use Rattle.dispatcher.specs.declared.faults.AskFault.{AskFault}
 use Rattle.dispatcher.specs.declared.faults.AskFault.TheVariants as asks
 use Rattle.wire.specs.declared.out.Out.{Out}
 use Rattle.plans.specs.Checking.{checked}
-use Rattle.dispatcher.specs.Feeding.{IsFedFrom}
+use Rattle.dispatcher.specs.Feeding.{IsFedFrom, Tells}
 use Rattle.dispatcher.specs.State.{Replica, Batch as ReplicaBatch, Fetched}
+use Rattle.dispatcher.specs.TableText.{names_of}
 use Rattle.dispatcher.specs.Steps.{opened, asked, asked_by, ask_for, with_batch}
 use Rattle.script.specs.declared.output.Output.{Output}
 use Rattle.script.specs.declared.output.Output.TheVariants as outputs
 use Rattle.world.specs.Parts.{Parts}
 use Rattle.world.specs.Inner.CoreSteps.{with_replica, with_sent, open_by, opening_query, ask_by, asking, sent_one}
 use Rattle.world.specs.Steps.{World, Member, open_happens, ask_happens, new_batch, send, ask_bytes, with_member, on_member, durable_tables}
-use Rattle.world.proofs.Lists.{set-same, get-set_same}
-use Rattle.world.specs.Inner.Boots.{IsOfBoot}
-use Rattle.world.specs.Inner.Sound.{Sound, IsFed, Means}
-use Rattle.world.proofs.Boots.{of-boot}
+use Rattle.world.proofs.Lists.{set-same}
+use Rattle.world.specs.Inner.Sound.{Sound, IsFed}
 use Rattle.world.proofs.FedLaws.{FedLaws}
-use Rattle.world.proofs.Datagrams.{ask-read, ask-kept}
+use Rattle.world.proofs.Datagrams.{ask-read}
 use Rattle.world.specs.Standing.{boots_at, world_of, member_of, batch_of, members_of}
 use Rattle.world.proofs.Worlds.{member_at, members-asked}
 use Rattle.world.proofs.Moves.{Goes, Follows, Sound-replica, Sound-noted, Sound-one}
@@ -72,12 +71,10 @@ plan-goes : (laws : FedLaws) (shape : Shape) (durable : List Commit) (r : Replic
 plan-goes laws shape durable r plan fed taken = record {
   feeding = laws.opening shape durable r plan (length r.waiting + 1) (with_plan r plan) fed taken;
   moves = record {
+    names_stay = refl;
     workers_stay = refl;
     number_stays = refl;
     boot_stays = refl;
-    request_grows = omega arith;
-    waits = λ waits same.
-        (waits, refl);
   };
 }
 
@@ -105,7 +102,7 @@ query-opens laws shape p i plan (Some r) sound here =
         (cond (nat_le WAITING_QUERIES_MAX (length r.waiting)) (outputs.BatchFull, w)
         (open_happens w m plan (checked (shape_in (durable_tables w r.version)) plan)))
 
-    fed : IsFed shape p.primary.workers p.primary.durable (boots_at p.boots i) i r
+    fed : IsFed shape (names_of p.primary.schema) p.primary.workers p.primary.durable (boots_at p.boots i) i r
     fed = sound.fed i r here
 
     is : opened r plan
@@ -128,21 +125,11 @@ query-opens laws shape p i plan (Some r) sound here =
 
 -- ---- asking
 
-ask-means : (reads : SpelledAreRead) (workers : ℕ) (durable : List Commit) (boots : List (List ℕ)) (replicas : List Replica)
-    (number boot request : ℕ)
-    → number < REPLICAS_MAX → boot < 2 ^ 64
-    → ((r : Replica) → slice_get replicas number ≡ Some r → IsOfBoot (boots_at boots number) r.boot boot (request ≤ r.request))
-    → Means workers durable boots replicas (reading (spelling (datagrams.Ask number boot request)))
-ask-means reads workers durable boots replicas number boot request number_below boot_below asked =
-    subst (Means workers durable boots replicas) (sym (ask-read reads number boot request number_below boot_below))
-    (record {
-      tells = tt;
-      requests = (
-        ask-kept number boot request number_below boot_below,
-        λ r here. of-boot (boots_at boots number) r.boot boot (request ≤ r.request) (request % 2 ^ 64 ≤ r.request)
-            (λ few. omega arith) (asked r here),
-      );
-    })
+-- an Ask says nothing of the list
+ask-tells : (reads : SpelledAreRead) (workers : ℕ) (durable : List Commit) (number boot request : ℕ) → number < REPLICAS_MAX
+    → boot < 2 ^ 64 → Tells workers durable (reading (spelling (datagrams.Ask number boot request)))
+ask-tells reads workers durable number boot request number_below boot_below =
+    subst (Tells workers durable) (sym (ask-read reads number boot request number_below boot_below)) tt
 
 -- the number of a replica that is there
 number-below : (shape : Shape) (p : Parts) (i : ℕ) (r : Replica) → Sound shape p → slice_get p.replicas i ≡ Some r → r.number < REPLICAS_MAX
@@ -155,24 +142,16 @@ number-below shape p i r sound here =
 boot-below : (shape : Shape) (p : Parts) (i : ℕ) (r : Replica) → Sound shape p → slice_get p.replicas i ≡ Some r → r.boot < 2 ^ 64
 boot-below shape p i r sound here = (sound.fed i r here).boot_is.below
 
--- it asks in a boot that it had
-boot-had : (shape : Shape) (p : Parts) (i : ℕ) (r : Replica) → Sound shape p → slice_get p.replicas i ≡ Some r
-    → Contains (boots_at p.boots r.number) r.boot
-boot-had shape p i r sound here =
-    let fed = sound.fed i r here in
-    subst (λ (n : ℕ). Contains (boots_at p.boots n) r.boot) (sym fed.number_is) fed.boot_is.had
-
 -- a batch is made
 batch-goes : (laws : FedLaws) (shape : Shape) (durable : List Commit) (r : Replica) → IsFedFrom shape durable r
     → asked r ≡ Ok (ask_for r.number r.boot (r.request + 1), with_batch r) → Goes shape durable r (with_batch r)
 batch-goes laws shape durable r fed taken = record {
   feeding = laws.asking shape durable r (ask_for r.number r.boot (r.request + 1)) (with_batch r) fed taken;
   moves = record {
+    names_stay = refl;
     workers_stay = refl;
     number_stays = refl;
     boot_stays = refl;
-    request_grows = omega arith;
-    waits = λ waits same. absurd (omega arith);
   };
 }
 
@@ -198,15 +177,8 @@ asks-anew laws shape p i r sound here taken =
           (Sound-noted shape begun noted
           (Sound-replica shape p i r (with_batch r) sound here (batch-goes laws shape p.primary.durable r fed.feeding taken))
           (length-set p.asked_at i (length p.primary.durable)))
-          (ask-means laws.steps.reads p.primary.workers p.primary.durable p.boots (slice_set p.replicas i (with_batch r)) r.number r.boot
-          (r.request + 1)
-          (number-below shape p i r sound here) (boot-below shape p i r sound here)
-          (λ s there.
-          let same : s ≡ with_batch r =
-          get-set_same p.replicas i (with_batch r) s
-          (ap (slice_get (slice_set p.replicas i (with_batch r))) (sym fed.number_is) ∙ there) in
-          let e : s.request ≡ r.request + 1 = ap (λ (s : Replica). s.request) same in
-          record { had = boot-had shape p i r sound here; holds = λ own. omega arith })),
+          (ask-tells laws.steps.reads p.primary.workers p.primary.durable r.number r.boot (r.request + 1)
+          (number-below shape p i r sound here) (boot-below shape p i r sound here)),
     )
 
 asks-again : (reads : SpelledAreRead) (shape : Shape) (p : Parts) (i : ℕ) (r : Replica) (queries : ReplicaBatch) → Sound shape p
@@ -215,18 +187,12 @@ asks-again : (reads : SpelledAreRead) (shape : Shape) (p : Parts) (i : ℕ) (r :
     (asking p i (Some queries) (Ok (ask_for r.number r.boot r.request, r)))
 asks-again reads shape p i r queries sound here =
     let bytes = spelling (datagrams.Ask r.number r.boot r.request) in
-    let fed = sound.fed i r here in
     let same : with_sent p bytes ≡ with_sent (with_replica p i r) bytes =
     ap (λ (replicas : List Replica). with_sent (record p { replicas = replicas }) bytes) (sym (set-same p.replicas i r here)) in (
       ap (λ (p' : Parts). (sent_one p bytes, world_of p')) same,
       subst (Sound shape) same (Sound-one shape p bytes sound
-          (ask-means reads p.primary.workers p.primary.durable p.boots p.replicas r.number r.boot r.request
-          (number-below shape p i r sound here)
-          (boot-below shape p i r sound here)
-          (λ s there.
-          let e : r ≡ s = same_Some r s (sym here ∙ ap (slice_get p.replicas) (sym fed.number_is) ∙ there) in
-          let f : r.request ≡ s.request = ap (λ (s : Replica). s.request) e in
-          record { had = boot-had shape p i r sound here; holds = λ own. omega arith }))),
+          (ask-tells reads p.primary.workers p.primary.durable r.number r.boot r.request (number-below shape p i r sound here)
+          (boot-below shape p i r sound here))),
     )
 
 asks-fetched : (reads : SpelledAreRead) (shape : Shape) (p : Parts) (i : ℕ) (r : Replica) (plans : List Plan) (fetched : Option Fetched)

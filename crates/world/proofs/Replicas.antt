@@ -1,6 +1,6 @@
 -- What comes to a replica of sound parts does to it what it does to its member.
-use Rattle.std.proofs.Common.{◌≡◌, ℕ, zero, suc, Bool, true, false, cond, ◌&&◌, ◌==◌, List, [], ◌∷◌, Option, Some, None, Result, Ok, Err}
-use Rattle.std.proofs.Common.{refl, sym, ap, subst, ◌∙◌, arith}
+use Rattle.std.proofs.Common.{◌≡◌, ℕ, zero, suc, ◌≤◌, Bool, true, false, cond, ◌&&◌, ◌==◌, List, [], ◌∷◌, Option, Some, None}
+use Rattle.std.proofs.Common.{Result, Ok, Err, refl, sym, ap, subst, ◌∙◌, arith}
 use Rattle.std.specs.List.{slice_get, slice_set, slice_index}
 use Rattle.std.specs.Option.{option_map, is_none}
 use Rattle.std.proofs.lemmas.Bool.{false≢true, cond-false, and_parts, eqb-true}
@@ -22,6 +22,7 @@ use Rattle.dispatcher.specs.declared.outcome.Got.TheVariants as got
 use Rattle.plans.specs.declared.plan.Plan.{Plan}
 use Rattle.dispatcher.specs.Feeding.{IsFedFrom, Tells}
 use Rattle.dispatcher.specs.State.{Replica, Batch as ReplicaBatch, Fetched}
+use Rattle.dispatcher.specs.TableText.{names_of}
 use Rattle.dispatcher.specs.Steps.{received, own_head_comes, goes_on, got_of, datagram_comes}
 use Rattle.script.specs.declared.output.Output.{Output}
 use Rattle.script.specs.declared.output.Output.TheVariants as outputs
@@ -30,10 +31,12 @@ use Rattle.world.specs.Parts.{Parts}
 use Rattle.world.specs.Inner.CoreSteps.{with_replica, got_by, to_replica}
 use Rattle.world.specs.Steps.{World, Member, frame_happens, head_happens, datagram_happens, member_output, on_member, known_seqs}
 use Rattle.world.specs.Steps.{with_known}
-use Rattle.world.specs.Inner.Sound.{Sound, IsFed, Means, awaits}
+use Rattle.world.specs.Inner.Sound.{Sound, IsFed}
+use Rattle.world.specs.Inner.Fresh.{IsFreshMember, IsFreshHead, IsFreshReading, Fresh}
 use Rattle.world.specs.Standing.{boots_at, world_of, member_of, batch_of, known_in}
 use Rattle.world.proofs.FedLaws.{FedLaws}
-use Rattle.world.proofs.Worlds.{member_at, member-changes}
+use Rattle.world.proofs.Arriving.{Means}
+use Rattle.world.proofs.Worlds.{member_at, member-changes, members-get}
 use Rattle.world.proofs.Moves.{Moves, Goes, Follows, Sound-replica, Follows-same, Moves-same}
 
 -- what a replica answers, as its member does
@@ -103,15 +106,19 @@ frame-comes had at r frame =
     by false false = (
       ap (λ (known : List (List ℕ)). (outputs.Stored, record m { known = known })) (sym (known-stored r.arrivals frame)),
       record {
+        names_stay = refl;
         workers_stay = refl;
         number_stays = refl;
         boot_stays = refl;
-        request_grows = omega arith;
-        waits = λ waits same. (waits, refl);
       },
     )
 
 -- ---- a Head of the replica's own request
+
+-- whether a batch waits for a Head
+abbrev awaits : Option ReplicaBatch → Bool
+awaits None = false
+awaits (Some queries) = is_none queries.fetched
 
 -- the replica with this batch
 abbrev pub batched : Replica → Option ReplicaBatch → Replica
@@ -137,16 +144,15 @@ head-batch had at r version counts plans None passes =
     (sym (passes refl)) (
       refl,
       record {
+        names_stay = refl;
         workers_stay = refl;
         number_stays = refl;
         boot_stays = refl;
-        request_grows = omega arith;
-        waits = λ waits same. absurd (false≢true waits);
       },
     )
 
 head-comes : (had : List ℕ) (at : ℕ) (r : Replica) (version : ℕ) (counts : List ℕ) (batch : Option ReplicaBatch)
-    → (awaits (batched r batch) ≡ true → goes_on r version counts ≡ true)
+    → (awaits batch ≡ true → goes_on r version counts ≡ true)
     → Comes had at (batched r batch) (head_happens (member_of had at (batched r batch)) version counts (option_map (batch_of at) batch))
     (own_head_comes (batched r batch) version counts)
 head-comes had at r version counts None passes = ignored had at (batched r None) (goes_on r version counts)
@@ -173,21 +179,36 @@ true-frame-comes laws shape durable had at r bytes frame fed whole reads tells =
     (sym (received-as r bytes (Ok (datagram_of_frame frame)) reads whole ∙ laws.frame shape durable r bytes frame fed whole reads told))
     (frame-comes had at r frame)
 
-datagram-comes : (laws : FedLaws) (shape : Shape) (workers : ℕ) (durable : List Commit) (boots : List (List ℕ)) (replicas : List Replica)
-    (i : ℕ) (had : List ℕ) (at : ℕ) (r : Replica) (bytes : List ℕ) (datagram : Result Datagram WireFault)
-    → IsFed shape workers durable (boots_at boots i) i r → r.broken ≡ false → slice_get replicas i ≡ Some r
-    → reading bytes ≡ datagram → Means workers durable boots replicas datagram
+-- no version that a batch waits for is older than its replica's
+awaited : (durable : List Commit) (i : ℕ) (had : List ℕ) (at : ℕ) (r : Replica) (version : ℕ) → IsFreshMember durable i (member_of had at r)
+    → IsFreshHead (member_of had at r) r.request version → (batch : Option ReplicaBatch) → r.batch ≡ batch → awaits batch ≡ true
+    → r.version ≤ version
+awaited durable i had at r version is head None has waits = absurd (false≢true waits)
+awaited durable i had at r version is head (Some queries) has waits = by queries.fetched has waits
+  where
+    by : (fetched : Option Fetched) → r.batch ≡ Some (record queries { fetched = fetched }) → is_none fetched ≡ true → r.version ≤ version
+    by (Some fetched) has waits = absurd (false≢true waits)
+    by None has waits =
+        let asked = ap (option_map (batch_of at)) has in
+        let above = head.above _ asked refl in
+        let older = (is.batch_is _ asked).waits refl in
+        omega arith
+
+datagram-comes : (laws : FedLaws) (shape : Shape) (names : List (List ℕ)) (workers : ℕ) (durable : List Commit) (i : ℕ) (had : List ℕ)
+    (at : ℕ) (r : Replica) (bytes : List ℕ) (datagram : Result Datagram WireFault)
+    → IsFed shape names workers durable had i r → r.broken ≡ false → reading bytes ≡ datagram → Tells workers durable datagram
+    → ((version : ℕ) (counts : List ℕ) → datagram ≡ Ok (datagrams.Head r.number r.boot r.request version counts)
+    → awaits r.batch ≡ true → r.version ≤ version)
     → Comes had at r (datagram_happens (member_of had at r) datagram) (datagram_comes r datagram)
-datagram-comes laws shape workers durable boots replicas i had at r bytes (Err fault) fed whole here reads means =
-    Comes-same had at r got.Ignored
-datagram-comes laws shape workers durable boots replicas i had at r bytes (Ok
-    (datagrams.Frame worker seq commit last entries)) fed whole here reads means =
+datagram-comes laws shape names workers durable i had at r bytes (Err fault) fed whole reads tells heads = Comes-same had at r got.Ignored
+datagram-comes laws shape names workers durable i had at r bytes (Ok
+    (datagrams.Frame worker seq commit last entries)) fed whole reads tells heads =
     true-frame-comes laws shape durable had at r bytes
-    (record { worker = worker; seq = seq; commit = commit; last = last; entries = entries }) fed.feeding whole reads means.tells
-datagram-comes laws shape workers durable boots replicas i had at r bytes (Ok
-    (datagrams.Ask replica boot request)) fed whole here reads means = Comes-same had at r got.Ignored
-datagram-comes laws shape workers durable boots replicas i had at r bytes (Ok
-    (datagrams.Head replica boot request version counts)) fed whole here reads means =
+    (record { worker = worker; seq = seq; commit = commit; last = last; entries = entries }) fed.feeding whole reads tells
+datagram-comes laws shape names workers durable i had at r bytes (Ok
+    (datagrams.Ask replica boot request)) fed whole reads tells heads = Comes-same had at r got.Ignored
+datagram-comes laws shape names workers durable i had at r bytes (Ok
+    (datagrams.Head replica boot request version counts)) fed whole reads tells heads =
     by ((replica == r.number) && (boot == r.boot) && (request == r.request)) refl
   where
     by : (own : Bool) → ((replica == r.number) && (boot == r.boot) && (request == r.request)) ≡ own → Comes had at r
@@ -198,13 +219,16 @@ datagram-comes laws shape workers durable boots replicas i had at r bytes (Ok
     by true e =
         let parts = and_parts ((replica == r.number) && (boot == r.boot)) (request == r.request) e in
         let front = and_parts (replica == r.number) (boot == r.boot) parts.0 in
-        let said = means.requests r (ap (slice_get replicas) (eqb-true replica r.number front.0 ∙ fed.number_is) ∙ here) in
-        let answer = said.holds (eqb-true boot r.boot front.1) in
+        let number_is : replica ≡ r.number = eqb-true replica r.number front.0 in
+        let boot_is : boot ≡ r.boot = eqb-true boot r.boot front.1 in
+        let request_is : request ≡ r.request = eqb-true request r.request parts.1 in
+        let same : (replica, boot, request) ≡ (r.number, r.boot, r.request) = cc (number_is, boot_is, request_is) in
         head-comes had at r version counts r.batch
-        (λ waits. laws.head shape durable r version counts fed.feeding means.tells.0 (means.tells.1 ∙ sym fed.workers_are) means.tells.2
-        (answer.fresh waits (eqb-true request r.request parts.1)))
-datagram-comes laws shape workers durable boots replicas i had at r bytes (Ok
-    (datagrams.Want replica worker from)) fed whole here reads means = Comes-same had at r got.Ignored
+        (λ waits. laws.head shape durable r version counts fed.feeding tells.0 (tells.1 ∙ sym fed.workers_are) tells.2
+        (heads version counts
+        (ap (λ (x : ℕ × ℕ × ℕ). Ok (datagrams.Head x.0 x.1 x.2 version counts)) same) waits))
+datagram-comes laws shape names workers durable i had at r bytes (Ok
+    (datagrams.Want replica worker from)) fed whole reads tells heads = Comes-same had at r got.Ignored
 
 -- ---- bytes
 
@@ -220,13 +244,13 @@ Follows-goes shape p i r there output new sound here same goes =
     )
 
 pub bytes-come : (laws : FedLaws) (shape : Shape) (p : Parts) (i : ℕ) (bytes : List ℕ) (found : Option Replica) → Sound shape p
-    → Means p.primary.workers p.primary.durable p.boots p.replicas (reading bytes) → slice_get p.replicas i ≡ found
+    → Fresh (world_of p) → Means p (reading bytes) → slice_get p.replicas i ≡ found
     → Follows shape
     (on_member (world_of p) (option_map (member_at p i) found)
     (λ m. cond m.broken (outputs.Broken, world_of p) (member_output (world_of p) (datagram_happens m (reading bytes)))))
     (to_replica p i bytes found)
-bytes-come laws shape p i bytes None sound means here = (refl, sound)
-bytes-come laws shape p i bytes (Some r) sound means here = by r.broken refl
+bytes-come laws shape p i bytes None sound fresh means here = (refl, sound)
+bytes-come laws shape p i bytes (Some r) sound fresh means here = by r.broken refl
   where
     had : List ℕ
     had = boots_at p.boots i
@@ -234,13 +258,17 @@ bytes-come laws shape p i bytes (Some r) sound means here = by r.broken refl
     at : ℕ
     at = slice_index p.asked_at i
 
-    fed : IsFed shape p.primary.workers p.primary.durable (boots_at p.boots i) i r
+    fed : IsFed shape (names_of p.primary.schema) p.primary.workers p.primary.durable (boots_at p.boots i) i r
     fed = sound.fed i r here
 
     came : r.broken ≡ false → Comes had at r (datagram_happens (member_of had at r) (reading bytes)) (datagram_comes r (reading bytes))
     came whole =
-        datagram-comes laws shape p.primary.workers p.primary.durable p.boots p.replicas i had at r bytes (reading bytes) fed whole here
-        refl means
+        datagram-comes laws shape (names_of p.primary.schema) p.primary.workers p.primary.durable i had at r bytes (reading bytes) fed
+        whole refl means.tells (λ version counts is waits.
+        let there = members-get p.replicas p.boots p.asked_at i ∙ ap (option_map (member_at p i)) here in
+        let told = subst (IsFreshReading p.primary.durable (world_of p).members) is means.fresh in
+        let head = (told.1 (member_at p i r) (ap (slice_get (world_of p).members) fed.number_is ∙ there)).holds refl in
+        awaited p.primary.durable i had at r version (fresh.members_are i (member_at p i r) there) head r.batch refl waits)
 
     -- the replica stays fed by what it makes of the datagram
     feeds : r.broken ≡ false → IsFedFrom shape p.primary.durable (datagram_comes r (reading bytes)).1

@@ -17,6 +17,7 @@ use Rattle.wire.specs.declared.datagram.Datagram.TheVariants as datagrams
 use Rattle.wire.specs.declared.faults.WireFault.{WireFault}
 use Rattle.wire.specs.Reading.{reading}
 use Rattle.dispatcher.specs.State.{Replica}
+use Rattle.dispatcher.specs.TableText.{names_of}
 use Rattle.dispatcher.specs.Steps.{started_replica as replica_started}
 use Rattle.script.specs.declared.event.Event.TheVariants.{Restart}
 use Rattle.script.specs.declared.output.Output.{Output}
@@ -26,9 +27,9 @@ use Rattle.world.specs.Standing.{boots_at, member_of, world_of}
 use Rattle.world.specs.Steps.{World, Member, had_boot, restarted, with_member}
 use Rattle.world.specs.Inner.Boots.{IsOfBoot}
 use Rattle.world.specs.Inner.CoreSteps.{with_boot, with_restarted, restart_by, MayStep}
-use Rattle.world.specs.Inner.Sound.{Sound, IsFed, IsAnswer, IsOfRequests, Means}
+use Rattle.world.specs.Inner.Sound.{Sound, IsFed}
 use Rattle.world.specs.Inner.Fresh.{IsFreshMember, IsFreshHead, IsFreshReading, Fresh}
-use Rattle.world.proofs.Boots.{of-boot-grows, of-new-boot}
+use Rattle.world.proofs.Boots.{of-new-boot}
 use Rattle.world.proofs.FedLaws.{FedLaws}
 use Rattle.world.proofs.Lists.{get-set}
 use Rattle.world.proofs.Moves.{Follows}
@@ -84,64 +85,26 @@ world-restarts p i boot old there is =
 
 -- ---- sound parts
 
--- what was sent says nothing of the new boot
-requests-restart : (boots : List (List ℕ)) (replicas : List Replica) (i : ℕ) (old new : Replica) → slice_get replicas i ≡ Some old
-    → (Contains (boots_at boots i) new.boot → ⊥) → (datagram : Result Datagram WireFault) → IsOfRequests boots replicas datagram
-    → IsOfRequests (with_boot boots i new.boot) (slice_set replicas i new) datagram
-requests-restart boots replicas i old new at never (Err fault) h = tt
-requests-restart boots replicas i old new at never (Ok (datagrams.Frame worker seq commit last entries)) h = tt
-requests-restart boots replicas i old new at never (Ok (datagrams.Ask replica boot request)) h = (
-  h.0,
-  λ r here. elim (get-set replicas i new replica r here) [
-    | inl same ↦
-        subst (λ (r : Replica). IsOfBoot (boots_at (with_boot boots i new.boot) replica) r.boot boot (request ≤ r.request)) (sym same.1)
-        (of-new-boot (boots_at boots replica) (boots_at (with_boot boots i new.boot) replica) old.boot new.boot boot (request ≤ old.request)
-        (request ≤ new.request) (boots-grow boots i new.boot replica boot)
-        (subst (λ (n : ℕ). Contains (boots_at boots n) new.boot → ⊥) (sym same.0) never)
-        (h.1 old (ap (slice_get replicas) same.0 ∙ at)))
-    | inr other ↦
-        of-boot-grows (boots_at boots replica) (boots_at (with_boot boots i new.boot) replica) r.boot boot (request ≤ r.request)
-        (boots-grow boots i new.boot replica boot) (h.1 r other)
-  ],
-)
-requests-restart boots replicas i old new at never (Ok (datagrams.Head replica boot request version counts)) h =
-    λ r here. elim (get-set replicas i new replica r here) [
-      | inl same ↦
-          subst (λ (r : Replica). IsOfBoot (boots_at (with_boot boots i new.boot) replica) r.boot boot (IsAnswer r request version))
-          (sym same.1)
-          (of-new-boot (boots_at boots replica) (boots_at (with_boot boots i new.boot) replica) old.boot new.boot boot
-          (IsAnswer old request version) (IsAnswer new request version) (boots-grow boots i new.boot replica boot)
-          (subst (λ (n : ℕ). Contains (boots_at boots n) new.boot → ⊥) (sym same.0) never)
-          (h old (ap (slice_get replicas) same.0 ∙ at)))
-      | inr other ↦
-          of-boot-grows (boots_at boots replica) (boots_at (with_boot boots i new.boot) replica) r.boot boot (IsAnswer r request version)
-          (boots-grow boots i new.boot replica boot) (h r other)
-    ]
-requests-restart boots replicas i old new at never (Ok (datagrams.Want replica worker from)) h = tt
-
-means-restart : (workers : ℕ) (durable : List Commit) (boots : List (List ℕ)) (replicas : List Replica) (i : ℕ) (old new : Replica)
-    → slice_get replicas i ≡ Some old → (Contains (boots_at boots i) new.boot → ⊥) → (datagram : Result Datagram WireFault)
-    → Means workers durable boots replicas datagram
-    → Means workers durable (with_boot boots i new.boot) (slice_set replicas i new) datagram
-means-restart workers durable boots replicas i old new at never datagram h =
-    record { tells = h.tells; requests = requests-restart boots replicas i old new at never datagram h.requests }
-
 -- a fresh replica in its new boot
 restarted-fed : (laws : FedLaws) (schema : List (List ℕ × List Kind)) (workers : ℕ) (durable : List Commit) (boots : List (List ℕ))
     (i boot : ℕ) → IsLegal (shape_of schema) workers durable → i < length boots → boot < 2 ^ 64
-    → IsFed (shape_of schema) workers durable (boots_at (with_boot boots i boot) i) i (replica_started schema workers i boot)
+    → IsFed (shape_of schema) (names_of schema) workers durable (boots_at (with_boot boots i boot) i) i
+    (replica_started schema workers i boot)
 restarted-fed laws schema workers durable boots i boot legal within below = record {
   feeding = laws.fresh schema durable workers i boot legal;
+  names_are = refl;
   workers_are = refl;
   number_is = refl;
   boot_is = record { had = boots-added boots i boot within; below = below };
 }
 
 -- the others are in boots that they had yet
-others-fed : (shape : Shape) (workers : ℕ) (durable : List Commit) (boots : List (List ℕ)) (i boot j : ℕ) (r : Replica)
-    → IsFed shape workers durable (boots_at boots j) j r → IsFed shape workers durable (boots_at (with_boot boots i boot) j) j r
-others-fed shape workers durable boots i boot j r fed = record {
+others-fed : (shape : Shape) (names : List (List ℕ)) (workers : ℕ) (durable : List Commit) (boots : List (List ℕ)) (i boot j : ℕ)
+    (r : Replica)
+    → IsFed shape names workers durable (boots_at boots j) j r → IsFed shape names workers durable (boots_at (with_boot boots i boot) j) j r
+others-fed shape names workers durable boots i boot j r fed = record {
   feeding = fed.feeding;
+  names_are = fed.names_are;
   workers_are = fed.workers_are;
   number_is = fed.number_is;
   boot_is = record { had = boots-grow boots i boot j r.boot fed.boot_is.had; below = fed.boot_is.below };
@@ -160,8 +123,9 @@ Sound-restarted laws shape p i boot old sound at never below =
     let there = sound.boots_there in
     let was = sound.fed i old at in
     let legal = subst (λ (n : ℕ). IsLegal shape n durable) was.workers_are was.feeding.legal in
-    let fed : IsFed shape workers durable (boots_at boots i) i new =
-    subst (λ (s : Shape). IsFed s workers durable (boots_at boots i) i new) same_shape
+    let names = names_of p.primary.schema in
+    let fed : IsFed shape names workers durable (boots_at boots i) i new =
+    subst (λ (s : Shape). IsFed s names workers durable (boots_at boots i) i new) same_shape
     (restarted-fed laws p.primary.schema workers durable p.boots i boot
     (subst (λ (s : Shape). IsLegal s workers durable) (sym same_shape) legal) (omega arith) below) in
     record {
@@ -172,12 +136,11 @@ Sound-restarted laws shape p i boot old sound at never below =
       asked_there = sound.asked_there ∙ sym (length-set p.replicas i new);
       few = let few = sound.few in omega (arith, length-set p.replicas i new);
       fed = λ j r here. elim (get-set p.replicas i new j r here) [
-        | inl same ↦ subst (λ (n : ℕ). IsFed shape workers durable (boots_at boots n) n r) (sym same.0)
-            (subst (λ (s : Replica). IsFed shape workers durable (boots_at boots i) i s) (sym same.1) fed)
-        | inr other ↦ others-fed shape workers durable p.boots i boot j r (sound.fed j r other)
+        | inl same ↦ subst (λ (n : ℕ). IsFed shape names workers durable (boots_at boots n) n r) (sym same.0)
+            (subst (λ (s : Replica). IsFed shape names workers durable (boots_at boots i) i s) (sym same.1) fed)
+        | inr other ↦ others-fed shape names workers durable p.boots i boot j r (sound.fed j r other)
       ];
-      sent_is =
-          λ j bytes here. means-restart workers durable p.boots p.replicas i old new at never (reading bytes) (sound.sent_is j bytes here);
+      sent_is = sound.sent_is;
     }
 
 -- what a restart does in the world, and that it leaves sound parts, by what it answers

@@ -1,10 +1,9 @@
 -- Running a batch does at a replica of sound parts what it does at its member, also where it is cut short.
 use Rattle.std.proofs.Common.{◌≡◌, ℕ, ◌+◌, ◌<◌, Bool, true, false, cond, nat_lt, List, [], ◌∷◌, length, Option, Some, None, Result, Ok, Err}
-use Rattle.std.proofs.Common.{refl, sym, ap, subst, ◌∙◌, ◌⊎◌, inl, inr, arith}
+use Rattle.std.proofs.Common.{refl, sym, ap, subst, ◌∙◌, ◌⊎◌, inl, inr}
 use Rattle.std.specs.Prelude.{IsOkAnd}
 use Rattle.std.specs.List.{slice_get, slice_index}
 use Rattle.std.specs.Option.{option_map, option_and_then, is_none}
-use Rattle.std.proofs.lemmas.Bool.{false≢true, true≢false}
 use Rattle.std.proofs.lemmas.Option.{none-some}
 use Rattle.rows.specs.Shape.{Shape, shape_of}
 use Rattle.rows.specs.Tables.{Tables, Refusal}
@@ -18,7 +17,7 @@ use Rattle.intake.specs.Steps.{dropped, lacking as arrivals_lacking, lacking_fro
 use Rattle.dispatcher.specs.declared.outcome.Run.{Run}
 use Rattle.dispatcher.specs.declared.outcome.Run.TheVariants as runs
 use Rattle.plans.specs.declared.plan.Plan.{Plan}
-use Rattle.dispatcher.specs.Feeding.{IsFedFrom}
+use Rattle.dispatcher.specs.Feeding.{IsFedFrom, Tells}
 use Rattle.dispatcher.specs.State.{Replica, Batch as ReplicaBatch, Fetched}
 use Rattle.dispatcher.specs.Report.{report_of}
 use Rattle.dispatcher.specs.Steps.{at_fetched, broken_of, want_for, ready, ready_of, unless_lacking, CaughtUp, RunsOutOfMemory}
@@ -31,7 +30,7 @@ use Rattle.world.specs.Steps.{World, Member, AskedBatch, run_happens, fetched_ha
 use Rattle.world.specs.Steps.{with_member}
 use Rattle.world.specs.Steps.{first_lacked, first_lacked_from}
 use Rattle.world.specs.Allowed.{ready_member, RunIsInterrupted}
-use Rattle.world.specs.Inner.Sound.{Sound, Means, awaits, awaits_by}
+use Rattle.world.specs.Inner.Sound.{Sound}
 use Rattle.world.specs.Standing.{boots_at, world_of, member_of, batch_of, known_in}
 use Rattle.world.proofs.Datagrams.{want-reads}
 use Rattle.world.proofs.FedLaws.{FedLaws}
@@ -62,51 +61,31 @@ lacking-same arrivals counts = lacking-from 0 arrivals counts
 
 -- ---- what a run makes of a replica
 
--- a replica whose batch may be answered waits for no Head
-ready-waits : (r : Replica) (fetched : Fetched) → ready_of r ≡ Some fetched → awaits r ≡ false
-ready-waits r fetched h = by r.broken r.batch h
-  where
-    on : (plans : List Plan) (held : Option Fetched)
-        → unless_lacking (arrivals_lacking r.arrivals) held ≡ Some fetched
-        → awaits_by (Some (record { plans = plans; fetched = held })) ≡ false
-    on plans None h = absurd (none-some fetched h)
-    on plans (Some held) h = refl
-
-    by : (broken : Bool) (batch : Option ReplicaBatch)
-        → ready broken (arrivals_lacking r.arrivals) (option_and_then (λ (b : ReplicaBatch). b.fetched) batch) ≡ Some fetched
-        → awaits_by batch ≡ false
-    by true batch h = absurd (none-some fetched h)
-    by false None h = refl
-    by false (Some queries) h = on queries.plans queries.fetched h
-
 -- it stands at the version that was fetched, its batch still there
-caught-moves : (r : Replica) (fetched : Fetched) (tables : Tables) → awaits r ≡ false → Moves r (at_fetched r fetched tables)
-caught-moves r fetched tables none = record {
+caught-moves : (r : Replica) (fetched : Fetched) (tables : Tables) → Moves r (at_fetched r fetched tables)
+caught-moves r fetched tables = record {
+  names_stay = refl;
   workers_stay = refl;
   number_stays = refl;
   boot_stays = refl;
-  request_grows = omega arith;
-  waits = λ waits same. absurd (true≢false (sym waits ∙ none));
 }
 
 -- it stands there, its batch answered
 finished-moves : (r : Replica) (fetched : Fetched) (tables : Tables) → Moves r (record (at_fetched r fetched tables) { batch = None })
 finished-moves r fetched tables = record {
+  names_stay = refl;
   workers_stay = refl;
   number_stays = refl;
   boot_stays = refl;
-  request_grows = omega arith;
-  waits = λ waits same. absurd (false≢true waits);
 }
 
 -- it is broken
-broken-moves : (r : Replica) → awaits r ≡ false → Moves r (broken_of r)
-broken-moves r none = record {
+broken-moves : (r : Replica) → Moves r (broken_of r)
+broken-moves r = record {
+  names_stay = refl;
   workers_stay = refl;
   number_stays = refl;
   boot_stays = refl;
-  request_grows = omega arith;
-  waits = λ waits same. absurd (true≢false (sym waits ∙ none));
 }
 
 -- its member at the version that was fetched
@@ -143,10 +122,9 @@ module _ (laws : FedLaws) (shape : Shape) (p : Parts) (i : ℕ) (r : Replica) (s
         let output = outputs.Waiting worker seq (record { index = length p.sent; len = length bytes }) in
         let same : with_sent p bytes ≡ with_sent (with_replica p i r) bytes =
         ap (λ (replicas : List Replica). with_sent (record p { replicas = replicas }) bytes) (sym (set-same p.replicas i r here)) in
-        let means : Means p.primary.workers p.primary.durable p.boots p.replicas (reading bytes) =
-        want-reads (Means p.primary.workers p.primary.durable p.boots p.replicas) (λ fault. record { tells = tt; requests = tt })
-        (λ replica worker from. record { tells = tt; requests = tt }) r.number worker seq in
-        (ap (λ (p : Parts). (output, world_of p)) same, subst (Sound shape) same (Sound-one shape p bytes sound means))
+        let tells : Tells p.primary.workers p.primary.durable (reading bytes) =
+        want-reads (Tells p.primary.workers p.primary.durable) (λ fault. tt) (λ replica worker from. tt) r.number worker seq in
+        (ap (λ (p : Parts). (output, world_of p)) same, subst (Sound shape) same (Sound-one shape p bytes sound tells))
 
     run-finishes : (plans : List Plan) (fetched : Fetched) (answer : Run) (after : Replica)
         → r.batch ≡ Some (record { plans = plans; fetched = Some fetched }) → ready_of r ≡ Some fetched → ReplicaRuns r answer after
@@ -308,7 +286,7 @@ module _ (laws : FedLaws) (shape : Shape) (p : Parts) (i : ℕ) (r : Replica) (s
             ),
           ),
           Sound-replica shape p i r after sound here
-              (record { feeding = feeding; moves = caught-moves r fetched tables (ready-waits r fetched is_ready) }),
+              (record { feeding = feeding; moves = caught-moves r fetched tables }),
         )
 
     cut-broken : (fetched : Fetched) → ready_of r ≡ Some fetched → r.version < fetched.version
@@ -323,7 +301,7 @@ module _ (laws : FedLaws) (shape : Shape) (p : Parts) (i : ℕ) (r : Replica) (s
             inr (refl, sym (member-changes p i (broken_of r) (sound.fed i r here).number_is), below),
           ),
           Sound-replica shape p i r (broken_of r) sound here
-              (record { feeding = feeding; moves = broken-moves r (ready-waits r fetched is_ready) }),
+              (record { feeding = feeding; moves = broken-moves r }),
         )
 
     pub cut-ends : (answer : Run) (after : Replica) → RunsOutOfMemory r answer after

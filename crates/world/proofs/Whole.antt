@@ -49,7 +49,7 @@ use Rattle.world.specs.Standing.{boots_at, world_of, members_of, AreFed, Journal
 use Rattle.world.specs.Inner.Undamaged.{IsUndamaged}
 use Rattle.world.specs.Inner.Fresh.{Fresh, HasBoot}
 use Rattle.world.proofs.Restarts.{restart-follows}
-use Rattle.world.specs.Inner.Invariant.{IsRequested, ReplicasAreNamed, PartsAreKept}
+use Rattle.world.specs.Inner.Invariant.{IsRequested, PartsAreKept}
 use Rattle.world.proofs.Adding.{reads_same, insert-added, set-added, delete-added}
 use Rattle.world.proofs.FedLaws.{FedLaws}
 use Rattle.world.proofs.Worlds.{beside_of, member_at, members-get, world-started}
@@ -64,9 +64,8 @@ use Rattle.world.proofs.Moving.{TakesMemory, AsksByAnswer}
 use Rattle.world.proofs.Running.{replica-runs, ready-same, ready-takes, cut-ends, Cuts}
 use Rattle.world.proofs.Committing.{transactions-begun, change-sound, look-sound, abort-sound, commit-sound, flush-sound, stop-sound}
 use Rattle.world.proofs.Committing.{start-sound}
-use Rattle.world.proofs.Committing.{push-sound, deliver-sound, raw-means, raw-sound}
-use Rattle.world.proofs.Named.{started-named, stays-named}
-use Rattle.world.proofs.Slots.{all_at}
+use Rattle.world.proofs.Committing.{push-sound, deliver-sound, raw-sound}
+use Rattle.world.proofs.Arriving.{sent-means, raw-means}
 
 -- ---- one step
 
@@ -78,17 +77,18 @@ found-member shape p i next here follows =
     (ap (λ (found : Option Member). on_member (world_of p) found next) (members-get p.replicas p.boots p.asked_at i) ∙ follows.0, follows.1)
 
 bytes-delivered : (laws : FedLaws) (shape : Shape) (p : Parts) (index number : ℕ) (found : Option (List ℕ)) → Sound shape p
+    → Fresh (world_of p)
     → slice_get p.sent index ≡ found
     → Follows shape (deliver_happens (world_of p) (nodes.Replica number) found) (come_by p number found)
-bytes-delivered laws shape p index number None sound here = (refl, sound)
-bytes-delivered laws shape p index number (Some bytes) sound here =
+bytes-delivered laws shape p index number None sound fresh here = (refl, sound)
+bytes-delivered laws shape p index number (Some bytes) sound fresh here =
     found-member shape p number _ _
-    (bytes-come laws shape p number bytes (slice_get p.replicas number) sound (sound.sent_is index bytes here) refl)
+    (bytes-come laws shape p number bytes (slice_get p.replicas number) sound fresh (sent-means shape p sound fresh index bytes here) refl)
 
 -- bytes that are handed over mean what was sent, or nothing, unless they are forged
-raw-delivered : (laws : FedLaws) (shape : Shape) (p : Parts) (number : ℕ) (bytes : List ℕ) → Sound shape p
+raw-delivered : (laws : FedLaws) (shape : Shape) (p : Parts) (number : ℕ) (bytes : List ℕ) → Sound shape p → Fresh (world_of p)
     → Follows shape (raw_happens (world_of p) (nodes.Replica number) bytes) (raw_by p number bytes (slice_get p.replicas number))
-raw-delivered laws shape p number bytes sound = by (is_forged p.sent bytes) refl
+raw-delivered laws shape p number bytes sound fresh = by (is_forged p.sent bytes) refl
   where
     by : (forged : Bool) → is_forged p.sent bytes ≡ forged
         → Follows shape (cond forged (outputs.Forged, world_of p) (delivered (world_of p) bytes (nodes.Replica number)))
@@ -96,7 +96,7 @@ raw-delivered laws shape p number bytes sound = by (is_forged p.sent bytes) refl
     by true e = (refl, sound)
     by false e =
         found-member shape p number _ _
-        (bytes-come laws shape p number bytes (slice_get p.replicas number) sound (raw-means shape p bytes sound e) refl)
+        (bytes-come laws shape p number bytes (slice_get p.replicas number) sound fresh (raw-means shape p bytes sound fresh e) refl)
 
 -- a replica that starts again
 restart-made : (laws : FedLaws) (shape : Shape) (p : Parts) (i boot : ℕ) (found : Option Replica) → Sound shape p
@@ -116,20 +116,17 @@ version-told : (shape : Shape) (p : Parts) (i : ℕ) (found : Option Replica) �
 version-told shape p i None sound = (refl, sound)
 version-told shape p i (Some r) sound = (refl, sound)
 
-tables-dumped : (laws : FedLaws) (shape : Shape) (p : Parts) (i : ℕ) (found : Option Replica) → Sound shape p → ReplicasAreNamed p
+tables-dumped : (laws : FedLaws) (shape : Shape) (p : Parts) (i : ℕ) (found : Option Replica) → Sound shape p
     → slice_get p.replicas i ≡ found
     → Follows shape
     (on_member (world_of p) (option_map (member_at p i) found)
     (λ m. cond m.broken (outputs.Broken, world_of p) (outputs.Dump (dump_at (world_of p) m.version), world_of p)))
     (dump_by p found)
-tables-dumped laws shape p i None sound named here = (refl, sound)
-tables-dumped laws shape p i (Some r) sound named here = (by r.broken refl, sound)
+tables-dumped laws shape p i None sound here = (refl, sound)
+tables-dumped laws shape p i (Some r) sound here = (by r.broken refl, sound)
   where
-    fed : IsFed shape p.primary.workers p.primary.durable (boots_at p.boots i) i r
+    fed : IsFed shape (names_of p.primary.schema) p.primary.workers p.primary.durable (boots_at p.boots i) i r
     fed = sound.fed i r here
-
-    names : r.names ≡ names_of p.primary.schema
-    names = all_at (λ (other : Replica). other.names ≡ names_of p.primary.schema) p.replicas i r here named
 
     by : (broken : Bool) → r.broken ≡ broken
         → ◌≡◌ {A = Output × World} (cond broken (outputs.Broken, world_of p) (outputs.Dump (dump_at (world_of p) r.version), world_of p))
@@ -141,194 +138,9 @@ tables-dumped laws shape p i (Some r) sound named here = (by r.broken refl, soun
         ap (λ (answer : Result (List ℕ) DumpFault). (of_dumped answer, world_of p))
         (sym (laws.dump shape p.primary.durable r fed.feeding e
         ∙ ap (λ (x : List (List ℕ) × Shape). Ok (table_text x.0 r.version (tables_after x.1 p.primary.durable r.version)))
-        (cc (names, sound.primary_is.shape_is))))
+        (cc (fed.names_are, sound.primary_is.shape_is))))
 
--- ---- what may happen
-
--- a step that may happen, and sound parts after it
-abbrev Happens : Shape → Parts → Event → Output → Parts → Type 0
-Happens shape p event output new = MayHappen (world_of p) event output (world_of new) × Sound shape new
-
--- what happens beside the replicas, where it leaves sound parts
-happens-beside : (shape : Shape) (p : Parts) (event : Event) (output : Output) (new : Parts) → Sound shape p
-    → (RunIsInterruptedAt (world_of p) event output (world_of new) → ⊥) → HappensBeside p event output new
-    → Sound shape (beside_of (happens (world_of p) event).1 p)
-    → Happens shape p event output new
-happens-beside shape p event output new sound uncut may after =
-    let left : record (beside_of (world_of new) p) { journal = new.journal } ≡ new =
-    ap (λ (x : Setup × List Replica × List (List ℕ) × List ℕ). record new { setup = x.0; replicas = x.1; boots = x.2; asked_at = x.3 })
-    (cc (may.setup, may.replicas, may.boots, may.asked_at)) in
-    let before = beside_of (world_of new) p in
-    (may.happens, subst (Sound shape) left (Sound-apart shape before before.primary.failed before.stopped new.journal (by may.happens)))
-  where
-    by : MayHappen (world_of p) event output (world_of new) → Sound shape (beside_of (world_of new) p)
-    by (inl made) = subst (λ (x : Output × World). Sound shape (beside_of x.1 p)) made after
-    by (inr (inl memory)) = subst (λ (w : World). Sound shape (beside_of w p)) (sym memory.1) sound
-    by (inr (inr cut)) = absurd (uncut cut)
-
--- an event of the primary: nothing happens while it is stopped
-happens-served : (shape : Shape) (p : Parts) (event : Event) (next : Output × World) (output : Output) (new : Parts) → Sound shape p
-    → (RunIsInterruptedAt (world_of p) event output (world_of new) → ⊥) → (p.stopped ≡ false → PrimaryListsAreLegal p.primary)
-    → HappensBeside p event output new → happens (world_of p) event ≡ unless_stopped (world_of p) next
-    → (PrimaryListsAreLegal p.primary → Sound shape (beside_of next.1 p))
-    → Happens shape p event output new
-happens-served shape p event next output new sound uncut lists may is served =
-    happens-beside shape p event output new sound uncut may
-    (subst (λ (x : Output × World). Sound shape (beside_of x.1 p)) (sym is) (by p.stopped refl))
-  where
-    by : (stopped : Bool) → p.stopped ≡ stopped → Sound shape (beside_of (cond stopped (outputs.Stopped, world_of p) next).1 p)
-    by true e = sound
-    by false e = served (lists e)
-
--- what a call on a replica does, where the world follows it
-happens-called : (shape : Shape) (p : Parts) (event : Event) (here : Output × Parts) (output : Output) (new : Parts) → Sound shape p
-    → AsksByAnswer (world_of p) event → Follows shape (happens (world_of p) event) here → MayAnswer p here output new
-    → Happens shape p event output new
-happens-called shape p event here output new sound asks follows (inl made) =
-    subst (λ (x : Output × Parts). Happens shape p event x.0 x.1) made (inl follows.0, follows.1)
-happens-called shape p event here output new sound asks follows (inr memory) = (
-  inr (inl (memory.0, ap world_of memory.1, asks _ (subst (λ (x : Output × World). TakesMemory x.0) (sym follows.0) memory.2))),
-  subst (Sound shape) (sym memory.1) sound,
-)
-
--- a run that is out of memory in the replica answers nothing that is made with memory
-cut-takes : (p : Parts) (i : ℕ) (r : Replica) (answer : Run) (after : Replica) → RunsOutOfMemory r answer after
-    → TakesMemory (run_output p i (answer, after)).0 → ⊥
-cut-takes p i r answer after wants takes = elim wants.2 [
-  | inl memory ↦ false≢true (subst (λ (a : Run). TakesMemory (run_output p i (a, after)).0) memory.0 takes)
-  | inr broken ↦ false≢true (subst (λ (a : Run). TakesMemory (run_output p i (a, after)).0) broken.0 takes)
-]
-
--- what a run does, memory aside
-run-told : (laws : FedLaws) (shape : Shape) (p : Parts) (i : ℕ) (r : Replica) (answer : Run) (after : Replica) → Sound shape p
-    → slice_get p.replicas i ≡ Some r → RunsReplica r answer after
-    → Follows shape (happens (world_of p) (events.Run i)) (run_output p i (answer, after))
-run-told laws shape p i r answer after sound here run =
-    found-member shape p i _ _
-    (subst (λ (found : Option Replica). Follows shape
-    (on_member (world_of p) (option_map (member_at p i) found)
-    (λ m. cond m.broken (outputs.Broken, world_of p) (run_happens (world_of p) m m.batch)))
-    (run_output p i (answer, after))) (sym here) (replica-runs laws shape p i r sound here answer after run))
-
-run-made : (laws : FedLaws) (shape : Shape) (p : Parts) (i : ℕ) (r : Replica) (answer : Run) (after : Replica) → Sound shape p
-    → slice_get p.replicas i ≡ Some r → MayRun r answer after
-    → Happens shape p (events.Run i) (run_output p i (answer, after)).0 (run_output p i (answer, after)).1
-run-made laws shape p i r answer after sound here (inl run) =
-    let follows = run-told laws shape p i r answer after sound here run in
-    (inl follows.0, follows.1)
-run-made laws shape p i r answer after sound here (inr wants) =
-    let ends = cut-ends laws shape p i r sound here answer after wants in
-    let new = run_output p i (answer, after) in
-    let w = world_of p in
-    let there : option_map (member_at p i) (slice_get p.replicas i) ≡ Some (member_at p i r) =
-    ap (option_map (member_at p i)) here in
-    let at = members-get p.replicas p.boots p.asked_at i ∙ there in
-    let same =
-    subst (λ (found : Option Member). Cuts w found new.0 (world_of new.1)) (sym at) ends.0 in
-    let takes =
-    subst (λ (found : Option Member). TakesMemory
-    (on_member w found (λ m. cond m.broken (outputs.Broken, w) (run_happens w m m.batch))).0) (sym at)
-    (ready-takes w (member_at p i r) wants.0 (ready-same (boots_at p.boots i) (slice_index p.asked_at i) r ∙ wants.1)) in
-    (elim same [ inl memory ↦ inr (inl (memory.0, memory.1, takes)) | inr cut ↦ inr (inr cut) ], ends.1)
-
-run-follows : (laws : FedLaws) (shape : Shape) (p : Parts) (i : ℕ) (found : Option Replica) (output : Output) (new : Parts) → Sound shape p
-    → slice_get p.replicas i ≡ found → ReplicaRunsBy p i found output new → Happens shape p (events.Run i) output new
-run-follows laws shape p i None output new sound here run = absurd run
-run-follows laws shape p i (Some r) output new sound here run = elim run.3 [
-  | inl made ↦ subst (λ (x : Output × Parts). Happens shape p (events.Run i) x.0 x.1) made
-      (run-made laws shape p i r run.0 run.1 sound here run.2)
-  | inr memory ↦ elim run.2 [
-    | inl ran ↦ happens-called shape p (events.Run i) (run_output p i (run.0, run.1)) output new sound (λ answer takes. takes)
-        (run-told laws shape p i r run.0 run.1 sound here ran) (inr memory)
-    | inr wants ↦ absurd (cut-takes p i r run.0 run.1 wants memory.2)
-  ]
-]
-
-module _ (laws : FedLaws) (shape : Shape) (p : Parts) (sound : Sound shape p) (named : ReplicasAreNamed p)
-    (lists : p.stopped ≡ false → PrimaryListsAreLegal p.primary) where
-  may-follow : (event : Event) (output : Output) (new : Parts) → MayStep p event output new → Happens shape p event output new
-  may-follow events.Begin output new may =
-      happens-served shape p _ _ output new sound (λ cut. cut) lists may refl (λ lists. transactions-begun shape p sound)
-  may-follow (events.Insert transaction table row values) output new may =
-      happens-served shape p _ _ output new sound (λ cut. cut) lists may refl
-      (λ lists. change-sound shape p transaction
-      (λ draft. insert_answer (shape_of p.primary.schema) p.primary.durable draft table row.0 values)
-      (open_transaction p.transactions transaction) sound
-      (λ draft after h. reads_same _ _ draft _ after
-      (insert-added laws.steps (shape_of p.primary.schema) p.primary.durable draft table row.0 after values h).1) refl)
-  may-follow (events.Set transaction table row column value) output new may =
-      happens-served shape p _ _ output new sound (λ cut. cut) lists may refl
-      (λ lists. change-sound shape p transaction
-      (λ draft. set_answer (shape_of p.primary.schema) p.primary.durable draft table row.0 column value)
-      (open_transaction p.transactions transaction) sound
-      (λ draft after h. reads_same _ _ draft _ after
-      (set-added laws.steps (shape_of p.primary.schema) p.primary.durable draft table row.0 after column value h).1) refl)
-  may-follow (events.Delete transaction table row) output new may =
-      happens-served shape p _ _ output new sound (λ cut. cut) lists may refl
-      (λ lists. change-sound shape p transaction
-      (λ draft. delete_answer (shape_of p.primary.schema) p.primary.durable draft table row.0)
-      (open_transaction p.transactions transaction) sound
-      (λ draft after h. reads_same _ _ draft _ after
-      (delete-added laws.steps (shape_of p.primary.schema) p.primary.durable draft table row.0 after h).1) refl)
-  may-follow (events.Get transaction table row column) output new may =
-      happens-served shape p _ _ output new sound (λ cut. cut) lists may refl
-      (λ lists. look-sound shape p (λ draft. get_answer (shape_of p.primary.schema) p.primary.durable draft table row.0 column)
-      (open_transaction p.transactions transaction) sound)
-  may-follow (events.Commit transaction worker) output new may =
-      happens-served shape p _ _ output new sound (λ cut. cut) lists may refl
-      (λ lists. commit-sound shape p transaction worker (open_transaction p.transactions transaction) sound)
-  may-follow (events.Abort transaction) output new may =
-      happens-served shape p _ _ output new sound (λ cut. cut) lists may refl
-      (λ lists. abort-sound shape p transaction (open_transaction p.transactions transaction) sound)
-  may-follow (events.Flush count) output new may =
-      happens-served shape p _ _ output new sound (λ cut. cut) lists may refl
-      (λ lists. flush-sound laws shape p count p.primary.failed _ _ lists sound)
-  may-follow (events.Stop bytes) output new may =
-      happens-served shape p _ _ output new sound (λ cut. cut) lists may.0 refl (λ lists. stop-sound laws shape p bytes lists sound)
-  may-follow events.Start output new may =
-      happens-beside shape p _ output new sound (λ cut. cut) may (start-sound shape p p.stopped sound)
-  may-follow (events.Push worker seq) output new may =
-      happens-served shape p _ _ output new sound (λ cut. cut) lists may refl
-      (λ lists. push-sound laws.steps.reads shape p worker seq (slice_get (stream_of p.primary.durable worker) seq) lists sound refl)
-  may-follow (events.Deliver index nodes.Primary) output new may =
-      happens-served shape p _ _ output new sound (λ cut. cut) lists may refl
-      (λ lists. deliver-sound laws.steps.reads shape p index (slice_get p.sent index) lists sound refl)
-  may-follow (events.Deliver index (nodes.Replica number)) output new may =
-      happens-called shape p (events.Deliver index (nodes.Replica number)) (come_by p number (slice_get p.sent index)) output new sound
-      (λ answer takes. takes)
-      (bytes-delivered laws shape p index number (slice_get p.sent index) sound refl) may
-  may-follow (events.Show index) output new may = happens-beside shape p _ output new sound (λ cut. cut) may sound
-  may-follow (events.Open replica plan) output new may =
-      happens-called shape p (events.Open replica plan) (open_by p replica plan (slice_get p.replicas replica)) output new sound
-      (λ answer takes. takes)
-      (found-member shape p replica _ _ (query-opens laws shape p replica plan (slice_get p.replicas replica) sound refl)) may
-  may-follow (events.Ask replica) output new may =
-      happens-called shape p (events.Ask replica) (ask_by p replica (slice_get p.replicas replica)) output new sound
-      (λ answer takes. takes)
-      (found-member shape p replica _ _ (version-asked laws shape p replica (slice_get p.replicas replica) sound refl)) may
-  may-follow (events.Run replica) output new may =
-      run-follows laws shape p replica (slice_get p.replicas replica) output new sound refl may
-  may-follow (events.Version replica) output new may =
-      happens-called shape p (events.Version replica) (version_by p (slice_get p.replicas replica)) output new sound
-      (λ answer takes. takes)
-      (found-member shape p replica _ _ (version-told shape p replica (slice_get p.replicas replica) sound)) may
-  may-follow (events.Dump replica) output new may =
-      happens-called shape p (events.Dump replica) (dump_by p (slice_get p.replicas replica)) output new sound
-      (λ answer takes. takes)
-      (found-member shape p replica _ _ (tables-dumped laws shape p replica (slice_get p.replicas replica) sound named refl)) may
-  may-follow (events.Restart replica boot) output new may =
-      happens-called shape p (events.Restart replica boot) (restart_by p replica boot (slice_get p.replicas replica)) output new sound
-      (λ answer takes. takes)
-      (found-member shape p replica _ _ (restart-made laws shape p replica boot (slice_get p.replicas replica) sound refl may.0)) may.1
-  may-follow (events.Raw nodes.Primary bytes) output new may =
-      happens-served shape p _ _ output new sound (λ cut. cut) lists may refl
-      (λ lists. raw-sound laws.steps.reads shape p bytes lists sound)
-  may-follow (events.Raw (nodes.Replica number) bytes) output new may =
-      happens-called shape p (events.Raw (nodes.Replica number) bytes) (raw_by p number bytes (slice_get p.replicas number)) output new
-      sound (λ answer takes. takes)
-      (raw-delivered laws shape p number bytes sound) may
-
--- ---- the journal
+-- ---- what a call on a replica leaves
 
 -- a call on a replica leaves the primary and its journal
 record Leaves (p new : Parts) : Type 0 where
@@ -347,11 +159,6 @@ leaves-keeps p new leaves keeps stopped =
       subst (λ (x : Primary × List ℕ). IsRecovered x.0.workers (shape_of x.0.schema) x.1 x.0.durable kept.0)
           (sym pair) kept.1,
     )
-
-leaves-answer : (p : Parts) (here : Output × Parts) (output : Output) (new : Parts) → Leaves p here.1 → MayAnswer p here output new
-    → Leaves p new
-leaves-answer p here output new leaves (inl made) = subst (λ (x : Output × Parts). Leaves p x.1) made leaves
-leaves-answer p here output new leaves (inr memory) = subst (Leaves p) (sym memory.1) (leaves-same p)
 
 bytes-leave : (p : Parts) (number : ℕ) (bytes : List ℕ) (found : Option Replica) → Leaves p (to_replica p number bytes found).1
 bytes-leave p number bytes None = leaves-same p
@@ -410,43 +217,206 @@ run-leaves p number runs.Inconsistent after = record { primary = refl; stopped =
 run-leaves p number runs.Broken after = record { primary = refl; stopped = refl; journal = refl }
 run-leaves p number runs.Memory after = record { primary = refl; stopped = refl; journal = refl }
 
-runs-leave : (p : Parts) (number : ℕ) (found : Option Replica) (output : Output) (new : Parts)
-    → ReplicaRunsBy p number found output new → Leaves p new
-runs-leave p number None output new run = absurd run
-runs-leave p number (Some r) output new run = leaves-answer p _ output new (run-leaves p number run.0 run.1) run.3
+-- ---- what may happen
 
--- while the primary is stopped, its journal keeps what is durable, whatever the step
-stays-kept : (p : Parts) (event : Event) (output : Output) (new : Parts) → KeepsStopped p → MayStep p event output new → KeepsStopped new
-stays-kept p (events.Deliver index (nodes.Replica number)) output new keeps may =
-    leaves-keeps p new (leaves-answer p _ output new (come-leaves p number (slice_get p.sent index)) may) keeps
-stays-kept p (events.Open replica plan) output new keeps may =
-    leaves-keeps p new (leaves-answer p _ output new (open-leaves p replica plan (slice_get p.replicas replica)) may) keeps
-stays-kept p (events.Ask replica) output new keeps may =
-    leaves-keeps p new (leaves-answer p _ output new (ask-leaves p replica (slice_get p.replicas replica)) may) keeps
-stays-kept p (events.Run replica) output new keeps may =
-    leaves-keeps p new (runs-leave p replica (slice_get p.replicas replica) output new may) keeps
-stays-kept p events.Begin output new keeps may = may.kept keeps
-stays-kept p (events.Insert transaction table row values) output new keeps may = may.kept keeps
-stays-kept p (events.Set transaction table row column value) output new keeps may = may.kept keeps
-stays-kept p (events.Delete transaction table row) output new keeps may = may.kept keeps
-stays-kept p (events.Get transaction table row column) output new keeps may = may.kept keeps
-stays-kept p (events.Commit transaction worker) output new keeps may = may.kept keeps
-stays-kept p (events.Abort transaction) output new keeps may = may.kept keeps
-stays-kept p (events.Flush count) output new keeps may = may.kept keeps
-stays-kept p (events.Stop bytes) output new keeps may = may.0.kept keeps
-stays-kept p events.Start output new keeps may = may.kept keeps
-stays-kept p (events.Push worker seq) output new keeps may = may.kept keeps
-stays-kept p (events.Deliver index nodes.Primary) output new keeps may = may.kept keeps
-stays-kept p (events.Show index) output new keeps may = may.kept keeps
-stays-kept p (events.Version replica) output new keeps may =
-    leaves-keeps p new (leaves-answer p _ output new (version-leaves p (slice_get p.replicas replica)) may) keeps
-stays-kept p (events.Dump replica) output new keeps may =
-    leaves-keeps p new (leaves-answer p _ output new (dump-leaves p (slice_get p.replicas replica)) may) keeps
-stays-kept p (events.Restart replica boot) output new keeps may =
-    leaves-keeps p new (leaves-answer p _ output new (restart-leaves p replica boot (slice_get p.replicas replica)) may.1) keeps
-stays-kept p (events.Raw nodes.Primary bytes) output new keeps may = may.kept keeps
-stays-kept p (events.Raw (nodes.Replica number) bytes) output new keeps may =
-    leaves-keeps p new (leaves-answer p _ output new (raw-leaves p number bytes) may) keeps
+-- a step that may happen, sound parts after it, and while the primary is stopped its journal keeps what is durable
+abbrev Happens : Shape → Parts → Event → Output → Parts → Type 0
+Happens shape p event output new =
+    MayHappen (world_of p) event output (world_of new) × Sound shape new × (KeepsStopped p → KeepsStopped new)
+
+-- what happens beside the replicas, where it leaves sound parts
+happens-beside : (shape : Shape) (p : Parts) (event : Event) (output : Output) (new : Parts) → Sound shape p
+    → (RunIsInterruptedAt (world_of p) event output (world_of new) → ⊥) → HappensBeside p event output new
+    → Sound shape (beside_of (happens (world_of p) event).1 p)
+    → Happens shape p event output new
+happens-beside shape p event output new sound uncut may after =
+    let left : record (beside_of (world_of new) p) { journal = new.journal } ≡ new =
+    ap (λ (x : Setup × List Replica × List (List ℕ) × List ℕ). record new { setup = x.0; replicas = x.1; boots = x.2; asked_at = x.3 })
+    (cc (may.setup, may.replicas, may.boots, may.asked_at)) in
+    let before = beside_of (world_of new) p in (
+      may.happens,
+      subst (Sound shape) left (Sound-apart shape before before.primary.failed before.stopped new.journal (by may.happens)),
+      may.kept,
+    )
+  where
+    by : MayHappen (world_of p) event output (world_of new) → Sound shape (beside_of (world_of new) p)
+    by (inl made) = subst (λ (x : Output × World). Sound shape (beside_of x.1 p)) made after
+    by (inr (inl memory)) = subst (λ (w : World). Sound shape (beside_of w p)) (sym memory.1) sound
+    by (inr (inr cut)) = absurd (uncut cut)
+
+-- an event of the primary: nothing happens while it is stopped
+happens-served : (shape : Shape) (p : Parts) (event : Event) (next : Output × World) (output : Output) (new : Parts) → Sound shape p
+    → (RunIsInterruptedAt (world_of p) event output (world_of new) → ⊥) → (p.stopped ≡ false → PrimaryListsAreLegal p.primary)
+    → HappensBeside p event output new → happens (world_of p) event ≡ unless_stopped (world_of p) next
+    → (PrimaryListsAreLegal p.primary → Sound shape (beside_of next.1 p))
+    → Happens shape p event output new
+happens-served shape p event next output new sound uncut lists may is served =
+    happens-beside shape p event output new sound uncut may
+    (subst (λ (x : Output × World). Sound shape (beside_of x.1 p)) (sym is) (by p.stopped refl))
+  where
+    by : (stopped : Bool) → p.stopped ≡ stopped → Sound shape (beside_of (cond stopped (outputs.Stopped, world_of p) next).1 p)
+    by true e = sound
+    by false e = served (lists e)
+
+-- what a call on a replica does, where the world follows it
+happens-called : (shape : Shape) (p : Parts) (event : Event) (here : Output × Parts) (output : Output) (new : Parts) → Sound shape p
+    → AsksByAnswer (world_of p) event → Follows shape (happens (world_of p) event) here → Leaves p here.1 → MayAnswer p here output new
+    → Happens shape p event output new
+happens-called shape p event here output new sound asks follows leaves (inl made) =
+    subst (λ (x : Output × Parts). Happens shape p event x.0 x.1) made (inl follows.0, follows.1, leaves-keeps p here.1 leaves)
+happens-called shape p event here output new sound asks follows leaves (inr memory) = (
+  inr (inl (memory.0, ap world_of memory.1, asks _ (subst (λ (x : Output × World). TakesMemory x.0) (sym follows.0) memory.2))),
+  subst (Sound shape) (sym memory.1) sound,
+  subst (λ (new : Parts). KeepsStopped p → KeepsStopped new) (sym memory.1) (λ keeps. keeps),
+)
+
+-- a run that is out of memory in the replica answers nothing that is made with memory
+cut-takes : (p : Parts) (i : ℕ) (r : Replica) (answer : Run) (after : Replica) → RunsOutOfMemory r answer after
+    → TakesMemory (run_output p i (answer, after)).0 → ⊥
+cut-takes p i r answer after wants takes = elim wants.2 [
+  | inl memory ↦ false≢true (subst (λ (a : Run). TakesMemory (run_output p i (a, after)).0) memory.0 takes)
+  | inr broken ↦ false≢true (subst (λ (a : Run). TakesMemory (run_output p i (a, after)).0) broken.0 takes)
+]
+
+-- what a run does, memory aside
+run-told : (laws : FedLaws) (shape : Shape) (p : Parts) (i : ℕ) (r : Replica) (answer : Run) (after : Replica) → Sound shape p
+    → slice_get p.replicas i ≡ Some r → RunsReplica r answer after
+    → Follows shape (happens (world_of p) (events.Run i)) (run_output p i (answer, after))
+run-told laws shape p i r answer after sound here run =
+    found-member shape p i _ _
+    (subst (λ (found : Option Replica). Follows shape
+    (on_member (world_of p) (option_map (member_at p i) found)
+    (λ m. cond m.broken (outputs.Broken, world_of p) (run_happens (world_of p) m m.batch)))
+    (run_output p i (answer, after))) (sym here) (replica-runs laws shape p i r sound here answer after run))
+
+run-made : (laws : FedLaws) (shape : Shape) (p : Parts) (i : ℕ) (r : Replica) (answer : Run) (after : Replica) → Sound shape p
+    → slice_get p.replicas i ≡ Some r → MayRun r answer after
+    → Happens shape p (events.Run i) (run_output p i (answer, after)).0 (run_output p i (answer, after)).1
+run-made laws shape p i r answer after sound here (inl run) =
+    let follows = run-told laws shape p i r answer after sound here run in
+    (inl follows.0, follows.1, leaves-keeps p _ (run-leaves p i answer after))
+run-made laws shape p i r answer after sound here (inr wants) =
+    let ends = cut-ends laws shape p i r sound here answer after wants in
+    let new = run_output p i (answer, after) in
+    let w = world_of p in
+    let there : option_map (member_at p i) (slice_get p.replicas i) ≡ Some (member_at p i r) =
+    ap (option_map (member_at p i)) here in
+    let at = members-get p.replicas p.boots p.asked_at i ∙ there in
+    let same =
+    subst (λ (found : Option Member). Cuts w found new.0 (world_of new.1)) (sym at) ends.0 in
+    let takes =
+    subst (λ (found : Option Member). TakesMemory
+    (on_member w found (λ m. cond m.broken (outputs.Broken, w) (run_happens w m m.batch))).0) (sym at)
+    (ready-takes w (member_at p i r) wants.0 (ready-same (boots_at p.boots i) (slice_index p.asked_at i) r ∙ wants.1)) in (
+      elim same [ inl memory ↦ inr (inl (memory.0, memory.1, takes)) | inr cut ↦ inr (inr cut) ],
+      ends.1,
+      leaves-keeps p new.1 (run-leaves p i answer after),
+    )
+
+run-follows : (laws : FedLaws) (shape : Shape) (p : Parts) (i : ℕ) (found : Option Replica) (output : Output) (new : Parts) → Sound shape p
+    → slice_get p.replicas i ≡ found → ReplicaRunsBy p i found output new → Happens shape p (events.Run i) output new
+run-follows laws shape p i None output new sound here run = absurd run
+run-follows laws shape p i (Some r) output new sound here run = elim run.3 [
+  | inl made ↦ subst (λ (x : Output × Parts). Happens shape p (events.Run i) x.0 x.1) made
+      (run-made laws shape p i r run.0 run.1 sound here run.2)
+  | inr memory ↦ elim run.2 [
+    | inl ran ↦ happens-called shape p (events.Run i) (run_output p i (run.0, run.1)) output new sound (λ answer takes. takes)
+        (run-told laws shape p i r run.0 run.1 sound here ran) (run-leaves p i run.0 run.1) (inr memory)
+    | inr wants ↦ absurd (cut-takes p i r run.0 run.1 wants memory.2)
+  ]
+]
+
+module _ (laws : FedLaws) (shape : Shape) (p : Parts) (sound : Sound shape p) (fresh : Fresh (world_of p))
+    (lists : p.stopped ≡ false → PrimaryListsAreLegal p.primary) where
+  may-follow : (event : Event) (output : Output) (new : Parts) → MayStep p event output new → Happens shape p event output new
+  may-follow events.Begin output new may =
+      happens-served shape p _ _ output new sound (λ cut. cut) lists may refl (λ lists. transactions-begun shape p sound)
+  may-follow (events.Insert transaction table row values) output new may =
+      happens-served shape p _ _ output new sound (λ cut. cut) lists may refl
+      (λ lists. change-sound shape p transaction
+      (λ draft. insert_answer (shape_of p.primary.schema) p.primary.durable draft table row.0 values)
+      (open_transaction p.transactions transaction) sound
+      (λ draft after h. reads_same _ _ draft _ after
+      (insert-added laws.steps (shape_of p.primary.schema) p.primary.durable draft table row.0 after values h).1) refl)
+  may-follow (events.Set transaction table row column value) output new may =
+      happens-served shape p _ _ output new sound (λ cut. cut) lists may refl
+      (λ lists. change-sound shape p transaction
+      (λ draft. set_answer (shape_of p.primary.schema) p.primary.durable draft table row.0 column value)
+      (open_transaction p.transactions transaction) sound
+      (λ draft after h. reads_same _ _ draft _ after
+      (set-added laws.steps (shape_of p.primary.schema) p.primary.durable draft table row.0 after column value h).1) refl)
+  may-follow (events.Delete transaction table row) output new may =
+      happens-served shape p _ _ output new sound (λ cut. cut) lists may refl
+      (λ lists. change-sound shape p transaction
+      (λ draft. delete_answer (shape_of p.primary.schema) p.primary.durable draft table row.0)
+      (open_transaction p.transactions transaction) sound
+      (λ draft after h. reads_same _ _ draft _ after
+      (delete-added laws.steps (shape_of p.primary.schema) p.primary.durable draft table row.0 after h).1) refl)
+  may-follow (events.Get transaction table row column) output new may =
+      happens-served shape p _ _ output new sound (λ cut. cut) lists may refl
+      (λ lists. look-sound shape p (λ draft. get_answer (shape_of p.primary.schema) p.primary.durable draft table row.0 column)
+      (open_transaction p.transactions transaction) sound)
+  may-follow (events.Commit transaction worker) output new may =
+      happens-served shape p _ _ output new sound (λ cut. cut) lists may refl
+      (λ lists. commit-sound shape p transaction worker (open_transaction p.transactions transaction) sound)
+  may-follow (events.Abort transaction) output new may =
+      happens-served shape p _ _ output new sound (λ cut. cut) lists may refl
+      (λ lists. abort-sound shape p transaction (open_transaction p.transactions transaction) sound)
+  may-follow (events.Flush count) output new may =
+      happens-served shape p _ _ output new sound (λ cut. cut) lists may refl
+      (λ lists. flush-sound laws shape p count p.primary.failed _ _ lists sound)
+  may-follow (events.Stop bytes) output new may =
+      happens-served shape p _ _ output new sound (λ cut. cut) lists may.0 refl (λ lists. stop-sound laws shape p bytes lists sound)
+  may-follow events.Start output new may =
+      happens-beside shape p _ output new sound (λ cut. cut) may (start-sound shape p p.stopped sound)
+  may-follow (events.Push worker seq) output new may =
+      happens-served shape p _ _ output new sound (λ cut. cut) lists may refl
+      (λ lists. push-sound laws.steps.reads shape p worker seq (slice_get (stream_of p.primary.durable worker) seq) lists sound refl)
+  may-follow (events.Deliver index nodes.Primary) output new may =
+      happens-served shape p _ _ output new sound (λ cut. cut) lists may refl
+      (λ lists. deliver-sound laws.steps.reads shape p index (slice_get p.sent index) lists sound fresh refl)
+  may-follow (events.Deliver index (nodes.Replica number)) output new may =
+      happens-called shape p (events.Deliver index (nodes.Replica number)) (come_by p number (slice_get p.sent index)) output new sound
+      (λ answer takes. takes)
+      (bytes-delivered laws shape p index number (slice_get p.sent index) sound fresh refl)
+      (come-leaves p number (slice_get p.sent index)) may
+  may-follow (events.Show index) output new may = happens-beside shape p _ output new sound (λ cut. cut) may sound
+  may-follow (events.Open replica plan) output new may =
+      happens-called shape p (events.Open replica plan) (open_by p replica plan (slice_get p.replicas replica)) output new sound
+      (λ answer takes. takes)
+      (found-member shape p replica _ _ (query-opens laws shape p replica plan (slice_get p.replicas replica) sound refl))
+      (open-leaves p replica plan (slice_get p.replicas replica)) may
+  may-follow (events.Ask replica) output new may =
+      happens-called shape p (events.Ask replica) (ask_by p replica (slice_get p.replicas replica)) output new sound
+      (λ answer takes. takes)
+      (found-member shape p replica _ _ (version-asked laws shape p replica (slice_get p.replicas replica) sound refl))
+      (ask-leaves p replica (slice_get p.replicas replica)) may
+  may-follow (events.Run replica) output new may =
+      run-follows laws shape p replica (slice_get p.replicas replica) output new sound refl may
+  may-follow (events.Version replica) output new may =
+      happens-called shape p (events.Version replica) (version_by p (slice_get p.replicas replica)) output new sound
+      (λ answer takes. takes)
+      (found-member shape p replica _ _ (version-told shape p replica (slice_get p.replicas replica) sound))
+      (version-leaves p (slice_get p.replicas replica)) may
+  may-follow (events.Dump replica) output new may =
+      happens-called shape p (events.Dump replica) (dump_by p (slice_get p.replicas replica)) output new sound
+      (λ answer takes. takes)
+      (found-member shape p replica _ _ (tables-dumped laws shape p replica (slice_get p.replicas replica) sound refl))
+      (dump-leaves p (slice_get p.replicas replica)) may
+  may-follow (events.Restart replica boot) output new may =
+      happens-called shape p (events.Restart replica boot) (restart_by p replica boot (slice_get p.replicas replica)) output new sound
+      (λ answer takes. takes)
+      (found-member shape p replica _ _ (restart-made laws shape p replica boot (slice_get p.replicas replica) sound refl may.0))
+      (restart-leaves p replica boot (slice_get p.replicas replica)) may.1
+  may-follow (events.Raw nodes.Primary bytes) output new may =
+      happens-served shape p _ _ output new sound (λ cut. cut) lists may refl
+      (λ lists. raw-sound laws.steps.reads shape p bytes lists sound fresh)
+  may-follow (events.Raw (nodes.Replica number) bytes) output new may =
+      happens-called shape p (events.Raw (nodes.Replica number) bytes) (raw_by p number bytes (slice_get p.replicas number)) output new
+      sound (λ answer takes. takes)
+      (raw-delivered laws shape p number bytes sound fresh) (raw-leaves p number bytes) may
+
+-- ---- the journal
 
 -- the journal's text, where the primary runs and has not failed
 abbrev pub HasText : Parts → Type 0
@@ -470,9 +440,10 @@ journal-stands p keeps text whole = by p.stopped refl
 -- ---- the beginning
 
 started-fed : (laws : FedLaws) (schema : List (List ℕ × List Kind)) (workers number : ℕ)
-    → IsFed (shape_of schema) workers [] (1 ∷ []) number (started_replica schema workers number 1)
+    → IsFed (shape_of schema) (names_of schema) workers [] (1 ∷ []) number (started_replica schema workers number 1)
 started-fed laws schema workers number = record {
   feeding = laws.fresh schema [] workers number 1 (record { each = tt; defined = refl });
+  names_are = refl;
   workers_are = refl;
   number_is = refl;
   boot_is = record { had = Contains-push [] 1; below = omega arith };
@@ -480,16 +451,16 @@ started-fed laws schema workers number = record {
 
 replicas-fed : (laws : FedLaws) (schema : List (List ℕ × List Kind)) (workers number count i : ℕ) (r : Replica)
     → slice_get (replicas_from schema workers number count) i ≡ Some r
-    → IsFed (shape_of schema) workers [] (boots_at (replicate count (1 ∷ [])) i) (number + i) r
+    → IsFed (shape_of schema) (names_of schema) workers [] (boots_at (replicate count (1 ∷ [])) i) (number + i) r
 replicas-fed laws schema workers number zero i r h = absurd (none-some r h)
 replicas-fed laws schema workers number (suc count) zero r h =
     let same : started_replica schema workers number 1 ≡ r = cc in
     let index : number ≡ number + 0 = omega arith in
-    subst (λ (n : ℕ). IsFed (shape_of schema) workers [] (1 ∷ []) n r) index
-    (subst (IsFed (shape_of schema) workers [] (1 ∷ []) number) same (started-fed laws schema workers number))
+    subst (λ (n : ℕ). IsFed (shape_of schema) (names_of schema) workers [] (1 ∷ []) n r) index
+    (subst (IsFed (shape_of schema) (names_of schema) workers [] (1 ∷ []) number) same (started-fed laws schema workers number))
 replicas-fed laws schema workers number (suc count) (suc i) r h =
     let index : suc number + i ≡ number + suc i = omega arith in
-    subst (λ (n : ℕ). IsFed (shape_of schema) workers [] (boots_at (replicate count (1 ∷ [])) i) n r) index
+    subst (λ (n : ℕ). IsFed (shape_of schema) (names_of schema) workers [] (boots_at (replicate count (1 ∷ [])) i) n r) index
     (replicas-fed laws schema workers (suc number) count i r h)
 
 length-replicas : (schema : List (List ℕ × List Kind)) (workers number count : ℕ)
@@ -514,7 +485,8 @@ parts-sound laws setup some workers few =
       asked_there = length-zeros count ∙ sym (length-replicas setup.schema setup.workers 0 count);
       few = omega (arith, length-replicas setup.schema setup.workers 0 count);
       fed = λ i r here. let index : 0 + i ≡ i =
-          omega arith in subst (λ (n : ℕ). IsFed shape setup.workers [] (boots_at (replicate count (1 ∷ [])) i) n r) index
+          omega arith in
+          subst (λ (n : ℕ). IsFed shape (names_of setup.schema) setup.workers [] (boots_at (replicate count (1 ∷ [])) i) n r) index
           (replicas-fed laws setup.schema setup.workers 0 count i r here);
       sent_is = λ i bytes here. absurd (none-some bytes here);
     }
@@ -537,7 +509,6 @@ pub started-kept : (laws : FedLaws) (setup : Setup) → AreTables (shape_of setu
 started-kept laws setup tables some workers few = record {
   journal = λ stopped. absurd (false≢true stopped);
   tables = tables;
-  named = started-named setup.schema setup.workers 0 setup.replicas;
   sound = parts-sound laws setup some workers few;
   requested = subst IsRequested (sym (world-started setup)) (opening-requested setup);
   undamaged = subst IsUndamaged (sym (world-started setup)) (opening-undamaged setup);
@@ -564,14 +535,14 @@ pub step-keeps : (laws : FedLaws) (old : Parts) (event : Event) (output : Output
     → (old.stopped ≡ false → PrimaryListsAreLegal old.primary) → MayStep old event output new → IsKeptStep old event output new
 step-keeps laws old event output new kept lists may =
     let shape = shape_of old.primary.schema in
-    let first = may-follow laws shape old kept.sound kept.named lists event output new may in
+    let first = may-follow laws shape old kept.sound kept.fresh lists event output new may in
     let same = first.1.primary_is.shape_is in
     let sound = subst (λ (s : Shape). Sound s new) (sym same) first.1 in
     let fine = step-fine laws.steps (world_of old) event output (world_of new) first.0 in
     let serves = step-serves laws.steps (world_of old) event output (world_of new) (may-boot old event output new may) kept.fresh first.0 in
     let stays = step-counts (world_of old) event output (world_of new) first.0 in
     let undamaged = fine.undamaged kept.undamaged in
-    let journal = stays-kept old event output new kept.journal may in
+    let journal = first.2 kept.journal in
     record {
       step = record { happens = first.0; rows = serves.rows; durable = fine.grows; faultless = fine.output kept.undamaged };
       fed = fed-sound new sound;
@@ -583,7 +554,6 @@ step-keeps laws old event output new kept lists may =
       kept = record {
         journal = journal;
         tables = subst AreTables (sym same) kept.tables;
-        named = stays-named laws.names old event output new stays.schema kept.named may;
         sound = sound;
         requested = stays.requested kept.requested;
         undamaged = undamaged;

@@ -1,19 +1,20 @@
 //! The steps of transactions: each event is one call on one of them, or on the primary.
 
-ghost use Rattle.std.specs.Prelude.{◌≡◌, ◌<◌, None, Some, IfSome, slice_set, vec_len};
+ghost use Rattle.std.specs.Prelude.{◌≡◌, ◌<◌, ◌≤◌, ℕ, length, None, Some, Ok, IfSome, IfErr, OnOk, slice_set, vec_len};
 ghost use Rattle.std.specs.Option.{option_map};
-ghost use Rattle.script.specs.declared.event.Event.{Event};
+ghost use Rattle.rows.specs.Faults.{IsFaultOf};
+ghost use Rattle.rows.specs.Shape.{shape_of};
 ghost use Rattle.world.specs.Inner.Invariant.{IsReady};
-ghost use Rattle.world.specs.Inner.CoreSteps.{HappensBeside};
+ghost use Rattle.world.specs.Inner.CoreSteps.{HappensBeside, ChangesTransaction, change_answer};
 ghost use Rattle.world.specs.Steps.{open_transaction};
 
 use crate::cores::Cores;
 use crate::naming::{change_output, commit_output, look_output};
 use crate::primary_node::PrimaryNode;
-use mvcc::Transaction;
+use mvcc::{Transaction, TxFault, Versions};
 use primary::CommitFault;
-use rows::{Row, RowId, Value};
-use script::Output;
+use rows::RowId;
+use script::{Event, Output};
 
 impl Cores {
     /// Begins a transaction on what is durable.
@@ -32,10 +33,11 @@ impl Cores {
         }
     }
 
-    /// Puts a row in.
-    pub fn insert(&mut self, number: u64, table: u8, row: RowId, values: &Row) -> Output
-        requires { IsReady self.old }
-        ensures { HappensBeside self.old (Event.Insert number table row values.now) result self.new }
+    /// Changes a transaction: an event inserts a row, sets a column or deletes a row.
+    pub fn change(&mut self, number: u64, event: &Event) -> Output
+        requires ready { IsReady self.old }
+        requires changes { ChangesTransaction number event.now }
+        ensures { HappensBeside self.old event.now result self.new }
     {
         let PrimaryNode::Running(primary) = &self.primary else {
             return Output::Stopped;
@@ -43,43 +45,9 @@ impl Cores {
         let Some(mut transaction) = take_open(&mut self.transactions, number) else {
             return Output::NoTx;
         };
-        let values = values.as_slice();
-        let inserted = transaction.insert(primary.versions(), table, row, values);
+        let changed = make_change(&mut transaction, primary.versions(), event);
         put_back(&mut self.transactions, number, transaction);
-        change_output(inserted)
-    }
-
-    /// Gives one column of a row another value.
-    pub fn set(&mut self, number: u64, table: u8, row: RowId, column: u8, value: Value) -> Output
-        requires { IsReady self.old }
-        ensures { HappensBeside self.old (Event.Set number table row column value) result self.new }
-    {
-        let PrimaryNode::Running(primary) = &self.primary else {
-            return Output::Stopped;
-        };
-        let Some(mut transaction) = take_open(&mut self.transactions, number) else {
-            return Output::NoTx;
-        };
-        let column = column as usize;
-        let set = transaction.set(primary.versions(), table, row, column, value);
-        put_back(&mut self.transactions, number, transaction);
-        change_output(set)
-    }
-
-    /// Takes a row out.
-    pub fn delete(&mut self, number: u64, table: u8, row: RowId) -> Output
-        requires { IsReady self.old }
-        ensures { HappensBeside self.old (Event.Delete number table row) result self.new }
-    {
-        let PrimaryNode::Running(primary) = &self.primary else {
-            return Output::Stopped;
-        };
-        let Some(mut transaction) = take_open(&mut self.transactions, number) else {
-            return Output::NoTx;
-        };
-        let deleted = transaction.delete(primary.versions(), table, row);
-        put_back(&mut self.transactions, number, transaction);
-        change_output(deleted)
+        change_output(changed)
     }
 
     /// Looks at one column of a row, as the transaction sees it.
@@ -130,6 +98,39 @@ impl Cores {
             None => Output::NoTx,
             Some(_) => Output::Accepted,
         }
+    }
+}
+
+/// The call of the transaction that an event stands for which changes one.
+fn make_change(
+    transaction: &mut Transaction,
+    versions: &Versions,
+    event: &Event,
+) -> Result<(), TxFault>
+    requires known { transaction.old.snapshot ≤ length versions.now.commits }
+    requires changes { (number : ℕ) × ChangesTransaction number event.now }
+    ensures ok { OnOk result
+        (change_answer (shape_of versions.now.schema) versions.now.commits event.now transaction.old ≡ Ok transaction.new) }
+    ensures refused { IfErr result (λ fault. (transaction.new ≡ transaction.old)
+        × IsFaultOf (change_answer (shape_of versions.now.schema) versions.now.commits event.now transaction.old)
+        TxFault.Memory fault) }
+{
+    match event {
+        Event::Insert {
+            table,
+            row,
+            values,
+            ..
+        } => transaction.insert(versions, *table, *row, values.as_slice()),
+        Event::Set {
+            table,
+            row,
+            column,
+            value,
+            ..
+        } => transaction.set(versions, *table, *row, *column as usize, *value),
+        Event::Delete { table, row, .. } => transaction.delete(versions, *table, *row),
+        _ => unreachable!(),
     }
 }
 

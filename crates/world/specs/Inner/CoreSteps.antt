@@ -2,6 +2,11 @@
 -- what a call on a replica does is told by the replica's own definitions.
 use Rattle.std.specs.Prelude.{◌≡◌, ℕ, List, [], ◌∷◌, ◌++◌, length, true, Option, None, Some, Result, Ok, Err, slice_get, slice_set, ◌⊎◌}
 use Rattle.std.specs.Prelude.{◌^◌, ◌<◌, if◌then◌else◌}
+use Rattle.rows.specs.declared.commit.Commit.{Commit}
+use Rattle.rows.specs.Shape.{Shape}
+use Rattle.mvcc.specs.declared.faults.TxFault.{TxFault}
+use Rattle.mvcc.specs.Transaction.{Transaction}
+use Rattle.mvcc.specs.Transactions.{insert_answer, set_answer, delete_answer}
 use Rattle.wire.specs.declared.out.Out.{Out}
 use Rattle.plans.specs.declared.plan.Plan.{Plan}
 use Rattle.dispatcher.specs.declared.faults.OpenFault.{OpenFault}
@@ -38,6 +43,22 @@ pub record HappensBeside (old : Parts) (event : Event) (output : Output) (new : 
   pub boots : new.boots ≡ old.boots
   pub asked_at : new.asked_at ≡ old.asked_at
   pub kept : KeepsStopped old → KeepsStopped new
+
+-- ---- calls on a transaction
+
+-- an event that changes the transaction of this number
+abbrev pub ChangesTransaction : ℕ → Event → Type 0
+ChangesTransaction number (events.Insert transaction table row values) = number ≡ transaction
+ChangesTransaction number (events.Set transaction table row column value) = number ≡ transaction
+ChangesTransaction number (events.Delete transaction table row) = number ≡ transaction
+ChangesTransaction number other = ⊥
+
+-- what such an event makes of its transaction
+abbrev pub change_answer : Shape → List Commit → Event → Transaction → Result Transaction TxFault
+change_answer shape commits (events.Insert transaction table row values) draft = insert_answer shape commits draft table row.0 values
+change_answer shape commits (events.Set transaction table row column value) draft = set_answer shape commits draft table row.0 column value
+change_answer shape commits (events.Delete transaction table row) draft = delete_answer shape commits draft table row.0
+change_answer shape commits other draft = Ok draft
 
 -- ---- calls on a replica
 

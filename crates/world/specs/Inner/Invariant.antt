@@ -4,7 +4,6 @@ use Rattle.std.specs.List.{AllByRecursion}
 use Rattle.rows.specs.declared.limits.TheConstants.{REPLICAS_MAX, WORKERS_MAX}
 use Rattle.rows.specs.Shape.{AreTables, shape_of}
 use Rattle.dispatcher.specs.State.{Replica}
-use Rattle.dispatcher.specs.TableText.{names_of}
 use Rattle.world.specs.Parts.{Parts}
 use Rattle.world.specs.Steps.{World, Member}
 use Rattle.world.specs.Standing.{world_of}
@@ -31,16 +30,11 @@ pub record IsReady (p : Parts) : Type 0 where
 abbrev pub IsRequested : World → Type 0
 IsRequested w = AllByRecursion (λ (m : Member). m.request ≤ length w.sent) w.members
 
--- each replica has the names of the schema's tables
-abbrev pub ReplicasAreNamed : Parts → Type 0
-ReplicasAreNamed p = AllByRecursion (λ (r : Replica). r.names ≡ names_of p.primary.schema) p.replicas
-
--- the parts of every world: its journal keeps what is durable, its tables are in their limits and have their names, the cores
--- are sound, each request was sent, nothing is damaged, and what was fetched is no older than its batch
+-- the parts of every world: its journal keeps what is durable, its tables are in their limits, the cores are sound, each request
+-- was sent, nothing is damaged, and what was fetched is no older than its batch
 pub record PartsAreKept (p : Parts) : Type 0 where
   pub journal : KeepsStopped p
   pub tables : AreTables (shape_of p.primary.schema)
-  pub named : ReplicasAreNamed p
   pub sound : Sound (shape_of p.primary.schema) p
   pub requested : IsRequested (world_of p)
   pub undamaged : IsUndamaged (world_of p)

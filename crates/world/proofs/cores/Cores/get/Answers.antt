@@ -49,7 +49,7 @@ returns-in-Some c =
     let within =
     slot_at (λ (draft : Transaction). draft.snapshot ≤ length primary.durable) inside.transactions.items c.args.number
     draft (sym there) snapshots in
-    let told = sym (get-told (shape_of primary.schema) primary.durable primary.pending draft c.args.table c.args.row.0 within
+    let told = sym (get-told (shape_of primary.schema) primary.durable primary.pending draft within c.args.table c.args.row.0
     c.args.column) in
     rw (c.look_output.ensures, c.get.ensures, c.versions.ensures)
     (looked _ _ seen refl c.args.number (Get c.args.number c.args.table c.args.row c.args.column)

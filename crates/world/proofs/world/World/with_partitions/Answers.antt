@@ -17,7 +17,6 @@ invariant_of-result c =
       running = e.run;
       ready = e.ready;
       dump = e.dump;
-      names = e.names;
       steps = c.steps_are_told.ensures;
     } in
     rw c.in_ok-cores.ensures
