@@ -35,7 +35,7 @@ WORDS = PARSER.parse_args()
 PROGRAM = os.path.abspath(WORDS.program)
 FEW = 20
 # No case takes nearly as long; it keeps a program that does not end from being waited for.
-SECONDS_MAX = 300
+SECONDS_MAX = 120
 SHOWN_LENGTH = 800
 # In kB: how much more memory, and how much more room, a node may have after hostile input.
 ROOM_MAX = 16384
@@ -152,7 +152,10 @@ class Story:
 
     def check(self, tally, name):
         status, output, errors = run("sim", given=self.settings + "\n".join(self.events) + "\n")
-        tally.case(name, (status, output.splitlines(), errors), (0, self.answers, ""))
+        lines = output.splitlines()
+        # What is the same is left out of what is shown.
+        same = len(os.path.commonprefix([lines, self.answers]))
+        tally.case(name, (status, lines[same:], errors), (0, self.answers[same:], ""))
         return output
 
 
@@ -231,6 +234,12 @@ class Node:
         found = self.output.all[self.taken:self.taken + count]
         self.taken += len(found)
         return [line.rstrip("\n") for line in found]
+
+    def ended(self):
+        """Its exit status and its last line on its errors; nothing if it goes on."""
+        with contextlib.suppress(subprocess.TimeoutExpired):
+            return self.process.wait(SECONDS_MAX / 4), "".join(self.errors.whole().splitlines(True)[-1:])
+        return None
 
     def end(self):
         """Closes its input, and returns its exit status."""
