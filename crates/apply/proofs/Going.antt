@@ -1,6 +1,7 @@
 -- One partition, given entry after entry.
-use Rattle.std.proofs.Common.{◌≡◌, ◌≢◌, ℕ, ◌+◌, ◌%◌, ◌<◌, Bool, true, false, cond, ◌==◌, ◌||◌, List, [], ◌∷◌, ◌++◌, length, get_or, take}
+use Rattle.std.proofs.Common.{◌≡◌, ◌≢◌, ℕ, ◌+◌, ◌%◌, ◌<◌, ◌≤◌, Bool, true, false, cond, ◌==◌, ◌||◌, List, [], ◌∷◌, ◌++◌}
 use Rattle.std.proofs.Common.{slice_set, Option, None, Some, Result, Ok, Err, nat_lt, refl, sym, ap, subst, ◌∙◌, inl, inr, arith}
+use Rattle.std.proofs.Common.{length, get_or, take}
 use Rattle.std.specs.Result.{IsErr}
 use Rattle.std.proofs.lemmas.Bool.{false≢true, eqb-true, eq-eqb, cases_eq}
 use Rattle.std.proofs.lemmas.Bool.Decides.{nat_tests}
@@ -9,8 +10,8 @@ use Rattle.std.proofs.lemmas.List.Concat.{flat_map-append}
 use Rattle.std.proofs.lemmas.List.Elements.{filter-append}
 use Rattle.rows.specs.declared.commit.Commit.{Commit}
 use Rattle.rows.specs.declared.entry.Entry.{Entry}
-use Rattle.rows.specs.Tables.{Tables, Refusal, shape_in, apply_entries, and_then}
-use Rattle.store.specs.Faults.{FailsAs, have_entries}
+use Rattle.rows.specs.Tables.{Tables, Refusal, apply_entries, and_then}
+use Rattle.store.specs.Faults.{have_entries}
 use Rattle.store.specs.declared.faults.ApplyFault.{ApplyFault}
 use Rattle.store.specs.declared.faults.ApplyFault.TheVariants.{Inconsistent, Memory, Broken}
 use Rattle.apply.specs.declared.part.Part.{Part}
@@ -64,9 +65,9 @@ goes-more front back first middle last one two = by first.fault middle.fault las
         subst (GoesOnAs None (front ++ back) first.tables.items last.tables.items) (sym two) (refl, more-front front back one.1)
     by None (Some Broken) l one two = subst (GoesOnAs None (front ++ back) first.tables.items last.tables.items) (sym two) one
 
--- ---- one entry, given to its partition of these
+-- ---- one entry, given to a partition
 
-own-one : (count part : ℕ) (entry : Entry) → row_of entry % count ≡ part → entries_in count part (entry ∷ []) ≡ entry ∷ []
+pub own-one : (count part : ℕ) (entry : Entry) → row_of entry % count ≡ part → entries_in count part (entry ∷ []) ≡ entry ∷ []
 own-one count part entry is = ap (λ own. cond own (entry ∷ []) []) (eq-eqb (row_of entry % count) part is)
 
 own-none : (count part : ℕ) (entry : Entry) → row_of entry % count ≢ part → entries_in count part (entry ∷ []) ≡ []
@@ -76,31 +77,22 @@ own-none count part entry other = by (row_of entry % count == part) refl
     by true is = absurd (other (eqb-true (row_of entry % count) part is))
     by false is = ap (λ own. cond own (entry ∷ []) []) is
 
--- it is none of theirs
+-- it is none of its own
 pub goes-past : (count part : ℕ) (entry : Entry) (own : Part) → row_of entry % count ≢ part
     → GoesOn (entries_in count part (entry ∷ [])) own own
 goes-past count part entry own other =
     subst (λ (entries : List Entry). GoesOn entries own own) (sym (own-none count part entry other)) (goes-nothing own)
 
--- it is one of theirs
-pub goes-given : (count first at k : ℕ) (entry : Entry) (parts : List Part) (own new d : Part) → at < length parts
-    → row_of entry % count ≡ first + at → GoesOn (entry ∷ []) (get_or parts at own) new → k < length parts
-    → GoesOn (entries_in count (first + k) (entry ∷ [])) (get_or parts k d) (get_or (slice_set parts at new) k d)
-goes-given count first at k entry parts own new d lt home goes within = elim (cases_eq k at) [
-  | inl here ↦ rw (here, get_or-set_same parts at new d lt, own-one count (first + at) entry home)
-      (subst (λ (own : Part). GoesOn (entry ∷ []) own new) (get_or_default parts at own d lt) goes)
-  | inr other ↦ rw (get_or-set_other parts at k new d other)
-      (goes-past count (first + k) entry (get_or parts k d) (λ same. other (omega (arith, same, home))))
-]
+-- ---- partitions one after the other
 
--- and keeps its kinds
-pub kinds-given : (at k : ℕ) (parts : List Part) (own new d : Part) → at < length parts
-    → shape_in new.tables.items ≡ shape_in (get_or parts at own).tables.items
-    → shape_in (get_or (slice_set parts at new) k d).tables.items ≡ shape_in (get_or parts k d).tables.items
-kinds-given at k parts own new d lt kinds = elim (cases_eq k at) [
-  | inl here ↦ rw (here, get_or-set_same parts at new d lt)
-      (kinds ∙ ap (λ (own : Part). shape_in own.tables.items) (get_or_default parts at own d lt))
-  | inr other ↦ rw (get_or-set_other parts at k new d other) refl
+pub part-more : (Fact : ℕ → Part → Part → Type 0) (old parts : List Part) (k : ℕ) (new own : Part) → k < length parts
+    → ((j : ℕ) (d : Part) → k ≤ j → get_or parts j d ≡ get_or old j d)
+    → ((j : ℕ) (d : Part) → j < k → Fact j (get_or old j d) (get_or parts j d)) → Fact k (get_or parts k own) new
+    → (j : ℕ) (d : Part) → j < k + 1 → Fact j (get_or old j d) (get_or (slice_set parts k new) j d)
+part-more Fact old parts k new own few left done here j d lt = elim (cases_eq j k) [
+  | inl is ↦ rw (is, get_or-set_same parts k new d few)
+      (subst (λ (part : Part). Fact k part new) (get_or_default parts k own d few ∙ left k d (omega arith)) here)
+  | inr other ↦ rw (get_or-set_other parts k j new d other) (done j d (omega (arith, lt, other)))
 ]
 
 -- ---- lists of them

@@ -65,8 +65,8 @@ impl ColumnStore {
     }
 
     /// Makes all changes of these commits, in their order. If they have at least 4,096 entries,
-    /// each partition makes those of its own rows, in threads: each thread goes over the entries
-    /// once, for its share of the partitions.
+    /// each partition makes those of its own rows, in threads: each thread has a share of the
+    /// partitions, and goes over the entries once for each.
     ///
     /// Fails with `Broken` if the store is not whole, with `Inconsistent` if one of the changes is
     /// refused, or with `Memory`, only if there is an entry to apply. After any failure the store

@@ -101,7 +101,7 @@ fn apply_in_order(alloc: Global, parts: &mut [Part], commits: &[Commit]) -> Resu
 }
 
 /// Makes the changes of these commits, each partition those of its own rows, and keeps the outcome.
-/// Each thread goes over the entries once, for all its partitions.
+/// Each thread goes over the entries once for each of its partitions.
 fn change_each<R: Threads + Sync>(rt: &R, alloc: Global, parts: &mut [Part], commits: &[Commit])
     ensures ends { (k : ℕ) (d : _) → k < length parts.old → EndsAs (have_entries commits.now)
         (apply_entries (slice_index_or parts.old k d).tables.items (entries_in (length parts.old) k (entries_of commits.now)))

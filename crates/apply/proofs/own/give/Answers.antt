@@ -1,34 +1,26 @@
--- The entry is none of these partitions', or one's.
-use Rattle.std.proofs.Common.{◌≡◌, ◌+◌, ◌-◌, ◌%◌, ◌<◌, length, get_or, sym, ap, ◌∙◌, arith}
+-- The entry is not one of the partition's, or it is.
+use Rattle.std.proofs.Common.{◌≡◌, ◌+◌, ◌%◌, sym, ap, subst, ◌∙◌, arith}
+use Rattle.apply.specs.Inner.Ends.{GoesOn}
 use Rattle.apply.specs.Inner.Gathered.{row_of}
-use Rattle.apply.proofs.Going.{goes-past, goes-given, kinds-given}
+use Rattle.apply.proofs.Going.{goes-past, own-one}
 use Rattle.apply.proofs.own.give.Goals as goal
-use Rattle.apply.proofs.own.give.Goals.{After-home_of-home}
-
-home : (c : After-home_of-home) → row_of c.args.entry.now % c.args.count ≡ c.home_of-home.result
-home c = sym (c.home_of-home.ensures.value ∙ ap (λ row. row % c.args.count) c.row_of.ensures)
 
 pub returns-then-home-first-clause-goes_on : goal.returns-then-home-first-clause-goes_on
-returns-then-home-first-clause-goes_on c = λ k d lt.
-    let at = home (goal.at.returns-then-home-first-clause-goes_on c).After-home_of-home in
-    goes-past c.args.count (c.args.first + k) c.args.entry.now (get_or c.args.parts.now k d)
-    (λ same. absurd (omega (arith, same, at, c.if-home-first.true)))
+returns-then-home-first-clause-goes_on c =
+    let home = c.home_of-home.ensures.value ∙ ap (λ row. row % c.args.count) c.row_of.ensures in
+    goes-past c.args.count (c.args.first + c.args.index) c.args.entry.now c.args.part.now
+    (λ same. absurd (omega (arith, same, home, c.if-home-first.true)))
 
-pub returns-then-at-parts-clause-goes_on : goal.returns-then-at-parts-clause-goes_on
-returns-then-at-parts-clause-goes_on c = λ k d lt.
-    let at = home (goal.at.returns-then-at-parts-clause-goes_on c).After-home_of-home in
-    goes-past c.args.count (c.args.first + k) c.args.entry.now (get_or c.args.parts.now k d)
-    (λ same. absurd (omega (arith, same, lt, at, c.if-home-first.false, c.if-at-parts.true)))
+pub returns-then-home-first-2-clause-goes_on : goal.returns-then-home-first-2-clause-goes_on
+returns-then-home-first-2-clause-goes_on c =
+    let home = c.home_of-home.ensures.value ∙ ap (λ row. row % c.args.count) c.row_of.ensures in
+    goes-past c.args.count (c.args.first + c.args.index) c.args.entry.now c.args.part.now
+    (λ same. absurd (c.if-home-first-2.true (omega (arith, same, home))))
 
 pub returns-clause-goes_on : goal.returns-clause-goes_on
-returns-clause-goes_on c = λ k d lt.
-    let at = home (goal.at.returns-clause-goes_on c).After-home_of-home in
-    let within : c.home_of-home.result - c.args.first < length c.args.parts.now = omega (arith, c.if-at-parts.false) in
-    goes-given c.args.count c.args.first (c.home_of-home.result - c.args.first) k c.args.entry.now c.args.parts.now
-    c.index-parts-at.result c.go_on.new.self d within (omega (arith, at, c.if-home-first.false)) c.go_on.ensures.ends lt
-
-pub returns-clause-kinds : goal.returns-clause-kinds
-returns-clause-kinds c = λ k d lt.
-    let within : c.home_of-home.result - c.args.first < length c.args.parts.now = omega (arith, c.if-at-parts.false) in
-    kinds-given (c.home_of-home.result - c.args.first) k c.args.parts.now c.index-parts-at.result c.go_on.new.self d within
-    c.go_on.ensures.kinds
+returns-clause-goes_on c =
+    let home = c.home_of-home.ensures.value ∙ ap (λ row. row % c.args.count) c.row_of.ensures in
+    let own : row_of c.args.entry.now % c.args.count ≡ c.args.first + c.args.index =
+    omega (arith, home, c.if-home-first.false, c.if-home-first-2.false) in
+    subst (λ entries. GoesOn entries c.args.part.now c.go_on.new.self)
+    (sym (own-one c.args.count (c.args.first + c.args.index) c.args.entry.now own)) c.go_on.ensures.ends

@@ -1,5 +1,5 @@
--- Each partition was given its own of those so far.
-use Rattle.std.proofs.Common.{◌≡◌, ℕ, ◌+◌, ◌<◌, length, take, slice_index_or}
+-- The partition was given its own of those so far.
+use Rattle.std.proofs.Common.{◌≡◌, ◌+◌, take}
 use Rattle.rows.specs.Tables.{shape_in}
 use Rattle.apply.specs.Inner.Ends.{GoesOn}
 use Rattle.apply.specs.Inner.Gathered.{entries_in, entries_of}
@@ -7,10 +7,6 @@ use Rattle.apply.proofs.own.give_commits.Given as goal
 
 abbrev pub invariant-loop-commit : goal.invariant-loop-commit
 invariant-loop-commit l = record {
-  len : length l.parts ≡ length l.fn.parts;
-  goes_on : (k : ℕ) (d : _) → k < length l.fn.parts
-      → GoesOn (entries_in l.count (l.first + k) (entries_of (take l.commit-index l.commits)))
-      (slice_index_or l.fn.parts k d) (slice_index_or l.parts k d);
-  kinds : (k : ℕ) (d : _) → k < length l.fn.parts
-      → shape_in (slice_index_or l.parts k d).tables.items ≡ shape_in (slice_index_or l.fn.parts k d).tables.items;
+  goes_on : GoesOn (entries_in l.count (l.first + l.index) (entries_of (take l.commit-index l.commits))) l.fn.part l.part;
+  kinds : shape_in l.part.tables.items ≡ shape_in l.fn.part.tables.items;
 }

@@ -1,5 +1,5 @@
 -- The rows from the position on are those of the block from the index on.
-use Rattle.std.proofs.Common.{◌≡◌, ◌+◌, ◌≤◌, length, get_or, sym, ap, subst, ◌∙◌, arith}
+use Rattle.std.proofs.Common.{◌+◌, ◌≤◌, length, get_or, sym, ap, subst, ◌∙◌, arith}
 use Rattle.std.proofs.lemmas.List.{get_or_default}
 use Rattle.rows.specs.Tables.{Rows, Table}
 use Rattle.store.specs.Lent.{rows_from, column_in, AreLent}

@@ -1,5 +1,5 @@
 -- The block has the row at what is left of the position.
-use Rattle.std.proofs.Common.{◌≡◌, length, ap, sym, ◌∙◌, arith}
+use Rattle.std.proofs.Common.{length, ap, sym, ◌∙◌, arith}
 use Rattle.rows.specs.Tables.{Table}
 use Rattle.apply.specs.Blocks.{cell_in}
 use Rattle.apply.proofs.Ended.{joined-cell}
