@@ -1,16 +1,16 @@
 -- How many rows there are, how many of them are below one, and the greatest.
-use Rattle.std.proofs.Common.{◌≡◌, ℕ, zero, suc, ◌+◌, ◌<◌, ◌≤◌, true, false, List, [], ◌∷◌, ◌++◌, length, get_or, take, drop}
-use Rattle.std.proofs.Common.{refl, sym, ap, subst, ◌∙◌, arith}
+use Rattle.std.proofs.Common.{◌≡◌, ℕ, zero, suc, ◌+◌, ◌<◌, ◌≤◌, false, List, [], ◌∷◌, ◌++◌, length, get_or, take, drop}
+use Rattle.std.proofs.Common.{refl, sym, ap, subst, ◌∙◌, not, ◌==◌, arith}
 use Rattle.std.specs.Map.{keys_of}
 use Rattle.std.proofs.lemmas.Bool.Decides.{nat_tests}
 use Rattle.std.proofs.lemmas.Grind.{flat_map-append}
 use Rattle.std.proofs.lemmas.List.{take_more, length-append}
-use Rattle.std.proofs.lemmas.List.Edits.{length-remove}
+use Rattle.std.proofs.lemmas.List.Sums.{length-filter, count_by-le-length}
 use Rattle.rows.specs.declared.value.Value.{Value}
 use Rattle.rows.specs.Tables.{Rows, Table, is_present, with_row, without_row}
 use Rattle.apply.specs.Orders.{AllOver, AllUnder, Rising, place_in}
 use Rattle.apply.specs.Inner.Joins.{joined}
-use Rattle.apply.proofs.Ordered.{over-parts, without_row-remove, there-within}
+use Rattle.apply.proofs.Ordered.{over-parts}
 use Rattle.apply.specs.Inner.Joins.{IsHome}
 use Rattle.apply.proofs.Joined.{joined-at}
 
@@ -21,11 +21,10 @@ pub length-with_row : (row : ℕ) (values : List Value) (rows : Rows) → is_pre
 length-with_row row values [] away = refl
 length-with_row row values (one ∷ rows) away = grind (arith, nat_tests, length-with_row row values rows)
 
-pub length-without_row : (row : ℕ) (rows : Rows) → Rising rows → is_present rows row ≡ true
-    → length (without_row rows row) + 1 ≡ length rows
-length-without_row row rows rise here =
-    let taken = ap length (without_row-remove row rows rise here) in
-    omega (arith, taken, length-remove rows (place_in rows row) (there-within row rows rise here))
+pub fewer-without_row : (row : ℕ) (rows : Rows) → length (without_row rows row) ≤ length rows
+fewer-without_row row rows =
+    let kept = length-filter (λ (one : ℕ × List Value). not (one.0 == row)) rows in
+    omega (arith, kept, count_by-le-length (λ (one : ℕ × List Value). not (one.0 == row)) rows)
 
 -- ---- how many are below a row
 

@@ -1,7 +1,7 @@
 -- Blocks one behind the other, and a row between those below it and those above it.
 use Rattle.std.proofs.Common.{◌≡◌, ℕ, zero, suc, ◌+◌, ◌-◌, ◌<◌, ◌≤◌, List, [], ◌∷◌, ◌++◌, length, get_or, take, drop, refl, sym, ap}
 use Rattle.std.proofs.Common.{subst, ◌∙◌, slice_set, arith}
-use Rattle.std.proofs.Common.{true, Option, None, Some, Result, Ok, Err, OnOk, OnErr, ◌⊎◌, inl, inr}
+use Rattle.std.proofs.Common.{Option, None, Some, Result, Ok, Err, OnOk, OnErr, ◌⊎◌, inl, inr}
 use Rattle.std.specs.BTreeMap.{is_at}
 use Rattle.std.specs.List.{remove, insert}
 use Rattle.std.proofs.lemmas.List.Edits.{length-insert, get_or-insert_below, get_or-insert_at, get_or-insert_above, length-remove}
@@ -9,21 +9,21 @@ use Rattle.std.proofs.lemmas.List.Edits.{get_or-remove_below, get_or-remove_abov
 use Rattle.std.specs.Map.{keys_of, set_value}
 use Rattle.std.specs.Option.{is_some}
 use Rattle.std.specs.Ordering.{nat_cmp}
-use Rattle.std.proofs.lemmas.Bool.{cases_eq, false≢true}
+use Rattle.std.proofs.lemmas.Bool.{cases_eq}
 use Rattle.std.proofs.lemmas.Bool.Decides.{nat_tests}
 use Rattle.std.proofs.lemmas.Map.{keys-set_value}
 use Rattle.std.proofs.lemmas.Map.Entries.{length-keys_of}
 use Rattle.rows.specs.declared.kind.Kind.{Kind}
 use Rattle.std.proofs.lemmas.Grind.{flat_map-append}
 use Rattle.std.proofs.lemmas.List.{append_assoc, take-append-le, take-take, length-take-le, drop_at, take-append-drop, drop_more}
-use Rattle.std.proofs.lemmas.List.{set_split, length-set, get_or-set_same, get_or-set_other}
+use Rattle.std.proofs.lemmas.List.{set_split, length-set, get_or-set_same, get_or-set_other, take-set, drop-set-lt}
 use Rattle.rows.specs.declared.value.Value.{Value}
 use Rattle.rows.specs.Tables.{Rows, Table, row_at, is_present, with_row, with_patch, without_row, patched_row}
-use Rattle.apply.specs.Orders.{AllOver, AllUnder, Rising, place_in}
+use Rattle.apply.specs.Orders.{AllOver, AllUnder, Rising}
 use Rattle.apply.specs.Inner.Joins.{joined, AreBlocks, IsHome}
 use Rattle.apply.proofs.Ordered.{rising-parts, under-before, under-higher, over-lower, row_at-front, row_at-back, with_row-front}
 use Rattle.apply.proofs.Ordered.{with_row-back, set-front, set-back, rising-set, without_row-append, without_row-under}
-use Rattle.apply.proofs.Ordered.{without_row-over, without_row-remove, there-within}
+use Rattle.apply.proofs.Ordered.{without_row-over}
 
 -- at a block
 pub joined-at : (blocks : List Table) (m : ℕ) (d : Table) → m < length blocks
@@ -105,17 +105,22 @@ module _ (blocks : List Table) (m row : ℕ) (d : Table) (home : IsHome blocks m
       ∙ ap (λ rows. set_value (is_at (nat_cmp row)) rows values) (sym (joined-at blocks m d home.within))
 
   -- the block changes the row
-  pub home-patch : (new : Table) (kinds : List Kind) (offset : ℕ) (bytes : List ℕ) → is_present (joined blocks) row ≡ true
+  pub home-patch : (new : Table) (kinds : List Kind) (offset : ℕ) (bytes : List ℕ)
       → new.rows ≡ with_patch kinds (get_or blocks m d).rows row offset bytes
       → joined (slice_set blocks m new) ≡ with_patch kinds (joined blocks) row offset bytes
-  home-patch new kinds offset bytes there put = by (row_at (get_or blocks m d).rows row) refl
+  home-patch new kinds offset bytes put = by (row_at (get_or blocks m d).rows row) refl
     where
       same : row_at (joined blocks) row ≡ row_at (get_or blocks m d).rows row
       same = row_at-home blocks m row d home.within home.front home.back
 
       by : (found : Option (List Value)) → row_at (get_or blocks m d).rows row ≡ found
           → joined (slice_set blocks m new) ≡ with_patch kinds (joined blocks) row offset bytes
-      by None e = absurd (false≢true (ap is_some (sym (same ∙ e)) ∙ there))
+      by None e =
+          let one : new.rows ≡ (get_or blocks m d).rows = put ∙ rw e refl in
+          let all : row_at (joined blocks) row ≡ None = same ∙ e in
+          joined-set blocks m new home.within
+          ∙ ap (λ rows. joined (take m blocks) ++ (rows ++ joined (drop (m + 1) blocks))) one
+          ∙ sym (joined-at blocks m d home.within) ∙ rw all refl
       by (Some values) e =
           let one : new.rows ≡ set_value (is_at (nat_cmp row)) (get_or blocks m d).rows (patched_row kinds offset bytes values) =
           put ∙ rw e refl in
@@ -197,17 +202,18 @@ home-remove blocks m row d new home left =
     joined-set blocks m new home.within ∙ ap (λ rows. joined (take m blocks) ++ (rows ++ joined (drop (m + 1) blocks))) left
     ∙ sym (home-without blocks m row d home)
 
-alone : (rows : Rows) (row : ℕ) → length rows ≡ 1 → is_present rows row ≡ true → without_row rows row ≡ []
-alone [] row one there = refl
-alone (first ∷ []) row one there = grind (arith, nat_tests)
-alone (first ∷ second ∷ rows) row one there = absurd (omega arith)
-
-pub home-drop : (blocks : List Table) (m row : ℕ) (d : Table) → IsHome blocks m row → length (get_or blocks m d).rows ≡ 1
-    → is_present (joined blocks) row ≡ true → joined (remove blocks m) ≡ without_row (joined blocks) row
-home-drop blocks m row d home one there =
-    let none = alone (get_or blocks m d).rows row one (sym (home-present blocks m row d home) ∙ there) in
+-- the block loses its last row, and is dropped
+pub home-drop : (blocks : List Table) (m row : ℕ) (d : Table) → IsHome blocks m row → without_row (get_or blocks m d).rows row ≡ []
+    → joined (remove blocks m) ≡ without_row (joined blocks) row
+home-drop blocks m row d home none =
     joined-remove blocks m
     ∙ sym (home-without blocks m row d home ∙ ap (λ rows. joined (take m blocks) ++ (rows ++ joined (drop (m + 1) blocks))) none)
+
+-- a block is dropped, once another is in its place
+pub remove-set : (blocks : List Table) (m : ℕ) (new : Table) → remove (slice_set blocks m new) m ≡ remove blocks m
+remove-set blocks m new =
+    let lt : m < suc m = omega arith in
+    rw (take-set blocks m new, drop-set-lt (suc m) blocks m new lt) refl
 
 pub le_or_lt : (a b : ℕ) → (a ≤ b) ⊎ (b < a)
 le_or_lt zero b = inl (omega arith)
@@ -233,19 +239,6 @@ blocks-remove kinds blocks m lt are rise =
       ];
       rise = rise;
     }
-
--- some rows are left of more than one
-pub left-some : (blocks : List Table) (m row : ℕ) (d : Table) → IsHome blocks m row → Rising (joined blocks)
-    → is_present (joined blocks) row ≡ true → 1 < length (get_or blocks m d).rows → 0 < length (without_row (get_or blocks m d).rows row)
-left-some blocks m row d home rise there more =
-    let rows = (get_or blocks m d).rows in
-    let parts = rising-parts (joined (take m blocks)) (rows ++ joined (drop (m + 1) blocks))
-    (subst Rising (joined-at blocks m d home.within) rise) in
-    let own = (rising-parts rows (joined (drop (m + 1) blocks)) parts.1).0 in
-    let here = sym (home-present blocks m row d home) ∙ there in
-    let taken = ap length (without_row-remove row rows own here) in
-    let many = length-remove rows (place_in rows row) (there-within row rows own here) in
-    omega (arith, taken, many, more)
 
 -- ---- a block cut in two
 

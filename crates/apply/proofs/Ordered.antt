@@ -1,6 +1,6 @@
 -- Rows in rising identifier: where a row stands, and what is changed there.
 use Rattle.std.proofs.Common.{◌≡◌, ℕ, zero, suc, ◌+◌, ◌<◌, ◌≤◌, Bool, true, false, cond, not, ◌==◌, List, [], ◌∷◌, ◌++◌, length, take}
-use Rattle.std.proofs.Common.{drop, None, Some}
+use Rattle.std.proofs.Common.{drop, Option, None, Some}
 use Rattle.std.proofs.Common.{Less, Equal, Greater, Ordering, refl, sym, ap, subst, ◌∙◌, nat_lt, slice_get, slice_set, nat_eq, get_or}
 use Rattle.std.proofs.Common.{arith}
 use Rattle.std.specs.BTreeMap.{is_at}
@@ -16,7 +16,8 @@ use Rattle.std.proofs.lemmas.List.Sums.{prefix_len_is}
 use Rattle.std.proofs.lemmas.Map.{keys-set_value}
 use Rattle.std.proofs.lemmas.Option.{same_Some}
 use Rattle.rows.specs.declared.value.Value.{Value}
-use Rattle.rows.specs.Tables.{Rows, row_at, is_present, with_row, without_row}
+use Rattle.rows.specs.declared.kind.Kind.{Kind}
+use Rattle.rows.specs.Tables.{Rows, row_at, is_present, with_row, with_patch, without_row}
 use Rattle.apply.specs.Orders.{AllOver, AllUnder, Rising, place_in}
 
 -- ---- bounds
@@ -107,6 +108,18 @@ without_row-under row (one ∷ rows) h = grind (arith, nat_tests, h.0, without_r
 pub without_row-append : (row : ℕ) (front back : Rows) → without_row (front ++ back) row ≡ without_row front row ++ without_row back row
 without_row-append row [] back = refl
 without_row-append row (one ∷ front) back = grind (arith, nat_tests, without_row-append row front back)
+
+pub without_row-absent : (row : ℕ) (rows : Rows) → is_present rows row ≡ false → without_row rows row ≡ rows
+without_row-absent row [] away = refl
+without_row-absent row (one ∷ rows) away = grind (arith, nat_tests, without_row-absent row rows)
+
+pub with_patch-absent : (kinds : List Kind) (rows : Rows) (row offset : ℕ) (bytes : List ℕ) → is_present rows row ≡ false
+    → with_patch kinds rows row offset bytes ≡ rows
+with_patch-absent kinds rows row offset bytes away = by (row_at rows row) refl
+  where
+    by : (found : Option (List Value)) → row_at rows row ≡ found → with_patch kinds rows row offset bytes ≡ rows
+    by None e = rw e refl
+    by (Some values) e = absurd (false≢true (sym away ∙ ap is_some e))
 
 pub set-front : (row : ℕ) (values : List Value) (front back : Rows) → AllUnder row front
     → set_value (is_at (nat_cmp row)) (front ++ back) values ≡ front ++ set_value (is_at (nat_cmp row)) back values

@@ -138,28 +138,37 @@ impl Block {
         Ok(())
     }
 
-    /// Deletes a row that is there.
-    pub fn remove(&mut self, row: u64)
-        requires { is_present self.old.rows row ≡ true }
-        ensures { self.new ≡ record self.old { rows = without_row self.old.rows row } }
+    /// Deletes a row, and answers whether it was there; if it was not, nothing changes.
+    pub fn remove(&mut self, row: u64) -> bool
+        ensures there { result ≡ is_present self.old.rows row }
+        ensures rows { self.new ≡ record self.old { rows = without_row self.old.rows row } }
+        ensures absent { result ≡ false → self.new ≡ self.old }
     {
+        let Some(at) = self.find(row) else {
+            return false;
+        };
         let rows = self.ids.len();
-        let at = place_of(self.ids.as_slice(), row);
         let _ = self.ids.remove(at);
         remove_row(self.columns.as_mut_slice(), rows, at);
+        true
     }
 
-    /// Puts bytes in place of one column's of a row that is there, in a table with columns of these
-    /// kinds. If they are not exactly one column's bytes, nothing changes.
-    pub fn patch(&mut self, kinds: &[Kind], row: u64, offset: u16, bytes: &[u8])
-        requires there { is_present self.old.rows row ≡ true }
-        requires kinds { kinds.now ≡ self.old.kinds }
-        ensures { self.new ≡ record self.old { rows = with_patch self.old.kinds self.old.rows row offset bytes.now } }
+    /// Puts bytes in place of one column's of a row, in a table with columns of these kinds, and
+    /// answers whether the row is there. If it is not, or if the bytes are not exactly one column's,
+    /// nothing changes.
+    pub fn patch(&mut self, kinds: &[Kind], row: u64, offset: u16, bytes: &[u8]) -> bool
+        requires { kinds.now ≡ self.old.kinds }
+        ensures there { result ≡ is_present self.old.rows row }
+        ensures rows { self.new ≡ record self.old { rows = with_patch self.old.kinds self.old.rows row offset bytes.now } }
+        ensures absent { result ≡ false → self.new ≡ self.old }
     {
+        let Some(at) = self.find(row) else {
+            return false;
+        };
         if let Some((column, _)) = column_at(kinds, offset as usize, bytes.len()) {
-            let at = place_of(self.ids.as_slice(), row);
             self.columns[column].set(self.ids.len(), at, bytes);
         }
+        true
     }
 
     /// A block of the rows from an index on, copied. Fails only if out of memory.

@@ -104,10 +104,9 @@ fn patch_row(table: &mut Piece, row: u64, offset: u16, bytes: &[u8]) -> Result<(
     ensures refused { IfErr result (λ fault. (is_present table.old.rows row ≡ false)
         × (number_of fault ≡ number_of StoreFault.Missing)) }
 {
-    if !table.contains(row) {
+    if !table.patch(row, offset, bytes) {
         return Err(StoreFault::Missing);
     }
-    table.patch(row, offset, bytes);
     Ok(())
 }
 
@@ -119,9 +118,8 @@ fn delete_row(table: &mut Piece, row: u64) -> Result<(), StoreFault>
     ensures refused { IfErr result (λ fault. (is_present table.old.rows row ≡ false)
         × (number_of fault ≡ number_of StoreFault.Missing)) }
 {
-    if !table.contains(row) {
+    if !table.remove(row) {
         return Err(StoreFault::Missing);
     }
-    table.remove(row);
     Ok(())
 }

@@ -172,11 +172,12 @@ impl Piece {
         )
     }
 
-    /// Puts bytes in place of one column's of a row that is there. If they are not exactly one
-    /// column's bytes, nothing changes. Takes no memory.
-    pub fn patch(&mut self, row: u64, offset: u16, bytes: &[u8])
-        requires { is_present self.old.rows row ≡ true }
-        ensures { self.new ≡ record self.old { rows = with_patch self.old.kinds self.old.rows row offset bytes.now } }
+    /// Puts bytes in place of one column's of a row, and answers whether the row is there. If it is
+    /// not, or if the bytes are not exactly one column's, nothing changes. Takes no memory.
+    pub fn patch(&mut self, row: u64, offset: u16, bytes: &[u8]) -> bool
+        ensures there { result ≡ is_present self.old.rows row }
+        ensures rows { self.new ≡ record self.old { rows = with_patch self.old.kinds self.old.rows row offset bytes.now } }
+        ensures absent { result ≡ false → self.new ≡ self.old }
     {
         patch_row(
             self.blocks.as_mut_slice(),
@@ -184,14 +185,16 @@ impl Piece {
             row,
             offset,
             bytes,
-        );
+        )
     }
 
-    /// Deletes a row that is there. Takes no memory.
-    pub fn remove(&mut self, row: u64)
-        requires { is_present self.old.rows row ≡ true }
-        ensures { self.new ≡ record self.old { rows = without_row self.old.rows row } }
+    /// Deletes a row, and answers whether it was there; if it was not, nothing changes. Takes no
+    /// memory.
+    pub fn remove(&mut self, row: u64) -> bool
+        ensures there { result ≡ is_present self.old.rows row }
+        ensures rows { self.new ≡ record self.old { rows = without_row self.old.rows row } }
+        ensures absent { result ≡ false → self.new ≡ self.old }
     {
-        remove_row(&mut self.blocks, &mut self.ends, self.kinds.as_slice(), row);
+        remove_row(&mut self.blocks, &mut self.ends, self.kinds.as_slice(), row)
     }
 }

@@ -287,25 +287,30 @@ fn block_of(alloc: Global, kinds: &[Kind], row: u64, bytes: &[u8]) -> Result<Blo
     Ok(block)
 }
 
-/// Puts bytes in place of one column's of a row that is there, in these blocks. If they are not
-/// exactly one column's bytes, nothing changes.
-pub fn patch_row(blocks: &mut [Block], kinds: &[Kind], row: u64, offset: u16, bytes: &[u8])
-    requires blocks { AreBlocks kinds.now blocks.old }
-    requires there { is_present (joined blocks.old) row ≡ true }
+/// Puts bytes in place of one column's of a row in these blocks, and answers whether the row is
+/// there. If it is not, or if the bytes are not exactly one column's, nothing changes.
+pub fn patch_row(blocks: &mut [Block], kinds: &[Kind], row: u64, offset: u16, bytes: &[u8]) -> bool
+    requires { AreBlocks kinds.now blocks.old }
+    ensures there { result ≡ is_present (joined blocks.old) row }
     ensures rows { joined blocks.new ≡ with_patch kinds.now (joined blocks.old) row offset bytes.now }
     ensures blocks { AreBlocks kinds.now blocks.new }
     ensures ends { ends_from 0 blocks.new ≡ ends_from 0 blocks.old }
     ensures len { length blocks.new ≡ length blocks.old }
 {
+    if blocks.is_empty() {
+        return false;
+    }
     let home = home_of(blocks, row);
-    blocks[home].patch(kinds, row, offset, bytes);
+    blocks[home].patch(kinds, row, offset, bytes)
 }
 
-/// Deletes a row that is there from its block; the block is dropped if it becomes empty.
-fn take_row(blocks: &mut Vec<Block>, kinds: &[Kind], home: usize, row: u64)
+/// Deletes a row from its block, and answers whether it was there; the block is dropped if it
+/// becomes empty. If the row was not there, nothing changes.
+fn take_row(blocks: &mut Vec<Block>, kinds: &[Kind], home: usize, row: u64) -> bool
     requires blocks { AreBlocks kinds.now blocks.old.items }
     requires home { IsHome blocks.old.items home row }
-    requires there { is_present (joined blocks.old.items) row ≡ true }
+    ensures there { result ≡ is_present (joined blocks.old.items) row }
+    ensures absent { result ≡ false → blocks.new.items ≡ blocks.old.items }
     ensures rows { joined blocks.new.items ≡ without_row (joined blocks.old.items) row }
     ensures blocks { AreBlocks kinds.now blocks.new.items }
     ensures front { take home blocks.new.items ≡ take home blocks.old.items }
@@ -313,26 +318,35 @@ fn take_row(blocks: &mut Vec<Block>, kinds: &[Kind], home: usize, row: u64)
     ensures fewer { length blocks.new.items ≤ length blocks.old.items }
 {
     let _ = kinds;
-    if blocks[home].len() == 1 {
-        let _ = blocks.remove(home);
-    } else {
-        blocks[home].remove(row);
+    if !blocks[home].remove(row) {
+        return false;
     }
+    if blocks[home].len() == 0 {
+        let _ = blocks.remove(home);
+    }
+    true
 }
 
-/// Deletes a row that is there; a block that becomes empty is dropped.
-pub fn remove_row(blocks: &mut Vec<Block>, ends: &mut Vec<usize>, kinds: &[Kind], row: u64)
+/// Deletes a row, and answers whether it was there; a block that becomes empty is dropped. If the
+/// row was not there, nothing changes.
+pub fn remove_row(blocks: &mut Vec<Block>, ends: &mut Vec<usize>, kinds: &[Kind], row: u64) -> bool
     requires blocks { AreBlocks kinds.now blocks.old.items }
     requires ends { ends.old.items ≡ ends_from 0 blocks.old.items }
     requires few { length (joined blocks.old.items) ≤ rows_max }
-    requires there { is_present (joined blocks.old.items) row ≡ true }
+    ensures there { result ≡ is_present (joined blocks.old.items) row }
     ensures rows { joined blocks.new.items ≡ without_row (joined blocks.old.items) row }
     ensures blocks { AreBlocks kinds.now blocks.new.items }
     ensures ends { ends.new.items ≡ ends_from 0 blocks.new.items }
 {
+    if blocks.is_empty() {
+        return false;
+    }
     let home = home_of(blocks.as_slice(), row);
-    take_row(blocks, kinds, home, row);
+    if !take_row(blocks, kinds, home, row) {
+        return false;
+    }
     renew_ends(ends, blocks.as_slice(), home);
+    true
 }
 
 /// Makes room for a row in its block: if the block is full, its last rows become a block of their

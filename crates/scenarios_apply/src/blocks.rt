@@ -35,21 +35,13 @@ impl Sheet {
 
     /// Writes three bytes over a row's, and answers whether the row is there.
     fn write(&mut self, row: u64, bytes: &[u8; 3]) -> bool {
-        if !self.block.contains(row) {
-            return false;
-        }
         let kinds = [Kind::Int, Kind::Octets(3)];
-        self.block.patch(&kinds, row, 8, bytes);
-        true
+        self.block.patch(&kinds, row, 8, bytes)
     }
 
     /// Takes a row out, and answers whether it was there.
     fn take(&mut self, row: u64) -> bool {
-        if !self.block.contains(row) {
-            return false;
-        }
-        self.block.remove(row);
-        true
+        self.block.remove(row)
     }
 
     /// The value of a column of the row at an index; `None` past the last one.

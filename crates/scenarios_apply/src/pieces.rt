@@ -43,21 +43,16 @@ impl Accounts {
         self.piece.insert(alloc, row, &FIVE)
     }
 
-    /// Takes a row out, after its first number was changed.
-    fn take(&mut self, row: u64) {
-        if self.piece.contains(row) {
-            self.piece.patch(row, 0, &SIX);
-        }
-        if self.piece.contains(row) {
-            self.piece.remove(row);
-        }
+    /// Takes a row out, after its first number was changed, and answers whether it was there.
+    fn take(&mut self, row: u64) -> bool {
+        let changed = self.piece.patch(row, 0, &SIX);
+        self.piece.remove(row) && changed
     }
 
     /// Puts a row in if it is not there, and takes it out if it is. Where memory was refused, nothing has
     /// changed, and it is asked for once more.
     fn turn(&mut self, alloc: Global, row: u64) -> bool {
-        if self.piece.contains(row) {
-            self.take(row);
+        if self.take(row) {
             return true;
         }
         match self.put(alloc, row) {

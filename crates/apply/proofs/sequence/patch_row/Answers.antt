@@ -8,11 +8,12 @@ use Rattle.apply.proofs.Joined.{home-present, home-patch, blocks-set, length-wit
 use Rattle.apply.proofs.Ended.{ends-set}
 use Rattle.apply.proofs.sequence.patch_row.Goals as goal
 
-pub patch-requires-clause-there : goal.patch-requires-clause-there
-patch-requires-clause-there c =
+pub returns-clause-there : goal.returns-clause-there
+returns-clause-there c =
     let home : IsHome c.args.blocks.now c.home_of-home.result c.args.row =
     c.home_of-home.ensures in
-    sym (home-present c.args.blocks.now c.home_of-home.result c.args.row c.index-blocks-home.result home) ∙ c.requires.there
+    c.patch.ensures.there
+    ∙ sym (home-present c.args.blocks.now c.home_of-home.result c.args.row c.index-blocks-home.result home)
 
 pub returns-clause-rows : goal.returns-clause-rows
 returns-clause-rows c =
@@ -21,9 +22,9 @@ returns-clause-rows c =
     let d = c.index-blocks-home.result in
     let home : IsHome blocks m c.args.row =
     c.home_of-home.ensures in
-    let kinds : (get_or blocks m d).kinds ≡ c.args.kinds.now = c.requires.blocks.alike m d home.within in
-    home-patch blocks m c.args.row d home c.patch.new.self c.args.kinds.now c.args.offset c.args.bytes.now c.requires.there
-    (ap (λ (block : Table). block.rows) c.patch.ensures
+    let kinds : (get_or blocks m d).kinds ≡ c.args.kinds.now = c.requires.alike m d home.within in
+    home-patch blocks m c.args.row d home c.patch.new.self c.args.kinds.now c.args.offset c.args.bytes.now
+    (ap (λ (block : Table). block.rows) c.patch.ensures.rows
     ∙ ap (λ kinds. with_patch kinds (get_or blocks m d).rows c.args.row c.args.offset c.args.bytes.now) kinds)
 
 pub returns-clause-blocks : goal.returns-clause-blocks
@@ -35,22 +36,22 @@ returns-clause-blocks c =
     let kinds = c.args.kinds.now in
     let home : IsHome blocks m c.args.row =
     c.home_of-home.ensures in
-    let same : (get_or blocks m d).kinds ≡ kinds = c.requires.blocks.alike m d home.within in
+    let same : (get_or blocks m d).kinds ≡ kinds = c.requires.alike m d home.within in
     let rows : new.rows ≡ with_patch kinds (get_or blocks m d).rows c.args.row c.args.offset c.args.bytes.now =
-    ap (λ (block : Table). block.rows) c.patch.ensures
+    ap (λ (block : Table). block.rows) c.patch.ensures.rows
     ∙ ap (λ kinds. with_patch kinds (get_or blocks m d).rows c.args.row c.args.offset c.args.bytes.now) same in
-    let made = home-patch blocks m c.args.row d home new kinds c.args.offset c.args.bytes.now c.requires.there rows in
-    let some = c.requires.blocks.some m d home.within in
+    let made = home-patch blocks m c.args.row d home new kinds c.args.offset c.args.bytes.now rows in
+    let some = c.requires.some m d home.within in
     let many = ap length rows ∙ length-with_patch kinds (get_or blocks m d).rows c.args.row c.args.offset c.args.bytes.now in
-    blocks-set kinds blocks m new home.within c.requires.blocks (ap (λ (block : Table). block.kinds) c.patch.ensures ∙ same)
+    blocks-set kinds blocks m new home.within c.requires (ap (λ (block : Table). block.kinds) c.patch.ensures.rows ∙ same)
     (omega (arith, some, many))
-    (subst Rising (sym made) (rising-with_patch kinds (joined blocks) c.args.row c.args.offset c.args.bytes.now c.requires.blocks.rise))
+    (subst Rising (sym made) (rising-with_patch kinds (joined blocks) c.args.row c.args.offset c.args.bytes.now c.requires.rise))
 
 pub returns-clause-ends : goal.returns-clause-ends
 returns-clause-ends c =
     let blocks = c.args.blocks.now in
     let m = c.home_of-home.result in
     let d = c.index-blocks-home.result in
-    let many = ap (λ (block : Table). length block.rows) c.patch.ensures
+    let many = ap (λ (block : Table). length block.rows) c.patch.ensures.rows
     ∙ length-with_patch (get_or blocks m d).kinds (get_or blocks m d).rows c.args.row c.args.offset c.args.bytes.now in
     ends-set 0 m blocks d c.patch.new.self many

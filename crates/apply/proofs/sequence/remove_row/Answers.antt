@@ -1,7 +1,7 @@
 -- The blocks before the one that changed stay.
 use Rattle.std.proofs.Common.{length, take, ap, ◌∙◌, arith}
 use Rattle.apply.specs.Inner.Joins.{joined}
-use Rattle.apply.proofs.Counted.{length-without_row}
+use Rattle.apply.proofs.Counted.{fewer-without_row}
 use Rattle.apply.proofs.Ended.{ends-length, ends-front}
 use Rattle.apply.proofs.sequence.remove_row.Goals as goal
 
@@ -21,10 +21,4 @@ pub renew_ends-requires-clause-few : goal.renew_ends-requires-clause-few
 renew_ends-requires-clause-few c =
     let many = ap (λ blocks. length (joined blocks)) c.as_slice-2.ensures.value in
     let fewer = ap length c.take_row.ensures.rows in
-    omega (
-      arith,
-      many,
-      fewer,
-      c.requires.few,
-      length-without_row c.args.row (joined c.args.blocks.now.items) c.requires.blocks.rise c.requires.there,
-    )
+    omega (arith, many, fewer, c.requires.few, fewer-without_row c.args.row (joined c.args.blocks.now.items))

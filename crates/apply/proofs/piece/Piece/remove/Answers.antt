@@ -1,19 +1,22 @@
--- One row fewer.
-use Rattle.std.proofs.Common.{rules, ◌≡◌, ◌+◌, length, ap, ◌∙◌, arith}
-use Rattle.rows.specs.Tables.{Table, is_present}
+-- No row more.
+use Rattle.std.proofs.Common.{rules, length, sym, ap, ◌∙◌, arith}
 use Rattle.apply.specs.Inner.Joins.{joined}
-use Rattle.apply.proofs.Counted.{length-without_row}
+use Rattle.apply.proofs.Counted.{fewer-without_row}
+use Rattle.apply.proofs.Ordered.{without_row-absent}
 use Rattle.apply.proofs.piece.Piece.remove.Goals as goal
 
 pub invariant_of-self : goal.invariant_of-self
 invariant_of-self c =
-    let rows = joined c.self.inside.blocks.items in
-    let fewer : length (joined c.remove_row.new.blocks.items) + 1 ≡ length rows =
-    ap (λ (left : _). length left + 1) c.remove_row.ensures.rows ∙ length-without_row c.args.row rows c.self.invariant.blocks.rise
-    (ap (λ (piece : Table). is_present piece.rows c.args.row) c.self.view_is ∙ c.requires) in
+    let fewer = ap length c.remove_row.ensures.rows in
     record {
       columns = c.self.invariant.columns;
       blocks = search rules;
       ends = c.remove_row.ensures.ends;
-      few = omega (arith, fewer, c.self.invariant.few);
+      few = omega (arith, fewer, fewer-without_row c.args.row (joined c.self.inside.blocks.items), c.self.invariant.few);
     }
+
+pub returns-clause-absent : goal.returns-clause-absent
+returns-clause-absent c away =
+    let rows = joined c.self.inside.blocks.items in
+    let same = c.remove_row.ensures.rows ∙ without_row-absent c.args.row rows (sym c.remove_row.ensures.there ∙ away) in
+    ap (λ left. record { kinds = c.self.inside.kinds; rows = left }) same ∙ c.self.view_is
