@@ -87,12 +87,11 @@ fn insert_row(alloc: Global, table: &mut Piece, row: u64, bytes: &[u8]) -> Resul
     ensures refused { IfErr result (λ fault. number_of fault ≡ (if is_present table.old.rows row
         then number_of StoreFault.Exists else number_of StoreFault.Memory)) }
 {
-    if table.contains(row) {
-        return Err(StoreFault::Exists);
+    match table.insert(alloc, row, bytes) {
+        Ok(true) => Ok(()),
+        Ok(false) => Err(StoreFault::Exists),
+        Err(_) => Err(StoreFault::Memory),
     }
-    table
-        .insert(alloc, row, bytes)
-        .map_err(|_| StoreFault::Memory)
 }
 
 /// Puts bytes in place of one column's of a row; if the row is not there, this is refused, and

@@ -1,6 +1,7 @@
 //! The rows of one table in one partition.
 
 ghost use Rattle.std.specs.Prelude.{◌≡◌, ◌+◌, ◌<◌, ◌≤◌, [], length, true, false, Some, IfOk, IfSome, OnOk, OnErr, is_some, slice_get};
+ghost use Rattle.std.specs.Prelude.{not, if◌then◌else◌};
 ghost use Rattle.std.specs.Option.{option_map};
 ghost use Rattle.std.specs.Map.{keys_of};
 ghost use Rattle.rows.specs.Shape.{AreColumns, row_width};
@@ -151,16 +152,23 @@ impl Piece {
         )
     }
 
-    /// Inserts a row that is not there, given by its bytes. Fails only if out of memory, which it
-    /// also reports for a piece with 2^57 rows; the rows are then unchanged.
-    pub fn insert(&mut self, alloc: Global, row: u64, bytes: &[u8]) -> Result<(), AllocError>
-        requires absent { is_present self.old.rows row ≡ false }
-        requires wide { row_width self.old.kinds ≤ length bytes.now }
-        ensures ok { OnOk result (self.new ≡ record self.old { rows = with_row self.old.rows row (values_of self.old.kinds bytes.now) }) }
+    /// Inserts a row, given by its bytes, and answers whether it is new; if there is one of that
+    /// identifier, nothing changes. Fails only if out of memory, which it also reports for a piece
+    /// with 2^57 rows, and only for a new row; the rows are then unchanged.
+    pub fn insert(&mut self, alloc: Global, row: u64, bytes: &[u8]) -> Result<bool, AllocError>
+        requires { row_width self.old.kinds ≤ length bytes.now }
+        ensures new { IfOk result (λ new. is_present self.old.rows row ≡ not new) }
+        ensures ok { IfOk result (λ new. self.new ≡ (if new
+            then record self.old { rows = with_row self.old.rows row (values_of self.old.kinds bytes.now) } else self.old)) }
+        ensures absent { OnErr result (is_present self.old.rows row ≡ false) }
         ensures err { OnErr result (self.new ≡ self.old) }
     {
         if self.len() == ROWS_MAX {
-            return Err(AllocError);
+            return if self.contains(row) {
+                Ok(false)
+            } else {
+                Err(AllocError)
+            };
         }
         put_row(
             alloc,

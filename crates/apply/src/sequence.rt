@@ -1,7 +1,7 @@
 //! The blocks of a table's rows, in order.
 
 ghost use Rattle.std.specs.Prelude.{◌≡◌, ◌+◌, ◌<◌, ◌≤◌, ◌^◌, length, take, true, false, [], Some, IfOk, IfSome, OnOk, OnErr, is_some};
-ghost use Rattle.std.specs.Prelude.{slice_index_or};
+ghost use Rattle.std.specs.Prelude.{slice_index_or, not, if◌then◌else◌};
 ghost use Rattle.std.specs.Prelude.{vec_capacity};
 ghost use Rattle.std.specs.List.{list_all};
 ghost use Rattle.std.specs.Map.{keys_of};
@@ -238,8 +238,9 @@ fn insert_row(
     blocks[home].insert(row, bytes)
 }
 
-/// Inserts a row that is not there, given by its bytes; there may be no blocks yet, and a full
-/// block is cut first. Fails only if out of memory, and then the rows are unchanged.
+/// Inserts a row, given by its bytes, and answers whether it is new; if there is one of that
+/// identifier, nothing changes. There may be no blocks yet, and a full block is cut first. Fails only
+/// if out of memory, and only for a new row; the rows are then unchanged.
 pub fn put_row(
     alloc: Global,
     blocks: &mut Vec<Block>,
@@ -247,33 +248,39 @@ pub fn put_row(
     kinds: &[Kind],
     row: u64,
     bytes: &[u8],
-) -> Result<(), AllocError>
+) -> Result<bool, AllocError>
     requires blocks { AreBlocks kinds.now blocks.old.items }
     requires ends { ends.old.items ≡ ends_from 0 blocks.old.items }
     requires few { length (joined blocks.old.items) < rows_max }
     requires good { list_all is_good kinds.now ≡ true }
-    requires absent { is_present (joined blocks.old.items) row ≡ false }
     requires wide { row_width kinds.now ≤ length bytes.now }
-    ensures ok { OnOk result (joined blocks.new.items ≡ with_row (joined blocks.old.items) row (values_of kinds.now bytes.now)) }
+    ensures new { IfOk result (λ new. is_present (joined blocks.old.items) row ≡ not new) }
+    ensures rows { IfOk result (λ new. joined blocks.new.items ≡ (if new
+        then with_row (joined blocks.old.items) row (values_of kinds.now bytes.now) else joined blocks.old.items)) }
+    ensures absent { OnErr result (is_present (joined blocks.old.items) row ≡ false) }
     ensures err { OnErr result (joined blocks.new.items ≡ joined blocks.old.items) }
     ensures blocks { AreBlocks kinds.now blocks.new.items }
     ensures ends { ends.new.items ≡ ends_from 0 blocks.new.items }
 {
-    ends.reserve(1)?;
     if blocks.is_empty() {
+        ends.reserve(1)?;
         let block = block_of(alloc, kinds, row, bytes)?;
         if blocks.push(block).is_err() {
             return Err(AllocError);
         }
         ends.push_reserved(1);
-        return Ok(());
+        return Ok(true);
     }
     let home = home_of(blocks.as_slice(), row);
-    make_room(alloc, blocks, kinds, home, row)?;
-    let at = home_of(blocks.as_slice(), row);
+    if blocks[home].contains(row) {
+        return Ok(false);
+    }
+    ends.reserve(1)?;
+    let at = roomy_home(alloc, blocks, kinds, home, row)?;
     let put = insert_row(blocks.as_mut_slice(), kinds, at, row, bytes);
     renew_ends(ends, blocks.as_slice(), home.min(at));
-    put
+    put?;
+    Ok(true)
 }
 
 /// A block of one row, given by its bytes. Fails only if out of memory.
@@ -349,19 +356,46 @@ pub fn remove_row(blocks: &mut Vec<Block>, ends: &mut Vec<usize>, kinds: &[Kind]
     true
 }
 
-/// Makes room for a row in its block: if the block is full, its last rows become a block of their
-/// own. If the row is after all rows of the block, or before them, one row is separated from the
-/// others, so that rows which arrive in order leave full blocks; otherwise half of them are. The
-/// rows do not change. Fails only if out of memory, and then the blocks are unchanged.
+/// Makes room for a row in its block, and answers the index of the block into which it would be
+/// inserted then. The rows do not change. Fails only if out of memory, and then the blocks are
+/// unchanged.
+fn roomy_home(
+    alloc: Global,
+    blocks: &mut Vec<Block>,
+    kinds: &[Kind],
+    home: usize,
+    row: u64,
+) -> Result<usize, AllocError>
+    requires blocks { AreBlocks kinds.now blocks.old.items }
+    requires home { IsHome blocks.old.items home row }
+    ensures home { IfOk result (λ at. IsHome blocks.new.items at row) }
+    ensures rows { joined blocks.new.items ≡ joined blocks.old.items }
+    ensures blocks { AreBlocks kinds.now blocks.new.items }
+    ensures front { take home blocks.new.items ≡ take home blocks.old.items }
+    ensures some { length blocks.old.items ≤ length blocks.new.items }
+    ensures more { length blocks.new.items ≤ length blocks.old.items + 1 }
+    ensures err { OnErr result (blocks.new.items ≡ blocks.old.items) }
+{
+    if !make_room(alloc, blocks, kinds, home, row)? {
+        return Ok(home);
+    }
+    Ok(home_of(blocks.as_slice(), row))
+}
+
+/// Makes room for a row in its block, and answers whether it was full: if so, its last rows become a
+/// block of their own. If the row is after all rows of the block, or before them, one row is
+/// separated from the others, so that rows which arrive in order leave full blocks; otherwise half of
+/// them are. The rows do not change. Fails only if out of memory, and then the blocks are unchanged.
 fn make_room(
     alloc: Global,
     blocks: &mut Vec<Block>,
     kinds: &[Kind],
     home: usize,
     row: u64,
-) -> Result<(), AllocError>
+) -> Result<bool, AllocError>
     requires blocks { AreBlocks kinds.now blocks.old.items }
     requires within { home < length blocks.old.items }
+    ensures kept { IfOk result (λ cut. cut ≡ false → blocks.new.items ≡ blocks.old.items) }
     ensures rows { joined blocks.new.items ≡ joined blocks.old.items }
     ensures blocks { AreBlocks kinds.now blocks.new.items }
     ensures front { take home blocks.new.items ≡ take home blocks.old.items }
@@ -372,7 +406,7 @@ fn make_room(
     let _ = kinds;
     let rows = blocks[home].len();
     if rows < BLOCK_ROWS {
-        return Ok(());
+        return Ok(false);
     }
     let cut = cut_at(rows, blocks[home].place(row));
     let tail = blocks[home].tail(alloc, cut)?;
@@ -380,7 +414,7 @@ fn make_room(
         return Err(AllocError);
     }
     blocks[home].truncate(cut);
-    Ok(())
+    Ok(true)
 }
 
 /// Where to cut a full block, for a row that is to be at a given place in it.

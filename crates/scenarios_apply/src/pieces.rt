@@ -35,11 +35,8 @@ impl Accounts {
         Ok(Accounts { piece })
     }
 
-    /// Puts in a row that is not there. Fails only when out of memory.
-    fn put(&mut self, alloc: Global, row: u64) -> Result<(), AllocError> {
-        if self.piece.contains(row) {
-            return Ok(());
-        }
+    /// Puts in a row, and answers whether it is new. Fails only when out of memory.
+    fn put(&mut self, alloc: Global, row: u64) -> Result<bool, AllocError> {
         self.piece.insert(alloc, row, &FIVE)
     }
 
@@ -56,8 +53,8 @@ impl Accounts {
             return true;
         }
         match self.put(alloc, row) {
-            Ok(()) => true,
-            Err(_) => !self.piece.contains(row) && self.put(alloc, row).is_ok(),
+            Ok(new) => new,
+            Err(_) => !self.piece.contains(row) && matches!(self.put(alloc, row), Ok(true)),
         }
     }
 }

@@ -69,8 +69,11 @@ set-requires-clause-within c =
 
 pub set-requires-clause-wide : goal.set-requires-clause-wide
 set-requires-clause-wide c =
-    let at = here (goal.at.set-requires-clause-wide c).In-Some-column_at c.index_mut.result.now in
-    let wide : width_of (kind_of (get_or c.self.inside.columns.items c.in-Some-column_at.column c.index_mut.result.now)) ≤ length c.args.bytes.now =
+    let columns = c.self.inside.columns.items in
+    let k = c.in-Some-column_at.column in
+    let d = c.index_mut.result.now in
+    let at = here (goal.at.set-requires-clause-wide c).In-Some-column_at d in
+    let wide : width_of (kind_of (get_or columns k d)) ≤ length c.args.bytes.now =
     rw at.1 (omega (arith, at.2)) in
     rw c.index_mut.ensures.value wide
 
@@ -103,11 +106,10 @@ made c at present place =
     let put : values_in (length ids) c.set.new.self
     ≡ slice_set (values_in (length ids) (get_or columns k d)) (place_in rows c.args.row) value =
     rw (← place, ← many, ← was, ← c.index_mut.ensures.value) c.set.ensures.values in
-    let set = table-set ids columns is c.args.row k c.set.new.self value row.values d row.found column.0 cells kind put in (
-      set.0,
-      set.1 ∙ ap (λ rows. record { kinds = kinds_with columns; rows = rows })
-          (sym (patch-some ids columns is c.args.row c.args.offset c.args.bytes.now row.values (k, c.in-Some-column_at.field-0-1) row.found at)),
-    )
+    let set = table-set ids columns is c.args.row k c.set.new.self value row.values d row.found column.0 cells kind put in
+    let patched =
+    patch-some ids columns is c.args.row c.args.offset c.args.bytes.now row.values (k, c.in-Some-column_at.field-0-1) row.found at in
+    (set.0, set.1 ∙ ap (λ rows. record { kinds = kinds_with columns; rows = rows }) (sym patched))
 
 pub invariant_of-self : goal.invariant_of-self
 invariant_of-self c =
