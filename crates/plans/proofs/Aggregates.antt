@@ -168,7 +168,7 @@ rest-left rows fields after i result puts rest k d le lt =
     let same : get_or after k d ≡ get_or fields k d = ap (λ list. get_or list k d) puts ∙ get_or-set_other fields i k result d other in
     subst (IsWithin rows) (sym same) (rest k d (omega arith) (omega arith))
 
-past : (fields : List Field) (i : ℕ) → slice_get fields i ≡ None → length fields ≤ i
+pub past : (fields : List Field) (i : ℕ) → slice_get fields i ≡ None → length fields ≤ i
 past [] i e = omega arith
 past (field ∷ fields) zero e = cc
 past (field ∷ fields) (suc i) e = let le = past fields i e in omega (arith, le)

@@ -64,7 +64,7 @@ pub or_none : (fault other : Option PlanFault) → option_or fault other ≡ Non
 or_none None other e = (refl, e)
 or_none (Some fault) other e = absurd (cc)
 
-each : {X : Type 0} (fault : X → Option PlanFault) (P : X → Type 0) → ((x : X) → fault x ≡ None → P x) → (xs : List X)
+pub each : {X : Type 0} (fault : X → Option PlanFault) (P : X → Type 0) → ((x : X) → fault x ≡ None → P x) → (xs : List X)
     → first (map fault xs) ≡ None → AllByRecursion P xs
 each fault P holds [] e = tt
 each fault P holds (x ∷ xs) e =
@@ -73,21 +73,21 @@ each fault P holds (x ∷ xs) e =
 
 -- ---- kinds that are there
 
-present : (kind : Option Kind) → presence_fault kind ≡ None → IsSome kind
+pub present : (kind : Option Kind) → presence_fault kind ≡ None → IsSome kind
 present None e = cc
 present (Some kind) e = refl
 
-number-present : (kind : Option Kind) → number_fault kind ≡ None → IsSome kind
+pub number-present : (kind : Option Kind) → number_fault kind ≡ None → IsSome kind
 number-present None e = cc
 number-present (Some kind) e = refl
 
-value-present : (value : Value) (kind : Option Kind) → value_fault value kind ≡ None → IsSome kind
+pub value-present : (value : Value) (kind : Option Kind) → value_fault value kind ≡ None → IsSome kind
 value-present value None e = cc
 value-present value (Some kind) e = refl
 
 -- ---- values that are there
 
-value-there : (values : List Value) (columns : List Kind) (column : ℕ) → are_of_kinds values columns ≡ true
+pub value-there : (values : List Value) (columns : List Kind) (column : ℕ) → are_of_kinds values columns ≡ true
     → IsSome (slice_get columns column) → IsSome (slice_get values column)
 value-there [] [] column e there = there
 value-there [] (kind ∷ columns) column e there = cc
@@ -152,7 +152,7 @@ has-columns own joined plan row whole is = record {
 
 -- ---- the rows of tables
 
-kinds_in-there : (shape : Shape) (table : ℕ) (own : List Kind) → slice_get shape table ≡ Some own → kinds_in shape table ≡ own
+pub kinds_in-there : (shape : Shape) (table : ℕ) (own : List Kind) → slice_get shape table ≡ Some own → kinds_in shape table ≡ own
 kinds_in-there [] table own e = cc
 kinds_in-there (first ∷ shape) zero own e = same_Some first own e
 kinds_in-there (first ∷ shape) (suc table) own e = kinds_in-there shape table own e

@@ -3,8 +3,27 @@ pub mod Rising
 pub mod Aggregates
 pub mod Keeping
 pub mod Merging
+pub mod Parts
+pub mod Ranged
 pub mod Pieces
+pub mod Tallied
+pub mod Grouped
 pub mod Columns
 pub mod Taking
 pub mod Texts
 pub mod Widening
+pub mod Numbers
+pub mod Picking
+pub mod ColumnValues
+pub mod RowKeys
+pub mod Selections
+pub mod Blocks
+pub mod Fills
+pub mod Pairs
+pub mod Fitting
+pub mod Sharing
+pub mod Scanned
+pub mod LentRows
+pub mod ScannedRows
+pub mod MergedPieces
+mod Equal

@@ -36,7 +36,7 @@ group_cmp-exact (x ∷ xs) (y ∷ ys) e = by (value_cmp x y) refl (group_cmp-exa
     by Equal h rest e = λ i. value_cmp-exact x y h i ∷ rest e i
     by Greater h rest e = cc
 
-is_Equal : (o : Ordering) → is_eq o ≡ true → o ≡ Equal
+pub is_Equal : (o : Ordering) → is_eq o ≡ true → o ≡ Equal
 is_Equal Less e = cc
 is_Equal Equal e = refl
 is_Equal Greater e = cc

@@ -10,7 +10,7 @@ use Rattle.std.specs.Ordering.{nat_cmp}
 use Rattle.std.proofs.Math.Nat.{mod-lt}
 use Rattle.std.proofs.lemmas.Bool.{false≢true, cases_eq}
 use Rattle.std.proofs.lemmas.Bool.Decides.{nat_tests}
-use Rattle.std.proofs.lemmas.List.{length-take, length-drop, get_or-take, get_or-drop, get_or-map, take_all}
+use Rattle.std.proofs.lemmas.List.{length-take, length-drop, get_or-take, get_or-drop, get_or-map}
 use Rattle.std.proofs.lemmas.List.Filters.{length-filter_both}
 use Rattle.std.proofs.lemmas.Map.Entries.{length-keys_of, lookup-filter-keys}
 use Rattle.std.proofs.lemmas.Option.{slice_get-get_or}
@@ -23,7 +23,7 @@ use Rattle.plans.specs.declared.plan.Plan.{Plan}
 use Rattle.plans.specs.Answers.{rows_among}
 use Rattle.plans.specs.Merged.{merged_at}
 use Rattle.plans.specs.Inner.Kept.{GroupList, kept_at, AreKept}
-use Rattle.plans.specs.Inner.Pieces.{rows_of_pieces, rows_scanned, AreAtMost, PiecesAreScanned}
+use Rattle.plans.specs.Inner.Pieces.{rows_of_pieces, AreAtMost, PiecesAreScanned}
 use Rattle.plans.proofs.Keeping.{filter-none, or_all, rows_among-append}
 use Rattle.plans.proofs.Merging.{kept_at-append, kept_at-split}
 
@@ -230,23 +230,6 @@ module _ (tables : Tables) (plan : Plan) (pieces piece count : ℕ)
   size =
       let sizes = ap length next ∙ length-append (rows_of_pieces rows pieces piece) here in
       omega (arith, sizes, counts)
-
-  -- there are no more rows than those of the table
-  pub scan-within : count + length here ≤ length rows
-  scan-within = let all = pieces-within rows pieces (piece + 1) in omega (arith, size, all)
-
-  -- at the end of the piece
-  pub scan-done : (from : ℕ) (groups : GroupList) → from ≤ length here → length here ≤ from
-      → AreKept tables plan (rows_scanned rows pieces piece from) (count + from) groups
-      → PiecesAreScanned tables plan pieces (piece + 1) (count + from) groups
-  scan-done from groups le end kept =
-      let all : take from here ≡ here = take_all from here end in
-      record {
-        count_is = omega (arith, size);
-        kept =
-            subst (λ list. AreKept tables plan list (count + from) groups)
-            (ap (λ list. rows_of_pieces rows pieces piece ++ list) all ∙ sym next) kept;
-      }
 
 -- all pieces were scanned: what is kept is what is kept of the table's rows
 pub all-scanned : (tables : Tables) (plan : Plan) (pieces piece count : ℕ) (groups : GroupList) → zero < pieces → piece ≡ pieces

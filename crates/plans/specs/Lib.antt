@@ -4,6 +4,7 @@ pub mod Order
 pub mod Answers
 pub mod Report
 pub mod Merged
+pub mod Partials
 pub mod Laws
 pub mod Worked
 pub mod Inner

@@ -34,10 +34,10 @@ merged (Sum column) field other = added field other
 merged (Min column) field other = better_of lesser field other
 merged (Max column) field other = better_of greater field other
 
--- the same for each of these aggregates
+-- the same for each of these aggregates; others beyond them stay
 abbrev pub merged_all : List Aggregate → List Field → List Field → List Field
-merged_all [] fields others = []
-merged_all (aggregate ∷ aggregates) [] others = []
+merged_all [] fields others = others
+merged_all (aggregate ∷ aggregates) [] others = others
 merged_all (aggregate ∷ aggregates) (field ∷ fields) [] = []
 merged_all (aggregate ∷ aggregates) (field ∷ fields) (other ∷ others) =
     merged aggregate field other ∷ merged_all aggregates fields others

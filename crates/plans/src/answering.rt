@@ -1,7 +1,7 @@
 //! Answering plans on a store.
 
-ghost use Rattle.std.specs.Prelude.{◌≡◌, ◌+◌, ◌++◌, List, [], true, map, Ok, IsSome, IfOk, OnOk};
-ghost use Rattle.std.specs.List.{AllByRecursion, list_all};
+ghost use Rattle.std.specs.Prelude.{◌≡◌, ◌+◌, ◌≤◌, ◌++◌, List, [], length, true, map, Ok, IsSome, IfOk, OnOk};
+ghost use Rattle.std.specs.List.{All, AllByRecursion, list_all};
 ghost use Rattle.std.specs.Option.{option_map, unwrap_or};
 ghost use Rattle.rows.specs.Tables.{shape_in, rows_of, row_at};
 ghost use Rattle.plans.specs.Checking.{checked};
@@ -12,22 +12,26 @@ ghost use Rattle.plans.specs.Inner.Places.{row_at_place};
 use crate::answer::Answer;
 use crate::comparing::{compare, passes};
 use crate::condition::Condition;
+use crate::distinct::{answers_at, distinct_of};
 use crate::groups::Groups;
 use crate::plan::Plan;
+use crate::ranging::partial;
 use crate::row_place::{RowPlace, joined_value};
-use crate::scanning::answer_by_pieces;
+use crate::together::lent_partial;
 use rows::{RowId, Value};
 use std::alloc::{AllocError, Global};
 use std::marker::Sync;
 use std::thread::Threads;
-use store::{Store, rows_stand_in_order};
+use store::Store;
 
 /// The answers of plans on the rows of a store, in their order. Each plan was checked against the
 /// kinds of the store's tables, and the store is whole. It may use threads. Fails only if out of
-/// memory.
+/// memory, or of numbers for groups: there are 2 to the 32nd.
 ///
-/// Costs: for each plan and row one `find`, and one more if the plan joins; the row's identifier is
-/// one of those that the store lends, or else takes an `id_at`.
+/// Costs: plans that are equal are answered once. Of each table one scan for all plans on it, where
+/// the store lends its rows: each piece in a thread of its own if there can be one, each column of a
+/// block once for all plans that take it. Where it does not, for each row one `id_at` for all plans
+/// on its table, and for each plan and row one `find`, and one more if the plan joins.
 pub fn answer_batch<S: Store + Sync, R: Threads + Sync>(
     rt: &R,
     alloc: Global,
@@ -38,40 +42,44 @@ pub fn answer_batch<S: Store + Sync, R: Threads + Sync>(
     requires checked { AllByRecursion (λ plan. checked (shape_in (S.tables store.now)) plan ≡ Ok tt) plans.now }
     ensures { IfOk result (λ answers. answers.items ≡ map (plain_answer (S.tables store.now)) plans.now) }
 {
-    let _ = rt;
-    let mut answers = Vec::with_capacity(alloc, plans.len())?;
+    let distinct = distinct_of(alloc, plans)?;
+    if distinct.plans.len() == plans.len() {
+        return answer_each(rt, alloc, store, plans);
+    }
+    let answers = answer_each(rt, alloc, store, distinct.plans.as_slice())?;
+    let copies = answers_at(alloc, answers.as_slice(), distinct.places.as_slice())?;
+    Ok(copies)
+}
+
+/// The same, whether or not some of the plans are equal.
+fn answer_each<S: Store + Sync, R: Threads + Sync>(
+    rt: &R,
+    alloc: Global,
+    store: &S,
+    plans: &[Plan],
+) -> Result<Vec<Answer>, AllocError>
+    requires whole { S.is_whole store.now ≡ true }
+    requires checked { AllByRecursion (λ plan. checked (shape_in (S.tables store.now)) plan ≡ Ok tt) plans.now }
+    ensures { IfOk result (λ answers. answers.items ≡ map (plain_answer (S.tables store.now)) plans.now) }
+{
+    let most = longest(store, plans);
+    if let Some(all) = lent_partial(rt, alloc, store, plans, most)? {
+        return Ok(all.into_answers());
+    }
+    let all = partial(alloc, store, plans, 0, most)?;
+    Ok(all.into_answers())
+}
+
+/// How many rows the longest of the plans' tables has.
+fn longest<S: Store>(store: &S, plans: &[Plan]) -> usize
+    requires { S.is_whole store.now ≡ true }
+    ensures { All (λ plan. length (rows_of (S.tables store.now) plan.table) ≤ result) plans.now }
+{
+    let mut rows = 0;
     for plan in plans {
-        answers.push(answer(alloc, store, plan)?)?;
+        rows = store.len(plan.table).max(rows);
     }
-    Ok(answers)
-}
-
-/// The answer of one plan. Fails only if out of memory.
-fn answer<S: Store>(alloc: Global, store: &S, plan: &Plan) -> Result<Answer, AllocError>
-    requires whole { S.is_whole store.now ≡ true }
-    requires checked { checked (shape_in (S.tables store.now)) plan.now ≡ Ok tt }
-    ensures { IfOk result (λ answer. answer ≡ plain_answer (S.tables store.now) plan.now) }
-{
-    if let Some(answer) = answer_by_pieces(alloc, store, plan)? {
-        return Ok(answer);
-    }
-    answer_in_order(alloc, store, plan)
-}
-
-/// The answer of one plan, from the rows in rising order, which any store has. Fails only if out of
-/// memory.
-fn answer_in_order<S: Store>(alloc: Global, store: &S, plan: &Plan) -> Result<Answer, AllocError>
-    requires whole { S.is_whole store.now ≡ true }
-    requires checked { checked (shape_in (S.tables store.now)) plan.now ≡ Ok tt }
-    ensures { IfOk result (λ answer. answer ≡ plain_answer (S.tables store.now) plan.now) }
-{
-    rows_stand_in_order();
-    let mut groups = Groups::new(alloc, plan)?;
-    for i in 0..store.len(plan.table) {
-        let id = store.id_at(plan.table, i);
-        take_row(alloc, store, plan, id, i, &mut groups)?;
-    }
-    groups.answer(alloc)
+    rows
 }
 
 /// Adds the row of an identifier, if the plan selects it, to what was computed from this many rows
@@ -130,7 +138,7 @@ fn joined_row<S: Store>(store: &S, plan: &Plan, place: S::Place) -> Option<RowPl
 }
 
 /// The identifier of a row that a value names; `None` if the value is negative, or not a number.
-fn id_of(value: Value) -> Option<RowId>
+pub fn id_of(value: Value) -> Option<RowId>
     ensures { option_map (λ id. id.0) result ≡ id_of value }
 {
     match value {

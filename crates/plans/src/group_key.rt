@@ -1,6 +1,6 @@
 //! The values by which a row is grouped.
 
-ghost use Rattle.std.specs.Prelude.{◌≡◌, refl};
+ghost use Rattle.std.specs.Prelude.{◌≡◌, refl, [], ◌∷◌, ◌++◌, OnOk, OnErr};
 ghost use Rattle.std.specs.Cmp.{partial_equiv_from_equiv, eq_by_cmp_equiv, po};
 ghost use Rattle.std.specs.Ordering.{eq_by_cmp, as_partial_cmp};
 ghost use Rattle.plans.specs.Order.{group_cmp};
@@ -8,6 +8,7 @@ ghost use Rattle.plans.specs.Inner.TotalOrder.{group_cmp_total};
 
 use crate::comparing::compare_groups;
 use rows::Value;
+use std::alloc::AllocError;
 use std::cmp::Ordering;
 use std::marker::Model;
 
@@ -40,6 +41,22 @@ impl GroupKey {
         ensures { result.now ≡ self.now }
     {
         self.values.as_slice()
+    }
+
+    /// Takes all values out; their room stays. Takes no memory.
+    pub fn clear(&mut self)
+        ensures { self.new ≡ [] }
+    {
+        self.values.clear();
+    }
+
+    /// Puts a value behind the others. Fails only if out of memory, and changes nothing then.
+    pub fn push(&mut self, value: Value) -> Result<(), AllocError>
+        ensures ok { OnOk result (self.new ≡ self.old ++ value ∷ []) }
+        ensures err { OnErr result (self.new ≡ self.old) }
+    {
+        self.values.push(value)?;
+        Ok(())
     }
 }
 

@@ -1,22 +1,25 @@
 //! What is computed for a plan while its rows are read: the aggregates of each group so far.
 
-ghost use Rattle.std.specs.Prelude.{◌≡◌, ◌+◌, ◌++◌, [], true, map, List, IsSome, IfOk, OnOk};
+ghost use Rattle.std.specs.Prelude.{◌≡◌, ◌+◌, ◌^◌, ◌<◌, ◌++◌, [], true, map, List, IsSome, Some, IfOk, OnOk, if◌then◌else◌};
 ghost use Rattle.std.specs.BTreeMap.{is_at};
 ghost use Rattle.std.specs.List.{AllByRecursion};
 ghost use Rattle.std.specs.List.Sorted.{IsStrictlySortedBy};
 ghost use Rattle.std.specs.Map.{keys_of, lookup};
+ghost use Rattle.std.specs.Ordering.{is_eq};
 ghost use Rattle.rows.specs.declared.value.Value.{Value as ColumnValue};
 ghost use Rattle.plans.specs.declared.field.Field.TheVariants.{Stored};
 ghost use Rattle.plans.specs.Order.{group_cmp};
 ghost use Rattle.plans.specs.Answers.{aggregate_of, group_of, column_in};
 ghost use Rattle.plans.specs.Inner.Kept.{opening_groups, with_joined_row, HasColumns, AreWithin};
 ghost use Rattle.plans.specs.Inner.Places.{row_at_place};
+ghost use Rattle.plans.specs.Merged.{merged_at};
 
 use crate::aggregate::Aggregate;
 use crate::answer::Answer;
 use crate::column::Column;
 use crate::field::Field;
 use crate::field_list::FieldList;
+use crate::field_merging::merged_with;
 use crate::group_key::GroupKey;
 use crate::growing::grow;
 use crate::plan::Plan;
@@ -94,6 +97,51 @@ impl Groups {
             lines.push(line_of(alloc, group.as_slice(), fields.as_slice())?)?;
         }
         Ok(Answer::from_vec(lines))
+    }
+}
+
+impl Groups {
+    /// No groups. Takes no memory.
+    pub fn empty(alloc: Global) -> Groups
+        ensures { result ≡ [] }
+    {
+        Groups {
+            map: BTreeMap::new(alloc),
+        }
+    }
+
+    /// Puts the aggregates of a group in place of any that it has. Fails only if out of memory;
+    /// nothing is then known of the groups.
+    pub fn put(&mut self, key: GroupKey, fields: FieldList) -> Result<(), AllocError>
+        ensures { OnOk result ((group : List ColumnValue) → lookup (is_at (group_cmp group)) self.new
+            ≡ (if is_eq (group_cmp key group) then Some fields else lookup (is_at (group_cmp group)) self.old)) }
+    {
+        self.map.insert(key, fields)?;
+        Ok(())
+    }
+
+    /// Adds the groups of others, of at most so many rows, to these, of at most so many. Fails only if
+    /// out of memory; nothing is then known of the groups.
+    pub fn merge(
+        &mut self,
+        aggregates: &[Aggregate],
+        others: Groups,
+        rows: usize,
+        other_rows: usize,
+    ) -> Result<(), AllocError>
+        requires within { AreWithin rows self.old }
+        requires others { AreWithin other_rows others }
+        requires few { rows + other_rows < 2 ^ 64 }
+        ensures found { OnOk result ((group : List ColumnValue) → lookup (is_at (group_cmp group)) self.new
+            ≡ merged_at aggregates.now (lookup (is_at (group_cmp group)) self.old) (lookup (is_at (group_cmp group)) others)) }
+        ensures within { OnOk result (AreWithin (rows + other_rows) self.new) }
+    {
+        for (key, fields) in others.map {
+            let held = self.map.get(&key);
+            let merged = merged_with(aggregates, held, fields, rows, other_rows);
+            self.put(key, merged)?;
+        }
+        Ok(())
     }
 }
 

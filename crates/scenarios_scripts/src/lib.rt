@@ -12,6 +12,8 @@ mod script_long_texts;
 #[cfg(test)]
 mod script_looks;
 #[cfg(test)]
+mod script_many_rows;
+#[cfg(test)]
 mod script_memory;
 #[cfg(test)]
 mod script_plan_faults;

@@ -20,10 +20,10 @@ pub trait Store {
     ghost use Rattle.rows.specs.Tables.{Tables};
 
     /// Where a row of a table is. It may be used only until the next change.
-    type Place: Copy;
+    type Place: Copy + Send;
 
     /// Why a change was refused.
-    type Fault: Drop;
+    type Fault: Drop + Send;
 
     /// Its tables, each with the kinds of its columns and its rows.
     ghost tables: { Self → Tables };

@@ -15,7 +15,7 @@ unreachable-requires g c =
     false≢true (sym (ap is_some c.in_default.is) ∙ c.find.ensures.found c.requires.whole ∙ ap is_some is.2)
 
 pub append_columns-requires-clause-all : goal.append_columns-requires-clause-all
-append_columns-requires-clause-all g c =
+append_columns-requires-clause-all g c = λ _ _.
     let tables = g.S.Store.tables c.args.store.now in
     let id = c.id_at-id.result.0 in
     let is = c.rows_stand_in_order.ensures (rows_of tables c.args.table) c.args.i id c.id_at-id.ensures.value c.id_at-id.ensures.rises in

@@ -17,7 +17,7 @@ is-there None there = cc
 is-there (Some values) there = refl
 
 pub joined_row-requires-clause-there : goal.joined_row-requires-clause-there
-joined_row-requires-clause-there g c =
+joined_row-requires-clause-there g c = λ _ _.
     let tables = g.S.Store.tables c.args.store.now in
     let plan = c.args.plan.now in
     let id = c.args.id.0 in
@@ -41,7 +41,7 @@ returns-in_default-joined_row g c =
     kept-skip plan rows (row_among tables plan id) c.args.count c.args.groups.now (among-none tables plan id (unwrap_or found []) none) kept
 
 pub meets_all-requires-clause-there : goal.meets_all-requires-clause-there
-meets_all-requires-clause-there g c =
+meets_all-requires-clause-there g c = λ _ _.
     let tables = g.S.Store.tables c.args.store.now in
     let plan = c.args.plan.now in
     let id = c.args.id.0 in
@@ -73,7 +73,7 @@ returns-then-not-meets_all g c =
     (among-not tables plan id (unwrap_or found []) row some fails) kept
 
 pub add-requires-clause-there : goal.add-requires-clause-there
-add-requires-clause-there g c =
+add-requires-clause-there g c = λ _ _.
     let tables = g.S.Store.tables c.args.store.now in
     let plan = c.args.plan.now in
     let id = c.args.id.0 in

@@ -13,7 +13,7 @@ returns-in-Some-clause-within g c =
     (subst (AreWithin c.args.rows) (sym c.self.view_is) c.requires.within) c.grow.ensures.within put.0
 
 pub grow-requires-2-clause-within : goal.grow-requires-2-clause-within
-grow-requires-2-clause-within g c =
+grow-requires-2-clause-within g c = λ _ _.
     subst (All (IsWithin c.args.rows)) (sym c.in_ok-fields.ensures) (empty-within c.args.rows c.as_slice-2.result.now)
 
 pub returns-clause-within : goal.returns-clause-within

@@ -1,0 +1,24 @@
+-- One condition more is the same; and at the end all are.
+use Rattle.std.proofs.Common.{◌<◌, ◌≤◌, ◌∙◌, refl, length, sym, arith}
+use Rattle.std.proofs.lemmas.List.{take_more_same, take_all, get_or_default}
+use Rattle.plans.proofs.distinct.are_same_conditions.Goals as goal
+
+pub loop-index-preserved : goal.loop-index-preserved
+loop-index-preserved c =
+    let items = c.args.conditions.now in
+    let others = c.args.others.now in
+    let i = c.loop-index.index in
+    let any = c.index-conditions-index.result in
+    let first : i < length items = c.loop-index-test.true in
+    let second : i < length others = omega (arith, first, c.if-conditions-others.false) in
+    take_more_same items others i any first second c.loop-index.invariant
+    (sym c.index-conditions-index.is ∙ c.if-not-is_same_condition.ensures refl ∙ c.index-others-index.is
+    ∙ get_or_default others i c.index-others-index.result any second)
+
+pub returns : goal.returns
+returns c = λ same.
+    let items = c.args.conditions.now in
+    let others = c.args.others.now in
+    let i = c.loop-index.index in
+    let all : length items ≤ i = c.loop-index-test.false in
+    sym (take_all i items all) ∙ c.loop-index.invariant ∙ take_all i others (omega (arith, all, c.if-conditions-others.false))

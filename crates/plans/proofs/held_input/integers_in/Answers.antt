@@ -1,0 +1,14 @@
+-- Numbers are the integers of themselves.
+use Rattle.std.proofs.Common.{map, sym, ap, ◌∙◌}
+use Rattle.plans.specs.Answers.{integer_of}
+use Rattle.plans.specs.Inner.Cells.{values_of}
+use Rattle.plans.proofs.ColumnValues.{integers-int}
+use Rattle.plans.proofs.held_input.integers_in.Goals as goal
+
+pub returns-in-Lent : goal.returns-in-Lent
+returns-in-Lent c = sym (ap (λ cells. map integer_of (values_of cells)) c.in-Lent.is ∙ integers-int c.in-Lent.numbers.now)
+
+pub returns-in-Numbers : goal.returns-in-Numbers
+returns-in-Numbers c =
+    c.as_slice.ensures.value
+    ∙ sym (ap (λ cells. map integer_of (values_of cells)) c.in-Numbers.is ∙ integers-int c.in-Numbers.numbers.items)
