@@ -239,13 +239,13 @@ fn is_owned_at_last(alloc: Global, intake: &mut Intake) -> Result<bool, Fail> {
 #[test]
 fn a_frame_taken_without_memory_changes_nothing(rt: HostRuntime) -> Result<(), Fail> {
     let first = frame_of(rt.alloc(), 0, 0, 1)?;
-    let later = frame_of(rt.alloc(), 0, 2, 3)?;
+    let later = frame_of(rt.alloc(), 0, 4095, 3)?;
     let mut intake = Intake::new(rt.alloc(), 2)?;
     assert!(rt; is_stored_at_last(&mut intake, &first)?);
     assert!(rt; is_stored_at_last(&mut intake, &later)?);
     assert!(rt; is_owned_at_last(rt.alloc(), &mut intake)?);
     assert_eq!(rt;
-        (intake.contiguous(0), commit_at(&intake, 0, 2)),
+        (intake.contiguous(0), commit_at(&intake, 0, 4095)),
         (1, Some(3))
     );
     Ok(())

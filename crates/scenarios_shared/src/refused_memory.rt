@@ -76,6 +76,45 @@ fn is_settled<L: Origin, R: Wait + Drop, W: Wait>(
     }
 }
 
+/// Whether row 7 has this number in its first column, as the transaction sees it.
+fn has<L: Origin>(seat: &mut Seat<L>, transaction: &Transaction, number: i64) -> bool {
+    match seat.value(transaction, 0, RowId(7), 0) {
+        Ok(value) => value == Value::Int(number),
+        Err(_) => false,
+    }
+}
+
+/// Whether a later transaction sets a column of the row, and then deletes the row. Each call is made once
+/// more if memory was refused to it, and has changed nothing until then.
+fn is_changed<L: Origin>(alloc: Global, seat: &mut Seat<L>) -> bool {
+    let mut transaction = match seat.begin(alloc) {
+        Ok(transaction) => transaction,
+        Err(_) => match seat.begin(alloc) {
+            Ok(transaction) => transaction,
+            Err(_) => return false,
+        },
+    };
+    if seat
+        .set(&mut transaction, 0, RowId(7), 0, Value::Int(6))
+        .is_err()
+        && (!has(seat, &transaction, 5)
+            || seat
+                .set(&mut transaction, 0, RowId(7), 0, Value::Int(6))
+                .is_err())
+    {
+        return false;
+    }
+    if !has(seat, &transaction, 6) {
+        return false;
+    }
+    if seat.delete(&mut transaction, 0, RowId(7)).is_err()
+        && (!has(seat, &transaction, 6) || seat.delete(&mut transaction, 0, RowId(7)).is_err())
+    {
+        return false;
+    }
+    seat.value(&transaction, 0, RowId(7), 0).is_err()
+}
+
 /// Whether the row's frame is pushed; asked once more if memory was refused.
 fn is_pushed<L: Origin, R: Wait + Drop, W: Wait>(
     rt: &W,
@@ -104,7 +143,7 @@ fn is_answered<L: Origin, R: Wait + Drop, W: Wait>(
     false
 }
 
-/// Whether a row is committed, made durable, settled and sent, whichever request is refused. A line that
+/// Whether a row is committed, made durable, settled, changed and sent, whichever request is refused. A line that
 /// is not made for want of memory hands its primary back.
 fn is_served<L: Origin, R: Wait>(
     rt: &R,
@@ -133,6 +172,7 @@ fn is_served<L: Origin, R: Wait>(
     };
     is_flushed(rt, &line, &mut seat, &ticket)
         && is_settled(rt, &line, &mut seat, &ticket)
+        && is_changed(alloc, &mut seat)
         && is_pushed(rt, &line, &mut seat)
         && is_answered(rt, &line, &mut seat)
 }
