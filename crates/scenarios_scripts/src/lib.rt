@@ -31,3 +31,5 @@ mod script_workers;
 mod script_writers;
 #[cfg(test)]
 mod scripts;
+#[cfg(test)]
+mod value_words;
