@@ -1,14 +1,15 @@
 -- One row more is added to what is kept of its group.
 use mir.Syntax.{w128}
-use Rattle.std.proofs.Common.{◌≡◌, ◌≢◌, ℕ, ◌+◌, ◌<◌, ◌^◌, FitsSigned, w64, to_z, of_z}
+use Rattle.std.proofs.Common.{◌≡◌, ◌≢◌, ℕ, zero, suc, ◌+◌, ◌<◌, ◌≤◌, ◌^◌, FitsSigned, w64, to_z, of_z}
 use Rattle.std.proofs.Common.{ℤ, ◌+ℤ◌, Bool, true, false, ◌==◌, cond, List, [], ◌∷◌, ◌++◌}
 use Rattle.std.proofs.Common.{length, take, drop, set, get_or}
 use Rattle.std.proofs.Common.{refl, sym, ap, subst, ◌∙◌, arith, eqb-true}
 use Rattle.std.proofs.lemmas.Bool.Decides.{nat_tests}
-use Rattle.std.specs.List.{filter}
+use Rattle.std.specs.List.{filter, range_with_len}
 use Rattle.std.proofs.lemmas.Int.{ints}
-use Rattle.std.proofs.lemmas.List.{drop_more, get_or_default, get_or-set_same, get_or-set_other, length-set}
-use Rattle.std.proofs.lemmas.List.Elements.{filter_more}
+use Rattle.std.proofs.lemmas.List.{drop_more, get_or_default, get_or-set_same, get_or-set_other, length-set, take-set, take_more_set, append-nil}
+use Rattle.std.specs.Int.{from_bool}
+use Rattle.std.proofs.lemmas.List.Elements.{filter-append}
 use Rattle.plans.specs.Inner.Picked.{picked, total, folded, IsWithin, AreWithin}
 
 pub folded-count : {V : Type 0} (a : ℕ) (values : List V) → folded (λ count value. count + 1) a values ≡ a + length values
@@ -92,11 +93,33 @@ within-set count more sums place sum is there within grown n d lt =
 pub held : (y : ℤ) → FitsSigned w64 y → to_z w64 (of_z w64 y) ≡ y
 held y fits = omega (arith, ints, fits)
 
--- one position more is selected, or is not
-pub selected-next : (p : ℕ → Bool) (positions selected : List ℕ) (i : ℕ) (same : Bool) → i < length positions
-    → p (get_or positions i 0) ≡ same → selected ≡ filter p (take i positions)
-    → (selected ++ cond same (get_or positions i 0 ∷ []) []) ≡ filter p (take (i + 1) positions)
-selected-next p positions selected i same lt is so_far =
-    ap (λ front. front ++ cond same (get_or positions i 0 ∷ []) []) so_far
-    ∙ ap (λ b. filter p (take i positions) ++ cond b (get_or positions i 0 ∷ []) []) (sym is)
-    ∙ sym (filter_more p positions i 0 lt)
+-- ---- which positions are selected
+
+-- a position more
+pub positions-next : (n : ℕ) → range_with_len 0 (n + 1) ≡ range_with_len 0 n ++ n ∷ []
+positions-next n = let on : n + 1 ≡ suc n = omega arith in ap (range_with_len 0) on ∙ last 0 n n (omega arith)
+  where
+    last : (a n k : ℕ) → a + n ≡ k → range_with_len a (suc n) ≡ range_with_len a n ++ k ∷ []
+    last a zero k is = let same : a ≡ k = omega (arith, is) in ap (λ x. x ∷ []) same
+    last a (suc n) k is = ap (λ rest. a ∷ rest) (last (a + 1) n k (omega (arith, is)))
+
+-- of a list that has its length already, so many stand: one more is selected, or is not
+pub kept-next : (p : ℕ → Bool) (front selected : List ℕ) (x count : ℕ) (same : Bool) → count < length selected → p x ≡ same
+    → take count selected ≡ filter p front → take (count + from_bool same) (set selected count x) ≡ filter p (front ++ x ∷ [])
+kept-next p front selected x count same room is so_far =
+    by same
+    ∙ ap (λ list. list ++ cond same (x ∷ []) []) so_far
+    ∙ ap (λ b. filter p front ++ cond b (x ∷ []) []) (sym is)
+    ∙ sym (filter-append p front (x ∷ []))
+  where
+    none : count + 0 ≡ count
+    none = omega arith
+
+    by : (same : Bool) → take (count + from_bool same) (set selected count x) ≡ take count selected ++ cond same (x ∷ []) []
+    by true = take_more_set selected count x room
+    by false =
+        ap (λ n. take n (set selected count x)) none ∙ take-set selected count x ∙ sym (append-nil (take count selected))
+
+pub at-most-one : (same : Bool) → from_bool same ≤ 1
+at-most-one true = omega arith
+at-most-one false = omega arith

@@ -2,12 +2,13 @@
 use Rattle.std.proofs.Common.{◌≡◌, ℕ, zero, suc, ◌+◌, ◌<◌, ◌≤◌, ◌&&◌, Bool, true, false, cond, List, [], ◌∷◌, length, map, take, get_or}
 use Rattle.std.proofs.Common.{None, Some, IfSome, slice_get}
 use Rattle.std.proofs.Common.{refl, sym, ap, subst, ◌∙◌, ◌==◌, arith}
-use Rattle.std.specs.List.{filter, list_all}
+use Rattle.std.specs.List.{filter, list_all, range_with_len}
 use Rattle.std.specs.Option.{option_map_or}
 use Rattle.std.proofs.lemmas.Bool.Decides.{nat_tests}
 use Rattle.std.proofs.lemmas.Int.{ints}
 use Rattle.std.proofs.lemmas.List.{get_or-map, length-map}
 use Rattle.std.proofs.lemmas.List.Folds.{list_all_more}
+use Rattle.std.proofs.lemmas.List.FromFn.{length-range_with_len, get_or-range_with_len, fill_by_all}
 use Rattle.std.proofs.lemmas.Option.{slice_get-get_or}
 use Rattle.rows.specs.declared.value.Value.{Value}
 use Rattle.plans.specs.declared.aggregate.Aggregate.{Aggregate}
@@ -56,6 +57,17 @@ map-filter at p q count (x ∷ positions) all same =
         ≡ cond here (at x ∷ filter q (map at positions)) (filter q (map at positions))
     by true rest = ap (λ list. at x ∷ list) rest
     by false rest = rest
+
+-- ---- the positions of all rows
+
+pub places-range : (count : ℕ) → ArePlaces count (range_with_len 0 count)
+places-range count i d lt =
+    let within : i < count = omega (arith, lt, length-range_with_len 0 count) in
+    omega (arith, get_or-range_with_len 0 count i d within, within)
+
+-- they are the positions of the rows themselves
+pub rows-range : (rows : List JoinedRow) (count : ℕ) → length rows ≡ count → map (joined_at rows) (range_with_len 0 count) ≡ rows
+rows-range rows count long = sym (fill_by_all (joined_at rows) rows count (record { own = []; joined = [] }) long (λ k lt. refl))
 
 -- one test more
 filter-and : {X : Type 0} (p q : X → Bool) (xs : List X) → filter q (filter p xs) ≡ filter (λ x. p x && q x) xs
@@ -137,6 +149,18 @@ selected-next conditions columns places count k positions condition cells lt siz
     same : (position : ℕ) → position < count → does_pass condition (values_of cells) position ≡ meets (joined_at rows position) condition
     same position within =
         ap (λ list. does_pass condition list position) values ∙ pass-meets condition rows position (omega (arith, within, many))
+
+-- so those that pass one condition are those of the rows that meet it
+pub selected-first : (conditions : List Condition) (columns : List Cells) (places : List ℕ) (count : ℕ) (condition : Condition) (cells : Cells)
+    → 0 < length conditions → length places ≡ length conditions → condition ≡ get_or conditions 0 condition
+    → values_of cells ≡ values_at columns (get_or places 0 0)
+    → (rows : List JoinedRow) → length rows ≡ count → AreColumnsOf columns places (columns_of conditions) rows
+    → map (joined_at rows) (filter (does_pass condition (values_of cells)) (range_with_len 0 count))
+    ≡ filter (λ row. list_all (meets row) (take 1 conditions)) rows
+selected-first conditions columns places count condition cells some sizes is held rows many are =
+    selected-next conditions columns places count 0 (range_with_len 0 count) condition cells some sizes (places-range count) is held rows
+    many are
+    (rows-range rows count many ∙ sym (filter-true rows))
 
 -- ---- what rows contribute to aggregates
 

@@ -2,7 +2,7 @@
 
 ghost use Rattle.std.specs.Prelude.{◌≡◌, ℤ, pos, length, map, IfOk, FitsSigned};
 ghost use Rattle.std.specs.Int.{w64};
-ghost use Rattle.std.specs.List.{filter};
+ghost use Rattle.std.specs.List.{filter, range_with_len};
 ghost use Rattle.rows.specs.declared.value.Value.TheVariants.{Int};
 ghost use Rattle.plans.specs.Answers.{passes};
 ghost use Rattle.plans.specs.Order.{value_cmp};
@@ -13,9 +13,46 @@ ghost use Rattle.plans.specs.Inner.Cells.{values_of, value_at, does_pass};
 use crate::cells::Cells;
 use crate::comparing::{compare, passes};
 use crate::condition::{Comparison, Condition};
-use crate::selecting::select;
+use crate::selecting::{all_positions, select, select_all};
 use rows::Value;
 use std::alloc::{AllocError, Global};
+
+/// The positions of the rows whose value meets a condition. Fails only if out of memory, or of
+/// positions.
+pub fn select_first(
+    alloc: Global,
+    cells: &Cells,
+    condition: &Condition,
+) -> Result<Vec<u32>, AllocError>
+    ensures { IfOk result (λ selected. selected.items
+        ≡ filter (does_pass condition.now (values_of cells.now)) (range_with_len 0 (length (values_of cells.now)))) }
+{
+    if let Some(numbers) = cells.numbers() {
+        if let Value::Int(value) = condition.value {
+            return first_compared(alloc, numbers, condition.comparison, value);
+        }
+    }
+    let all = all_positions(alloc, cells.len())?;
+    let selected = select_cells(alloc, cells, condition, all.as_slice())?;
+    Ok(selected)
+}
+
+/// The positions of the numbers that pass a comparison with another one. Fails only if out of
+/// memory, or of positions.
+fn first_compared(
+    alloc: Global,
+    numbers: &[i64],
+    comparison: Comparison,
+    value: i64,
+) -> Result<Vec<u32>, AllocError>
+    ensures { IfOk result (λ selected. selected.items ≡ filter
+        (λ position. passes comparison (value_cmp (value_at (map Int numbers.now) position) (Int value)))
+        (range_with_len 0 (length numbers.now))) }
+{
+    let range = range_of(comparison, value);
+    let selected = select_all(alloc, numbers, range.low, range.high, range.inside)?;
+    Ok(selected)
+}
 
 /// Of these positions those whose value meets a condition. Fails only if out of memory.
 pub fn select_cells(

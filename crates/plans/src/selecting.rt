@@ -1,8 +1,11 @@
 //! Selecting rows by the value of a column, and gathering what selected rows have.
+//!
+//! A list of what is selected is made as long as it can become and cut afterwards: it then takes no
+//! branch for each row, and no push.
 
 ghost use Rattle.std.specs.Prelude.{◌≡◌, length, map, IfOk, OnOk, FitsSigned, slice_index_or};
 ghost use Rattle.std.specs.Int.{w64};
-ghost use Rattle.std.specs.List.{All, filter};
+ghost use Rattle.std.specs.List.{All, filter, range_with_len};
 ghost use Rattle.plans.specs.Inner.Picked.{ArePlaces};
 ghost use Rattle.plans.specs.Inner.Selected.{is_selected, number_at};
 ghost use Rattle.plans.specs.Inner.Cells.{value_at};
@@ -25,13 +28,56 @@ pub fn select(
         ≡ filter (λ position. is_selected low high inside (number_at numbers.now position)) positions.now) }
     ensures fit { OnOk result (All (λ position. FitsSigned w64 (number_at numbers.now position)) positions.now) }
 {
-    let mut selected = Vec::with_capacity(alloc, positions.len())?;
-    for position in positions {
-        if is_selected(numbers[*position as usize], low, high, inside) {
-            selected.push(*position)?;
-        }
+    let mut selected = Vec::new(alloc);
+    selected.resize(positions.len(), 0)?;
+    let mut count = 0;
+    for i in 0..positions.len() {
+        let position = positions[i];
+        selected[count] = position;
+        count += usize::from(is_selected(numbers[position as usize], low, high, inside));
     }
+    selected.truncate(count);
     Ok(selected)
+}
+
+/// The same of the positions of all these numbers. Fails only if out of memory, or of positions.
+pub fn select_all(
+    alloc: Global,
+    numbers: &[i64],
+    low: i64,
+    high: i64,
+    inside: bool,
+) -> Result<Vec<u32>, AllocError>
+    ensures selected { IfOk result (λ selected. selected.items
+        ≡ filter (λ position. is_selected low high inside (number_at numbers.now position)) (range_with_len 0 (length numbers.now))) }
+    ensures fit { OnOk result (All (λ position. FitsSigned w64 (number_at numbers.now position)) (range_with_len 0 (length numbers.now))) }
+{
+    let Ok(end) = u32::try_from(numbers.len()) else {
+        return Err(AllocError);
+    };
+    let mut selected = Vec::new(alloc);
+    selected.resize(numbers.len(), 0)?;
+    let mut count = 0;
+    for position in 0..end {
+        selected[count] = position;
+        count += usize::from(is_selected(numbers[position as usize], low, high, inside));
+    }
+    selected.truncate(count);
+    Ok(selected)
+}
+
+/// The positions of so many rows. Fails only if out of memory, or of positions.
+pub fn all_positions(alloc: Global, count: usize) -> Result<Vec<u32>, AllocError>
+    ensures { IfOk result (λ positions. positions.items ≡ range_with_len 0 count) }
+{
+    let Ok(end) = u32::try_from(count) else {
+        return Err(AllocError);
+    };
+    let mut positions = Vec::with_capacity(alloc, count)?;
+    for position in 0..end {
+        positions.push_reserved(position);
+    }
+    Ok(positions)
 }
 
 /// Whether a number is from `low` to `high`, if those inside are selected, or is not.
@@ -49,7 +95,7 @@ pub fn gather(alloc: Global, positions: &[u32], numbers: &[i64]) -> Result<Vec<i
 {
     let mut gathered = Vec::with_capacity(alloc, positions.len())?;
     for position in positions {
-        gathered.push(numbers[*position as usize])?;
+        gathered.push_reserved(numbers[*position as usize]);
     }
     Ok(gathered)
 }
@@ -65,7 +111,7 @@ pub fn gather_values(
 {
     let mut gathered = Vec::with_capacity(alloc, positions.len())?;
     for position in positions {
-        gathered.push(values[*position as usize])?;
+        gathered.push_reserved(values[*position as usize]);
     }
     Ok(gathered)
 }
@@ -81,7 +127,7 @@ pub fn gather_numbers(
 {
     let mut gathered = Vec::with_capacity(alloc, positions.len())?;
     for position in positions {
-        gathered.push(numbers[*position as usize])?;
+        gathered.push_reserved(numbers[*position as usize]);
     }
     Ok(gathered)
 }

@@ -1,9 +1,7 @@
-//! What a plan takes of the rows of a block: those that meet its conditions, and what they
-//! contribute to its aggregates, from columns of the rows.
+//! Which rows of a block a plan selects, from columns of the rows.
 
 ghost use Rattle.std.specs.Prelude.{◌≡◌, ◌≤◌, List, length, map, IfOk};
 ghost use Rattle.std.specs.List.{filter, list_all};
-ghost use Rattle.plans.specs.declared.aggregate.Aggregate.{Aggregate as AnyAggregate};
 ghost use Rattle.plans.specs.Answers.{JoinedRow, meets};
 ghost use Rattle.plans.specs.Inner.Picked.{ArePlaces};
 ghost use Rattle.plans.specs.Inner.Cells.{HaveColumns, AreColumnsOf};
@@ -11,7 +9,8 @@ ghost use Rattle.plans.specs.Inner.Selections.{joined_at, columns_of};
 
 use crate::cells::Cells;
 use crate::condition::Condition;
-use crate::passing::select_cells;
+use crate::passing::{select_cells, select_first};
+use crate::selecting::all_positions;
 use std::alloc::{AllocError, Global};
 
 /// The positions of the rows that meet all conditions, of so many rows; the columns at these places
@@ -31,8 +30,11 @@ pub fn select_rows(
         → AreColumnsOf columns.now places.now (columns_of conditions.now) rows
         → map (joined_at rows) positions.items ≡ filter (λ row. list_all (meets row) conditions.now) rows) }
 {
-    let mut positions = all_positions(alloc, count)?;
-    for index in 0..conditions.len() {
+    if conditions.is_empty() {
+        return all_positions(alloc, count);
+    }
+    let mut positions = select_first(alloc, &columns[places[0]], &conditions[0])?;
+    for index in 1..conditions.len() {
         let selected = select_cells(
             alloc,
             &columns[places[index]],
@@ -40,23 +42,6 @@ pub fn select_rows(
             positions.as_slice(),
         )?;
         positions = selected;
-    }
-    Ok(positions)
-}
-
-/// The positions of so many rows. Fails only if out of memory, or of positions.
-fn all_positions(alloc: Global, count: usize) -> Result<Vec<u32>, AllocError>
-    ensures places { IfOk result (λ positions. ArePlaces count positions.items) }
-    ensures sizes { IfOk result (λ positions. length positions.items ≡ count) }
-    ensures rows { IfOk result (λ positions.
-        (rows : List JoinedRow) → length rows ≡ count → map (joined_at rows) positions.items ≡ rows) }
-{
-    let mut positions = Vec::with_capacity(alloc, count)?;
-    for row in 0..count {
-        let Ok(position) = u32::try_from(row) else {
-            return Err(AllocError);
-        };
-        positions.push(position)?;
     }
     Ok(positions)
 }
