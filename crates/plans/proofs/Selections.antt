@@ -11,6 +11,7 @@ use Rattle.std.proofs.lemmas.List.Folds.{list_all_more}
 use Rattle.std.proofs.lemmas.List.FromFn.{length-range_with_len, get_or-range_with_len, fill_by_all}
 use Rattle.std.proofs.lemmas.Option.{slice_get-get_or}
 use Rattle.rows.specs.declared.value.Value.{Value}
+use Rattle.rows.specs.declared.value.Value.TheVariants.{Int}
 use Rattle.plans.specs.declared.aggregate.Aggregate.{Aggregate}
 use Rattle.plans.specs.declared.aggregate.Aggregate.TheVariants.{Count, Sum, Min, Max}
 use Rattle.plans.specs.declared.column.Column.{Column}
@@ -171,10 +172,10 @@ is-input rows (Sum column) (inputs.Numbers numbers) values h e = h ∙ ap (map i
 is-input rows (Sum column) (inputs.Values list) values h e = absurd h
 is-input rows (Sum column) inputs.Rows values h e = absurd h
 is-input rows (Min column) (inputs.Values list) values h e = h ∙ e
-is-input rows (Min column) (inputs.Numbers numbers) values h e = absurd h
+is-input rows (Min column) (inputs.Numbers numbers) values h e = h ∙ e
 is-input rows (Min column) inputs.Rows values h e = absurd h
 is-input rows (Max column) (inputs.Values list) values h e = h ∙ e
-is-input rows (Max column) (inputs.Numbers numbers) values h e = absurd h
+is-input rows (Max column) (inputs.Numbers numbers) values h e = h ∙ e
 is-input rows (Max column) inputs.Rows values h e = absurd h
 
 -- what is taken of the values of rows is what they contribute
@@ -193,10 +194,10 @@ is-input-of count (Sum column) (inputs.Numbers numbers) values h e = sym e ∙ s
 is-input-of count (Sum column) (inputs.Values list) values h e = absurd h
 is-input-of count (Sum column) inputs.Rows values h e = absurd h
 is-input-of count (Min column) (inputs.Values list) values h e = sym e ∙ sym (ap length h)
-is-input-of count (Min column) (inputs.Numbers numbers) values h e = absurd h
+is-input-of count (Min column) (inputs.Numbers numbers) values h e = sym e ∙ sym (ap length h) ∙ length-map numbers.now Int
 is-input-of count (Min column) inputs.Rows values h e = absurd h
 is-input-of count (Max column) (inputs.Values list) values h e = sym e ∙ sym (ap length h)
-is-input-of count (Max column) (inputs.Numbers numbers) values h e = absurd h
+is-input-of count (Max column) (inputs.Numbers numbers) values h e = sym e ∙ sym (ap length h) ∙ length-map numbers.now Int
 is-input-of count (Max column) inputs.Rows values h e = absurd h
 
 -- and of as many values

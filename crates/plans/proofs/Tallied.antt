@@ -12,6 +12,7 @@ use Rattle.std.proofs.lemmas.Option.{same_Some, slice_get-get_or}
 use Rattle.plans.specs.Inner.Picked.{picked, folded}
 use Rattle.plans.specs.Inner.Picked.{total as number_total}
 use Rattle.rows.specs.declared.value.Value.{Value}
+use Rattle.rows.specs.declared.value.Value.TheVariants.{Int}
 use Rattle.plans.specs.declared.aggregate.Aggregate.{Aggregate}
 use Rattle.plans.specs.declared.aggregate.Aggregate.TheVariants.{Count, Sum, Min, Max}
 use Rattle.plans.specs.declared.column.Column.{Column}
@@ -277,7 +278,10 @@ module _ (columns : List Column) (keys : List (List Value)) (distinct : AreDisti
   told-grown (Min column) input tallies.Count after told grows takes = absurd told
   told-grown (Min column) input (tallies.Sums sums) after told grows takes = absurd told
   told-grown (Min column) inputs.Rows (tallies.Fields fields) after told grows takes = absurd takes
-  told-grown (Min column) (inputs.Numbers values) (tallies.Fields fields) after told grows takes = absurd takes
+  told-grown (Min column) (inputs.Numbers values) (tallies.Fields fields) tallies.Count told grows takes = absurd grows
+  told-grown (Min column) (inputs.Numbers values) (tallies.Fields fields) (tallies.Sums after) told grows takes = absurd grows
+  told-grown (Min column) (inputs.Numbers values) (tallies.Fields fields) (tallies.Fields after) told grows takes =
+      fields-grown (Min column) fields.items after.items (map Int values.now) takes told grows.0 grows.1
   told-grown (Min column) (inputs.Values values) (tallies.Fields fields) tallies.Count told grows takes = absurd grows
   told-grown (Min column) (inputs.Values values) (tallies.Fields fields) (tallies.Sums after) told grows takes = absurd grows
   told-grown (Min column) (inputs.Values values) (tallies.Fields fields) (tallies.Fields after) told grows takes =
@@ -285,7 +289,10 @@ module _ (columns : List Column) (keys : List (List Value)) (distinct : AreDisti
   told-grown (Max column) input tallies.Count after told grows takes = absurd told
   told-grown (Max column) input (tallies.Sums sums) after told grows takes = absurd told
   told-grown (Max column) inputs.Rows (tallies.Fields fields) after told grows takes = absurd takes
-  told-grown (Max column) (inputs.Numbers values) (tallies.Fields fields) after told grows takes = absurd takes
+  told-grown (Max column) (inputs.Numbers values) (tallies.Fields fields) tallies.Count told grows takes = absurd grows
+  told-grown (Max column) (inputs.Numbers values) (tallies.Fields fields) (tallies.Sums after) told grows takes = absurd grows
+  told-grown (Max column) (inputs.Numbers values) (tallies.Fields fields) (tallies.Fields after) told grows takes =
+      fields-grown (Max column) fields.items after.items (map Int values.now) takes told grows.0 grows.1
   told-grown (Max column) (inputs.Values values) (tallies.Fields fields) tallies.Count told grows takes = absurd grows
   told-grown (Max column) (inputs.Values values) (tallies.Fields fields) (tallies.Sums after) told grows takes = absurd grows
   told-grown (Max column) (inputs.Values values) (tallies.Fields fields) (tallies.Fields after) told grows takes =

@@ -2,7 +2,6 @@
 
 ghost use Rattle.std.specs.Prelude.{◌≡◌, List, length, map, IfOk};
 ghost use Rattle.rows.specs.declared.value.Value.{Value as ColumnValue};
-ghost use Rattle.rows.specs.declared.value.Value.TheVariants.{Int};
 ghost use Rattle.plans.specs.declared.aggregate.Aggregate.{Aggregate as AnyAggregate};
 ghost use Rattle.plans.specs.Answers.{integer_of};
 ghost use Rattle.plans.specs.Inner.Cells.{values_of, value_at};
@@ -38,8 +37,8 @@ impl<'a> HeldInput<'a> {
         match aggregate {
             Aggregate::Count => Ok(HeldInput::Rows),
             Aggregate::Sum(_) => integers_in(alloc, cells),
-            Aggregate::Min(_) => values_in(alloc, cells),
-            Aggregate::Max(_) => values_in(alloc, cells),
+            Aggregate::Min(_) => Ok(values_in(cells)),
+            Aggregate::Max(_) => Ok(values_in(cells)),
         }
     }
 
@@ -108,16 +107,14 @@ fn integer_of(value: &Value) -> i64
     }
 }
 
-/// The values of cells, lent if they are not numbers. Fails only if out of memory.
-fn values_in<'a>(alloc: Global, cells: &'a Cells) -> Result<HeldInput<'a>, AllocError>
-    ensures { IfOk result (λ held. AreValues (values_of cells.now) held) }
+/// The values of cells, lent.
+fn values_in<'a>(cells: &'a Cells) -> HeldInput<'a>
+    ensures { AreValues (values_of cells.now) result }
 {
     match cells {
-        Cells::Lent(numbers) => Ok(HeldInput::Values(number_values(alloc, numbers)?)),
-        Cells::Numbers(numbers) => {
-            Ok(HeldInput::Values(number_values(alloc, numbers.as_slice())?))
-        }
-        Cells::Values(values) => Ok(HeldInput::LentValues(values.as_slice())),
+        Cells::Lent(numbers) => HeldInput::LentNumbers(numbers),
+        Cells::Numbers(numbers) => HeldInput::LentNumbers(numbers.as_slice()),
+        Cells::Values(values) => HeldInput::LentValues(values.as_slice()),
     }
 }
 
@@ -148,21 +145,8 @@ fn values_at<'a>(
     ensures { IfOk result (λ held. AreValues (map (value_at (values_of cells.now)) positions.now) held) }
 {
     match cells.at(alloc, positions)? {
-        Cells::Lent(numbers) => Ok(HeldInput::Values(number_values(alloc, numbers)?)),
-        Cells::Numbers(numbers) => {
-            Ok(HeldInput::Values(number_values(alloc, numbers.as_slice())?))
-        }
+        Cells::Lent(numbers) => Ok(HeldInput::LentNumbers(numbers)),
+        Cells::Numbers(numbers) => Ok(HeldInput::Numbers(numbers)),
         Cells::Values(values) => Ok(HeldInput::Values(values)),
     }
-}
-
-/// Numbers as values. Fails only if out of memory.
-fn number_values(alloc: Global, numbers: &[i64]) -> Result<Vec<Value>, AllocError>
-    ensures { IfOk result (λ values. values.items ≡ map Int numbers.now) }
-{
-    let mut values = Vec::with_capacity(alloc, numbers.len())?;
-    for number in numbers {
-        values.push(Value::Int(*number))?;
-    }
-    Ok(values)
 }

@@ -5,8 +5,8 @@ use rows::Value;
 pub enum Input<'a> {
     /// Just that they are there: for a count.
     Rows,
-    /// A number of each row: for a sum.
+    /// A number of each row: for a sum, and for the least or the greatest of numbers.
     Numbers(&'a [i64]),
-    /// A value of each row: for the least or the greatest.
+    /// A value of each row: for the least or the greatest of others.
     Values(&'a [Value]),
 }

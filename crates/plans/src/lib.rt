@@ -52,6 +52,7 @@ mod joined_cells;
 pub mod laws;
 mod lending;
 pub mod limits;
+mod number_extremes;
 mod numbering;
 mod partials;
 mod partners;

@@ -30,6 +30,7 @@ use crate::field_list::FieldList;
 use crate::group_key::GroupKey;
 use crate::groups::Groups;
 use crate::input::Input;
+use crate::number_extremes::add_number_extremes;
 use crate::plan::Plan;
 use crate::tallying::{add_counts, add_sums};
 use rows::Value;
@@ -283,11 +284,15 @@ fn add_tally(
                 add_sums(sums.as_mut_slice(), numbers, values, rows);
             }
         }
-        Tally::Fields(fields) => {
-            if let Input::Values(values) = *input {
+        Tally::Fields(fields) => match *input {
+            Input::Rows => {}
+            Input::Numbers(values) => {
+                add_number_extremes(fields.as_mut_slice(), aggregate, numbers, values);
+            }
+            Input::Values(values) => {
                 add_extremes(fields.as_mut_slice(), aggregate, numbers, values);
             }
-        }
+        },
     }
 }
 

@@ -1,6 +1,7 @@
 -- What rows contribute to an aggregate, by the values of its column.
 use Rattle.std.specs.Prelude.{◌≡◌, List, map}
 use Rattle.rows.specs.declared.value.Value.{Value}
+use Rattle.rows.specs.declared.value.Value.TheVariants.{Int}
 use Rattle.plans.specs.declared.aggregate.Aggregate.{Aggregate}
 use Rattle.plans.specs.declared.aggregate.Aggregate.TheVariants.{Count, Sum, Min, Max}
 use Rattle.plans.specs.declared.held_input.HeldInput.{HeldInput}
@@ -15,8 +16,10 @@ AreIntegers values (held.LentNumbers numbers) = numbers.now ≡ map integer_of v
 AreIntegers values (held.Numbers numbers) = numbers.items ≡ map integer_of values
 AreIntegers values input = ⊥
 
--- the values themselves
+-- the values themselves, or the numbers that they are
 abbrev pub AreValues : List Value → HeldInput → Type 0
+AreValues values (held.LentNumbers numbers) = map Int numbers.now ≡ values
+AreValues values (held.Numbers numbers) = map Int numbers.items ≡ values
 AreValues values (held.LentValues list) = list.now ≡ values
 AreValues values (held.Values list) = list.items ≡ values
 AreValues values input = ⊥
@@ -32,6 +35,8 @@ IsHeld values (Max column) input = AreValues values input
 abbrev pub IsTaken : List Value → Aggregate → Input → Type 0
 IsTaken values Count input = Unit {0}
 IsTaken values (Sum column) (inputs.Numbers numbers) = numbers.now ≡ map integer_of values
+IsTaken values (Min column) (inputs.Numbers numbers) = map Int numbers.now ≡ values
 IsTaken values (Min column) (inputs.Values list) = list.now ≡ values
+IsTaken values (Max column) (inputs.Numbers numbers) = map Int numbers.now ≡ values
 IsTaken values (Max column) (inputs.Values list) = list.now ≡ values
 IsTaken values aggregate input = ⊥

@@ -5,6 +5,7 @@ use Rattle.std.specs.Ordering.{is_eq}
 use Rattle.plans.specs.Inner.Picked.{picked, folded, AreWithin}
 use Rattle.plans.specs.Inner.Picked.{total as number_total}
 use Rattle.rows.specs.declared.value.Value.{Value}
+use Rattle.rows.specs.declared.value.Value.TheVariants.{Int}
 use Rattle.plans.specs.declared.aggregate.Aggregate.{Aggregate}
 use Rattle.plans.specs.declared.aggregate.Aggregate.TheVariants.{Count, Sum, Min, Max}
 use Rattle.plans.specs.declared.column.Column.{Column}
@@ -39,7 +40,9 @@ integers_in column rows = map integer_of (values_in column rows)
 abbrev pub IsInput : List JoinedRow → Aggregate → Input → Type 0
 IsInput rows Count input = Unit {0}
 IsInput rows (Sum column) (inputs.Numbers numbers) = numbers.now ≡ integers_in column rows
+IsInput rows (Min column) (inputs.Numbers numbers) = map Int numbers.now ≡ values_in column rows
 IsInput rows (Min column) (inputs.Values values) = values.now ≡ values_in column rows
+IsInput rows (Max column) (inputs.Numbers numbers) = map Int numbers.now ≡ values_in column rows
 IsInput rows (Max column) (inputs.Values values) = values.now ≡ values_in column rows
 IsInput rows aggregate input = ⊥
 
@@ -52,7 +55,9 @@ AreInputs rows aggregates inputs =
 abbrev pub IsInputOf : ℕ → Aggregate → Input → Type 0
 IsInputOf count Count input = Unit {0}
 IsInputOf count (Sum column) (inputs.Numbers numbers) = count ≡ length numbers.now
+IsInputOf count (Min column) (inputs.Numbers numbers) = count ≡ length numbers.now
 IsInputOf count (Min column) (inputs.Values values) = count ≡ length values.now
+IsInputOf count (Max column) (inputs.Numbers numbers) = count ≡ length numbers.now
 IsInputOf count (Max column) (inputs.Values values) = count ≡ length values.now
 IsInputOf count aggregate input = ⊥
 
@@ -125,20 +130,26 @@ with_extreme (Sum column) field value = field
 with_extreme (Min column) field value = extreme lesser field value
 with_extreme (Max column) field value = extreme greater field value
 
+-- fields are extremes with the values of the rows of each number more
+abbrev pub HasExtremes : Aggregate → List ℕ → List Value → List Field → List Field → Type 0
+HasExtremes aggregate numbers values fields after =
+    (length after ≡ length fields) × ((n : ℕ) (d : Field) → n < length fields
+    → slice_index_or after n d ≡ folded (with_extreme aggregate) (slice_index_or fields n d) (picked n numbers values))
+
 -- the values of the rows of each number are added
 abbrev pub IsGrown : List ℕ → Aggregate → Input → Tally → Tally → Type 0
 IsGrown numbers Count input tallies.Count tallies.Count = Unit {0}
 IsGrown numbers (Sum column) (inputs.Numbers values) (tallies.Sums sums) (tallies.Sums after) =
     (length after.items ≡ length sums.items) × ((n : ℕ) (d : ℤ) → n < length sums.items
     → slice_index_or after.items n d ≡ slice_index_or sums.items n d +ℤ number_total (picked n numbers values.now))
+IsGrown numbers (Min column) (inputs.Numbers values) (tallies.Fields fields) (tallies.Fields after) =
+    HasExtremes (Min column) numbers (map Int values.now) fields.items after.items
 IsGrown numbers (Min column) (inputs.Values values) (tallies.Fields fields) (tallies.Fields after) =
-    (length after.items ≡ length fields.items) × ((n : ℕ) (d : Field) → n < length fields.items
-    → slice_index_or after.items n d
-    ≡ folded (with_extreme (Min column)) (slice_index_or fields.items n d) (picked n numbers values.now))
+    HasExtremes (Min column) numbers values.now fields.items after.items
+IsGrown numbers (Max column) (inputs.Numbers values) (tallies.Fields fields) (tallies.Fields after) =
+    HasExtremes (Max column) numbers (map Int values.now) fields.items after.items
 IsGrown numbers (Max column) (inputs.Values values) (tallies.Fields fields) (tallies.Fields after) =
-    (length after.items ≡ length fields.items) × ((n : ℕ) (d : Field) → n < length fields.items
-    → slice_index_or after.items n d
-    ≡ folded (with_extreme (Max column)) (slice_index_or fields.items n d) (picked n numbers values.now))
+    HasExtremes (Max column) numbers values.now fields.items after.items
 IsGrown numbers aggregate input tally after = ⊥
 
 -- ---- what is told of a number
