@@ -1,7 +1,7 @@
 -- What keeps a replica fed.
-use Rattle.std.proofs.Common.{◌≡◌, ℕ, ◌+◌, ◌≤◌, Bool, true, false, cond, not, ◌||◌, ◌&&◌, ◌==◌, List, [], ◌∷◌, ◌++◌}
+use Rattle.std.proofs.Common.{◌≡◌, ℕ, ◌+◌, ◌≤◌, Bool, true, false, cond, not, ◌||◌, ◌&&◌, ◌==◌, List, ◌++◌}
 use Rattle.std.proofs.Common.{length, Option}
-use Rattle.std.proofs.Common.{Some, None, Result, Ok, Err, nat_lt, nat_le, refl, sym, ap, subst, ◌∙◌, arith}
+use Rattle.std.proofs.Common.{Some, None, Result, Ok, Err, nat_lt, nat_le, refl, sym, ap, subst, ◌∙◌, ◌⊎◌, inl, inr, arith}
 use Rattle.std.specs.Cmp.Lexicographic.{pointwise}
 use Rattle.std.specs.List.{slice_get, list_all}
 use Rattle.std.specs.Result.{is_ok}
@@ -31,16 +31,15 @@ use Rattle.dispatcher.specs.declared.outcome.Got.{Got}
 use Rattle.dispatcher.specs.declared.outcome.Got.TheVariants as got
 use Rattle.dispatcher.specs.declared.faults.AskFault.{AskFault}
 use Rattle.dispatcher.specs.declared.faults.AskFault.TheVariants as asks
-use Rattle.dispatcher.specs.declared.faults.OpenFault.{OpenFault}
 use Rattle.dispatcher.specs.declared.faults.OpenFault.TheVariants as opens
 use Rattle.plans.specs.declared.plan.Plan.{Plan}
 use Rattle.plans.specs.declared.faults.PlanFault.{PlanFault}
 use Rattle.dispatcher.specs.Feeding.{IsFetchedFrom, IsFedFrom, Tells, TruthStays, FreshIsFed, CommitsKeepFed, BytesKeepFed, TrueHeadGoesOn}
 use Rattle.dispatcher.specs.Feeding.{OpenKeepsFed, AskKeepsFed, VersionTellsTables}
 use Rattle.plans.specs.Checking.{checked}
-use Rattle.dispatcher.specs.State.{Replica, Batch, Fetched}
-use Rattle.dispatcher.specs.Steps.{asked_by, ask_for, with_batch, got_of, frame_comes, goes_on, taken_head, head_by_batch, own_head_comes}
-use Rattle.dispatcher.specs.Steps.{datagram_comes, at_fetched, broken_of}
+use Rattle.dispatcher.specs.State.{Replica, Batch, Fetched, Protocol, protocol_of, with_protocol}
+use Rattle.dispatcher.specs.Protocol.{opens_checked, opens_query, ask_for, with_batch, asks_by, asks_version, is_own, takes_head}
+use Rattle.dispatcher.specs.Steps.{stepped, got_of, frame_comes, goes_on, headed, own_head_comes, datagram_comes, at_fetched, broken_of}
 use Rattle.dispatcher.proofs.Beginning.{none-known}
 use Rattle.dispatcher.proofs.CatchingUp.{Merges, is-fetched, each-known}
 use Rattle.dispatcher.proofs.Lists.{le-pointwise, none-counted}
@@ -194,25 +193,28 @@ head-feeds : (shape : Shape) (commits : List Commit) (r : Replica) (version : �
     → version ≤ length commits → length counts ≡ r.workers → AreFrameCounts commits version counts
     → IsFedFrom shape commits (own_head_comes r version counts).1
 head-feeds shape commits r version counts fed below many are =
-    cond_both (goes_on r version counts) (head_by_batch r version counts r.batch) (got.Ignored, r)
+    cond_both (goes_on r version counts) (headed r (takes_head (protocol_of r) version counts r.batch)) (got.Ignored, r)
     (λ (answer : Got × Replica). IsFedFrom shape commits answer.1)
-    (λ goes. by_batch (goes-parts r version counts goes).1 r.batch) (λ other. fed)
+    (λ goes. by_batch (goes-parts r version counts goes).1 r.batch refl) (λ other. fed)
   where
     found : Fetched
     found = record { version = version; counts = counts }
 
     by_fetched : r.version ≤ version → (plans : List Plan) (fetched : Option Fetched)
-        → IsFedFrom shape commits (taken_head r version counts plans fetched).1
-    by_fetched up plans (Some fetched) = fed
-    by_fetched up plans None =
+        → r.batch ≡ Some (record { plans = plans; fetched = fetched })
+        → IsFedFrom shape commits
+        (headed r (takes_head (protocol_of r) version counts (Some (record { plans = plans; fetched = fetched })))).1
+    by_fetched up plans (Some fetched) is = fed
+    by_fetched up plans None is =
         let made : Batch = record { plans = plans; fetched = Some found } in
         queries-fed shape commits r r.request r.waiting (Some made) fed
         (λ queries other there has. subst (IsFetchedFrom commits r) (same-fetched (Some made) made queries found other refl refl there has)
         (record { above = up; below = below; counted = many; counts_are = are }))
 
-    by_batch : r.version ≤ version → (batch : Option Batch) → IsFedFrom shape commits (head_by_batch r version counts batch).1
-    by_batch up None = fed
-    by_batch up (Some batch) = by_fetched up batch.plans batch.fetched
+    by_batch : r.version ≤ version → (batch : Option Batch) → r.batch ≡ batch
+        → IsFedFrom shape commits (headed r (takes_head (protocol_of r) version counts batch)).1
+    by_batch up None is = fed
+    by_batch up (Some batch) is = by_fetched up batch.plans batch.fetched is
 
 pub head-goes-on : TrueHeadGoesOn
 head-goes-on shape commits r version counts fed below many are up =
@@ -234,7 +236,7 @@ datagram-feeds laws shape commits r (Ok (datagrams.Frame worker seq commit last 
     frame-feeds laws shape commits r (record { worker = worker; seq = seq; commit = commit; last = last; entries = entries }) fed tells
 datagram-feeds laws shape commits r (Ok (datagrams.Ask replica boot request)) fed tells = fed
 datagram-feeds laws shape commits r (Ok (datagrams.Head replica boot request version counts)) fed tells =
-    cond_both ((replica == r.number) && (boot == r.boot) && (request == r.request)) (own_head_comes r version counts) (got.Ignored, r)
+    cond_both (is_own (protocol_of r) replica boot request) (own_head_comes r version counts) (got.Ignored, r)
     (λ (answer : Got × Replica). IsFedFrom shape commits answer.1)
     (λ own. head-feeds shape commits r version counts fed tells.0 tells.1 tells.2) (λ other. fed)
 datagram-feeds laws shape commits r (Ok (datagrams.Want replica worker from)) fed tells = fed
@@ -246,63 +248,68 @@ bytes-feed laws shape commits r bytes fed tells =
 
 -- ---- queries
 
--- what an answer left
-pub left : {A E : Type 0} (a b : A) (r new : Replica) → ◌≡◌ {A = Result (A × Replica) E} (Ok (a, r)) (Ok (b, new)) → r ≡ new
-left {A = A} a b r new h =
-    let same : ◌≡◌ {A = A × Replica} (a, r) (b, new) = cc in
-    ap (λ (x : A × Replica). x.1) same
+-- what a step of its protocol left
+pub stepped-left : {Answer Fault : Type 0} (r : Replica) (step : Result (Answer × Protocol) Fault) (answer : Answer) (new : Replica)
+    → stepped r step ≡ Ok (answer, new) → (q : Protocol) × (step ≡ Ok (answer, q)) × (new ≡ with_protocol r q)
+stepped-left {Answer} r (Ok step) answer new h =
+    let same : ◌≡◌ {A = Answer × Replica} (step.0, with_protocol r step.1) (answer, new) = cc in (
+      step.1,
+      ap (λ (x : Answer × Replica). Ok (x.0, step.1)) same,
+      sym (ap (λ (x : Answer × Replica). x.1) same),
+    )
+stepped-left r (Err fault) answer new h = absurd (cc)
+
+-- a step of its protocol leaves the batch, or begins a new one
+abbrev Leaves : {Answer Fault : Type 0} → Protocol → Result (Answer × Protocol) Fault → Type 0
+Leaves q (Ok step) = (step.1.batch ≡ q.batch) ⊎ (step.1.batch ≡ (with_batch q).batch)
+Leaves q (Err fault) = Unit {0}
+
+step-feeds : {Answer Fault : Type 0} (shape : Shape) (commits : List Commit) (r : Replica) (step : Result (Answer × Protocol) Fault)
+    (answer : Answer) (new : Replica) → IsFedFrom shape commits r → Leaves (protocol_of r) step → stepped r step ≡ Ok (answer, new)
+    → IsFedFrom shape commits new
+step-feeds {Answer} {Fault} shape commits r step answer new fed leaves h =
+    let left = stepped-left r step answer new h in
+    let q = left.0 in
+    subst (IsFedFrom shape commits) (sym left.2) (queries-fed shape commits r q.request q.waiting q.batch fed
+    (λ batch fetched there has. elim (subst (λ (s : Result (Answer × Protocol) Fault). Leaves (protocol_of r) s) left.1 leaves) [
+      | inl same ↦ fed.fetched_is batch fetched (sym same ∙ there) has
+      | inr begun ↦ absurd (none-some fetched (ap (λ (b : Batch). b.fetched) (same_Some _ batch (sym begun ∙ there)) ∙ has))
+    ]))
 
 pub open-feeds : OpenKeepsFed
 open-feeds shape commits r plan count new fed h =
-    by r.broken (nat_le WAITING_QUERIES_MAX (length r.waiting)) (checked (shape_in r.tables) plan) h
+    step-feeds shape commits r (opens_query q plan (checked (shape_in r.tables) plan)) count new fed
+    (by r.broken (nat_le WAITING_QUERIES_MAX (length r.waiting)) (checked (shape_in r.tables) plan)) h
   where
-    with : Replica
-    with = record r { waiting = r.waiting ++ plan ∷ [] }
+    q : Protocol
+    q = protocol_of r
 
-    by_check : Result (Unit {0}) PlanFault → Result (ℕ × Replica) OpenFault
-    by_check (Err fault) = Err (opens.BadPlan fault)
-    by_check (Ok fits) = Ok (length r.waiting + 1, with)
-
-    by : (a b : Bool) (check : Result (Unit {0}) PlanFault)
-        → cond a (Err opens.Broken) (cond b (Err opens.BatchFull) (by_check check)) ≡ Ok (count, new) → IsFedFrom shape commits new
-    by true b check h = absurd (cc)
-    by false true check h = absurd (cc)
-    by false false (Err fault) h = absurd (cc)
-    by false false (Ok fits) h =
-        subst (IsFedFrom shape commits) (left (length r.waiting + 1) count with new h)
-        (queries-fed shape commits r r.request (r.waiting ++ plan ∷ []) r.batch fed fed.fetched_is)
-
--- a batch is made, for which nothing was fetched
-batch-fed : (shape : Shape) (commits : List Commit) (r : Replica) → IsFedFrom shape commits r → IsFedFrom shape commits (with_batch r)
-batch-fed shape commits r fed =
-    queries-fed shape commits r (r.request + 1) [] (Some (record { plans = r.waiting; fetched = None })) fed
-    (λ batch fetched there has. absurd (none-fetched r.waiting batch fetched there has))
-  where
-    none-fetched : (plans : List Plan) (batch : Batch) (fetched : Fetched)
-        → ◌≡◌ {A = Option Batch} (Some (record { plans = plans; fetched = None })) (Some batch) → batch.fetched ≡ Some fetched → ⊥
-    none-fetched plans batch fetched e f =
-        none-some fetched (ap (λ (batch : Batch). batch.fetched) (same_Some (record { plans = plans; fetched = None }) batch e) ∙ f)
+    by : (broken full : Bool) (check : Result (Unit {0}) PlanFault)
+        → Leaves q (cond broken (Err opens.Broken) (cond full (Err opens.BatchFull) (opens_checked q plan check)))
+    by true full check = tt
+    by false true check = tt
+    by false false (Err fault) = tt
+    by false false (Ok fits) = inl refl
 
 pub ask-feeds : AskKeepsFed
-ask-feeds shape commits r out new fed h = by r.broken r.batch h
+ask-feeds shape commits r out new fed h = step-feeds shape commits r (asks_version q) out new fed (by r.broken r.batch) h
   where
-    again : (plans : List Plan) (fetched : Option Fetched) → asked_by r (Some (record { plans = plans; fetched = fetched })) ≡ Ok (out, new)
-        → IsFedFrom shape commits new
-    again plans None h = subst (IsFedFrom shape commits) (left (ask_for r.number r.boot r.request) out r new h) fed
-    again plans (Some fetched) h = absurd (cc)
+    q : Protocol
+    q = protocol_of r
 
-    first : (empty : Bool) → cond {A = Result (Out × Replica) AskFault} empty (Err asks.Empty)
-        (Ok (ask_for r.number r.boot (r.request + 1), with_batch r)) ≡ Ok (out, new) → IsFedFrom shape commits new
-    first true h = absurd (cc)
-    first false h =
-        subst (IsFedFrom shape commits) (left (ask_for r.number r.boot (r.request + 1)) out (with_batch r) new h)
-        (batch-fed shape commits r fed)
+    again : (plans : List Plan) (fetched : Option Fetched) → Leaves q (asks_by q (Some (record { plans = plans; fetched = fetched })))
+    again plans None = inl refl
+    again plans (Some fetched) = tt
 
-    by : (broken : Bool) (batch : Option Batch) → cond broken (Err asks.Broken) (asked_by r batch) ≡ Ok (out, new)
-        → IsFedFrom shape commits new
-    by true batch h = absurd (cc)
-    by false None h = first (length r.waiting == 0) h
-    by false (Some batch) h = again batch.plans batch.fetched h
+    first : (empty : Bool) → Leaves q (cond {A = Result (Out × Protocol) AskFault} empty (Err asks.Empty)
+        (Ok (ask_for q.number q.boot (q.request + 1), with_batch q)))
+    first true = tt
+    first false = inr refl
+
+    by : (broken : Bool) (batch : Option Batch) → Leaves q (cond broken (Err asks.Broken) (asks_by q batch))
+    by true batch = tt
+    by false None = first (length q.waiting == 0)
+    by false (Some batch) = again batch.plans batch.fetched
 
 -- ---- runs
 

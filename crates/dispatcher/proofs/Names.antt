@@ -1,35 +1,29 @@
 -- Each step of a replica leaves the names of its tables.
-use Rattle.std.proofs.Common.{◌≡◌, ℕ, ◌+◌, Bool, true, false, cond, not, ◌||◌, ◌&&◌, ◌==◌, List, [], ◌∷◌, ◌++◌, length, Option, Some, None}
-use Rattle.std.proofs.Common.{Result, Ok, Err, IsOkAnd, nat_lt, nat_le, refl, sym, ap, ◌∙◌, inl, inr}
+use Rattle.std.proofs.Common.{◌≡◌, ℕ, not, ◌||◌, List, Result, Ok, Err, IsOkAnd, nat_lt, refl, ap, ◌∙◌, inl, inr}
 use Rattle.std.specs.List.{list_all}
 use Rattle.std.specs.Result.{is_ok}
 use Rattle.std.proofs.lemmas.Bool.{cond_both}
-use Rattle.rows.specs.declared.limits.TheConstants.{WAITING_QUERIES_MAX}
 use Rattle.rows.specs.Entries.{fitting}
 use Rattle.rows.specs.Commits.{apply_commits}
 use Rattle.rows.specs.Tables.{Tables, Refusal, shape_in}
 use Rattle.update_log.specs.declared.frame.Frame.{Frame}
-use Rattle.intake.specs.Steps.{taken, lacking}
+use Rattle.intake.specs.Steps.{taken}
 use Rattle.wire.specs.declared.datagram.Datagram.{Datagram}
 use Rattle.wire.specs.declared.datagram.Datagram.TheVariants as datagrams
 use Rattle.wire.specs.declared.faults.WireFault.{WireFault}
 use Rattle.wire.specs.declared.out.Out.{Out}
 use Rattle.wire.specs.Reading.{reading}
 use Rattle.plans.specs.declared.plan.Plan.{Plan}
-use Rattle.plans.specs.declared.faults.PlanFault.{PlanFault}
 use Rattle.plans.specs.Checking.{checked}
-use Rattle.dispatcher.specs.declared.faults.AskFault.{AskFault}
-use Rattle.dispatcher.specs.declared.faults.AskFault.TheVariants as asks
-use Rattle.dispatcher.specs.declared.faults.OpenFault.{OpenFault}
-use Rattle.dispatcher.specs.declared.faults.OpenFault.TheVariants as opens
 use Rattle.dispatcher.specs.declared.outcome.Got.{Got}
 use Rattle.dispatcher.specs.declared.outcome.Got.TheVariants as got
 use Rattle.dispatcher.specs.declared.outcome.Run.{Run}
-use Rattle.dispatcher.specs.State.{Replica, Batch, Fetched}
-use Rattle.dispatcher.specs.Steps.{received, opened, asked, asked_by, ask_for, with_batch, got_of, frame_comes, goes_on, taken_head}
-use Rattle.dispatcher.specs.Steps.{head_by_batch, own_head_comes, datagram_comes, at_fetched, CaughtUp, Ends, RunsFetched, RunsBatch}
-use Rattle.dispatcher.specs.Steps.{RunsWhole, RunsAs, RunsOutOfMemory, MayRun}
-use Rattle.dispatcher.proofs.Feeding.{left}
+use Rattle.dispatcher.specs.State.{Replica, Fetched, protocol_of}
+use Rattle.dispatcher.specs.Protocol.{opens_query, asks_version, is_own, takes_head}
+use Rattle.dispatcher.specs.Protocol.{Readiness, Broken, NoBatch, WaitsForHead, WaitsForFrame, Ready}
+use Rattle.dispatcher.specs.Steps.{received, opened, asked, got_of, frame_comes, goes_on, headed, own_head_comes, datagram_comes}
+use Rattle.dispatcher.specs.Steps.{at_fetched, CaughtUp, Ends, readiness_of, RunsAs, RunsOutOfMemory, MayRun}
+use Rattle.dispatcher.proofs.Feeding.{stepped-left}
 
 -- a replica like another has its names
 same-names : (new r : Replica) → new ≡ r → new.names ≡ r.names
@@ -45,16 +39,8 @@ frame-names r frame =
 
 head-names : (r : Replica) (version : ℕ) (counts : List ℕ) → (own_head_comes r version counts).1.names ≡ r.names
 head-names r version counts =
-    cond_both (goes_on r version counts) (head_by_batch r version counts r.batch) (got.Ignored, r)
-    (λ (answer : Got × Replica). answer.1.names ≡ r.names) (λ goes. by_batch r.batch) (λ other. refl)
-  where
-    by_fetched : (plans : List Plan) (fetched : Option Fetched) → (taken_head r version counts plans fetched).1.names ≡ r.names
-    by_fetched plans (Some fetched) = refl
-    by_fetched plans None = refl
-
-    by_batch : (batch : Option Batch) → (head_by_batch r version counts batch).1.names ≡ r.names
-    by_batch None = refl
-    by_batch (Some batch) = by_fetched batch.plans batch.fetched
+    cond_both (goes_on r version counts) (headed r (takes_head (protocol_of r) version counts r.batch)) (got.Ignored, r)
+    (λ (answer : Got × Replica). answer.1.names ≡ r.names) (λ goes. refl) (λ other. refl)
 
 datagram-names : (r : Replica) (datagram : Result Datagram WireFault) → (datagram_comes r datagram).1.names ≡ r.names
 datagram-names r (Err fault) = refl
@@ -62,7 +48,7 @@ datagram-names r (Ok (datagrams.Frame worker seq commit last entries)) =
     frame-names r (record { worker = worker; seq = seq; commit = commit; last = last; entries = entries })
 datagram-names r (Ok (datagrams.Ask replica boot request)) = refl
 datagram-names r (Ok (datagrams.Head replica boot request version counts)) =
-    cond_both ((replica == r.number) && (boot == r.boot) && (request == r.request)) (own_head_comes r version counts) (got.Ignored, r)
+    cond_both (is_own (protocol_of r) replica boot request) (own_head_comes r version counts) (got.Ignored, r)
     (λ (answer : Got × Replica). answer.1.names ≡ r.names) (λ own. head-names r version counts) (λ other. refl)
 datagram-names r (Ok (datagrams.Want replica worker from)) = refl
 
@@ -74,39 +60,14 @@ bytes-names r bytes =
 -- ---- queries
 
 pub open-names : (r : Replica) (plan : Plan) (count : ℕ) (new : Replica) → opened r plan ≡ Ok (count, new) → new.names ≡ r.names
-open-names r plan count new h = by r.broken (nat_le WAITING_QUERIES_MAX (length r.waiting)) (checked (shape_in r.tables) plan) h
-  where
-    with : Replica
-    with = record r { waiting = r.waiting ++ plan ∷ [] }
-
-    by_check : Result (Unit {0}) PlanFault → Result (ℕ × Replica) OpenFault
-    by_check (Err fault) = Err (opens.BadPlan fault)
-    by_check (Ok fits) = Ok (length r.waiting + 1, with)
-
-    by : (a b : Bool) (check : Result (Unit {0}) PlanFault)
-        → cond a (Err opens.Broken) (cond b (Err opens.BatchFull) (by_check check)) ≡ Ok (count, new) → new.names ≡ r.names
-    by true b check h = absurd (cc)
-    by false true check h = absurd (cc)
-    by false false (Err fault) h = absurd (cc)
-    by false false (Ok fits) h = same-names new with (sym (left (length r.waiting + 1) count with new h))
+open-names r plan count new h =
+    let left = stepped-left r (opens_query (protocol_of r) plan (checked (shape_in r.tables) plan)) count new h in
+    ap (λ (r : Replica). r.names) left.2
 
 pub ask-names : (r : Replica) (out : Out) (new : Replica) → asked r ≡ Ok (out, new) → new.names ≡ r.names
-ask-names r out new h = by r.broken r.batch h
-  where
-    again : (plans : List Plan) (fetched : Option Fetched) → asked_by r (Some (record { plans = plans; fetched = fetched })) ≡ Ok (out, new)
-        → new.names ≡ r.names
-    again plans None h = same-names new r (sym (left (ask_for r.number r.boot r.request) out r new h))
-    again plans (Some fetched) h = absurd (cc)
-
-    first : (empty : Bool) → cond {A = Result (Out × Replica) AskFault} empty (Err asks.Empty)
-        (Ok (ask_for r.number r.boot (r.request + 1), with_batch r)) ≡ Ok (out, new) → new.names ≡ r.names
-    first true h = absurd (cc)
-    first false h = same-names new (with_batch r) (sym (left (ask_for r.number r.boot (r.request + 1)) out (with_batch r) new h))
-
-    by : (broken : Bool) (batch : Option Batch) → cond broken (Err asks.Broken) (asked_by r batch) ≡ Ok (out, new) → new.names ≡ r.names
-    by true batch h = absurd (cc)
-    by false None h = first (length r.waiting == 0) h
-    by false (Some batch) h = again batch.plans batch.fetched h
+ask-names r out new h =
+    let left = stepped-left r (asks_version (protocol_of r)) out new h in
+    ap (λ (r : Replica). r.names) left.2
 
 -- ---- runs
 
@@ -124,22 +85,12 @@ module _ (r : Replica) (answer : Run) (new : Replica) where
       ap (λ (r : Replica). r.names) ended.3 ∙ caught-names r ended.0 fetched ended.1
   ends-names plans fetched (inr cannot) = ap (λ (r : Replica). r.names) cannot.2
 
-  lacking-names : (plans : List Plan) (fetched : Fetched) (missing : Option (ℕ × ℕ)) → RunsFetched r plans fetched missing answer new
-      → new.names ≡ r.names
-  lacking-names plans fetched None ran = ends-names plans fetched ran
-  lacking-names plans fetched (Some missing) ran = same-names new r ran.1
-
-  fetched-names : (plans : List Plan) (found : Option Fetched) → RunsBatch r plans found answer new → new.names ≡ r.names
-  fetched-names plans None ran = same-names new r ran.1
-  fetched-names plans (Some fetched) ran = lacking-names plans fetched (lacking r.arrivals fetched.counts) ran
-
-  batch-names : (batch : Option Batch) → RunsWhole r batch answer new → new.names ≡ r.names
-  batch-names None ran = same-names new r ran.1
-  batch-names (Some batch) ran = fetched-names batch.plans batch.fetched ran
-
-  as-names : (broken : Bool) → RunsAs broken r answer new → new.names ≡ r.names
-  as-names true ran = same-names new r ran.1
-  as-names false ran = batch-names r.batch ran
+  as-names : (found : Readiness) → RunsAs found r answer new → new.names ≡ r.names
+  as-names (Ready plans fetched) ran = ends-names plans fetched ran
+  as-names Broken ran = same-names new r ran.1
+  as-names NoBatch ran = same-names new r ran.1
+  as-names WaitsForHead ran = same-names new r ran.1
+  as-names (WaitsForFrame worker seq) ran = same-names new r ran.1
 
   cut-names : RunsOutOfMemory r answer new → new.names ≡ r.names
   cut-names wants = elim wants.2 [
@@ -151,5 +102,5 @@ module _ (r : Replica) (answer : Run) (new : Replica) where
   ]
 
 pub run-names : (r : Replica) (answer : Run) (new : Replica) → MayRun r answer new → new.names ≡ r.names
-run-names r answer new (inl ran) = as-names r answer new r.broken ran
+run-names r answer new (inl ran) = as-names r answer new (readiness_of r) ran
 run-names r answer new (inr wants) = cut-names r answer new wants

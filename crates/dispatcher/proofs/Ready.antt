@@ -1,11 +1,12 @@
 -- Which replicas can answer their batch.
-use Rattle.std.proofs.Common.{◌≡◌, ℕ, Bool, true, false, cond, List, Option, Some, None, refl, sym, ap, ◌∙◌}
-use Rattle.std.specs.Option.{option_and_then, is_none}
-use Rattle.std.proofs.lemmas.Bool.{cond-false, cond-true}
+use Rattle.std.proofs.Common.{◌≡◌, ℕ, Bool, true, false, cond, List, Option, Some, None, refl, ap, subst, ◌∙◌}
+use Rattle.std.proofs.lemmas.Bool.{cond-false}
 use Rattle.std.proofs.lemmas.Option.{none-some, same_Some}
 use Rattle.intake.specs.Steps.{lacking}
+use Rattle.plans.specs.declared.plan.Plan.{Plan}
 use Rattle.dispatcher.specs.State.{Replica, Batch, Fetched}
-use Rattle.dispatcher.specs.Steps.{unless_lacking, ready_of}
+use Rattle.dispatcher.specs.Protocol.{Readiness, Broken, Ready, readiness_by, batch_readiness, fetched_in}
+use Rattle.dispatcher.specs.Steps.{readiness_of, ready_of}
 
 -- a replica that can answer its batch: a version was fetched for it, and no frame below the counts at it is missing
 pub record CanAnswer (r : Replica) (batch : Batch) (fetched : Fetched) : Type 0 where
@@ -14,39 +15,62 @@ pub record CanAnswer (r : Replica) (batch : Batch) (fetched : Fetched) : Type 0 
   pub has : batch.fetched ≡ Some fetched
   pub complete : lacking r.arrivals fetched.counts ≡ None
 
-unless : {A : Type 0} (b : Bool) (o : Option A) (x : A) → cond b None o ≡ Some x → (b ≡ false) × (o ≡ Some x)
-unless true o x e = absurd (none-some x e)
-unless false o x e = (refl, e)
+-- what a run finds where a version was fetched, by the first frame that is missing
+pub finds : (r : Replica) (batch : Batch) (fetched : Fetched) (missing : Option (ℕ × ℕ)) → r.broken ≡ false → r.batch ≡ Some batch
+    → batch.fetched ≡ Some fetched → lacking r.arrivals fetched.counts ≡ missing
+    → readiness_of r ≡ batch_readiness batch.plans (λ counts. missing) (Some fetched)
+finds r batch fetched missing whole there has lacks =
+    cond-false r.broken Broken (readiness_by (lacking r.arrivals) r.batch) whole
+    ∙ ap (readiness_by (lacking r.arrivals)) there
+    ∙ ap (batch_readiness batch.plans (lacking r.arrivals)) has
+    ∙ ap (λ (missing : Option (ℕ × ℕ)). batch_readiness batch.plans (λ counts. missing) (Some fetched)) lacks
 
-where-none : (missing : Option (ℕ × ℕ)) (found fetched : Fetched) → cond (is_none missing) (Some found) None ≡ Some fetched
-    → (missing ≡ None) × (found ≡ fetched)
-where-none None found fetched e = (refl, same_Some found fetched e)
-where-none (Some missing) found fetched e = absurd (none-some fetched e)
+-- what is known of what a run finds
+abbrev Found : Replica → Readiness → Type 0
+Found r (Ready plans fetched) = CanAnswer r (record { plans = plans; fetched = Some fetched }) fetched
+Found r other = Unit {0}
 
-ready-fetched : (lacks : List ℕ → Option (ℕ × ℕ)) (found : Option Fetched) (fetched : Fetched) → unless_lacking lacks found ≡ Some fetched
-    → (found ≡ Some fetched) × (lacks fetched.counts ≡ None)
-ready-fetched lacks None fetched e = absurd (none-some fetched e)
-ready-fetched lacks (Some found) fetched e =
-    let parts = where-none (lacks found.counts) found fetched e in
-    (ap (λ (f : Fetched). Some f) parts.1, ap (λ (f : Fetched). lacks f.counts) (sym parts.1) ∙ parts.0)
+found-is : (r : Replica) → Found r (readiness_of r)
+found-is r = by_broken r.broken refl
+  where
+    by_missing : (plans : List Plan) (fetched : Fetched) (missing : Option (ℕ × ℕ)) → r.broken ≡ false
+        → r.batch ≡ Some (record { plans = plans; fetched = Some fetched }) → lacking r.arrivals fetched.counts ≡ missing
+        → Found r (batch_readiness plans (λ counts. missing) (Some fetched))
+    by_missing plans fetched (Some frame) whole there lacks = tt
+    by_missing plans fetched None whole there lacks = record { whole = whole; there = there; has = refl; complete = lacks }
 
-ready-batch : (r : Replica) (batch : Option Batch) (fetched : Fetched) → r.broken ≡ false → r.batch ≡ batch
-    → unless_lacking (lacking r.arrivals) (option_and_then (λ batch. batch.fetched) batch) ≡ Some fetched
-    → (queries : Batch) × CanAnswer r queries fetched
-ready-batch r None fetched whole there e = absurd (none-some fetched e)
-ready-batch r (Some batch) fetched whole there e =
-    let parts = ready-fetched (lacking r.arrivals) batch.fetched fetched e in
-    (batch, record { whole = whole; there = there; has = parts.0; complete = parts.1 })
+    by_fetched : (plans : List Plan) (found : Option Fetched) → r.broken ≡ false
+        → r.batch ≡ Some (record { plans = plans; fetched = found }) → Found r (batch_readiness plans (lacking r.arrivals) found)
+    by_fetched plans None whole there = tt
+    by_fetched plans (Some fetched) whole there = by_missing plans fetched (lacking r.arrivals fetched.counts) whole there refl
+
+    by_batch : (batch : Option Batch) → r.broken ≡ false → r.batch ≡ batch → Found r (readiness_by (lacking r.arrivals) batch)
+    by_batch None whole there = tt
+    by_batch (Some batch) whole there = by_fetched batch.plans batch.fetched whole there
+
+    by_broken : (broken : Bool) → r.broken ≡ broken → Found r (cond broken Broken (readiness_by (lacking r.arrivals) r.batch))
+    by_broken true is = tt
+    by_broken false is = by_batch r.batch is refl
+
+pub ready-is : (r : Replica) (plans : List Plan) (fetched : Fetched) → readiness_of r ≡ Ready plans fetched
+    → CanAnswer r (record { plans = plans; fetched = Some fetched }) fetched
+ready-is r plans fetched is = subst (Found r) is (found-is r)
 
 pub ready-parts : (r : Replica) (fetched : Fetched) → ready_of r ≡ Some fetched → (batch : Batch) × CanAnswer r batch fetched
-ready-parts r fetched e =
-    let parts = unless r.broken (unless_lacking (lacking r.arrivals) (option_and_then (λ batch. batch.fetched) r.batch)) fetched e in
-    ready-batch r r.batch fetched parts.0 refl parts.1
+ready-parts r fetched e = by (readiness_of r) (found-is r) e
+  where
+    by : (found : Readiness) → Found r found → fetched_in found ≡ Some fetched → (batch : Batch) × CanAnswer r batch fetched
+    by (Ready plans held) is e = (
+      record { plans = plans; fetched = Some held },
+      record {
+        whole = is.whole;
+        there = is.there;
+        has = e;
+        complete = subst (λ (f : Fetched). lacking r.arrivals f.counts ≡ None) (same_Some held fetched e) is.complete;
+      },
+    )
+    by other is e = absurd (none-some fetched e)
 
 -- and it is said to be ready
 pub ready-can : (r : Replica) (batch : Batch) (fetched : Fetched) → CanAnswer r batch fetched → ready_of r ≡ Some fetched
-ready-can r batch fetched can =
-    cond-false r.broken None (unless_lacking (lacking r.arrivals) (option_and_then (λ batch. batch.fetched) r.batch)) can.whole
-    ∙ ap (λ (b : Option Batch). unless_lacking (lacking r.arrivals) (option_and_then (λ batch. batch.fetched) b)) can.there
-    ∙ ap (unless_lacking (lacking r.arrivals)) can.has
-    ∙ cond-true (is_none (lacking r.arrivals fetched.counts)) (Some fetched) None (ap is_none can.complete)
+ready-can r batch fetched can = ap fetched_in (finds r batch fetched None can.whole can.there can.has can.complete)

@@ -1,20 +1,19 @@
 -- What a run of a replica that is fed from a list answers, and that it stays fed by it.
-use Rattle.std.proofs.Common.{◌≡◌, ℕ, Bool, true, false, List, Option, Some, None, refl, sym, ap, subst, ◌∙◌, ◌⊎◌, inl, inr}
+use Rattle.std.proofs.Common.{◌≡◌, ℕ, List, Some, None, refl, sym, ap, subst, ◌∙◌, ◌⊎◌, inl, inr}
 use Rattle.std.proofs.lemmas.Option.{same_Some}
 use Rattle.rows.specs.declared.commit.Commit.{Commit}
 use Rattle.rows.specs.Shape.{Shape}
 use Rattle.rows.specs.Commits.{tables_after}
-use Rattle.intake.specs.Steps.{lacking}
 use Rattle.dispatcher.specs.declared.outcome.Run.{Run}
 use Rattle.dispatcher.specs.declared.outcome.Run.TheVariants as runs
-use Rattle.plans.specs.declared.plan.Plan.{Plan}
 use Rattle.dispatcher.specs.Feeding.{IsFedFrom, RunKeepsFed, RunIsConsistent, AnswerIsReport, ReadyIsAnswered}
 use Rattle.dispatcher.specs.State.{Replica, Batch, Fetched}
 use Rattle.dispatcher.specs.Report.{report_of}
-use Rattle.dispatcher.specs.Steps.{at_fetched, Ends, RunsReplica, RunsAs, RunsWhole, RunsBatch, RunsFetched, RunsOutOfMemory}
+use Rattle.dispatcher.specs.Protocol.{Readiness, Broken, NoBatch, WaitsForHead, WaitsForFrame, Ready}
+use Rattle.dispatcher.specs.Steps.{at_fetched, Ends, readiness_of, RunsReplica, RunsAs, RunsOutOfMemory}
 use Rattle.dispatcher.proofs.CatchingUp.{Merges, can-catch-up, caught-is}
 use Rattle.dispatcher.proofs.Feeding.{Arriving, broken-fed, caught-fed, finished-fed}
-use Rattle.dispatcher.proofs.Ready.{CanAnswer, ready-parts}
+use Rattle.dispatcher.proofs.Ready.{CanAnswer, finds, ready-parts, ready-is}
 
 -- ---- any run
 
@@ -60,32 +59,19 @@ module _ (merges : Merges) (shape : Shape) (commits : List Commit) (r : Replica)
       )
   ends-reports batch fetched can (inr cannot) = absurd (can-catch-up merges shape commits r batch fetched fed can cannot.0)
 
-  ran-lacking : (plans : List Plan) (fetched : Fetched) (missing : Option (ℕ × ℕ)) → r.broken ≡ false
-      → r.batch ≡ Some (record { plans = plans; fetched = Some fetched }) → lacking r.arrivals fetched.counts ≡ missing
-      → RunsFetched r plans fetched missing answer new → Ran shape commits r answer new
-  ran-lacking plans fetched None whole there complete ran =
-      let batch : Batch = record { plans = plans; fetched = Some fetched } in
-      let can : CanAnswer r batch fetched = record { whole = whole; there = there; has = refl; complete = complete } in
-      let report = ends-reports batch fetched can ran in
-      inr (record { batch = batch; fetched = fetched; can = can; answers = report.0; leaves = report.1 })
-  ran-lacking plans fetched (Some missing) whole there lacks ran =
-      idle (runs.Waiting missing.0 missing.1 _) (λ e. cc) (λ text e. cc) ran
-
-  ran-fetched : (plans : List Plan) (found : Option Fetched) → r.broken ≡ false → r.batch ≡ Some (record { plans = plans; fetched = found })
-      → RunsBatch r plans found answer new → Ran shape commits r answer new
-  ran-fetched plans None whole there ran = idle runs.WaitingHead (λ e. cc) (λ text e. cc) ran
-  ran-fetched plans (Some fetched) whole there ran = ran-lacking plans fetched (lacking r.arrivals fetched.counts) whole there refl ran
-
-  ran-batch : (batch : Option Batch) → r.broken ≡ false → r.batch ≡ batch → RunsWhole r batch answer new → Ran shape commits r answer new
-  ran-batch None whole there ran = idle runs.NoBatch (λ e. cc) (λ text e. cc) ran
-  ran-batch (Some batch) whole there ran = ran-fetched batch.plans batch.fetched whole there ran
-
-  ran-as : (broken : Bool) → r.broken ≡ broken → RunsAs broken r answer new → Ran shape commits r answer new
-  ran-as true is ran = idle runs.Broken (λ e. cc) (λ text e. cc) ran
-  ran-as false is ran = ran-batch r.batch is refl ran
-
   ran-parts : RunsReplica r answer new → Ran shape commits r answer new
-  ran-parts ran = ran-as r.broken refl ran
+  ran-parts ran = by (readiness_of r) refl ran
+    where
+      by : (found : Readiness) → readiness_of r ≡ found → RunsAs found r answer new → Ran shape commits r answer new
+      by Broken is ran = idle runs.Broken (λ e. cc) (λ text e. cc) ran
+      by NoBatch is ran = idle runs.NoBatch (λ e. cc) (λ text e. cc) ran
+      by WaitsForHead is ran = idle runs.WaitingHead (λ e. cc) (λ text e. cc) ran
+      by (WaitsForFrame worker seq) is ran = idle (runs.Waiting worker seq _) (λ e. cc) (λ text e. cc) ran
+      by (Ready plans fetched) is ran =
+          let batch : Batch = record { plans = plans; fetched = Some fetched } in
+          let can = ready-is r plans fetched is in
+          let report = ends-reports batch fetched can ran in
+          inr (record { batch = batch; fetched = fetched; can = can; answers = report.0; leaves = report.1 })
 
 -- ---- it stays fed
 
@@ -158,10 +144,7 @@ answer-reports merges shape commits r text new fed (inr wants) = elim wants.2 [
 runs-ends : (r : Replica) (batch : Batch) (fetched : Fetched) (answer : Run) (new : Replica) → CanAnswer r batch fetched
     → RunsReplica r answer new → Ends r batch.plans fetched answer new
 runs-ends r batch fetched answer new can ran =
-    let whole = subst (λ (broken : Bool). RunsAs broken r answer new) can.whole ran in
-    let batched = subst (λ (found : Option Batch). RunsWhole r found answer new) can.there whole in
-    let found = subst (λ (found : Option Fetched). RunsBatch r batch.plans found answer new) can.has batched in
-    subst (λ (missing : Option (ℕ × ℕ)). RunsFetched r batch.plans fetched missing answer new) can.complete found
+    subst (λ (found : Readiness). RunsAs found r answer new) (finds r batch fetched None can.whole can.there can.has can.complete) ran
 
 pub ready-answers : Merges → ReadyIsAnswered
 ready-answers merges shape commits r batch fetched answer new fed there e ran =

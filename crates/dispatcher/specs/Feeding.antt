@@ -1,6 +1,6 @@
 -- A replica that is fed from a list of commits: the list is legal, and everything that the replica received is part of it. The
 -- laws say which calls keep a replica fed, and what its runs answer.
-use Rattle.std.specs.Prelude.{◌≡◌, ℕ, ◌<◌, ◌≤◌, List, ◌++◌, length, true, false, None, Some, Result, Ok, Err, slice_get, slice_index}
+use Rattle.std.specs.Prelude.{◌≡◌, ℕ, ◌<◌, ◌≤◌, List, ◌++◌, length, true, false, None, Some, Result, Ok, slice_get, slice_index}
 use Rattle.rows.specs.declared.commit.Commit.{Commit}
 use Rattle.rows.specs.declared.kind.Kind.{Kind}
 use Rattle.rows.specs.Shape.{Shape, shape_of}

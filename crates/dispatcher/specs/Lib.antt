@@ -1,6 +1,7 @@
 pub mod Report
 pub mod TableText
 pub mod State
+pub mod Protocol
 pub mod Steps
 pub mod Feeding
 pub mod Inner

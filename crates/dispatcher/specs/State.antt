@@ -35,3 +35,28 @@ pub record Replica : Type 0 where
   pub waiting : List Plan
   pub batch : Option Batch
   pub broken : Bool
+
+-- what a replica is beside its frames and its tables
+pub record Protocol : Type 0 where
+  pub number : ℕ
+  pub boot : ℕ
+  pub request : ℕ
+  pub version : ℕ
+  pub waiting : List Plan
+  pub batch : Option Batch
+  pub broken : Bool
+
+abbrev pub protocol_of : Replica → Protocol
+protocol_of r = record {
+  number = r.number;
+  boot = r.boot;
+  request = r.request;
+  version = r.version;
+  waiting = r.waiting;
+  batch = r.batch;
+  broken = r.broken;
+}
+
+-- the replica with the requests, queries and batch of a protocol
+abbrev pub with_protocol : Replica → Protocol → Replica
+with_protocol r q = record r { request = q.request; waiting = q.waiting; batch = q.batch }

@@ -1,11 +1,8 @@
 -- One step of a replica: what each call answers, and what it leaves.
-use Rattle.std.specs.Prelude.{◌≡◌, ℕ, ◌<◌, ◌+◌, List, [], ◌∷◌, ◌++◌, length, replicate, Bool, true, false, Option, None, Some}
-use Rattle.std.specs.Prelude.{Result, Ok, Err}
+use Rattle.std.specs.Prelude.{◌≡◌, ℕ, ◌<◌, List, [], length, replicate, Bool, true, false, Option, None, Some, Result, Ok, Err}
 use Rattle.std.specs.Prelude.{◌==◌, ◌||◌, ◌&&◌, not, nat_lt, nat_le, if◌then◌else◌, is_ok, IsOkAnd, IsErr, ◌⊎◌}
 use Rattle.std.specs.Cmp.Lexicographic.{pointwise}
 use Rattle.std.specs.List.{list_all}
-use Rattle.std.specs.Option.{option_and_then, is_none}
-use Rattle.rows.specs.Limits.{waiting_queries_max}
 use Rattle.rows.specs.declared.commit.Commit.{Commit}
 use Rattle.rows.specs.declared.kind.Kind.{Kind}
 use Rattle.rows.specs.Shape.{shape_of}
@@ -21,23 +18,20 @@ use Rattle.wire.specs.declared.datagram.Datagram.{Datagram}
 use Rattle.wire.specs.declared.datagram.Datagram.TheVariants as datagrams
 use Rattle.wire.specs.declared.faults.WireFault.{WireFault}
 use Rattle.wire.specs.declared.out.Out.{Out}
-use Rattle.wire.specs.declared.out.To.TheVariants.{Primary}
-use Rattle.wire.specs.Spelling.{spelling}
 use Rattle.wire.specs.Reading.{reading}
 use Rattle.dispatcher.specs.declared.faults.AskFault.{AskFault}
-use Rattle.dispatcher.specs.declared.faults.AskFault.TheVariants as asks
 use Rattle.dispatcher.specs.declared.faults.DumpFault.{DumpFault}
 use Rattle.dispatcher.specs.declared.faults.DumpFault.TheVariants as dumps
 use Rattle.dispatcher.specs.declared.faults.OpenFault.{OpenFault}
-use Rattle.dispatcher.specs.declared.faults.OpenFault.TheVariants as opens
 use Rattle.plans.specs.declared.plan.Plan.{Plan}
-use Rattle.plans.specs.declared.faults.PlanFault.{PlanFault}
 use Rattle.dispatcher.specs.declared.outcome.Got.{Got}
 use Rattle.dispatcher.specs.declared.outcome.Got.TheVariants as got
 use Rattle.dispatcher.specs.declared.outcome.Run.{Run}
 use Rattle.dispatcher.specs.declared.outcome.Run.TheVariants as runs
 use Rattle.plans.specs.Checking.{checked}
-use Rattle.dispatcher.specs.State.{Replica, Batch, Fetched}
+use Rattle.dispatcher.specs.State.{Replica, Fetched, Protocol, protocol_of, with_protocol}
+use Rattle.dispatcher.specs.Protocol.{opens_query, asks_version, want_for, is_own, takes_head, readiness, fetched_in}
+use Rattle.dispatcher.specs.Protocol.{Readiness, Broken, NoBatch, WaitsForHead, WaitsForFrame, Ready}
 use Rattle.dispatcher.specs.Report.{report_of}
 use Rattle.dispatcher.specs.TableText.{names_of, table_text}
 
@@ -58,41 +52,18 @@ started_replica schema workers number boot = record {
   broken = false;
 }
 
+-- what a step of its protocol answers, and the replica after it; or the fault
+abbrev pub stepped : {Answer Fault : Type 0} → Replica → Result (Answer × Protocol) Fault → Result (Answer × Replica) Fault
+stepped r (Ok step) = Ok (step.0, with_protocol r step.1)
+stepped r (Err fault) = Err fault
+
 -- opening a query: how many queries wait afterwards, and the replica after it; or the first fault
 abbrev pub opened : Replica → Plan → Result (ℕ × Replica) OpenFault
-opened r plan =
-    if r.broken then Err opens.Broken else
-    if nat_le waiting_queries_max (length r.waiting) then Err opens.BatchFull else
-    by_check (checked (shape_in r.tables) plan)
-  where
-    by_check : Result (Unit {0}) PlanFault → Result (ℕ × Replica) OpenFault
-    by_check (Err fault) = Err (opens.BadPlan fault)
-    by_check (Ok fits) = Ok (length r.waiting + 1, record r { waiting = r.waiting ++ plan ∷ [] })
-
--- the Ask of a request
-abbrev pub ask_for : ℕ → ℕ → ℕ → Out
-ask_for number boot request = record { to = Primary; packet = spelling (datagrams.Ask number boot request) }
-
--- the Want of a worker's frames from a seq on
-abbrev pub want_for : ℕ → ℕ → ℕ → Out
-want_for number worker from = record { to = Primary; packet = spelling (datagrams.Want number worker from) }
-
--- a new batch of all queries that wait; no version is fetched for it yet
-abbrev pub with_batch : Replica → Replica
-with_batch r = record r { request = r.request + 1; waiting = []; batch = Some (record { plans = r.waiting; fetched = None }) }
+opened r plan = stepped r (opens_query (protocol_of r) plan (checked (shape_in r.tables) plan))
 
 -- asking for a version: the Ask and the replica after it; or the first fault
-abbrev pub asked_by : Replica → Option Batch → Result (Out × Replica) AskFault
-asked_by r None =
-    if length r.waiting == 0 then Err asks.Empty else Ok (ask_for r.number r.boot (r.request + 1), with_batch r)
-asked_by r (Some batch) = again batch.fetched
-  where
-    again : Option Fetched → Result (Out × Replica) AskFault
-    again None = Ok (ask_for r.number r.boot r.request, r)
-    again (Some fetched) = Err asks.Busy
-
 abbrev pub asked : Replica → Result (Out × Replica) AskFault
-asked r = if r.broken then Err asks.Broken else asked_by r r.batch
+asked r = stepped r (asks_version (protocol_of r))
 
 -- the answer to a frame, by the intake's answer
 abbrev pub got_of : Taken → Got
@@ -108,32 +79,25 @@ frame_comes r frame =
     || not (list_all (λ entry. is_ok (fitting (shape_in r.tables) entry)) frame.entries) then (got.Ignored, r) else
     (got_of (taken r.arrivals frame).0, record r { arrivals = (taken r.arrivals frame).1 })
 
+-- what its protocol made of a Head, and the replica after it
+abbrev pub headed : Replica → Got × Protocol → Got × Replica
+headed r step = (step.0, with_protocol r step.1)
+
 -- whether a Head has a count for each worker, and neither its version nor a count is below what the replica has applied
 abbrev pub goes_on : Replica → ℕ → List ℕ → Bool
 goes_on r version counts = (length counts == r.workers) && nat_le r.version version && pointwise nat_le r.applied counts
 
--- such a Head, by what was fetched for the batch: it is accepted if nothing was
-abbrev pub taken_head : Replica → ℕ → List ℕ → List Plan → Option Fetched → Got × Replica
-taken_head r version counts plans (Some fetched) = (got.Ignored, r)
-taken_head r version counts plans None = (
-  got.Head version,
-  record r { batch = Some (record { plans = plans; fetched = Some (record { version = version; counts = counts }) }) },
-)
-
-abbrev pub head_by_batch : Replica → ℕ → List ℕ → Option Batch → Got × Replica
-head_by_batch r version counts None = (got.Ignored, r)
-head_by_batch r version counts (Some batch) = taken_head r version counts batch.plans batch.fetched
-
 -- a Head of the replica's own number, boot and request arrives
 abbrev pub own_head_comes : Replica → ℕ → List ℕ → Got × Replica
-own_head_comes r version counts = if goes_on r version counts then head_by_batch r version counts r.batch else (got.Ignored, r)
+own_head_comes r version counts =
+    if goes_on r version counts then headed r (takes_head (protocol_of r) version counts r.batch) else (got.Ignored, r)
 
 -- a datagram arrives
 abbrev pub datagram_comes : Replica → Result Datagram WireFault → Got × Replica
 datagram_comes r (Ok (datagrams.Frame worker seq commit last entries)) =
     frame_comes r (record { worker = worker; seq = seq; commit = commit; last = last; entries = entries })
 datagram_comes r (Ok (datagrams.Head replica boot request version counts)) =
-    if (replica == r.number) && (boot == r.boot) && (request == r.request) then own_head_comes r version counts else (got.Ignored, r)
+    if is_own (protocol_of r) replica boot request then own_head_comes r version counts else (got.Ignored, r)
 datagram_comes r other = (got.Ignored, r)
 
 -- bytes arrive: the answer, and the replica after them. Being out of memory aside.
@@ -180,43 +144,25 @@ Ends old plans fetched answer new =
     × (answer ≡ runs.Answered (report_of after.tables after.version plans)) × (new ≡ record after { batch = None }))
     ⊎ (CannotCatchUp old fetched × (answer ≡ runs.Inconsistent) × (new ≡ broken_of old))
 
--- a run, by the first missing frame below the fetched counts
-abbrev pub RunsFetched : Replica → List Plan → Fetched → Option (ℕ × ℕ) → Run → Replica → Type 0
-RunsFetched old plans fetched None answer new = Ends old plans fetched answer new
-RunsFetched old plans fetched (Some missing) answer new =
-    (answer ≡ runs.Waiting missing.0 missing.1 (want_for old.number missing.0 missing.1)) × (new ≡ old)
+-- a run, by what it finds
+abbrev pub RunsAs : Readiness → Replica → Run → Replica → Type 0
+RunsAs Broken old answer new = (answer ≡ runs.Broken) × (new ≡ old)
+RunsAs NoBatch old answer new = (answer ≡ runs.NoBatch) × (new ≡ old)
+RunsAs WaitsForHead old answer new = (answer ≡ runs.WaitingHead) × (new ≡ old)
+RunsAs (WaitsForFrame worker seq) old answer new = (answer ≡ runs.Waiting worker seq (want_for old.number worker seq)) × (new ≡ old)
+RunsAs (Ready plans fetched) old answer new = Ends old plans fetched answer new
 
--- a run, by what was fetched for the batch
-abbrev pub RunsBatch : Replica → List Plan → Option Fetched → Run → Replica → Type 0
-RunsBatch old plans None answer new = (answer ≡ runs.WaitingHead) × (new ≡ old)
-RunsBatch old plans (Some fetched) answer new = RunsFetched old plans fetched (lacking old.arrivals fetched.counts) answer new
-
--- a run, by the batch
-abbrev pub RunsWhole : Replica → Option Batch → Run → Replica → Type 0
-RunsWhole old None answer new = (answer ≡ runs.NoBatch) × (new ≡ old)
-RunsWhole old (Some batch) answer new = RunsBatch old batch.plans batch.fetched answer new
-
--- a run, by whether the replica is broken
-abbrev pub RunsAs : Bool → Replica → Run → Replica → Type 0
-RunsAs true old answer new = (answer ≡ runs.Broken) × (new ≡ old)
-RunsAs false old answer new = RunsWhole old old.batch answer new
+-- what a run of a replica finds
+abbrev pub readiness_of : Replica → Readiness
+readiness_of r = readiness (protocol_of r) (lacking r.arrivals)
 
 -- a run of the batch: the answer, and the replica after it. Being out of memory aside.
 abbrev pub RunsReplica : Replica → Run → Replica → Type 0
-RunsReplica old answer new = RunsAs old.broken old answer new
+RunsReplica old answer new = RunsAs (readiness_of old) old answer new
 
--- what was fetched, if no frame below its counts is missing; `lacks` names the first missing frame
-abbrev pub unless_lacking : (List ℕ → Option (ℕ × ℕ)) → Option Fetched → Option Fetched
-unless_lacking lacks None = None
-unless_lacking lacks (Some fetched) = if is_none (lacks fetched.counts) then Some fetched else None
-
--- what was fetched for a batch that can be answered: the replica is not broken, and no frame is missing
-abbrev pub ready : Bool → (List ℕ → Option (ℕ × ℕ)) → Option Fetched → Option Fetched
-ready broken lacks fetched = if broken then None else unless_lacking lacks fetched
-
--- what was fetched for a replica's batch, if the batch can be answered
+-- what was fetched for a replica's batch, if the batch can be answered: the replica is not broken, and no frame is missing
 abbrev pub ready_of : Replica → Option Fetched
-ready_of r = ready r.broken (lacking r.arrivals) (option_and_then (λ batch. batch.fetched) r.batch)
+ready_of r = fetched_in (readiness_of r)
 
 -- what a run may answer and leave when it is out of memory, which happens only if a version was fetched and no frame is
 -- missing: `Memory`, with the tables at the old or at the fetched version; or `Broken`, if there was a commit to apply

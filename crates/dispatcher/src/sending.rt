@@ -1,7 +1,7 @@
 //! What a replica sends to the primary.
 
 ghost use Rattle.std.specs.Prelude.{◌≡◌, ◌<◌};
-ghost use Rattle.dispatcher.specs.Steps.{ask_for, want_for};
+ghost use Rattle.dispatcher.specs.Protocol.{ask_for, want_for};
 ghost use Rattle.rows.specs.Limits.{replicas_max, workers_max};
 
 use wire::{Datagram, Out, Packet, To};

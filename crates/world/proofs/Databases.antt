@@ -13,7 +13,7 @@ use Rattle.script.specs.declared.setup.Setup.{Setup}
 use Rattle.script.specs.Events.{IsPossible}
 use Rattle.world.specs.Database.{Reader, Database, new_reader, HasAsked, IsFetched, IsMoved, IsAnswered, Becomes, Says, IsDatabaseStep}
 use Rattle.world.specs.Database.{IsDatabaseRun, IsPromised, new_database}
-use Rattle.world.specs.Steps.{World, Member, fresh_from, with_member, new_batch, opening_world}
+use Rattle.world.specs.Steps.{World, Member, fresh_from, with_member, opening_world}
 use Rattle.world.specs.Allowed.{RunsBy, Runs}
 use Rattle.world.specs.Outputs.{of_commit}
 use Rattle.world.specs.Theorem.{seen_batch, reader_of, database_of, RunsAreOfDatabase}
@@ -25,8 +25,8 @@ use Rattle.world.proofs.Freshness.{serving, step-serves, possible-boots}
 use Rattle.world.proofs.Undamaged.{step-fine}
 use Rattle.world.proofs.Requested.{step-counts}
 use Rattle.world.proofs.Lists.{set-same}
-use Rattle.world.proofs.WorldMoves.{IsSilent, commit-silent, Change, stays, opens, keeps, fetches, reports, moves, breaks, restarts, Move}
-use Rattle.world.proofs.WorldMoves.{idle, tells, dumps, refuses, sends, asks, becomes, step-moves}
+use Rattle.world.proofs.WorldMoves.{new_batch, IsSilent, commit-silent, Change, hears, opens, fetches, reports, moves, breaks, restarts}
+use Rattle.world.proofs.WorldMoves.{Move, idle, tells, dumps, refuses, sends, asks, becomes, step-moves}
 
 -- what a step says and what becomes of the replicas, as users see it
 abbrev pub Tells : World → Output × World → Type 0
@@ -64,53 +64,52 @@ map-set (first ∷ members) (suc i) m = ap (λ (l : List Reader). reader_of firs
 
 module _ (w : World) (event : Event) (h : Fresh w) (i : ℕ) (m : Member) (here : slice_get w.members i ≡ Some m) where
   -- the readers after a change of the replica
-  changed : (new : Member) → new.number ≡ m.number
+  changed : (new : Member) → new.protocol.number ≡ m.protocol.number
       → map reader_of (with_member w new).members ≡ slice_set (database_of w).readers i (reader_of new)
   changed new number =
       ap (λ (n : ℕ). map reader_of (slice_set w.members n new)) (number ∙ (h.members_are i m here).number_is)
       ∙ map-set w.members i new
 
   -- it is seen as it was
-  alike : (new : Member) (output : Output) → new.number ≡ m.number → reader_of new ≡ reader_of m → IsSilent output
+  alike : (new : Member) (output : Output) → new.protocol.number ≡ m.protocol.number → reader_of new ≡ reader_of m → IsSilent output
       → Tells w (output, with_member w new)
   alike new output number same is =
       silent w output _ is (changed new number ∙ ap (slice_set (database_of w).readers i) same
       ∙ set-same (database_of w).readers i (reader_of m) (map-get w.members i m here))
 
   -- it becomes what it may
-  seen_as : (May : Reader → Reader → Type 0) (new : Member) → new.number ≡ m.number → May (reader_of m) (reader_of new)
+  seen_as : (May : Reader → Reader → Type 0) (new : Member) → new.protocol.number ≡ m.protocol.number → May (reader_of m) (reader_of new)
       → Becomes May (database_of w).readers (database_of (with_member w new)).readers
   seen_as May new number may = (i, reader_of m, reader_of new, map-get w.members i m here, may, changed new number)
 
   change_tells : (output : Output) (new : Member) → Change w event i m output new → Tells w (output, with_member w new)
-  change_tells output new (stays answer is) = alike m answer refl refl is.0
+  change_tells output new (hears answer known is) = alike new answer refl refl is.0
   change_tells output new (opens plan) = alike new output refl refl tt
-  change_tells output new (keeps worker seq) = alike new output refl refl tt
-  change_tells output new (fetches plans asked_at version counts has sent) =
+  change_tells output new (fetches plans version counts has sent) =
       seen_as (IsFetched w.primary.durable version) new refl (
         plans,
-        asked_at,
-        ap (option_map seen_batch) has,
-        fetched-fresh w i m plans asked_at version counts h here has sent,
+        m.asked_at,
+        ap (option_map (seen_batch m.asked_at)) has,
+        fetched-fresh w i m plans version counts h here has sent,
         refl,
       )
-  change_tells output new (reports plans asked_at fetched is has) =
+  change_tells output new (reports plans fetched is has) =
       seen_as (IsAnswered w.primary.schema w.primary.durable _) new refl (
         plans,
-        asked_at,
+        m.asked_at,
         fetched.version,
-        ap (option_map seen_batch) has,
-        serving w event h i m here plans asked_at fetched has,
+        ap (option_map (seen_batch m.asked_at)) has,
+        serving w event h i m here plans fetched has,
         refl,
         refl,
       )
-  change_tells output new (moves plans asked_at fetched has) =
-      inr (seen_as (IsMoved w.primary.durable) (record m { version = fetched.version }) refl (
+  change_tells output new (moves plans fetched has) =
+      inr (seen_as (IsMoved w.primary.durable) new refl (
         plans,
-        asked_at,
+        m.asked_at,
         fetched.version,
-        ap (option_map seen_batch) has,
-        serving w event h i m here plans asked_at fetched has,
+        ap (option_map (seen_batch m.asked_at)) has,
+        serving w event h i m here plans fetched has,
         refl,
       ))
   change_tells output new breaks = alike new output refl refl tt
@@ -127,7 +126,8 @@ move-tells w event output new h (refuses number worker draft fault here refused)
     same-readers w (of_commit fault) new (commit-silent fault) refl
 move-tells w event output new h (sends answer more is sent) = same-readers w answer new is.0 refl
 move-tells w event output new h (asks i m here none) =
-    inr (seen_as w event h i m here (HasAsked w.primary.durable) (new_batch w m) refl (m.waiting, ap (option_map seen_batch) none, refl))
+    inr (seen_as w event h i m here (HasAsked w.primary.durable) (new_batch w m) refl
+    (m.protocol.waiting, ap (option_map (seen_batch m.asked_at)) none, refl))
 move-tells w event output new h (becomes i m after answer here change) = change_tells w event h i m here answer after change
 move-tells w event output new h other = same-readers w output new tt refl
 

@@ -13,8 +13,7 @@ use Rattle.script.specs.declared.event.Event.TheVariants.{Deliver, Raw}
 use Rattle.script.specs.declared.event.Node.TheVariants as nodes
 use Rattle.script.specs.declared.output.Output.{Output}
 use Rattle.script.specs.declared.output.Output.TheVariants as outputs
-use Rattle.world.specs.Outputs.{of_answers, packets_of}
-use Rattle.world.specs.Inner.Naming.{of_got}
+use Rattle.world.specs.Outputs.{of_answers, packets_of, of_got}
 use Rattle.world.specs.Parts.{Parts}
 use Rattle.world.specs.Standing.{world_of}
 use Rattle.world.specs.Steps.{World, happens, delivered, deliver_happens, raw_happens, is_forged}

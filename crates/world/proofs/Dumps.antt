@@ -59,12 +59,13 @@ IsDumpBy schema commits other = Unit {0}
 
 says-dump : (schema : List (List ℕ × List Kind)) (commits : List Commit) (w : World) (event : Event) (output : Output)
     → w.primary.schema ≡ schema → SaysRows commits w event output → IsDumpBy schema commits output
-says-dump schema commits w event (outputs.Dump text) same h = (
-  h.1.version,
-  h.4.0,
-  subst (λ (s : List (List ℕ × List Kind)). text ≡ table_text (names_of s) h.1.version (tables_after (shape_of s) commits h.1.version)) same
-      h.4.2,
-)
+says-dump schema commits w event (outputs.Dump text) same h =
+    let version = h.1.protocol.version in (
+      version,
+      h.4.0,
+      subst (λ (s : List (List ℕ × List Kind)). text ≡ table_text (names_of s) version (tables_after (shape_of s) commits version)) same
+          h.4.2,
+    )
 says-dump schema commits w event other same h = tt
 
 dumps-by : (schema : List (List ℕ × List Kind)) (commits : List Commit) (old end : Parts) (todo : List Event) (done : List Output)

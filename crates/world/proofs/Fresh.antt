@@ -1,5 +1,5 @@
 -- The few moves of a fresh world, each of which leaves it fresh.
-use Rattle.std.proofs.Common.{◌≡◌, ℕ, zero, suc, ◌+◌, ◌^◌, ◌<◌, ◌≤◌, false, List, [], ◌∷◌, ◌++◌, length, take, drop, Option}
+use Rattle.std.proofs.Common.{◌≡◌, ℕ, zero, suc, ◌+◌, ◌^◌, ◌<◌, ◌≤◌, Bool, false, List, [], ◌∷◌, ◌++◌, length, take, drop, Option}
 use Rattle.std.proofs.Common.{Some, Result, Ok, Err}
 use Rattle.std.proofs.Common.{refl, sym, ap, subst, ◌∙◌, inl, inr, arith}
 use Rattle.std.specs.List.{slice_get, slice_set, AllByRecursion}
@@ -13,10 +13,11 @@ use Rattle.wire.specs.declared.datagram.Datagram.TheVariants as datagrams
 use Rattle.wire.specs.declared.faults.WireFault.{WireFault}
 use Rattle.wire.specs.Reading.{reading}
 use Rattle.mvcc.specs.Transaction.{Transaction}
-use Rattle.dispatcher.specs.State.{Fetched}
+use Rattle.plans.specs.declared.plan.Plan.{Plan}
+use Rattle.dispatcher.specs.State.{Batch, Fetched}
 use Rattle.primary.specs.Steps.{committed, flushed}
 use Rattle.script.specs.declared.setup.Setup.{Setup}
-use Rattle.world.specs.Steps.{World, Member, AskedBatch, fresh, fresh_from, opening_world, with_member, stop_happens}
+use Rattle.world.specs.Steps.{World, Member, fresh, fresh_from, opening_world, with_member, stop_happens}
 use Rattle.world.specs.Stops.{whole_in}
 use Rattle.world.specs.Inner.Boots.{IsInBoot, IsOfBoot}
 use Rattle.world.specs.Inner.Fresh.{IsFreshBatch, IsFreshMember, IsFreshHead, IsFreshReading, Fresh}
@@ -118,36 +119,32 @@ Fresh-sent w more h fresh = record {
 
 -- what a replica is to keep as it changes
 pub record Follows (durable : List Commit) (old new : Member) : Type 0 where
-  pub number_is : new.number ≡ old.number
-  pub below : new.version ≤ length durable
+  pub number_is : new.protocol.number ≡ old.protocol.number
+  pub below : new.protocol.version ≤ length durable
   pub boots_are : new.boots ≡ old.boots
-  pub boot_is : new.boot ≡ old.boot
-  pub batch_is : (batch : AskedBatch) → new.batch ≡ Some batch → IsFreshBatch durable new.version batch
-  pub asked : old.request ≤ new.request
+  pub boot_is : new.protocol.boot ≡ old.protocol.boot
+  pub batch_is : (batch : Batch) → new.protocol.batch ≡ Some batch → IsFreshBatch durable new.protocol.version new.asked_at batch
+  pub asked : old.protocol.request ≤ new.protocol.request
   pub heads : (request version : ℕ) → IsFreshHead old request version → IsFreshHead new request version
 
--- a replica of the same version, request and batch
-pub alike : (durable : List Commit) (number : ℕ) (old new : Member) → IsFreshMember durable number old → new.number ≡ old.number
-    → new.boots ≡ old.boots → new.boot ≡ old.boot → new.request ≡ old.request → new.batch ≡ old.batch → new.version ≡ old.version
-    → Follows durable old new
-alike durable number old new h number_is boots_are boot_is request_is batch_is version_is = record {
-  number_is = number_is;
-  below = subst (λ (version : ℕ). version ≤ length durable) (sym version_is) h.below;
-  boots_are = boots_are;
-  boot_is = boot_is;
-  batch_is = λ batch has.
-      subst (λ (version : ℕ). IsFreshBatch durable version batch) (sym version_is) (h.batch_is batch (sym batch_is ∙ has));
+-- a replica with other known frames or waiting queries, or one that is broken
+pub alike : (durable : List Commit) (number : ℕ) (m : Member) (known : List (List ℕ)) (waiting : List Plan) (broken : Bool)
+    → IsFreshMember durable number m
+    → Follows durable m (record m { known = known; protocol = record m.protocol { waiting = waiting; broken = broken } })
+alike durable number m known waiting broken h = record {
+  number_is = refl;
+  below = h.below;
+  boots_are = refl;
+  boot_is = refl;
+  batch_is = h.batch_is;
   asked = omega arith;
-  heads =
-      λ request version head. record {
-        asked = let asked = head.asked in omega arith;
-        above = λ batch has same. head.above batch (sym batch_is ∙ has) (same ∙ request_is);
-      };
+  heads = λ request version head. record { asked = head.asked; above = head.above };
 }
 
 -- a replica that goes to the version that was fetched for its batch
-pub moved : (durable : List Commit) (number : ℕ) (m : Member) (batch : AskedBatch) (fetched : Fetched) → IsFreshMember durable number m
-    → m.batch ≡ Some batch → batch.fetched ≡ Some fetched → Follows durable m (record m { version = fetched.version })
+pub moved : (durable : List Commit) (number : ℕ) (m : Member) (batch : Batch) (fetched : Fetched) → IsFreshMember durable number m
+    → m.protocol.batch ≡ Some batch → batch.fetched ≡ Some fetched
+    → Follows durable m (record m { protocol = record m.protocol { version = fetched.version } })
 moved durable number m batch fetched h has is =
     let fresh = h.batch_is batch has in
     let found = fresh.fetched_is fetched is in
@@ -156,12 +153,12 @@ moved durable number m batch fetched h has is =
       below = found.2;
       boots_are = refl;
       boot_is = refl;
-      batch_is = λ other now. subst (IsFreshBatch durable fetched.version) (same_Some batch other (sym has ∙ now)) (record {
+      batch_is = λ other now. subst (IsFreshBatch durable fetched.version m.asked_at) (same_Some batch other (sym has ∙ now)) (record {
         asked = fresh.asked;
         waits = λ none. absurd (none-some fetched (sym none ∙ is));
         fetched_is =
             λ new this.
-            subst (λ (f : Fetched). (fetched.version ≤ f.version) × (batch.asked_at ≤ f.version) × (f.version ≤ length durable))
+            subst (λ (f : Fetched). (fetched.version ≤ f.version) × (m.asked_at ≤ f.version) × (f.version ≤ length durable))
             (same_Some fetched new (sym is ∙ this)) (omega arith, found.1, found.2);
       });
       asked = omega arith;
@@ -178,18 +175,20 @@ reading-follows durable members i old new here follows (Ok (datagrams.Ask replic
   λ m there. elim (get-set members i new replica m there) [
     | inl same ↦
         let asked = follows.asked in
-        subst (λ (other : Member). IsOfBoot other.boots other.boot boot (request ≤ other.request)) (sym same.1)
-        (of-boot-stays old.boots new.boots old.boot new.boot boot (request ≤ old.request) (request ≤ new.request) follows.boots_are
-        follows.boot_is (λ before. omega arith) (h.1 old (ap (slice_get members) same.0 ∙ here)))
+        subst (λ (other : Member). IsOfBoot other.boots other.protocol.boot boot (request ≤ other.protocol.request)) (sym same.1)
+        (of-boot-stays old.boots new.boots old.protocol.boot new.protocol.boot boot (request ≤ old.protocol.request)
+        (request ≤ new.protocol.request) follows.boots_are follows.boot_is (λ before. omega arith)
+        (h.1 old (ap (slice_get members) same.0 ∙ here)))
     | inr stays ↦ h.1 m stays
   ],
 )
 reading-follows durable members i old new here follows (Ok (datagrams.Head replica boot request version counts)) h = (
   h.0,
   λ m there. elim (get-set members i new replica m there) [
-    | inl same ↦ subst (λ (other : Member). IsOfBoot other.boots other.boot boot (IsFreshHead other request version)) (sym same.1)
-        (of-boot-stays old.boots new.boots old.boot new.boot boot (IsFreshHead old request version) (IsFreshHead new request version)
-        follows.boots_are follows.boot_is (follows.heads request version) (h.1 old (ap (slice_get members) same.0 ∙ here)))
+    | inl same ↦ subst (λ (other : Member). IsOfBoot other.boots other.protocol.boot boot (IsFreshHead other request version)) (sym same.1)
+        (of-boot-stays old.boots new.boots old.protocol.boot new.protocol.boot boot (IsFreshHead old request version)
+        (IsFreshHead new request version) follows.boots_are follows.boot_is (follows.heads request version)
+        (h.1 old (ap (slice_get members) same.0 ∙ here)))
     | inr stays ↦ h.1 m stays
   ],
 )
@@ -209,7 +208,7 @@ changed w i old new h here follows = record {
           below = follows.below;
           boot_is =
               subst (IsInBoot new.boots) (sym follows.boot_is)
-              (subst (λ (boots : List ℕ). IsInBoot boots old.boot) (sym follows.boots_are) is.boot_is);
+              (subst (λ (boots : List ℕ). IsInBoot boots old.protocol.boot) (sym follows.boots_are) is.boot_is);
           batch_is = follows.batch_is;
         })
     | inr stays ↦ h.members_are j m stays

@@ -12,12 +12,12 @@ use Rattle.wire.specs.Reading.{reading}
 use Rattle.primary.specs.Sending.{counts_of, answers_to, wanted, frame_to}
 use Rattle.plans.specs.declared.plan.Plan.{Plan}
 use Rattle.world.specs.Outputs.{packets_of}
-use Rattle.world.specs.Steps.{World, Member, ask_bytes}
+use Rattle.world.specs.Steps.{World, Member}
 use Rattle.world.specs.Inner.Fresh.{IsFreshHead, IsFreshReading, Fresh}
 use Rattle.world.specs.Inner.StepLaws.{StepLaws}
 use Rattle.world.proofs.Boots.{of-boot}
 use Rattle.world.proofs.Datagrams.{ask-read, ask-kept, frame-reads, head-reads, want-reads}
-use Rattle.world.proofs.WorldMoves.{WasSent, AreSent, framed, answered, repeated, asked_for}
+use Rattle.world.proofs.WorldMoves.{ask_bytes, WasSent, AreSent, framed, answered, repeated, asked_for}
 
 -- what was sent is fresh, and so is what is no datagram
 pub told-fresh : (w : World) (read : Result Datagram WireFault) → Fresh w → WasSent w read → IsFreshReading w.primary.durable w.members read
@@ -45,7 +45,7 @@ answers-fresh w (Ok (datagrams.Ask replica boot request)) h told =
           (counts_of w.primary.durable version w.primary.workers) told.0.boot_below told.0.request_below (omega arith)
           (λ counts'. (
             omega arith,
-            λ m there. of-boot m.boots m.boot boot (request ≤ m.request) (IsFreshHead m request version)
+            λ m there. of-boot m.boots m.protocol.boot boot (request ≤ m.protocol.request) (IsFreshHead m request version)
                 (λ asked. record {
                   asked = asked;
                   above = λ batch has same. ((h.members_are replica m there).batch_is batch has).asked;
@@ -59,21 +59,23 @@ answers-fresh w (Ok (datagrams.Want replica worker from)) h told = frames-fresh 
 -- an Ask of a request that its replica has made
 pub ask-fresh : (laws : StepLaws) (w : World) (members : List Member) (i : ℕ) (m : Member) (request : ℕ) → Fresh w
     → slice_get w.members i ≡ Some m
-    → ((other : Member) → slice_get members m.number ≡ Some other → (other.boots ≡ m.boots) × (request ≤ other.request))
+    → ((other : Member) → slice_get members m.protocol.number ≡ Some other
+    → (other.boots ≡ m.boots) × (request ≤ other.protocol.request))
     → IsFreshReading w.primary.durable members (reading (ask_bytes m request))
 ask-fresh laws w members i m request h here made =
     let is = h.members_are i m here in
     let number_is = is.number_is in
     let few = h.few in
     let within = slice_get_within w.members i m here in
-    let number_below : m.number < REPLICAS_MAX = omega arith in
+    let number_below : m.protocol.number < REPLICAS_MAX = omega arith in
     let boot_below = is.boot_is.below in
-    subst (IsFreshReading w.primary.durable members) (sym (ask-read laws.reads m.number m.boot request number_below boot_below)) (
-      ask-kept m.number m.boot request number_below boot_below,
+    subst (IsFreshReading w.primary.durable members)
+    (sym (ask-read laws.reads m.protocol.number m.protocol.boot request number_below boot_below)) (
+      ask-kept m.protocol.number m.protocol.boot request number_below boot_below,
       λ other there.
           let is_made = made other there in
           record {
-            had = subst (λ (boots : List ℕ). Contains boots m.boot) (sym is_made.0) is.boot_is.had;
+            had = subst (λ (boots : List ℕ). Contains boots m.protocol.boot) (sym is_made.0) is.boot_is.had;
             holds = λ same. let asked = is_made.1 in omega arith;
           },
     )
@@ -87,23 +89,23 @@ sent-fresh laws w more h (framed one) = (
 )
 sent-fresh laws w more h (answered bytes sent) = answers-fresh w (reading bytes) h (told-fresh w (reading bytes) h sent)
 sent-fresh laws w more h (repeated i m here) = (
-  ask-fresh laws w w.members i m m.request h here (λ other there.
+  ask-fresh laws w w.members i m m.protocol.request h here (λ other there.
       let same : m ≡ other = same_Some m other (sym here ∙ ap (slice_get w.members) (sym (h.members_are i m here).number_is) ∙ there) in
-      let asked = ap (λ (x : Member). x.request) same in
+      let asked = ap (λ (x : Member). x.protocol.request) same in
       (ap (λ (x : Member). x.boots) (sym same), omega arith)),
   tt,
 )
-sent-fresh laws w more h (asked_for m worker from) = (
-  want-reads (IsFreshReading w.primary.durable w.members) (λ fault. tt) (λ replica worker from. tt) m.number worker from,
+sent-fresh laws w more h (asked_for number worker from) = (
+  want-reads (IsFreshReading w.primary.durable w.members) (λ fault. tt) (λ replica worker from. tt) number worker from,
   tt,
 )
 
 -- a version that is fetched for a batch is no older than the batch or its replica, and durable
-pub fetched-fresh : (w : World) (i : ℕ) (m : Member) (plans : List Plan) (asked_at version : ℕ) (counts : List ℕ) → Fresh w
-    → slice_get w.members i ≡ Some m → m.batch ≡ Some (record { plans = plans; asked_at = asked_at; fetched = None })
-    → WasSent w (Ok (datagrams.Head m.number m.boot m.request version counts))
-    → (m.version ≤ version) × (asked_at ≤ version) × (version ≤ length w.primary.durable)
-fetched-fresh w i m plans asked_at version counts h here has sent =
+pub fetched-fresh : (w : World) (i : ℕ) (m : Member) (plans : List Plan) (version : ℕ) (counts : List ℕ) → Fresh w
+    → slice_get w.members i ≡ Some m → m.protocol.batch ≡ Some (record { plans = plans; fetched = None })
+    → WasSent w (Ok (datagrams.Head m.protocol.number m.protocol.boot m.protocol.request version counts))
+    → (m.protocol.version ≤ version) × (m.asked_at ≤ version) × (version ≤ length w.primary.durable)
+fetched-fresh w i m plans version counts h here has sent =
     let is = h.members_are i m here in
     let told = told-fresh w _ h sent in
     let head = (told.1 m (ap (slice_get w.members) is.number_is ∙ here)).holds refl in

@@ -1,5 +1,5 @@
 -- Each step of a fresh world leaves one, and a report that it answers is that of the batch of the replica that ran.
-use Rattle.std.proofs.Common.{◌≡◌, ℕ, ◌+◌, ◌≤◌, List, [], ◌∷◌, length, Some, None, refl, sym, ap, subst, arith}
+use Rattle.std.proofs.Common.{◌≡◌, ℕ, ◌+◌, ◌≤◌, true, List, [], ◌∷◌, ◌++◌, length, Some, None, refl, sym, ap, subst, arith}
 use Rattle.std.specs.List.{slice_get, slice_set, AllByRecursion}
 use Rattle.std.proofs.lemmas.Option.{none-some, same_Some}
 use Rattle.rows.specs.declared.commit.Commit.{Commit}
@@ -12,7 +12,7 @@ use Rattle.script.specs.declared.output.Output.{Output}
 use Rattle.script.specs.declared.output.Output.TheVariants as outputs
 use Rattle.world.specs.Outputs.{of_commit}
 use Rattle.world.specs.Theorem.{SaysRows}
-use Rattle.world.specs.Steps.{World, Member, AskedBatch, with_member, new_batch, ask_bytes}
+use Rattle.world.specs.Steps.{World, Member, with_member}
 use Rattle.world.specs.Allowed.{MayHappen}
 use Rattle.world.specs.Inner.Fresh.{IsFreshBatch, IsFreshMember, Fresh, HasBoot}
 use Rattle.world.specs.Inner.StepLaws.{StepLaws}
@@ -22,8 +22,9 @@ use Rattle.world.proofs.Restarts.{never-had, Fresh-restarted}
 use Rattle.world.proofs.Fresh.{Fresh-transactions, Fresh-committed, Fresh-flushed, Fresh-stopped, Fresh-started, Fresh-sent, Fresh-member}
 use Rattle.world.proofs.Fresh.{Follows, alike, moved}
 use Rattle.world.proofs.FreshDatagrams.{ask-fresh, sent-fresh, fetched-fresh}
-use Rattle.world.proofs.WorldMoves.{IsSilent, commit-silent, Change, stays, fetches, reports, moves, restarts, Move, idle, dumps, begins}
-use Rattle.world.proofs.WorldMoves.{changes, ends, refuses, commits, flushes, stops, starts, sends, asks, becomes, step-moves}
+use Rattle.world.proofs.WorldMoves.{ask_bytes, new_batch, IsSilent, commit-silent, Change, hears, opens, fetches, reports, moves, breaks}
+use Rattle.world.proofs.WorldMoves.{restarts, Move, idle, dumps, begins, changes, ends, refuses, commits, flushes, stops, starts, sends}
+use Rattle.world.proofs.WorldMoves.{asks, becomes, step-moves}
 
 -- what a step is to be
 pub record Serves (old : World) (event : Event) (answer : Output × World) : Type 0 where
@@ -38,25 +39,22 @@ no-rows list old event other h = tt
 -- ---- one replica
 
 -- a new batch asks at what is durable now, and no Head of its request was sent
-new-follows : (w : World) (m : Member) → m.version ≤ length w.primary.durable → Follows w.primary.durable m (new_batch w m)
+new-follows : (w : World) (m : Member) → m.protocol.version ≤ length w.primary.durable → Follows w.primary.durable m (new_batch w m)
 new-follows w m below = record {
   number_is = refl;
   below = below;
   boots_are = refl;
   boot_is = refl;
   batch_is =
-      λ batch has. subst (IsFreshBatch w.primary.durable m.version) (same_Some new batch has)
+      λ batch has. subst (IsFreshBatch w.primary.durable m.protocol.version (length w.primary.durable)) (same_Some _ batch has)
       (record { asked = omega arith; waits = λ none. below; fetched_is = λ fetched this. absurd (none-some fetched this) });
   asked = omega arith;
   heads = λ request version head. let asked = head.asked in record { asked = omega arith; above = λ batch has same. absurd (omega arith) };
 }
-  where
-    new : AskedBatch
-    new = record { plans = m.waiting; asked_at = length w.primary.durable; fetched = None }
 
 -- the batch is over, at the version that was fetched for it
 done-follows : (w : World) (i : ℕ) (m : Member) (version : ℕ) → version ≤ length w.primary.durable
-    → Follows w.primary.durable m (record m { version = version; batch = None })
+    → Follows w.primary.durable m (record m { protocol = record m.protocol { version = version; batch = None } })
 done-follows w i m version below = record {
   number_is = refl;
   below = below;
@@ -68,62 +66,57 @@ done-follows w i m version below = record {
 }
 
 -- a version is fetched for the batch
-head-follows : (durable : List Commit) (number : ℕ) (m : Member) (plans : List Plan) (asked_at : ℕ) (came : Fetched)
-    → IsFreshMember durable number m → m.batch ≡ Some (record { plans = plans; asked_at = asked_at; fetched = None })
-    → (m.version ≤ came.version) × (asked_at ≤ came.version) × (came.version ≤ length durable)
-    → Follows durable m (record m { batch = Some (record { plans = plans; asked_at = asked_at; fetched = Some came }) })
-head-follows durable number m plans asked_at came is has serves = record {
+head-follows : (durable : List Commit) (number : ℕ) (m : Member) (plans : List Plan) (came : Fetched)
+    → IsFreshMember durable number m → m.protocol.batch ≡ Some (record { plans = plans; fetched = None })
+    → (m.protocol.version ≤ came.version) × (m.asked_at ≤ came.version) × (came.version ≤ length durable)
+    → Follows durable m (record m { protocol = record m.protocol { batch = Some (record { plans = plans; fetched = Some came }) } })
+head-follows durable number m plans came is has serves = record {
   number_is = refl;
   below = is.below;
   boots_are = refl;
   boot_is = refl;
-  batch_is = λ batch now. subst (IsFreshBatch durable m.version) (same_Some new batch now) (record {
-    asked = (is.batch_is old has).asked;
+  batch_is = λ batch now. subst (IsFreshBatch durable m.protocol.version m.asked_at) (same_Some _ batch now) (record {
+    asked = (is.batch_is _ has).asked;
     waits = λ none. absurd (none-some came (sym none));
     fetched_is =
-        λ fetched this. subst (λ (f : Fetched). (m.version ≤ f.version) × (asked_at ≤ f.version) × (f.version ≤ length durable))
+        λ fetched this.
+        subst (λ (f : Fetched). (m.protocol.version ≤ f.version) × (m.asked_at ≤ f.version) × (f.version ≤ length durable))
         (same_Some came fetched this) serves;
   });
   asked = omega arith;
-  heads = λ request other head. record {
-    asked = head.asked;
-    above = λ batch now same. subst (λ (b : AskedBatch). b.asked_at ≤ other) (same_Some new batch now) (head.above old has same);
-  };
+  heads = λ request other head. record { asked = head.asked; above = λ batch now same. head.above _ has same };
 }
-  where
-    old : AskedBatch
-    old = record { plans = plans; asked_at = asked_at; fetched = None }
-
-    new : AskedBatch
-    new = record { plans = plans; asked_at = asked_at; fetched = Some came }
 
 module _ (w : World) (event : Event) (h : Fresh w) (i : ℕ) (m : Member) (here : slice_get w.members i ≡ Some m) where
   -- what was fetched for its batch
-  pub serving : (plans : List Plan) (asked_at : ℕ) (fetched : Fetched)
-      → m.batch ≡ Some (record { plans = plans; asked_at = asked_at; fetched = Some fetched })
-      → (m.version ≤ fetched.version) × (asked_at ≤ fetched.version) × (fetched.version ≤ length w.primary.durable)
-  serving plans asked_at fetched has = ((h.members_are i m here).batch_is _ has).fetched_is fetched refl
+  pub serving : (plans : List Plan) (fetched : Fetched) → m.protocol.batch ≡ Some (record { plans = plans; fetched = Some fetched })
+      → (m.protocol.version ≤ fetched.version) × (m.asked_at ≤ fetched.version) × (fetched.version ≤ length w.primary.durable)
+  serving plans fetched has = ((h.members_are i m here).batch_is _ has).fetched_is fetched refl
 
   change_fresh : (output : Output) (new : Member) → HasBoot event → Change w event i m output new → Fresh (with_member w new)
-  change_fresh output new boots (fetches plans asked_at version counts has sent) =
+  change_fresh output new boots (hears answer known is) =
+      Fresh-member w i m new h here (alike w.primary.durable i m known m.protocol.waiting m.protocol.broken (h.members_are i m here))
+  change_fresh output new boots (opens plan) =
       Fresh-member w i m new h here
-      (head-follows w.primary.durable i m plans asked_at (record { version = version; counts = counts }) (h.members_are i m here) has
-      (fetched-fresh w i m plans asked_at version counts h here has sent))
-  change_fresh output new boots (reports plans asked_at fetched is has) =
-      Fresh-member w i m new h here (done-follows w i m fetched.version (serving plans asked_at fetched has).2)
-  change_fresh output new boots (moves plans asked_at fetched has) =
+      (alike w.primary.durable i m m.known (m.protocol.waiting ++ plan ∷ []) m.protocol.broken (h.members_are i m here))
+  change_fresh output new boots (fetches plans version counts has sent) =
+      Fresh-member w i m new h here
+      (head-follows w.primary.durable i m plans (record { version = version; counts = counts }) (h.members_are i m here) has
+      (fetched-fresh w i m plans version counts h here has sent))
+  change_fresh output new boots (reports plans fetched is has) =
+      Fresh-member w i m new h here (done-follows w i m fetched.version (serving plans fetched has).2)
+  change_fresh output new boots (moves plans fetched has) =
       Fresh-member w i m new h here (moved w.primary.durable i m _ fetched (h.members_are i m here) has refl)
+  change_fresh output new boots breaks =
+      Fresh-member w i m new h here (alike w.primary.durable i m m.known m.protocol.waiting true (h.members_are i m here))
   change_fresh output new boots (restarts boot is never) =
       Fresh-restarted w i boot m h here (never-had m.boots boot never) (subst HasBoot is boots)
-  change_fresh output new boots other =
-      Fresh-member w i m new h here (alike w.primary.durable i m new (h.members_are i m here) refl refl refl refl refl refl)
 
   change_rows : (output : Output) (new : Member) → Change w event i m output new → SaysRows w.primary.durable w event output
-  change_rows output new (stays answer is) = no-rows w.primary.durable w event answer is.0
-  change_rows output new (reports plans asked_at fetched is has) =
-      let serves = serving plans asked_at fetched has in
-      let batch : AskedBatch = record { plans = plans; asked_at = asked_at; fetched = Some fetched } in
-      (i, m, batch, is, here, has, (fetched, refl, serves.1, serves.2, refl))
+  change_rows output new (hears answer known is) = no-rows w.primary.durable w event answer is.0
+  change_rows output new (reports plans fetched is has) =
+      let serves = serving plans fetched has in
+      (i, m, _, is, here, has, (fetched, refl, serves.1, serves.2, refl))
   change_rows output new other = tt
 
 -- ---- the moves
@@ -142,11 +135,11 @@ move-fresh laws w event output new boots h starts = Fresh-started w h
 move-fresh laws w event output new boots h (sends answer more is sent) = Fresh-sent w more h (sent-fresh laws w more h sent)
 move-fresh laws w event output new boots h (asks i m here none) =
     let next = new_batch w m in
-    Fresh-sent (with_member w next) (ask_bytes m (m.request + 1) ∷ [])
+    Fresh-sent (with_member w next) (ask_bytes m (m.protocol.request + 1) ∷ [])
     (Fresh-member w i m next h here (new-follows w m (h.members_are i m here).below)) (
-      ask-fresh laws w (slice_set w.members m.number next) i m (m.request + 1) h here (λ other there.
-          let same = get-set_same w.members m.number next other there in
-          let asked = ap (λ (x : Member). x.request) same in
+      ask-fresh laws w (slice_set w.members m.protocol.number next) i m (m.protocol.request + 1) h here (λ other there.
+          let same = get-set_same w.members m.protocol.number next other there in
+          let asked = ap (λ (x : Member). x.protocol.request) same in
           (ap (λ (x : Member). x.boots) same, omega arith)),
       tt,
     )

@@ -12,7 +12,7 @@ use Rattle.wire.specs.declared.faults.WireFault.{WireFault}
 use Rattle.wire.specs.Reading.{reading}
 use Rattle.mvcc.specs.Transaction.{Transaction}
 use Rattle.dispatcher.specs.Feeding.{IsFedFrom, Tells}
-use Rattle.dispatcher.specs.State.{Replica}
+use Rattle.dispatcher.specs.State.{Replica, Protocol, with_protocol}
 use Rattle.dispatcher.specs.TableText.{names_of}
 use Rattle.script.specs.declared.output.Output.{Output}
 use Rattle.world.specs.Parts.{Parts}
@@ -82,6 +82,15 @@ Follows-same shape p i r output sound at =
 
 pub Moves-same : (r : Replica) → Moves r r
 Moves-same r = record {
+  names_stay = refl;
+  workers_stay = refl;
+  number_stays = refl;
+  boot_stays = refl;
+}
+
+-- a step of its protocol
+pub protocol-moves : (r : Replica) (q : Protocol) → Moves r (with_protocol r q)
+protocol-moves r q = record {
   names_stay = refl;
   workers_stay = refl;
   number_stays = refl;

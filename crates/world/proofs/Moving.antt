@@ -21,16 +21,16 @@ use Rattle.dispatcher.specs.declared.faults.OpenFault.TheVariants as opens
 use Rattle.plans.specs.declared.plan.Plan.{Plan}
 use Rattle.dispatcher.specs.declared.outcome.Run.{Run}
 use Rattle.dispatcher.specs.declared.outcome.Run.TheVariants as runs
-use Rattle.dispatcher.specs.State.{Replica, Batch as ReplicaBatch, Fetched}
-use Rattle.dispatcher.specs.Steps.{opened, asked, MayRun, RunsAs, RunsWhole, RunsBatch, RunsFetched}
-use Rattle.intake.specs.Steps.{lacking}
+use Rattle.dispatcher.specs.State.{Replica}
+use Rattle.dispatcher.specs.Protocol.{Readiness, Broken, NoBatch, WaitsForHead, WaitsForFrame, Ready}
+use Rattle.dispatcher.specs.Steps.{opened, asked, readiness_of, MayRun, RunsAs}
 use Rattle.script.specs.declared.event.Event.{Event}
 use Rattle.script.specs.declared.event.Event.TheVariants as events
 use Rattle.script.specs.declared.output.Output.{Output}
 use Rattle.script.specs.declared.output.Output.TheVariants as outputs
-use Rattle.world.specs.Outputs.{of_change, of_commit, of_look}
+use Rattle.world.specs.Outputs.{of_change, of_commit, of_look, of_open, of_ask}
 use Rattle.world.specs.Allowed.{takes_memory, asks_for_memory}
-use Rattle.world.specs.Inner.Naming.{of_changed, of_open, of_ask}
+use Rattle.world.specs.Inner.Naming.{of_changed}
 use Rattle.world.specs.Parts.{Parts}
 use Rattle.world.specs.Standing.{world_of}
 use Rattle.world.specs.Steps.{World, unless_stopped, open_transaction, happens, on_transaction, change_happens, commit_happens}
@@ -346,28 +346,18 @@ is_waiting other = false
 
 -- a replica that waits for a frame is as it was
 waits_same : (old new : Replica) (worker seq : ℕ) (want : Out) → MayRun old (runs.Waiting worker seq want) new → new ≡ old
-waits_same old new worker seq want (inl run) = by old.broken run
+waits_same old new worker seq want (inl run) = by (readiness_of old) run
   where
     answer : Run
     answer = runs.Waiting worker seq want
 
-    fetching : (plans : List Plan) (fetched : Fetched) (lacked : Option (ℕ × ℕ)) → RunsFetched old plans fetched lacked answer new
-        → new ≡ old
-    fetching plans fetched (Some lacked) told = told.1
-    fetching plans fetched None (inl ends) = absurd (true≢false (ap is_waiting ends.2))
-    fetching plans fetched None (inr ends) = absurd (true≢false (ap is_waiting ends.1))
-
-    on : (plans : List Plan) (fetched : Option Fetched) → RunsBatch old plans fetched answer new → new ≡ old
-    on plans None told = absurd (true≢false (ap is_waiting told.0))
-    on plans (Some fetched) told = fetching plans fetched (lacking old.arrivals fetched.counts) told
-
-    whole : (batch : Option ReplicaBatch) → RunsWhole old batch answer new → new ≡ old
-    whole None told = absurd (true≢false (ap is_waiting told.0))
-    whole (Some batch) told = on batch.plans batch.fetched told
-
-    by : (broken : Bool) → RunsAs broken old answer new → new ≡ old
-    by true told = absurd (true≢false (ap is_waiting told.0))
-    by false told = whole old.batch told
+    by : (found : Readiness) → RunsAs found old answer new → new ≡ old
+    by (WaitsForFrame other from) told = told.1
+    by (Ready plans fetched) (inl ends) = absurd (true≢false (ap is_waiting ends.2))
+    by (Ready plans fetched) (inr ends) = absurd (true≢false (ap is_waiting ends.1))
+    by Broken told = told.1
+    by NoBatch told = told.1
+    by WaitsForHead told = told.1
 waits_same old new worker seq want (inr lacks) = elim lacks.2 [
   | inl memory ↦ absurd (true≢false (ap is_waiting memory.0))
   | inr broken ↦ absurd (true≢false (ap is_waiting broken.0))

@@ -54,7 +54,7 @@ rows-stay more old event (outputs.Report text) h =
       ),
     )
 rows-stay more old event (outputs.Dump text) h =
-    let version = h.1.version in
+    let version = h.1.protocol.version in
     let same = tables-stay (shape_of old.primary.schema) old.primary.durable more version h.4.1 in (
       h.0,
       h.1,

@@ -9,12 +9,12 @@ use Rattle.script.specs.declared.event.Event.{Event}
 use Rattle.script.specs.declared.output.Output.{Output}
 use Rattle.script.specs.declared.setup.Setup.{Setup}
 use Rattle.world.specs.Parts.{Parts}
-use Rattle.world.specs.Steps.{World, Member, fresh_from, opening_world, with_member, new_batch, ask_bytes}
+use Rattle.world.specs.Steps.{World, Member, fresh_from, opening_world, with_member}
 use Rattle.world.specs.Allowed.{MayHappen}
 use Rattle.world.specs.Standing.{world_of, members_of}
 use Rattle.world.specs.Inner.Invariant.{IsReady, IsRequested, PartsAreKept}
 use Rattle.world.proofs.Slots.{all_at, all_set, all_weaker}
-use Rattle.world.proofs.WorldMoves.{Change, Move, restarts, sends, asks, becomes}
+use Rattle.world.proofs.WorldMoves.{ask_bytes, new_batch, Change, Move, restarts, sends, asks, becomes}
 use Rattle.world.proofs.WorldMoves.{step-moves}
 
 pub record Counts (old : World) (answer : Output × World) : Type 0 where
@@ -34,7 +34,7 @@ module _ (w : World) where
     schema = setup.0;
     workers = setup.1;
     members = ap length members;
-    requested = λ requested. subst (AllByRecursion (λ (m : Member). m.request ≤ length new.sent)) (sym members)
+    requested = λ requested. subst (AllByRecursion (λ (m : Member). m.protocol.request ≤ length new.sent)) (sym members)
         (all_weaker _ _ w.members (λ m within. omega (arith, length-append w.sent more, ap length sent)) requested);
   }
 
@@ -46,20 +46,20 @@ module _ (w : World) where
 
   -- one replica changes, and makes no more requests than datagrams are sent
   counts_member : (i : ℕ) (m new : Member) (output : Output) (more : List (List ℕ)) → slice_get w.members i ≡ Some m
-      → new.request ≤ m.request + length more
+      → new.protocol.request ≤ m.protocol.request + length more
       → Counts w (output, record (with_member w new) { sent = w.sent ++ more })
   counts_member i m new output more here within = record {
     schema = refl;
     workers = refl;
-    members = length-set w.members new.number new;
+    members = length-set w.members new.protocol.number new;
     requested = λ requested.
         let before = all_at _ w.members i m here requested in
         let sent = length-append w.sent more in
-        all_set _ w.members new.number new (omega arith)
+        all_set _ w.members new.protocol.number new (omega arith)
         (all_weaker _ _ w.members (λ other below. omega arith) requested);
   }
 
-  counts_stays : (i : ℕ) (m new : Member) (output : Output) → slice_get w.members i ≡ Some m → new.request ≤ m.request
+  counts_stays : (i : ℕ) (m new : Member) (output : Output) → slice_get w.members i ≡ Some m → new.protocol.request ≤ m.protocol.request
       → Counts w (output, with_member w new)
   counts_stays i m new output here same =
       subst (λ (sent : List (List ℕ)). Counts w (output, record (with_member w new) { sent = sent })) (append-nil w.sent)
@@ -67,14 +67,14 @@ module _ (w : World) where
 
 -- a replica that does not ask makes no request
 change-requests : (w : World) (event : Event) (i : ℕ) (m : Member) (output : Output) (new : Member) → Change w event i m output new
-    → new.request ≤ m.request
+    → new.protocol.request ≤ m.protocol.request
 change-requests w event i m output new (restarts boot is never) = omega arith
 change-requests w event i m output new other = omega arith
 
 pub move-counts : (w : World) (event : Event) (output : Output) (new : World) → Move w event output new → Counts w (output, new)
 move-counts w event output new (sends answer more plain sent) = counts_sent w new answer more (refl, refl) refl refl
 move-counts w event output new (asks i m here none) =
-    counts_member w i m (new_batch w m) _ (ask_bytes m (m.request + 1) ∷ []) here (omega arith)
+    counts_member w i m (new_batch w m) _ (ask_bytes m (m.protocol.request + 1) ∷ []) here (omega arith)
 move-counts w event output new (becomes i m after answer here change) =
     counts_stays w i m after answer here (change-requests w event i m answer after change)
 move-counts w event output new other = counts_same w new output (refl, refl) refl refl
@@ -84,7 +84,7 @@ step-counts w event output new may = move-counts w event output new (step-moves 
 
 -- ---- the beginning
 
-none_asked : (workers number count : ℕ) → AllByRecursion (λ (m : Member). m.request ≤ 0) (fresh_from workers number count)
+none_asked : (workers number count : ℕ) → AllByRecursion (λ (m : Member). m.protocol.request ≤ 0) (fresh_from workers number count)
 none_asked workers number zero = tt
 none_asked workers number (suc count) = (omega arith, none_asked workers (suc number) count)
 
@@ -103,7 +103,7 @@ pub as-many : (p : Parts) → length (world_of p).members ≡ length p.replicas
 as-many p = members-length p.replicas p.boots p.asked_at
 
 requests-made : (replicas : List Replica) (boots : List (List ℕ)) (asked_at : List ℕ) (count : ℕ)
-    → AllByRecursion (λ (m : Member). m.request ≤ count) (members_of replicas boots asked_at)
+    → AllByRecursion (λ (m : Member). m.protocol.request ≤ count) (members_of replicas boots asked_at)
     → AllByRecursion (λ (r : Replica). r.request ≤ count) replicas
 requests-made [] boots asked_at count all = tt
 requests-made (r ∷ replicas) boots asked_at count all =

@@ -17,6 +17,7 @@ use Rattle.wire.specs.declared.datagram.Datagram.TheVariants as datagrams
 use Rattle.wire.specs.declared.faults.WireFault.{WireFault}
 use Rattle.wire.specs.Reading.{reading}
 use Rattle.dispatcher.specs.State.{Replica}
+use Rattle.dispatcher.specs.Protocol.{started_protocol}
 use Rattle.dispatcher.specs.TableText.{names_of}
 use Rattle.dispatcher.specs.Steps.{started_replica as replica_started}
 use Rattle.script.specs.declared.event.Event.TheVariants.{Restart}
@@ -62,11 +63,11 @@ never-had boots boot none had =
 -- ---- the world
 
 -- a replica that has started again, as the world has it
-restarted-member : (schema : List (List ℕ × List Kind)) (workers i boot at was : ℕ) (had : List ℕ) (old : Replica) → old.number ≡ i
-    → member_of (had ++ boot ∷ []) at (replica_started schema workers i boot) ≡ restarted workers (member_of had was old) boot
-restarted-member schema workers i boot at was had old is =
-    let m = restarted workers (member_of had was old) boot in
-    ap (λ (x : ℕ × List (List ℕ)). record m { number = x.0; known = x.1 }) (cc (is, known-started workers))
+restarted-member : (schema : List (List ℕ × List Kind)) (workers i boot at : ℕ) (had : List ℕ) (old : Replica) → old.number ≡ i
+    → member_of (had ++ boot ∷ []) at (replica_started schema workers i boot) ≡ restarted workers (member_of had at old) boot
+restarted-member schema workers i boot at had old is =
+    let m = restarted workers (member_of had at old) boot in
+    ap (λ (x : ℕ × List (List ℕ)). record m { known = x.1; protocol = started_protocol x.0 boot }) (cc (sym is, known-started workers))
 
 -- the world with the member as it is then
 pub world-restarts : (p : Parts) (i boot : ℕ) (old : Replica) → length p.boots ≡ length p.replicas → old.number ≡ i
@@ -80,7 +81,7 @@ world-restarts p i boot old there is =
     let new = restarted workers (member_at p i old) boot in
     let made = λ (members : List Member). record w { members = members } in
     ap made (members-booted p.replicas p.boots p.asked_at i (replica_started schema workers i boot) (had ++ boot ∷ []) there)
-    ∙ ap (λ (m : Member). made (slice_set w.members i m)) (restarted-member schema workers i boot at at had old is)
+    ∙ ap (λ (m : Member). made (slice_set w.members i m)) (restarted-member schema workers i boot at had old is)
     ∙ ap (λ (n : ℕ). made (slice_set w.members n new)) (sym is)
 
 -- ---- sound parts
@@ -171,8 +172,8 @@ reading-restarts durable members i workers new old at never (Ok (datagrams.Frame
 reading-restarts durable members i workers new old at never (Ok (datagrams.Ask replica boot request)) h = (
   h.0,
   λ m there. elim (get-set members i (restarted workers old new) replica m there) [
-    | inl same ↦ subst (λ (other : Member). IsOfBoot other.boots other.boot boot (request ≤ other.request)) (sym same.1)
-        (of-new-boot old.boots (old.boots ++ new ∷ []) old.boot new boot (request ≤ old.request) (request ≤ 0)
+    | inl same ↦ subst (λ (other : Member). IsOfBoot other.boots other.protocol.boot boot (request ≤ other.protocol.request)) (sym same.1)
+        (of-new-boot old.boots (old.boots ++ new ∷ []) old.protocol.boot new boot (request ≤ old.protocol.request) (request ≤ 0)
         (Contains-append_left old.boots (new ∷ []) boot) never (h.1 old (ap (slice_get members) same.0 ∙ at)))
     | inr stays ↦ h.1 m stays
   ],
@@ -180,8 +181,8 @@ reading-restarts durable members i workers new old at never (Ok (datagrams.Ask r
 reading-restarts durable members i workers new old at never (Ok (datagrams.Head replica boot request version counts)) h = (
   h.0,
   λ m there. elim (get-set members i (restarted workers old new) replica m there) [
-    | inl same ↦ subst (λ (other : Member). IsOfBoot other.boots other.boot boot (IsFreshHead other request version)) (sym same.1)
-        (of-new-boot old.boots (old.boots ++ new ∷ []) old.boot new boot (IsFreshHead old request version)
+    | inl same ↦ subst (λ (other : Member). IsOfBoot other.boots other.protocol.boot boot (IsFreshHead other request version)) (sym same.1)
+        (of-new-boot old.boots (old.boots ++ new ∷ []) old.protocol.boot new boot (IsFreshHead old request version)
         (IsFreshHead (restarted workers old new) request version) (Contains-append_left old.boots (new ∷ []) boot) never
         (h.1 old (ap (slice_get members) same.0 ∙ at)))
     | inr stays ↦ h.1 m stays

@@ -31,7 +31,7 @@ use Rattle.world.proofs.Durable.{tables-stay}
 use Rattle.world.proofs.Lists.{get-set, get-append, get-one}
 use Rattle.world.proofs.Defined.{IsDefined, insert-defined, set-defined, delete-defined}
 use Rattle.world.proofs.Committing.{opened, none-open}
-use Rattle.world.proofs.WorldMoves.{IsChanged, Change, stays, Move, idle, fails, begins, changes, ends, refuses, commits, flushes, stops}
+use Rattle.world.proofs.WorldMoves.{IsChanged, Change, hears, Move, idle, fails, begins, changes, ends, refuses, commits, flushes, stops}
 use Rattle.world.proofs.WorldMoves.{sends, becomes, step-moves}
 
 -- what a step is to be
@@ -167,7 +167,7 @@ flushed-begun p count draft begun =
 
 change-faultless : (w : World) (event : Event) (i : ℕ) (m : Member) (output : Output) (new : Member) → Change w event i m output new
     → IsFaultless output
-change-faultless w event i m output new (stays answer is) = is.1
+change-faultless w event i m output new (hears answer known is) = is.1
 change-faultless w event i m output new other = tt
 
 -- a move that leaves what is durable

@@ -25,6 +25,7 @@ use Rattle.dispatcher.specs.declared.outcome.Run.{Run}
 use Rattle.dispatcher.specs.declared.outcome.Run.TheVariants as runs
 use Rattle.plans.specs.declared.plan.Plan.{Plan}
 use Rattle.dispatcher.specs.State.{Replica}
+use Rattle.dispatcher.specs.Protocol.{fetched_in}
 use Rattle.dispatcher.specs.Steps.{started_replica, opened, asked, dumped, RunsReplica, RunsOutOfMemory, MayRun}
 use Rattle.dispatcher.specs.TableText.{names_of, table_text}
 use Rattle.dispatcher.specs.Feeding.{IsFedFrom}
@@ -41,8 +42,8 @@ use Rattle.world.specs.Inner.CoreSteps.{opening_query}
 use Rattle.world.specs.Inner.CoreSteps.{ask_by, asking, run_output, raw_by, version_by, dump_by, of_dumped, restart_by}
 use Rattle.world.specs.Inner.CoreSteps.{with_restarted}
 use Rattle.world.specs.Theorem.{IsStep}
-use Rattle.world.specs.Steps.{World, Member, open_transaction, happens, unless_stopped, on_member, deliver_happens, run_happens}
-use Rattle.world.specs.Steps.{raw_happens, is_forged, delivered, dump_at, restart_happens, had_boot}
+use Rattle.world.specs.Steps.{World, Member, open_transaction, happens, unless_stopped, on_member, deliver_happens, readiness_at}
+use Rattle.world.specs.Steps.{run_happens, raw_happens, is_forged, delivered, dump_at, restart_happens, had_boot}
 use Rattle.world.specs.Allowed.{MayHappen, RunIsInterruptedAt}
 use Rattle.world.specs.Inner.Sound.{Sound, PrimaryListsAreLegal, IsFed}
 use Rattle.world.specs.Standing.{boots_at, world_of, members_of, AreFed, JournalStands, JournalStandsAs, StopLeaves}
@@ -61,7 +62,7 @@ use Rattle.world.proofs.Requested.{step-counts, opening-requested, as-many}
 use Rattle.world.proofs.Replicas.{bytes-come}
 use Rattle.world.proofs.Querying.{query-opens, version-asked}
 use Rattle.world.proofs.Moving.{TakesMemory, AsksByAnswer}
-use Rattle.world.proofs.Running.{replica-runs, ready-same, ready-takes, cut-ends, Cuts}
+use Rattle.world.proofs.Running.{replica-runs, readiness-same, ready-takes, cut-ends, Cuts}
 use Rattle.world.proofs.Committing.{transactions-begun, change-sound, look-sound, abort-sound, commit-sound, flush-sound, stop-sound}
 use Rattle.world.proofs.Committing.{start-sound}
 use Rattle.world.proofs.Committing.{push-sound, deliver-sound, raw-sound}
@@ -111,7 +112,7 @@ restart-made laws shape p i boot (Some r) sound here below =
 
 version-told : (shape : Shape) (p : Parts) (i : ℕ) (found : Option Replica) → Sound shape p
     → Follows shape
-    (on_member (world_of p) (option_map (member_at p i) found) (λ m. (outputs.Version m.version, world_of p)))
+    (on_member (world_of p) (option_map (member_at p i) found) (λ m. (outputs.Version m.protocol.version, world_of p)))
     (version_by p found)
 version-told shape p i None sound = (refl, sound)
 version-told shape p i (Some r) sound = (refl, sound)
@@ -120,7 +121,8 @@ tables-dumped : (laws : FedLaws) (shape : Shape) (p : Parts) (i : ℕ) (found : 
     → slice_get p.replicas i ≡ found
     → Follows shape
     (on_member (world_of p) (option_map (member_at p i) found)
-    (λ m. cond m.broken (outputs.Broken, world_of p) (outputs.Dump (dump_at (world_of p) m.version), world_of p)))
+    (λ m. cond m.protocol.broken (outputs.Broken, world_of p)
+    (outputs.Dump (dump_at (world_of p) m.protocol.version), world_of p)))
     (dump_by p found)
 tables-dumped laws shape p i None sound here = (refl, sound)
 tables-dumped laws shape p i (Some r) sound here = (by r.broken refl, sound)
@@ -286,7 +288,7 @@ run-told laws shape p i r answer after sound here run =
     found-member shape p i _ _
     (subst (λ (found : Option Replica). Follows shape
     (on_member (world_of p) (option_map (member_at p i) found)
-    (λ m. cond m.broken (outputs.Broken, world_of p) (run_happens (world_of p) m m.batch)))
+    (λ m. run_happens (world_of p) m (readiness_at m)))
     (run_output p i (answer, after))) (sym here) (replica-runs laws shape p i r sound here answer after run))
 
 run-made : (laws : FedLaws) (shape : Shape) (p : Parts) (i : ℕ) (r : Replica) (answer : Run) (after : Replica) → Sound shape p
@@ -306,8 +308,9 @@ run-made laws shape p i r answer after sound here (inr wants) =
     subst (λ (found : Option Member). Cuts w found new.0 (world_of new.1)) (sym at) ends.0 in
     let takes =
     subst (λ (found : Option Member). TakesMemory
-    (on_member w found (λ m. cond m.broken (outputs.Broken, w) (run_happens w m m.batch))).0) (sym at)
-    (ready-takes w (member_at p i r) wants.0 (ready-same (boots_at p.boots i) (slice_index p.asked_at i) r ∙ wants.1)) in (
+    (on_member w found (λ m. run_happens w m (readiness_at m))).0) (sym at)
+    (ready-takes w (member_at p i r) wants.0
+    (ap fetched_in (readiness-same (boots_at p.boots i) (slice_index p.asked_at i) r) ∙ wants.1)) in (
       elim same [ inl memory ↦ inr (inl (memory.0, memory.1, takes)) | inr cut ↦ inr (inr cut) ],
       ends.1,
       leaves-keeps p new.1 (run-leaves p i answer after),

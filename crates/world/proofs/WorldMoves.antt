@@ -2,7 +2,7 @@
 use Rattle.std.proofs.Common.{◌≡◌, ℕ, ◌+◌, Bool, true, false, cond, ◌&&◌, ◌==◌, ◌⊎◌, inl, inr, List, [], ◌∷◌, ◌++◌, length, nat_le}
 use Rattle.std.proofs.Common.{Option, None, Some, Result, Ok, Err, refl, sym, ap, subst, ◌∙◌}
 use Rattle.std.specs.List.{slice_get, slice_set}
-use Rattle.std.specs.Option.{option_map, option_and_then, is_none}
+use Rattle.std.specs.Option.{option_map}
 use Rattle.std.proofs.lemmas.Bool.{and_parts, eqb-true}
 use Rattle.std.proofs.lemmas.Option.{none-some}
 use Rattle.rows.specs.declared.limits.TheConstants.{WAITING_QUERIES_MAX}
@@ -21,7 +21,9 @@ use Rattle.mvcc.specs.declared.faults.TxFault.{TxFault}
 use Rattle.mvcc.specs.declared.faults.TxFault.TheVariants as refusals
 use Rattle.mvcc.specs.Transaction.{Transaction}
 use Rattle.mvcc.specs.Transactions.{insert_answer, set_answer, delete_answer, get_answer}
-use Rattle.intake.specs.Known.{is_known, is_ahead}
+use Rattle.intake.specs.declared.taken.Taken.{Taken}
+use Rattle.intake.specs.declared.taken.Taken.TheVariants as takens
+use Rattle.intake.specs.Steps.{taken, lacking}
 use Rattle.primary.specs.declared.faults.CommitFault.{CommitFault}
 use Rattle.primary.specs.declared.faults.CommitFault.TheVariants as faults
 use Rattle.primary.specs.Steps.{commit_answer, committed, flushed}
@@ -29,8 +31,14 @@ use Rattle.primary.specs.Sending.{answers}
 use Rattle.plans.specs.declared.plan.Plan.{Plan}
 use Rattle.plans.specs.declared.faults.PlanFault.{PlanFault}
 use Rattle.plans.specs.Checking.{checked}
-use Rattle.dispatcher.specs.State.{Fetched}
-use Rattle.dispatcher.specs.Steps.{ready}
+use Rattle.dispatcher.specs.declared.faults.AskFault.{AskFault}
+use Rattle.dispatcher.specs.declared.faults.AskFault.TheVariants as ask_faults
+use Rattle.dispatcher.specs.declared.faults.OpenFault.TheVariants as open_faults
+use Rattle.dispatcher.specs.State.{Batch, Fetched, Protocol}
+use Rattle.dispatcher.specs.Protocol.{opens_checked, ask_for, want_for, with_batch, asks_by, is_own, takes_head}
+use Rattle.dispatcher.specs.Protocol.{Readiness, Broken, NoBatch, WaitsForHead, WaitsForFrame, Ready}
+use Rattle.dispatcher.specs.Protocol.{batch_readiness, readiness_by, fetched_in}
+use Rattle.dispatcher.specs.Steps.{got_of}
 use Rattle.dispatcher.specs.Report.{report_of}
 use Rattle.script.specs.declared.event.Event.{Event}
 use Rattle.script.specs.declared.event.Event.TheVariants as events
@@ -38,17 +46,61 @@ use Rattle.script.specs.declared.event.Node.{Node}
 use Rattle.script.specs.declared.event.Node.TheVariants as nodes
 use Rattle.script.specs.declared.output.Output.{Output}
 use Rattle.script.specs.declared.output.Output.TheVariants as outputs
-use Rattle.world.specs.Outputs.{of_change, of_look, of_commit, of_answers, packets_of}
+use Rattle.world.specs.Outputs.{of_change, of_look, of_commit, of_answers, packets_of, of_got}
 use Rattle.world.specs.Stops.{stopped_at, closed}
-use Rattle.world.specs.Steps.{World, Member, AskedBatch, open_transaction, happens, unless_stopped, on_transaction, change_happens}
-use Rattle.world.specs.Steps.{commit_happens, abort_happens, push_happens, with_member, known_seqs, with_known, head_happens}
-use Rattle.world.specs.Steps.{datagram_happens, on_member, delivered, deliver_happens, is_forged, shown, open_happens, ask_happens}
-use Rattle.world.specs.Steps.{new_batch}
-use Rattle.world.specs.Steps.{run_happens, fetched_happens, answer_happens, first_lacked, want_bytes, dump_at, send, ask_bytes}
-use Rattle.world.specs.Steps.{restarted, had_boot, durable_tables}
+use Rattle.world.specs.Steps.{World, Member, open_transaction, happens, unless_stopped, on_transaction, change_happens, commit_happens}
+use Rattle.world.specs.Steps.{abort_happens, push_happens, with_member, arrived, known_in, head_happens, datagram_happens, on_member}
+use Rattle.world.specs.Steps.{delivered, deliver_happens, is_forged, shown, open_happens, ask_happens, readiness_at, run_happens, dump_at}
+use Rattle.world.specs.Steps.{send, restarted, had_boot, durable_tables}
 use Rattle.world.specs.Theorem.{IsFaultless}
 use Rattle.world.specs.Allowed.{RunIsInterrupted, MayHappen}
 use Rattle.world.proofs.Raw.{unforged}
+
+-- ---- a replica
+
+-- the Ask of a request
+abbrev pub ask_bytes : Member → ℕ → List ℕ
+ask_bytes m request = (ask_for m.protocol.number m.protocol.boot request).packet
+
+-- the replica with a new batch
+abbrev pub new_batch : World → Member → Member
+new_batch w m = record m { asked_at = length w.primary.durable; protocol = with_batch m.protocol }
+
+-- a Head that is for a replica is of its own request
+pub own-parts : (q : Protocol) (replica boot request : ℕ) → is_own q replica boot request ≡ true
+    → ◌≡◌ {A = ℕ × ℕ × ℕ} (replica, boot, request) (q.number, q.boot, q.request)
+own-parts q replica boot request e =
+    let parts = and_parts ((replica == q.number) && (boot == q.boot)) (request == q.request) e in
+    let front = and_parts (replica == q.number) (boot == q.boot) parts.0 in
+    cc (eqb-true replica q.number front.0, eqb-true boot q.boot front.1, eqb-true request q.request parts.1)
+
+-- what is known of what a run finds
+abbrev pub Found : Protocol → Readiness → Type 0
+Found q (Ready plans fetched) = q.batch ≡ Some (record { plans = plans; fetched = Some fetched })
+Found q other = Unit {0}
+
+pub found-is : (m : Member) → Found m.protocol (readiness_at m)
+found-is m = by m.protocol.broken m.protocol.batch refl
+  where
+    missing : List ℕ → Option (ℕ × ℕ)
+    missing = lacking (arrived m.known)
+
+    at : (plans : List Plan) (fetched : Fetched) (first : Option (ℕ × ℕ))
+        → m.protocol.batch ≡ Some (record { plans = plans; fetched = Some fetched })
+        → Found m.protocol (batch_readiness plans (λ counts. first) (Some fetched))
+    at plans fetched None has = has
+    at plans fetched (Some frame) has = tt
+
+    on : (plans : List Plan) (fetched : Option Fetched) → m.protocol.batch ≡ Some (record { plans = plans; fetched = fetched })
+        → Found m.protocol (batch_readiness plans missing fetched)
+    on plans None has = tt
+    on plans (Some fetched) has = at plans fetched (missing fetched.counts) has
+
+    by : (broken : Bool) (batch : Option Batch) → m.protocol.batch ≡ batch
+        → Found m.protocol (cond broken Broken (readiness_by missing batch))
+    by true batch has = tt
+    by false None has = tt
+    by false (Some batch) has = on batch.plans batch.fetched has
 
 -- ---- the moves
 
@@ -84,31 +136,32 @@ IsChanged w draft new =
 pub data AreSent (w : World) : List (List ℕ) → Type 0 where
   framed : (frame : Frame) → AreSent w (frame_spelling frame ∷ [])
   answered : (bytes : List ℕ) → WasSent w (reading bytes) → AreSent w (packets_of (answers w.primary bytes))
-  repeated : (i : ℕ) (m : Member) → slice_get w.members i ≡ Some m → AreSent w (ask_bytes m m.request ∷ [])
-  asked_for : (m : Member) (worker from : ℕ) → AreSent w (want_bytes m worker from ∷ [])
+  repeated : (i : ℕ) (m : Member) → slice_get w.members i ≡ Some m → AreSent w (ask_bytes m m.protocol.request ∷ [])
+  asked_for : (number worker from : ℕ) → AreSent w ((want_for number worker from).packet ∷ [])
 
 -- what becomes of one replica, and what the event answers
 pub data Change (w : World) (event : Event) (i : ℕ) (m : Member) : Output → Member → Type 0 where
-  stays : (output : Output) → IsPlain output → Change w event i m output m
-  opens : (plan : Plan) → Change w event i m (outputs.Opened (length m.waiting + 1)) (record m { waiting = m.waiting ++ plan ∷ [] })
-  keeps : (worker seq : ℕ) → Change w event i m outputs.Stored (record m { known = with_known m.known worker seq })
-  fetches : (plans : List Plan) (asked_at version : ℕ) (counts : List ℕ)
-      → m.batch ≡ Some (record { plans = plans; asked_at = asked_at; fetched = None })
-      → WasSent w (Ok (datagrams.Head m.number m.boot m.request version counts))
+  -- nothing but the frames that it knows
+  hears : (output : Output) (known : List (List ℕ)) → IsPlain output → Change w event i m output (record m { known = known })
+  opens : (plan : Plan) → Change w event i m (outputs.Opened (length m.protocol.waiting + 1))
+      (record m { protocol = record m.protocol { waiting = m.protocol.waiting ++ plan ∷ [] } })
+  fetches : (plans : List Plan) (version : ℕ) (counts : List ℕ)
+      → m.protocol.batch ≡ Some (record { plans = plans; fetched = None })
+      → WasSent w (Ok (datagrams.Head m.protocol.number m.protocol.boot m.protocol.request version counts))
       → Change w event i m (outputs.Head version) (record m {
-        batch =
-            Some (record { plans = plans; asked_at = asked_at; fetched = Some (record { version = version; counts = counts }) });
+        protocol = record m.protocol {
+          batch = Some (record { plans = plans; fetched = Some (record { version = version; counts = counts }) });
+        };
       })
-  reports : (plans : List Plan) (asked_at : ℕ) (fetched : Fetched) → event ≡ events.Run i
-      → m.batch ≡ Some (record { plans = plans; asked_at = asked_at; fetched = Some fetched })
+  reports : (plans : List Plan) (fetched : Fetched) → event ≡ events.Run i
+      → m.protocol.batch ≡ Some (record { plans = plans; fetched = Some fetched })
       → Change w event i m (outputs.Report (report_of (durable_tables w fetched.version) fetched.version plans))
-      (record m { version = fetched.version; batch = None })
+      (record m { protocol = record m.protocol { version = fetched.version; batch = None } })
   -- out of memory behind its commits
-  moves : (plans : List Plan) (asked_at : ℕ) (fetched : Fetched)
-      → m.batch ≡ Some (record { plans = plans; asked_at = asked_at; fetched = Some fetched })
-      → Change w event i m outputs.Memory (record m { version = fetched.version })
+  moves : (plans : List Plan) (fetched : Fetched) → m.protocol.batch ≡ Some (record { plans = plans; fetched = Some fetched })
+      → Change w event i m outputs.Memory (record m { protocol = record m.protocol { version = fetched.version } })
   -- or amid them
-  breaks : Change w event i m outputs.Broken (record m { broken = true })
+  breaks : Change w event i m outputs.Broken (record m { protocol = record m.protocol { broken = true } })
   restarts : (boot : ℕ) → event ≡ events.Restart i boot → had_boot m.boots boot ≡ false
       → Change w event i m (outputs.Boot boot) (restarted w.primary.workers m boot)
 
@@ -117,9 +170,9 @@ pub data Move (w : World) (event : Event) : Output → World → Type 0 where
   -- nothing happens
   idle : (output : Output) → IsPlain output → Move w event output w
   fails : w.primary.failed ≡ true → Move w event outputs.Failed w
-  tells : (i : ℕ) (m : Member) → slice_get w.members i ≡ Some m → Move w event (outputs.Version m.version) w
+  tells : (i : ℕ) (m : Member) → slice_get w.members i ≡ Some m → Move w event (outputs.Version m.protocol.version) w
   dumps : (i : ℕ) (m : Member) → event ≡ events.Dump i → slice_get w.members i ≡ Some m
-      → Move w event (outputs.Dump (dump_at w m.version)) w
+      → Move w event (outputs.Dump (dump_at w m.protocol.version)) w
   -- a transaction's slot
   begins : Move w event (outputs.Tx (length w.transactions) (length w.primary.durable))
       (record w { transactions = w.transactions ++ Some (record { snapshot = length w.primary.durable; entries = [] }) ∷ [] })
@@ -142,9 +195,9 @@ pub data Move (w : World) (event : Event) : Output → World → Type 0 where
   -- datagrams, and one replica
   sends : (output : Output) (more : List (List ℕ)) → IsPlain output → AreSent w more
       → Move w event output (record w { sent = w.sent ++ more })
-  asks : (i : ℕ) (m : Member) → slice_get w.members i ≡ Some m → m.batch ≡ None
-      → Move w event (send (with_member w (new_batch w m)) (ask_bytes m (m.request + 1))).0
-      (send (with_member w (new_batch w m)) (ask_bytes m (m.request + 1))).1
+  asks : (i : ℕ) (m : Member) → slice_get w.members i ≡ Some m → m.protocol.batch ≡ None
+      → Move w event (send (with_member w (new_batch w m)) (ask_bytes m (m.protocol.request + 1))).0
+      (send (with_member w (new_batch w m)) (ask_bytes m (m.protocol.request + 1))).1
   becomes : (i : ℕ) (m new : Member) (output : Output) → slice_get w.members i ≡ Some m → Change w event i m output new
       → Move w event output (with_member w new)
 
@@ -173,6 +226,12 @@ answers-plain : (index : ℕ) (outs : List Out) → IsPlain (of_answers index ou
 answers-plain index [] = (tt, tt)
 answers-plain index (out ∷ outs) = (tt, tt)
 
+taken-plain : (taken : Taken) → IsPlain (of_got (got_of taken))
+taken-plain takens.Repeat = (tt, tt)
+taken-plain takens.Ahead = (tt, tt)
+taken-plain takens.Stored = (tt, tt)
+taken-plain takens.Memory = (tt, tt)
+
 -- ---- a datagram that comes to a replica
 
 module _ (w : World) (event : Event) (i : ℕ) (m : Member) where
@@ -180,59 +239,39 @@ module _ (w : World) (event : Event) (i : ℕ) (m : Member) where
   abbrev Changed : Output × Member → Type 0
   Changed answer = Change w event i m answer.0 answer.1
 
-  frame_changes : (worker seq : ℕ) (known ahead : Bool)
-      → Changed (cond known (outputs.Repeat, m)
-      (cond ahead (outputs.Ahead, m) (outputs.Stored, record m { known = with_known m.known worker seq })))
-  frame_changes worker seq true ahead = stays outputs.Repeat (tt, tt)
-  frame_changes worker seq false true = stays outputs.Ahead (tt, tt)
-  frame_changes worker seq false false = keeps worker seq
+  ignored : Changed (outputs.Ignored, m)
+  ignored = hears outputs.Ignored m.known (tt, tt)
 
-  fetched_changes : (version : ℕ) (counts : List ℕ) (plans : List Plan) (asked_at : ℕ) (fetched : Option Fetched)
-      → m.batch ≡ Some (record { plans = plans; asked_at = asked_at; fetched = fetched })
-      → WasSent w (Ok (datagrams.Head m.number m.boot m.request version counts))
-      → Changed (head_happens m version counts (Some (record { plans = plans; asked_at = asked_at; fetched = fetched })))
-  fetched_changes version counts plans asked_at (Some fetched) has sent = stays outputs.Ignored (tt, tt)
-  fetched_changes version counts plans asked_at None has sent = fetches plans asked_at version counts has sent
-
-  head_changes : (version : ℕ) (counts : List ℕ) (batch : Option AskedBatch) → m.batch ≡ batch
-      → WasSent w (Ok (datagrams.Head m.number m.boot m.request version counts)) → Changed (head_happens m version counts batch)
-  head_changes version counts None has sent = stays outputs.Ignored (tt, tt)
-  head_changes version counts (Some batch) has sent = fetched_changes version counts batch.plans batch.asked_at batch.fetched has sent
+  head_changes : (version : ℕ) (counts : List ℕ) (batch : Option Batch) → m.protocol.batch ≡ batch
+      → WasSent w (Ok (datagrams.Head m.protocol.number m.protocol.boot m.protocol.request version counts))
+      → Changed (head_happens m (takes_head m.protocol version counts batch))
+  head_changes version counts None has sent = ignored
+  head_changes version counts (Some batch) has sent = by batch.fetched has
+    where
+      by : (fetched : Option Fetched) → m.protocol.batch ≡ Some (record batch { fetched = fetched })
+          → Changed (head_happens m (takes_head m.protocol version counts (Some (record batch { fetched = fetched }))))
+      by (Some fetched) has = ignored
+      by None has = fetches batch.plans version counts has sent
 
   datagram_changes : (read : Result Datagram WireFault) → WasSent w read → Changed (datagram_happens m read)
-  datagram_changes (Err fault) sent = stays outputs.Ignored (tt, tt)
+  datagram_changes (Err fault) sent = ignored
   datagram_changes (Ok (datagrams.Frame worker seq commit last entries)) sent =
-      frame_changes worker seq (is_known (known_seqs m.known worker) seq) (is_ahead (known_seqs m.known worker) seq)
-  datagram_changes (Ok (datagrams.Ask replica boot request)) sent = stays outputs.Ignored (tt, tt)
-  datagram_changes (Ok (datagrams.Head replica boot request version counts)) sent =
-      by ((replica == m.number) && (boot == m.boot) && (request == m.request)) refl
+      let came =
+      taken (arrived m.known) (record { worker = worker; seq = seq; commit = commit; last = last; entries = entries }) in
+      hears (of_got (got_of came.0)) (known_in came.1) (taken-plain came.0)
+  datagram_changes (Ok (datagrams.Ask replica boot request)) sent = ignored
+  datagram_changes (Ok (datagrams.Head replica boot request version counts)) sent = by (is_own m.protocol replica boot request) refl
     where
-      by : (own : Bool) → ((replica == m.number) && (boot == m.boot) && (request == m.request)) ≡ own
-          → Changed (cond own (head_happens m version counts m.batch) (outputs.Ignored, m))
-      by false e = stays outputs.Ignored (tt, tt)
+      by : (own : Bool) → is_own m.protocol replica boot request ≡ own
+          → Changed (cond own (head_happens m (takes_head m.protocol version counts m.protocol.batch)) (outputs.Ignored, m))
+      by false e = ignored
       by true e =
-          let parts = and_parts ((replica == m.number) && (boot == m.boot)) (request == m.request) e in
-          let front = and_parts (replica == m.number) (boot == m.boot) parts.0 in
-          let number_is : replica ≡ m.number = eqb-true replica m.number front.0 in
-          let boot_is : boot ≡ m.boot = eqb-true boot m.boot front.1 in
-          let request_is : request ≡ m.request = eqb-true request m.request parts.1 in
-          let same : (replica, boot, request) ≡ (m.number, m.boot, m.request) = cc (number_is, boot_is, request_is) in
-          head_changes version counts m.batch refl
-          (subst (λ (x : ℕ × ℕ × ℕ). WasSent w (Ok (datagrams.Head x.0 x.1 x.2 version counts))) same sent)
-  datagram_changes (Ok (datagrams.Want replica worker from)) sent = stays outputs.Ignored (tt, tt)
+          head_changes version counts m.protocol.batch refl
+          (subst (λ (x : ℕ × ℕ × ℕ). WasSent w (Ok (datagrams.Head x.0 x.1 x.2 version counts)))
+          (own-parts m.protocol replica boot request e) sent)
+  datagram_changes (Ok (datagrams.Want replica worker from)) sent = ignored
 
 -- ---- any event
-
--- what a replica is ready for was fetched
-ready-fetched : (broken : Bool) (lacks : List ℕ → Option (ℕ × ℕ)) (found : Option Fetched) (fetched : Fetched)
-    → ready broken lacks found ≡ Some fetched → found ≡ Some fetched
-ready-fetched true lacks found fetched h = absurd (none-some fetched h)
-ready-fetched false lacks None fetched h = absurd (none-some fetched h)
-ready-fetched false lacks (Some other) fetched h = by (is_none (lacks other.counts)) h
-  where
-    by : (b : Bool) → cond b (Some other) None ≡ Some fetched → Some other ≡ Some fetched
-    by true h = h
-    by false h = absurd (none-some fetched h)
 
 module _ (w : World) (event : Event) where
   -- what the event answers and leaves is a move
@@ -308,7 +347,7 @@ module _ (w : World) (event : Event) where
   handing (nodes.Replica i) bytes sent =
       at_member i (slice_get w.members i) _ refl
       (λ m here. let answer = datagram_happens m (reading bytes) in
-      unless_broken m.broken _ (becomes i m answer.1 answer.0 here (datagram_changes w event i m (reading bytes) sent)))
+      unless_broken m.protocol.broken _ (becomes i m answer.1 answer.0 here (datagram_changes w event i m (reading bytes) sent)))
 
   delivering : (index : ℕ) (node : Node) (found : Option (List ℕ)) → slice_get w.sent index ≡ found → Moved (deliver_happens w node found)
   delivering index node None there = idle outputs.NeverSent (tt, tt)
@@ -325,41 +364,39 @@ module _ (w : World) (event : Event) where
   showing None = idle outputs.NeverSent (tt, tt)
   showing (Some bytes) = idle (outputs.Shown bytes) (tt, tt)
 
-  opening : (i : ℕ) (m : Member) (plan : Plan) (full : Bool) (check : Result (Unit {0}) PlanFault) → slice_get w.members i ≡ Some m
-      → Moved (cond full (outputs.BatchFull, w) (open_happens w m plan check))
-  opening i m plan true check here = idle outputs.BatchFull (tt, tt)
-  opening i m plan false (Err fault) here = idle (outputs.BadPlan fault) (tt, tt)
-  opening i m plan false (Ok fits) here = becomes i m (record m { waiting = m.waiting ++ plan ∷ [] }) _ here (opens plan)
+  opening : (i : ℕ) (m : Member) (plan : Plan) (broken full : Bool) (check : Result (Unit {0}) PlanFault) → slice_get w.members i ≡ Some m
+      → Moved (open_happens w m
+      (cond broken (Err open_faults.Broken) (cond full (Err open_faults.BatchFull) (opens_checked m.protocol plan check))))
+  opening i m plan true full check here = idle outputs.Broken (tt, tt)
+  opening i m plan false true check here = idle outputs.BatchFull (tt, tt)
+  opening i m plan false false (Err fault) here = idle (outputs.BadPlan fault) (tt, tt)
+  opening i m plan false false (Ok fits) here = becomes i m _ _ here (opens plan)
 
-  asking : (i : ℕ) (m : Member) (batch : Option AskedBatch) → slice_get w.members i ≡ Some m → m.batch ≡ batch
-      → Moved (ask_happens w m batch)
-  asking i m None here has = by (length m.waiting == 0)
+  asking : (i : ℕ) (m : Member) (broken : Bool) (batch : Option Batch) → slice_get w.members i ≡ Some m → m.protocol.batch ≡ batch
+      → Moved (ask_happens w m (cond broken (Err ask_faults.Broken) (asks_by m.protocol batch)) batch)
+  asking i m true batch here has = idle outputs.Broken (tt, tt)
+  asking i m false None here has = by (length m.protocol.waiting == 0)
     where
-      by : (none : Bool) → Moved (cond none (outputs.Empty, w) (send (with_member w (new_batch w m)) (ask_bytes m (m.request + 1))))
+      by : (none : Bool) → Moved (ask_happens w m (cond {A = Result (Out × Protocol) AskFault} none (Err ask_faults.Empty)
+          (Ok (ask_for m.protocol.number m.protocol.boot (m.protocol.request + 1), with_batch m.protocol))) None)
       by true = idle outputs.Empty (tt, tt)
       by false = asks i m here has
-  asking i m (Some batch) here has = by batch.fetched
+  asking i m false (Some batch) here has = by batch.fetched
     where
-      by : (fetched : Option Fetched) → Moved (ask_happens w m (Some (record batch { fetched = fetched })))
-      by None = sends (send w (ask_bytes m m.request)).0 (ask_bytes m m.request ∷ []) (tt, tt) (repeated i m here)
+      by : (fetched : Option Fetched)
+          → Moved (ask_happens w m (asks_by m.protocol (Some (record batch { fetched = fetched }))) (Some batch))
+      by None = sends (send w (ask_bytes m m.protocol.request)).0 (ask_bytes m m.protocol.request ∷ []) (tt, tt) (repeated i m here)
       by (Some fetched) = idle outputs.Busy (tt, tt)
 
-  running_fetched : (i : ℕ) (m : Member) (plans : List Plan) (asked_at : ℕ) (fetched : Option Fetched) → slice_get w.members i ≡ Some m
-      → event ≡ events.Run i → m.batch ≡ Some (record { plans = plans; asked_at = asked_at; fetched = fetched })
-      → Moved (fetched_happens w m plans fetched)
-  running_fetched i m plans asked_at None here is has = idle outputs.WaitingHead (tt, tt)
-  running_fetched i m plans asked_at (Some fetched) here is has = by (first_lacked m.known fetched.counts)
-    where
-      by : (lacked : Option (ℕ × ℕ)) → Moved (answer_happens w m plans fetched lacked)
-      by None = becomes i m (record m { version = fetched.version; batch = None }) _ here (reports plans asked_at fetched is has)
-      by (Some lacked) =
-          sends (answer_happens w m plans fetched (Some lacked)).0 (want_bytes m lacked.0 lacked.1 ∷ []) (tt, tt)
-          (asked_for m lacked.0 lacked.1)
-
-  running : (i : ℕ) (m : Member) (batch : Option AskedBatch) → slice_get w.members i ≡ Some m → event ≡ events.Run i → m.batch ≡ batch
-      → Moved (run_happens w m batch)
-  running i m None here is has = idle outputs.NoBatch (tt, tt)
-  running i m (Some batch) here is has = running_fetched i m batch.plans batch.asked_at batch.fetched here is has
+  running : (i : ℕ) (m : Member) (found : Readiness) → slice_get w.members i ≡ Some m → event ≡ events.Run i → Found m.protocol found
+      → Moved (run_happens w m found)
+  running i m Broken here is has = idle outputs.Broken (tt, tt)
+  running i m NoBatch here is has = idle outputs.NoBatch (tt, tt)
+  running i m WaitsForHead here is has = idle outputs.WaitingHead (tt, tt)
+  running i m (WaitsForFrame worker seq) here is has =
+      sends (run_happens w m (WaitsForFrame worker seq)).0 ((want_for m.protocol.number worker seq).packet ∷ []) (tt, tt)
+      (asked_for m.protocol.number worker seq)
+  running i m (Ready plans fetched) here is has = becomes i m _ _ here (reports plans fetched is has)
 
   restarting : (i : ℕ) (m : Member) (boot : ℕ) (used : Bool) → slice_get w.members i ≡ Some m → event ≡ events.Restart i boot
       → had_boot m.boots boot ≡ used
@@ -372,10 +409,8 @@ module _ (w : World) (event : Event) where
       → RunIsInterrupted w found output new → Moved (output, new)
   cutting i None output new here cut = absurd cut
   cutting i (Some m) output new here cut = elim cut.2 [
-    | inl memory ↦ is outputs.Memory (record m { version = cut.0.version }) memory.0 memory.1
-        (by m.batch refl
-        (ready-fetched m.broken (first_lacked m.known) (option_and_then (λ (b : AskedBatch). b.fetched) m.batch) cut.0 cut.1))
-    | inr broken ↦ is outputs.Broken (record m { broken = true }) broken.0 broken.1 breaks
+    | inl memory ↦ is outputs.Memory _ memory.0 memory.1 (by (readiness_at m) (found-is m) cut.1)
+    | inr broken ↦ is outputs.Broken _ broken.0 broken.1 breaks
   ]
     where
       is : (answer : Output) (after : Member) → output ≡ answer → new ≡ with_member w after → Change w event i m answer after
@@ -384,11 +419,11 @@ module _ (w : World) (event : Event) where
           subst (λ (x : Output). Move w event x new) (sym told)
           (subst (Move w event answer) (sym left) (becomes i m after answer here change))
 
-      by : (batch : Option AskedBatch) → m.batch ≡ batch → option_and_then (λ (b : AskedBatch). b.fetched) batch ≡ Some cut.0
-          → Change w event i m outputs.Memory (record m { version = cut.0.version })
-      by None has fetched = absurd (none-some cut.0 fetched)
-      by (Some batch) has fetched =
-          moves batch.plans batch.asked_at cut.0 (has ∙ ap (λ (f : Option Fetched). Some (record batch { fetched = f })) fetched)
+      by : (found : Readiness) → Found m.protocol found → fetched_in found ≡ Some cut.0
+          → Change w event i m outputs.Memory (record m { protocol = record m.protocol { version = cut.0.version } })
+      by (Ready plans held) has fetched =
+          moves plans cut.0 (has ∙ ap (λ (f : Option Fetched). Some (record { plans = plans; fetched = f })) fetched)
+      by other has fetched = absurd (none-some cut.0 fetched)
 
 happening : (w : World) (event : Event) → Moved w event (happens w event)
 happening w events.Begin = served w _ _ begins
@@ -419,19 +454,18 @@ happening w (events.Deliver index (nodes.Replica number)) = delivering w _ index
 happening w (events.Show index) = showing w _ (slice_get w.sent index)
 happening w (events.Open replica plan) =
     at_member w _ replica (slice_get w.members replica) _ refl
-    (λ m here. unless_broken w _ m.broken _
-    (opening w _ replica m plan (nat_le WAITING_QUERIES_MAX (length m.waiting)) (checked (shape_in (durable_tables w m.version)) plan)
-    here))
+    (λ m here. opening w _ replica m plan m.protocol.broken (nat_le WAITING_QUERIES_MAX (length m.protocol.waiting))
+    (checked (shape_in (durable_tables w m.protocol.version)) plan) here)
 happening w (events.Ask replica) =
     at_member w _ replica (slice_get w.members replica) _ refl
-    (λ m here. unless_broken w _ m.broken _ (asking w _ replica m m.batch here refl))
+    (λ m here. asking w _ replica m m.protocol.broken m.protocol.batch here refl)
 happening w (events.Run replica) =
     at_member w _ replica (slice_get w.members replica) _ refl
-    (λ m here. unless_broken w _ m.broken _ (running w _ replica m m.batch here refl refl))
+    (λ m here. running w _ replica m (readiness_at m) here refl (found-is m))
 happening w (events.Version replica) = at_member w _ replica (slice_get w.members replica) _ refl (λ m here. tells replica m here)
 happening w (events.Dump replica) =
     at_member w _ replica (slice_get w.members replica) _ refl
-    (λ m here. unless_broken w _ m.broken _ (dumps replica m refl here))
+    (λ m here. unless_broken w _ m.protocol.broken _ (dumps replica m refl here))
 happening w (events.Restart replica boot) =
     at_member w _ replica (slice_get w.members replica) _ refl
     (λ m here. restarting w _ replica m boot (had_boot m.boots boot) here refl refl)

@@ -9,8 +9,8 @@ use Rattle.script.specs.declared.setup.Setup.{Setup}
 use Rattle.script.specs.declared.output.Output.{Output}
 use Rattle.world.specs.Parts.{Parts, replicas_from, zeros, parts_started}
 use Rattle.world.specs.Inner.CoreSteps.{with_replica}
-use Rattle.world.specs.Standing.{member_of, members_of, boots_at, world_of, known_in}
-use Rattle.world.specs.Steps.{World, Member, fresh, fresh_from, opening_world, with_member}
+use Rattle.world.specs.Standing.{member_of, members_of, boots_at, world_of}
+use Rattle.world.specs.Steps.{World, Member, known_in, fresh, fresh_from, opening_world, with_member}
 
 -- what a step of the parts is in the world
 abbrev pub seen : Output × Parts → Output × World

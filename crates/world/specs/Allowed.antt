@@ -1,27 +1,23 @@
 -- Which outputs are allowed for a list of events, out of memory included.
 use Rattle.std.specs.Prelude.{◌≡◌, ◌<◌, List, [], ◌∷◌, length, take, Bool, true, false, ◌&&◌, not, nat_lt, Option, None, Some, slice_get}
 use Rattle.std.specs.Prelude.{◌⊎◌}
-use Rattle.std.specs.Option.{option_and_then}
 use Rattle.dispatcher.specs.State.{Fetched}
-use Rattle.dispatcher.specs.Steps.{ready}
+use Rattle.dispatcher.specs.Protocol.{fetched_in}
 use Rattle.script.specs.declared.event.Event.{Event}
 use Rattle.script.specs.declared.event.Event.TheVariants as events
 use Rattle.script.specs.declared.output.Output.{Output}
 use Rattle.script.specs.declared.output.Output.TheVariants as outputs
-use Rattle.world.specs.Steps.{World, Member, AskedBatch, happens, with_member, first_lacked}
-
--- what was fetched for the batch of a replica of which no frame is missing
-abbrev pub ready_member : Member → Option Fetched
-ready_member m = ready m.broken (first_lacked m.known) (option_and_then (λ (batch : AskedBatch). batch.fetched) m.batch)
+use Rattle.world.specs.Steps.{World, Member, happens, with_member, readiness_at}
 
 -- a run that is out of memory at a replica that has fetched a version and lacks no frame: it stands at the old version or at the
 -- fetched one and may run again; or it is broken, if there was a commit to apply
 abbrev pub RunIsInterrupted : World → Option Member → Output → World → Type 0
 RunIsInterrupted old None output new = ⊥
 RunIsInterrupted old (Some m) output new =
-    (fetched : Fetched) × (ready_member m ≡ Some fetched)
-    × (((output ≡ outputs.Memory) × (new ≡ with_member old (record m { version = fetched.version })))
-    ⊎ ((output ≡ outputs.Broken) × (new ≡ with_member old (record m { broken = true })) × (m.version < fetched.version)))
+    (fetched : Fetched) × (fetched_in (readiness_at m) ≡ Some fetched)
+    × (((output ≡ outputs.Memory) × (new ≡ with_member old (record m { protocol = record m.protocol { version = fetched.version } })))
+    ⊎ ((output ≡ outputs.Broken) × (new ≡ with_member old (record m { protocol = record m.protocol { broken = true } }))
+    × (m.protocol.version < fetched.version)))
 
 abbrev pub RunIsInterruptedAt : World → Event → Output → World → Type 0
 RunIsInterruptedAt old (events.Run replica) output new = RunIsInterrupted old (slice_get old.members replica) output new

@@ -1,41 +1,21 @@
 -- Where the cores stand: the world that the parts make, and that each replica there is fed from the one list of durable
 -- commits.
-use Rattle.std.specs.Prelude.{◌≡◌, ℕ, List, [], ◌∷◌, ◌++◌, length, take, drop, map, Bool, true, false, Some, slice_get}
+use Rattle.std.specs.Prelude.{◌≡◌, ℕ, List, [], ◌∷◌, ◌++◌, length, take, drop, Bool, true, false, Some, slice_get}
 use Rattle.std.specs.Prelude.{slice_index, slice_index_or}
 use Rattle.std.specs.List.{AllByRecursion}
-use Rattle.std.specs.Option.{option_map}
 use Rattle.rows.specs.Shape.{shape_of}
-use Rattle.intake.specs.State.{Arrivals}
 use Rattle.journal.specs.Text.{journal_text, records_from}
 use Rattle.journal.specs.Recovery.{IsRecovered}
-use Rattle.dispatcher.specs.State.{Replica, Batch as ReplicaBatch}
+use Rattle.dispatcher.specs.State.{Replica, protocol_of}
 use Rattle.dispatcher.specs.Feeding.{IsFedFrom}
 use Rattle.script.specs.declared.event.Event.{Event}
 use Rattle.script.specs.declared.event.Event.TheVariants as events
 use Rattle.world.specs.Parts.{Parts}
-use Rattle.world.specs.Steps.{World, Member, AskedBatch}
-
--- a replica's batch, as the world has it
-abbrev pub batch_of : ℕ → ReplicaBatch → AskedBatch
-batch_of asked_at batch = record { plans = batch.plans; asked_at = asked_at; fetched = batch.fetched }
-
--- the seqs that are known, by worker
-abbrev pub known_in : List Arrivals → List (List ℕ)
-known_in arrivals = map (λ (of_worker : Arrivals). of_worker.known) arrivals
+use Rattle.world.specs.Steps.{World, Member, known_in}
 
 -- a replica that had these boots, as the world has it: its tables are left out, and which frames it still keeps
 abbrev pub member_of : List ℕ → ℕ → Replica → Member
-member_of boots asked_at r = record {
-  number = r.number;
-  boots = boots;
-  boot = r.boot;
-  request = r.request;
-  known = known_in r.arrivals;
-  version = r.version;
-  waiting = r.waiting;
-  batch = option_map (batch_of asked_at) r.batch;
-  broken = r.broken;
-}
+member_of boots asked_at r = record { boots = boots; asked_at = asked_at; known = known_in r.arrivals; protocol = protocol_of r }
 
 -- the boots that the replica of this number had; none if there is no such replica
 abbrev pub boots_at : List (List ℕ) → ℕ → List ℕ

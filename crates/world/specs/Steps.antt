@@ -1,32 +1,36 @@
 -- The world: one primary, its open transactions, every datagram that was ever sent, and of each replica what it knows.
 -- No replica's tables are held: what a batch answers is specified by the one list of durable commits.
-use Rattle.std.specs.Prelude.{ℕ, zero, suc, ◌+◌, List, [], ◌∷◌, ◌++◌, length, Bool, true, false, Option, None, Some, Result, Ok, Err}
-use Rattle.std.specs.Prelude.{slice_get, slice_set, slice_index_or, replicate, ◌==◌, ◌&&◌, not, nat_lt, nat_le, if◌then◌else◌}
-use Rattle.std.specs.Prelude.{is_ok}
+use Rattle.std.specs.Prelude.{ℕ, zero, suc, List, [], ◌∷◌, ◌++◌, length, Bool, true, false, Option, None, Some, Result, Ok, Err}
+use Rattle.std.specs.Prelude.{slice_get, slice_set, replicate, map, ◌==◌, ◌&&◌, not, if◌then◌else◌, is_ok}
 use Rattle.std.specs.List.{list_any}
 use Rattle.std.specs.Option.{option_and_then}
 use Rattle.std.specs.Str.{bytes_eq}
-use Rattle.rows.specs.Limits.{waiting_queries_max}
 use Rattle.rows.specs.Shape.{shape_of}
 use Rattle.rows.specs.Commits.{tables_after}
 use Rattle.rows.specs.Tables.{Tables, shape_in}
 use Rattle.wire.specs.declared.datagram.Datagram.{Datagram}
 use Rattle.wire.specs.declared.datagram.Datagram.TheVariants as datagrams
 use Rattle.wire.specs.declared.faults.WireFault.{WireFault}
-use Rattle.wire.specs.Spelling.{spelling}
+use Rattle.wire.specs.declared.out.Out.{Out}
 use Rattle.wire.specs.Reading.{reading}
 use Rattle.mvcc.specs.declared.faults.TxFault.{TxFault}
 use Rattle.mvcc.specs.Transaction.{Transaction}
 use Rattle.mvcc.specs.Transactions.{insert_answer, set_answer, delete_answer, get_answer}
-use Rattle.intake.specs.Known.{is_known, with_seq, first_missing, is_ahead}
+use Rattle.intake.specs.declared.taken.Taken.{Taken}
+use Rattle.intake.specs.State.{Arrivals}
+use Rattle.intake.specs.Steps.{taken, lacking}
 use Rattle.primary.specs.declared.faults.CommitFault.{CommitFault}
 use Rattle.primary.specs.State.{Primary}
 use Rattle.primary.specs.Steps.{started_primary, commit_answer, committed, flushed}
 use Rattle.primary.specs.Sending.{pushed, answers}
-use Rattle.plans.specs.declared.plan.Plan.{Plan}
-use Rattle.plans.specs.declared.faults.PlanFault.{PlanFault}
 use Rattle.plans.specs.Checking.{checked}
-use Rattle.dispatcher.specs.State.{Fetched}
+use Rattle.dispatcher.specs.declared.faults.AskFault.{AskFault}
+use Rattle.dispatcher.specs.declared.faults.OpenFault.{OpenFault}
+use Rattle.dispatcher.specs.declared.outcome.Got.{Got}
+use Rattle.dispatcher.specs.State.{Batch, Protocol}
+use Rattle.dispatcher.specs.Protocol.{started_protocol, opens_query, asks_version, want_for, is_own, takes_head, readiness}
+use Rattle.dispatcher.specs.Protocol.{Readiness, Broken, NoBatch, WaitsForHead, WaitsForFrame, Ready}
+use Rattle.dispatcher.specs.Steps.{got_of}
 use Rattle.dispatcher.specs.Report.{report_of}
 use Rattle.dispatcher.specs.TableText.{names_of, table_text}
 use Rattle.script.specs.declared.event.Event.{Event}
@@ -36,31 +40,19 @@ use Rattle.script.specs.declared.event.Node.TheVariants as nodes
 use Rattle.script.specs.declared.output.Output.{Output}
 use Rattle.script.specs.declared.output.Output.TheVariants as outputs
 use Rattle.script.specs.declared.setup.Setup.{Setup}
-use Rattle.world.specs.Outputs.{of_change, of_look, of_commit, of_answers, packets_of}
+use Rattle.world.specs.Outputs.{of_change, of_look, of_commit, of_answers, packets_of, of_open, of_ask, of_got}
 use Rattle.world.specs.Stops.{stopped_at, closed}
 
--- a batch: its queries, how many commits were durable when it asked, and what was fetched for it
-pub record AskedBatch : Type 0 where
-  pub plans : List Plan
-  pub asked_at : ℕ
-  pub fetched : Option Fetched
-
--- a replica as the world has it: its boots, the frames that it knows, its version, queries and batch, and no tables
+-- a replica as the world has it, without tables
 pub record Member : Type 0 where
-  pub number : ℕ
-  -- the boots that it had, in the order of its starts
+  -- the boots that it had, in the order of its starts; it is in the newest of those
   pub boots : List ℕ
-  -- the boot that it is in: the newest of those
-  pub boot : ℕ
-  -- how many requests it has made in that
-  pub request : ℕ
+  -- how many commits were durable when its newest batch asked
+  pub asked_at : ℕ
   -- by worker, the seqs of its known frames, each once, in rising order
   pub known : List (List ℕ)
-  pub version : ℕ
-  -- the queries that wait for the next batch
-  pub waiting : List Plan
-  pub batch : Option AskedBatch
-  pub broken : Bool
+  -- the rest of it
+  pub protocol : Protocol
 
 -- the world: the primary, whether it is stopped, the transactions, all datagrams that were ever sent, and the replicas
 pub record World : Type 0 where
@@ -76,17 +68,8 @@ pub record World : Type 0 where
 
 -- a replica of so many workers, fresh from its start with boot 1
 abbrev pub fresh : ℕ → ℕ → Member
-fresh workers number = record {
-  number = number;
-  boots = 1 ∷ [];
-  boot = 1;
-  request = 0;
-  known = replicate workers [];
-  version = 0;
-  waiting = [];
-  batch = None;
-  broken = false;
-}
+fresh workers number =
+    record { boots = 1 ∷ []; asked_at = 0; known = replicate workers []; protocol = started_protocol number 1 }
 
 -- whether a boot is one of these
 abbrev pub had_boot : List ℕ → ℕ → Bool
@@ -94,7 +77,11 @@ had_boot boots boot = list_any (λ had. had == boot) boots
 
 -- a replica that starts again in this boot: all that it knew is gone, and its queries and its batch with that
 abbrev pub restarted : ℕ → Member → ℕ → Member
-restarted workers m boot = record (fresh workers m.number) { boots = m.boots ++ boot ∷ []; boot = boot }
+restarted workers m boot = record m {
+  boots = m.boots ++ boot ∷ [];
+  known = replicate workers [];
+  protocol = started_protocol m.protocol.number boot;
+}
 
 -- so many fresh replicas, the first with this number
 abbrev pub fresh_from : ℕ → ℕ → ℕ → List Member
@@ -179,39 +166,33 @@ push_happens w (Some bytes) = send w bytes
 
 -- the world with a replica changed
 abbrev pub with_member : World → Member → World
-with_member w member = record w { members = slice_set w.members member.number member }
+with_member w m = record w { members = slice_set w.members m.protocol.number m }
 
--- the known seqs of a worker; none if there is no worker of that number
-abbrev pub known_seqs : List (List ℕ) → ℕ → List ℕ
-known_seqs known worker = slice_index_or known worker []
+-- what has come where these seqs are known, by worker, and no frame is kept
+abbrev pub arrived : List (List ℕ) → List Arrivals
+arrived known = map (λ seqs. record { known = seqs; kept = [] }) known
 
--- the known seqs with one more of a worker
-abbrev pub with_known : List (List ℕ) → ℕ → ℕ → List (List ℕ)
-with_known known worker seq = slice_set known worker (with_seq (known_seqs known worker) seq)
+-- the seqs that are known, by worker
+abbrev pub known_in : List Arrivals → List (List ℕ)
+known_in arrivals = map (λ (of_worker : Arrivals). of_worker.known) arrivals
 
--- a frame that comes to a replica. All that was sent is of the durable list, so its worker is there and its entries fit
-abbrev pub frame_happens : Member → ℕ → ℕ → Output × Member
-frame_happens m worker seq =
-    if is_known (known_seqs m.known worker) seq then (outputs.Repeat, m) else
-    if is_ahead (known_seqs m.known worker) seq then (outputs.Ahead, m) else
-    (outputs.Stored, record m { known = with_known m.known worker seq })
+-- what the intake makes of a frame that comes to a replica, and the replica after it. All that was sent is of the durable list, so
+-- its worker is there and its entries fit
+abbrev pub frame_happens : Member → Taken × List Arrivals → Output × Member
+frame_happens m came = (of_got (got_of came.0), record m { known = known_in came.1 })
 
--- a Head of a replica's own number, boot and request: it is taken if the batch has none
-abbrev pub head_happens : Member → ℕ → List ℕ → Option AskedBatch → Output × Member
-head_happens m version counts None = (outputs.Ignored, m)
-head_happens m version counts (Some batch) = unless_fetched batch.fetched
-  where
-    unless_fetched : Option Fetched → Output × Member
-    unless_fetched (Some fetched) = (outputs.Ignored, m)
-    unless_fetched None =
-        (outputs.Head version, record m { batch = Some (record batch { fetched = Some (record { version = version; counts = counts }) }) })
+-- what the protocol makes of a Head that comes to a replica. It counts the frames at a durable version that is no older than the
+-- replica's
+abbrev pub head_happens : Member → Got × Protocol → Output × Member
+head_happens m came = (of_got came.0, record m { protocol = came.1 })
 
 -- a datagram that comes to a replica
 abbrev pub datagram_happens : Member → Result Datagram WireFault → Output × Member
-datagram_happens m (Ok (datagrams.Frame worker seq commit last entries)) = frame_happens m worker seq
+datagram_happens m (Ok (datagrams.Frame worker seq commit last entries)) =
+    frame_happens m (taken (arrived m.known) (record { worker = worker; seq = seq; commit = commit; last = last; entries = entries }))
 datagram_happens m (Ok (datagrams.Head replica boot request version counts)) =
-    if (replica == m.number) && (boot == m.boot)
-    && (request == m.request) then head_happens m version counts m.batch else (outputs.Ignored, m)
+    if is_own m.protocol replica boot request then head_happens m (takes_head m.protocol version counts m.protocol.batch) else
+    (outputs.Ignored, m)
 datagram_happens m other = (outputs.Ignored, m)
 
 -- what happens at a replica that is there
@@ -229,7 +210,7 @@ delivered w bytes nodes.Primary =
     (of_answers (length w.sent) (answers w.primary bytes), record w { sent = w.sent ++ packets_of (answers w.primary bytes) })
 delivered w bytes (nodes.Replica number) =
     on_member w (slice_get w.members number)
-    (λ m. if m.broken then (outputs.Broken, w) else member_output w (datagram_happens m (reading bytes)))
+    (λ m. if m.protocol.broken then (outputs.Broken, w) else member_output w (datagram_happens m (reading bytes)))
 
 -- a datagram of the list of all that was sent arrives at a node
 abbrev pub deliver_happens : World → Node → Option (List ℕ) → Output × World
@@ -255,72 +236,38 @@ shown (Some bytes) = outputs.Shown bytes
 abbrev pub durable_tables : World → ℕ → Tables
 durable_tables w version = tables_after (shape_of w.primary.schema) w.primary.durable version
 
--- a query is opened, if its plan fits
-abbrev pub open_happens : World → Member → Plan → Result (Unit {0}) PlanFault → Output × World
-open_happens w m plan (Err fault) = (outputs.BadPlan fault, w)
-open_happens w m plan (Ok fits) = (outputs.Opened (length m.waiting + 1), with_member w (record m { waiting = m.waiting ++ plan ∷ [] }))
+-- opening a query, by what the protocol makes of it
+abbrev pub open_happens : World → Member → Result (ℕ × Protocol) OpenFault → Output × World
+open_happens w m (Ok opened) = (outputs.Opened opened.0, with_member w (record m { protocol = opened.1 }))
+open_happens w m (Err fault) = (of_open fault, w)
 
--- the Ask of a request
-abbrev pub ask_bytes : Member → ℕ → List ℕ
-ask_bytes m request = spelling (datagrams.Ask m.number m.boot request)
-
--- the batch of all queries that wait
-abbrev pub new_batch : World → Member → Member
-new_batch w m = record m {
-  request = m.request + 1;
-  waiting = [];
-  batch = Some (record { plans = m.waiting; asked_at = length w.primary.durable; fetched = None });
-}
-
--- a replica asks: for the queries that wait, or again for a batch without a version
-abbrev pub ask_happens : World → Member → Option AskedBatch → Output × World
-ask_happens w m None =
-    if length m.waiting == 0 then (outputs.Empty, w) else send (with_member w (new_batch w m)) (ask_bytes m (m.request + 1))
-ask_happens w m (Some batch) = again batch.fetched
-  where
-    again : Option Fetched → Output × World
-    again None = send w (ask_bytes m m.request)
-    again (Some fetched) = (outputs.Busy, w)
-
--- the Want of a worker's frames from a seq on
-abbrev pub want_bytes : Member → ℕ → ℕ → List ℕ
-want_bytes m worker from = spelling (datagrams.Want m.number worker from)
+-- a replica asks, by what the protocol makes of it and by its batch: for a new batch; or again, for a batch without a version
+abbrev pub ask_happens : World → Member → Result (Out × Protocol) AskFault → Option Batch → Output × World
+ask_happens w m (Err fault) batch = (of_ask fault, w)
+ask_happens w m (Ok asked) None =
+    send (with_member w (record m { asked_at = length w.primary.durable; protocol = asked.1 })) asked.0.packet
+ask_happens w m (Ok asked) (Some batch) = send w asked.0.packet
 
 -- a run waits for a frame, and sends a Want
 abbrev pub wait_happens : World → ℕ → ℕ → List ℕ → Output × World
 wait_happens w worker seq bytes =
     (outputs.Waiting worker seq (record { index = length w.sent; len = length bytes }), record w { sent = w.sent ++ bytes ∷ [] })
 
--- of the workers from this number on, the least of whom a frame below its count is not known, with the first such seq
-abbrev pub first_lacked_from : ℕ → List (List ℕ) → List ℕ → Option (ℕ × ℕ)
-first_lacked_from worker (known ∷ others) (count ∷ counts) =
-    if nat_lt (first_missing known) count then Some (worker, first_missing known) else first_lacked_from (worker + 1) others counts
-first_lacked_from worker known counts = None
+-- what a run of a replica finds
+abbrev pub readiness_at : Member → Readiness
+readiness_at m = readiness m.protocol (lacking (arrived m.known))
 
--- the least worker of whom a frame below its count is not known, with the first such seq
-abbrev pub first_lacked : List (List ℕ) → List ℕ → Option (ℕ × ℕ)
-first_lacked known counts = first_lacked_from 0 known counts
-
--- a batch of which a frame is missing waits for it, and asks for it; one of which no frame is missing is answered by its
--- report: the plain answers on the rows after exactly the first commits of the durable list, up to the version that was
--- fetched
-abbrev pub answer_happens : World → Member → List Plan → Fetched → Option (ℕ × ℕ) → Output × World
-answer_happens w m plans fetched (Some first_lacked) =
-    wait_happens w first_lacked.0 first_lacked.1 (want_bytes m first_lacked.0 first_lacked.1)
-answer_happens w m plans fetched None = (
+-- a run, by what it finds. A batch of which no frame is missing is answered by its report: the plain answers on the rows after
+-- exactly the first commits of the durable list, up to the version that was fetched
+abbrev pub run_happens : World → Member → Readiness → Output × World
+run_happens w m Broken = (outputs.Broken, w)
+run_happens w m NoBatch = (outputs.NoBatch, w)
+run_happens w m WaitsForHead = (outputs.WaitingHead, w)
+run_happens w m (WaitsForFrame worker seq) = wait_happens w worker seq (want_for m.protocol.number worker seq).packet
+run_happens w m (Ready plans fetched) = (
   outputs.Report (report_of (durable_tables w fetched.version) fetched.version plans),
-  with_member w (record m { version = fetched.version; batch = None }),
+  with_member w (record m { protocol = record m.protocol { version = fetched.version; batch = None } }),
 )
-
--- a run, by the version that was fetched for the batch
-abbrev pub fetched_happens : World → Member → List Plan → Option Fetched → Output × World
-fetched_happens w m plans None = (outputs.WaitingHead, w)
-fetched_happens w m plans (Some fetched) = answer_happens w m plans fetched (first_lacked m.known fetched.counts)
-
--- a run, by the batch
-abbrev pub run_happens : World → Member → Option AskedBatch → Output × World
-run_happens w m None = (outputs.NoBatch, w)
-run_happens w m (Some batch) = fetched_happens w m batch.plans batch.fetched
 
 -- ---- looks at a replica
 
@@ -368,18 +315,15 @@ happens w (events.Deliver index nodes.Primary) = unless_stopped w (deliver_happe
 happens w (events.Deliver index (nodes.Replica number)) = deliver_happens w (nodes.Replica number) (slice_get w.sent index)
 happens w (events.Show index) = (shown (slice_get w.sent index), w)
 happens w (events.Open replica plan) =
-    on_member w (slice_get w.members replica) (λ m.
-    if m.broken then (outputs.Broken, w) else
-    if nat_le waiting_queries_max (length m.waiting) then (outputs.BatchFull, w) else
-    open_happens w m plan (checked (shape_in (durable_tables w m.version)) plan))
+    on_member w (slice_get w.members replica)
+    (λ m. open_happens w m (opens_query m.protocol plan (checked (shape_in (durable_tables w m.protocol.version)) plan)))
 happens w (events.Ask replica) =
-    on_member w (slice_get w.members replica) (λ m. if m.broken then (outputs.Broken, w) else ask_happens w m m.batch)
-happens w (events.Run replica) =
-    on_member w (slice_get w.members replica) (λ m. if m.broken then (outputs.Broken, w) else run_happens w m m.batch)
-happens w (events.Version replica) = on_member w (slice_get w.members replica) (λ m. (outputs.Version m.version, w))
+    on_member w (slice_get w.members replica) (λ m. ask_happens w m (asks_version m.protocol) m.protocol.batch)
+happens w (events.Run replica) = on_member w (slice_get w.members replica) (λ m. run_happens w m (readiness_at m))
+happens w (events.Version replica) = on_member w (slice_get w.members replica) (λ m. (outputs.Version m.protocol.version, w))
 happens w (events.Dump replica) =
     on_member w (slice_get w.members replica)
-    (λ m. if m.broken then (outputs.Broken, w) else (outputs.Dump (dump_at w m.version), w))
+    (λ m. if m.protocol.broken then (outputs.Broken, w) else (outputs.Dump (dump_at w m.protocol.version), w))
 happens w (events.Restart replica boot) = on_member w (slice_get w.members replica) (λ m. restart_happens w m boot)
 happens w (events.Raw nodes.Primary bytes) = unless_stopped w (raw_happens w nodes.Primary bytes)
 happens w (events.Raw (nodes.Replica number) bytes) = raw_happens w (nodes.Replica number) bytes

@@ -8,7 +8,7 @@ use Rattle.rows.specs.Shape.{shape_of}
 use Rattle.rows.specs.Commits.{IsLegal, tables_after}
 use Rattle.journal.specs.Recovery.{IsBeginning}
 use Rattle.plans.specs.declared.plan.Plan.{Plan}
-use Rattle.dispatcher.specs.State.{Fetched}
+use Rattle.dispatcher.specs.State.{Batch, Fetched}
 use Rattle.dispatcher.specs.Report.{report_of}
 use Rattle.dispatcher.specs.TableText.{names_of, table_text}
 use Rattle.script.specs.Events.{IsPossible}
@@ -19,7 +19,7 @@ use Rattle.script.specs.declared.output.Output.TheVariants as outputs
 use Rattle.script.specs.declared.output.Output.TheVariants.{Dump}
 use Rattle.script.specs.declared.setup.Setup.{Setup}
 use Rattle.world.specs.Parts.{Parts, parts_started}
-use Rattle.world.specs.Steps.{World, Member, AskedBatch, opening_world}
+use Rattle.world.specs.Steps.{World, Member, opening_world}
 use Rattle.world.specs.Allowed.{MayHappen, RunsBy, Passes, AtEach, Runs}
 use Rattle.world.specs.Database.{Reader, Database, new_database, IsDatabaseStep, IsPromised}
 use Rattle.world.specs.Standing.{world_of, AreFed, TablesAgree, JournalStands, StopLeaves}
@@ -29,10 +29,10 @@ use Rattle.world.specs.Standing.{world_of, AreFed, TablesAgree, JournalStands, S
 -- the report of a batch: for each of its queries, in order, the plain answer on the rows after exactly the commits of the
 -- list up to the version that was fetched for it; that version is at least what was durable when the batch asked, and at
 -- most what is durable now
-abbrev pub IsReportOf : List Commit → World → AskedBatch → List ℕ → Type 0
-IsReportOf commits w batch text =
+abbrev pub IsReportOf : List Commit → World → ℕ → Batch → List ℕ → Type 0
+IsReportOf commits w asked_at batch text =
     (fetched : Fetched) × (batch.fetched ≡ Some fetched)
-    × (batch.asked_at ≤ fetched.version) × (fetched.version ≤ length w.primary.durable)
+    × (asked_at ≤ fetched.version) × (fetched.version ≤ length w.primary.durable)
     × (text ≡ report_of (tables_after (shape_of w.primary.schema) commits fetched.version) fetched.version batch.plans)
 
 -- the text of tables: those after exactly the commits of the list up to a version that is durable
@@ -45,12 +45,12 @@ IsDumpOf commits w version text =
 -- replica that was looked at
 abbrev pub SaysRows : List Commit → World → Event → Output → Type 0
 SaysRows commits old event (outputs.Report text) =
-    (replica : ℕ) × (member : Member) × (batch : AskedBatch)
-    × (event ≡ events.Run replica) × (slice_get old.members replica ≡ Some member) × (member.batch ≡ Some batch)
-    × IsReportOf commits old batch text
+    (replica : ℕ) × (member : Member) × (batch : Batch)
+    × (event ≡ events.Run replica) × (slice_get old.members replica ≡ Some member) × (member.protocol.batch ≡ Some batch)
+    × IsReportOf commits old member.asked_at batch text
 SaysRows commits old event (outputs.Dump text) =
     (replica : ℕ) × (member : Member) × (event ≡ events.Dump replica) × (slice_get old.members replica ≡ Some member)
-    × IsDumpOf commits old member.version text
+    × IsDumpOf commits old member.protocol.version text
 SaysRows commits old event other = Unit {0}
 
 -- an output that reports no damage: of frames that are not those of one list, of a transaction that the primary did not begin, or
@@ -168,12 +168,12 @@ AllowedRunsAreExact =
 -- ---- the database that users see
 
 -- a batch: its queries, how many commits were durable when they asked, and the version that was fetched for them
-abbrev pub seen_batch : AskedBatch → List Plan × ℕ × Option ℕ
-seen_batch batch = (batch.plans, batch.asked_at, option_map (λ (fetched : Fetched). fetched.version) batch.fetched)
+abbrev pub seen_batch : ℕ → Batch → List Plan × ℕ × Option ℕ
+seen_batch asked_at batch = (batch.plans, asked_at, option_map (λ (fetched : Fetched). fetched.version) batch.fetched)
 
 -- a replica as users see it
 abbrev pub reader_of : Member → Reader
-reader_of m = record { version = m.version; batch = option_map seen_batch m.batch }
+reader_of m = record { version = m.protocol.version; batch = option_map (seen_batch m.asked_at) m.protocol.batch }
 
 -- a world as users see it: what is durable, and each replica's version and batch
 abbrev pub database_of : World → Database

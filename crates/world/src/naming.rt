@@ -1,8 +1,8 @@
 //! Which output reports each refusal of the cores.
 
 ghost use Rattle.std.specs.Prelude.{◌≡◌};
-ghost use Rattle.world.specs.Outputs.{of_change, of_look, of_commit};
-ghost use Rattle.world.specs.Inner.Naming.{of_changed, of_open, of_ask, of_dump, of_got};
+ghost use Rattle.world.specs.Outputs.{of_change, of_look, of_commit, of_open, of_ask, of_got};
+ghost use Rattle.world.specs.Inner.Naming.{of_changed, of_dump};
 
 use dispatcher::{AskFault, DumpFault, Got, OpenFault};
 use mvcc::TxFault;

@@ -22,8 +22,8 @@ use Rattle.script.specs.declared.event.Event.TheVariants as events
 use Rattle.script.specs.declared.event.Node.TheVariants as nodes
 use Rattle.script.specs.declared.output.Output.{Output}
 use Rattle.script.specs.declared.output.Output.TheVariants as outputs
-use Rattle.world.specs.Outputs.{of_answers, packets_of}
-use Rattle.world.specs.Inner.Naming.{of_open, of_ask, of_got, of_dump}
+use Rattle.world.specs.Outputs.{of_answers, packets_of, of_open, of_ask, of_got}
+use Rattle.world.specs.Inner.Naming.{of_dump}
 use Rattle.world.specs.Parts.{Parts}
 use Rattle.world.specs.Allowed.{MayHappen, takes_memory}
 use Rattle.world.specs.Standing.{boots_at, world_of, JournalKeeps, StopLeaves}

@@ -8,32 +8,32 @@ use Rattle.wire.specs.declared.datagram.Datagram.TheVariants as datagrams
 use Rattle.wire.specs.declared.faults.WireFault.{WireFault}
 use Rattle.wire.specs.Reading.{reading}
 use Rattle.wire.specs.Spelling.{IsAsk}
-use Rattle.dispatcher.specs.State.{Fetched}
+use Rattle.dispatcher.specs.State.{Batch, Fetched}
 use Rattle.script.specs.declared.event.Event.{Event}
 use Rattle.script.specs.declared.event.Event.TheVariants as events
-use Rattle.world.specs.Steps.{World, Member, AskedBatch}
+use Rattle.world.specs.Steps.{World, Member}
 use Rattle.world.specs.Inner.Boots.{IsInBoot, IsOfBoot}
 
--- a batch, against the version that its replica stands at: it asked at a version that is durable, and the replica is no newer
--- than that until another is fetched; what was fetched for it is no older than either, and durable
-pub record IsFreshBatch (durable : List Commit) (version : ℕ) (batch : AskedBatch) : Type 0 where
-  pub asked : batch.asked_at ≤ length durable
-  pub waits : batch.fetched ≡ None → version ≤ batch.asked_at
+-- a batch that asked when so many commits were durable, against the version that its replica stands at: the replica is no newer than
+-- that until another is fetched; what was fetched for it is no older than either, and durable
+pub record IsFreshBatch (durable : List Commit) (version asked_at : ℕ) (batch : Batch) : Type 0 where
+  pub asked : asked_at ≤ length durable
+  pub waits : batch.fetched ≡ None → version ≤ asked_at
   pub fetched_is : (fetched : Fetched) → batch.fetched ≡ Some fetched
-      → (version ≤ fetched.version) × (batch.asked_at ≤ fetched.version) × (fetched.version ≤ length durable)
+      → (version ≤ fetched.version) × (asked_at ≤ fetched.version) × (fetched.version ≤ length durable)
 
 -- a replica of its number, in a boot that it had, at a version that is durable, with a fresh batch
 pub record IsFreshMember (durable : List Commit) (number : ℕ) (m : Member) : Type 0 where
-  pub number_is : m.number ≡ number
-  pub below : m.version ≤ length durable
-  pub boot_is : IsInBoot m.boots m.boot
-  pub batch_is : (batch : AskedBatch) → m.batch ≡ Some batch → IsFreshBatch durable m.version batch
+  pub number_is : m.protocol.number ≡ number
+  pub below : m.protocol.version ≤ length durable
+  pub boot_is : IsInBoot m.boots m.protocol.boot
+  pub batch_is : (batch : Batch) → m.protocol.batch ≡ Some batch → IsFreshBatch durable m.protocol.version m.asked_at batch
 
 -- a Head of this request and version, against the replica that it goes to in its own boot: the request was made, and where it
 -- is the newest one the version is at least what was durable when the batch asked
 pub record IsFreshHead (m : Member) (request version : ℕ) : Type 0 where
-  pub asked : request ≤ m.request
-  pub above : (batch : AskedBatch) → m.batch ≡ Some batch → request ≡ m.request → batch.asked_at ≤ version
+  pub asked : request ≤ m.protocol.request
+  pub above : (batch : Batch) → m.protocol.batch ≡ Some batch → request ≡ m.protocol.request → m.asked_at ≤ version
 
 -- what is known of bytes that were sent, by what they read as
 abbrev pub IsFreshReading : List Commit → List Member → Result Datagram WireFault → Type 0
@@ -41,10 +41,10 @@ IsFreshReading durable members (Err fault) = Unit {0}
 IsFreshReading durable members (Ok (datagrams.Frame worker seq commit last entries)) = Unit {0}
 IsFreshReading durable members (Ok (datagrams.Ask replica boot request)) =
     IsAsk replica boot request
-    × ((m : Member) → slice_get members replica ≡ Some m → IsOfBoot m.boots m.boot boot (request ≤ m.request))
+    × ((m : Member) → slice_get members replica ≡ Some m → IsOfBoot m.boots m.protocol.boot boot (request ≤ m.protocol.request))
 IsFreshReading durable members (Ok (datagrams.Head replica boot request version counts)) =
     (version ≤ length durable)
-    × ((m : Member) → slice_get members replica ≡ Some m → IsOfBoot m.boots m.boot boot (IsFreshHead m request version))
+    × ((m : Member) → slice_get members replica ≡ Some m → IsOfBoot m.boots m.protocol.boot boot (IsFreshHead m request version))
 IsFreshReading durable members (Ok (datagrams.Want replica worker from)) = Unit {0}
 
 pub record Fresh (w : World) : Type 0 where

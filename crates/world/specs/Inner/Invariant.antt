@@ -28,7 +28,7 @@ pub record IsReady (p : Parts) : Type 0 where
 
 -- no replica has made more requests than there were datagrams
 abbrev pub IsRequested : World → Type 0
-IsRequested w = AllByRecursion (λ (m : Member). m.request ≤ length w.sent) w.members
+IsRequested w = AllByRecursion (λ (m : Member). m.protocol.request ≤ length w.sent) w.members
 
 -- the parts of every world: its journal keeps what is durable, its tables are in their limits, the cores are sound, each request
 -- was sent, nothing is damaged, and what was fetched is no older than its batch
