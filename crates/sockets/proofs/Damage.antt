@@ -14,11 +14,13 @@ use Rattle.wire.specs.declared.datagram.Datagram.{Datagram}
 use Rattle.wire.specs.declared.datagram.Datagram.TheVariants as datagrams
 use Rattle.wire.specs.declared.faults.WireFault.{WireFault}
 use Rattle.wire.specs.Reading.{reading}
-use Rattle.dispatcher.specs.State.{Replica, Batch, Fetched}
+use Rattle.plans.specs.declared.plan.Plan.{Plan}
+use Rattle.dispatcher.specs.State.{Replica, Batch, Fetched, protocol_of}
+use Rattle.dispatcher.specs.Protocol.{is_own, takes_head}
 use Rattle.dispatcher.specs.declared.outcome.Got.{Got}
 use Rattle.dispatcher.specs.declared.outcome.Got.TheVariants as got
 use Rattle.dispatcher.specs.Steps.{received, datagram_comes, frame_comes, got_of}
-use Rattle.dispatcher.specs.Steps.{goes_on, own_head_comes, head_by_batch, taken_head, MayTake}
+use Rattle.dispatcher.specs.Steps.{goes_on, headed, own_head_comes, MayTake}
 
 -- an answer that is not `Broken`
 abbrev IsOther : Got → Type 0
@@ -38,14 +40,15 @@ frame-other r frame =
 
 head-other : (r : Replica) (version : ℕ) (counts : List ℕ) → IsOther (own_head_comes r version counts).0
 head-other r version counts =
-    cond_both (goes_on r version counts) (head_by_batch r version counts r.batch) (got.Ignored, r)
+    cond_both (goes_on r version counts) (headed r (takes_head (protocol_of r) version counts r.batch)) (got.Ignored, r)
     (λ (answer : Got × Replica). IsOther answer.0) (λ goes. by_batch r.batch) (λ other is. absurd (cc))
   where
-    by_fetched : (plans : _) (fetched : Option Fetched) → IsOther (taken_head r version counts plans fetched).0
+    by_fetched : (plans : List Plan) (fetched : Option Fetched)
+        → IsOther (takes_head (protocol_of r) version counts (Some (record { plans = plans; fetched = fetched }))).0
     by_fetched plans (Some fetched) = λ is. absurd (cc)
     by_fetched plans None = λ is. absurd (cc)
 
-    by_batch : (batch : Option Batch) → IsOther (head_by_batch r version counts batch).0
+    by_batch : (batch : Option Batch) → IsOther (takes_head (protocol_of r) version counts batch).0
     by_batch None = λ is. absurd (cc)
     by_batch (Some batch) = by_fetched batch.plans batch.fetched
 
@@ -55,7 +58,7 @@ datagram-other r (Ok (datagrams.Frame worker seq commit last entries)) =
     frame-other r (record { worker = worker; seq = seq; commit = commit; last = last; entries = entries })
 datagram-other r (Ok (datagrams.Ask replica boot request)) = λ is. absurd (cc)
 datagram-other r (Ok (datagrams.Head replica boot request version counts)) =
-    cond_both ((replica == r.number) && (boot == r.boot) && (request == r.request)) (own_head_comes r version counts) (got.Ignored, r)
+    cond_both (is_own (protocol_of r) replica boot request) (own_head_comes r version counts) (got.Ignored, r)
     (λ (answer : Got × Replica). IsOther answer.0) (λ own. head-other r version counts) (λ other is. absurd (cc))
 datagram-other r (Ok (datagrams.Want replica worker from)) = λ is. absurd (cc)
 
