@@ -7,7 +7,8 @@ use Rattle.std.proofs.Common.{refl, sym, ap, subst, ◌∙◌, arith, eqb-true}
 use Rattle.std.proofs.lemmas.Bool.Decides.{nat_tests}
 use Rattle.std.specs.List.{filter, range_with_len}
 use Rattle.std.proofs.lemmas.Int.{ints}
-use Rattle.std.proofs.lemmas.List.{drop_more, get_or_default, get_or-set_same, get_or-set_other, length-set, take-set, take_more_set, append-nil}
+use Rattle.std.proofs.lemmas.List.{drop_more, get_or_default, get_or-set_same, get_or-set_other, length-set, take-set, take_more_set}
+use Rattle.std.proofs.lemmas.List.{append-nil}
 use Rattle.std.specs.Int.{from_bool}
 use Rattle.std.proofs.lemmas.List.Elements.{filter-append}
 use Rattle.plans.specs.Inner.Picked.{picked, total, folded, IsWithin, AreWithin}

@@ -152,7 +152,8 @@ selected-next conditions columns places count k positions condition cells lt siz
         ap (λ list. does_pass condition list position) values ∙ pass-meets condition rows position (omega (arith, within, many))
 
 -- so those that pass one condition are those of the rows that meet it
-pub selected-first : (conditions : List Condition) (columns : List Cells) (places : List ℕ) (count : ℕ) (condition : Condition) (cells : Cells)
+pub selected-first : (conditions : List Condition) (columns : List Cells) (places : List ℕ) (count : ℕ)
+    (condition : Condition) (cells : Cells)
     → 0 < length conditions → length places ≡ length conditions → condition ≡ get_or conditions 0 condition
     → values_of cells ≡ values_at columns (get_or places 0 0)
     → (rows : List JoinedRow) → length rows ≡ count → AreColumnsOf columns places (columns_of conditions) rows

@@ -91,7 +91,8 @@ loop-index-preserved c =
     let cells = c.index-columns-places-in-loop-index.result in
     let place = get_or places k 0 in
     let there : place < length columns = (c.requires.columns k 0 (omega (arith, lt, c.requires.named))).0 in
-    let held : values_of cells ≡ values_at columns place = ap values_of c.index-columns-places-in-loop-index.is ∙ cells-at columns place _ there in
+    let held : values_of cells ≡ values_at columns place =
+    ap values_of c.index-columns-places-in-loop-index.is ∙ cells-at columns place _ there in
     let pass = does_pass condition (values_of cells) in
     let is = c.in_ok-selected.ensures ∙ ap (filter pass) c.as_slice.ensures.value in
     rw is (record {
