@@ -10,7 +10,7 @@ pub mod Running
 pub mod CatchingUp
 pub mod Feeding
 pub mod Taking
-pub mod Names
+pub mod Identities
 pub mod Dumping
 pub mod Reports
 pub mod Walk

@@ -154,12 +154,16 @@ DumpIsTables =
     (shape : Shape) (commits : List Commit) (r : Replica) → IsFedFrom shape commits r → r.broken ≡ false
     → dumped r ≡ Ok (table_text r.names r.version (tables_after shape commits r.version))
 
--- no call changes the names of a replica's tables
-pub record StepsKeepNames : Type 0 where
-  pub by_bytes : (r : Replica) (bytes : List ℕ) → (received r bytes).1.names ≡ r.names
-  pub by_open : (r : Replica) (plan : Plan) (count : ℕ) (new : Replica) → opened r plan ≡ Ok (count, new) → new.names ≡ r.names
-  pub by_ask : (r : Replica) (out : Out) (new : Replica) → asked r ≡ Ok (out, new) → new.names ≡ r.names
-  pub by_run : (r : Replica) (answer : Run) (new : Replica) → MayRun r answer new → new.names ≡ r.names
+-- what a replica is from its start on: its tables' names, how many workers there are, its number and its boot
+abbrev pub identity_of : Replica → List (List ℕ) × ℕ × ℕ × ℕ
+identity_of r = (r.names, r.workers, r.number, r.boot)
+
+-- no call changes that
+pub record StepsKeepIdentity : Type 0 where
+  pub by_bytes : (r : Replica) (bytes : List ℕ) → identity_of (received r bytes).1 ≡ identity_of r
+  pub by_open : (r : Replica) (plan : Plan) (count : ℕ) (new : Replica) → opened r plan ≡ Ok (count, new) → identity_of new ≡ identity_of r
+  pub by_ask : (r : Replica) (out : Out) (new : Replica) → asked r ≡ Ok (out, new) → identity_of new ≡ identity_of r
+  pub by_run : (r : Replica) (answer : Run) (new : Replica) → MayRun r answer new → identity_of new ≡ identity_of r
 
 -- ---- what two of them hold
 

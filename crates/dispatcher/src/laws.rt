@@ -2,7 +2,7 @@
 
 ghost use Rattle.dispatcher.specs.Feeding.{FreshIsFed, CommitsKeepFed, BytesKeepFed, OpenKeepsFed, AskKeepsFed, RunKeepsFed};
 ghost use Rattle.dispatcher.specs.Feeding.{RunIsConsistent, AnswerIsReport, ReadyIsAnswered, VersionTellsTables};
-ghost use Rattle.dispatcher.specs.Feeding.{TruthStays, TrueHeadGoesOn, TrueFrameIsTaken, DumpIsTables, StepsKeepNames};
+ghost use Rattle.dispatcher.specs.Feeding.{TruthStays, TrueHeadGoesOn, TrueFrameIsTaken, DumpIsTables, StepsKeepIdentity};
 
 use intake::{arrivals_stay_of_streams, known_frames_stay_kept};
 use ordering::one_merge;
@@ -14,7 +14,8 @@ use rows::laws::changes_keep_kinds;
 /// replica is not broken, it never ignores a frame of the list: the intake takes it. Two fed
 /// replicas at one version hold the same tables. While a replica is not broken, its dump is the
 /// text of the tables after exactly the commits up to its version. No step changes the names of the
-/// tables. It does nothing: its contract is the laws.
+/// tables, the number of workers, or the replica's number and boot. It does nothing: its contract is
+/// the laws.
 pub fn fed_replicas_stay_fed()
     ensures fresh { FreshIsFed }
     ensures commits { CommitsKeepFed }
@@ -30,7 +31,7 @@ pub fn fed_replicas_stay_fed()
     ensures ready { ReadyIsAnswered }
     ensures tables { VersionTellsTables }
     ensures dump { DumpIsTables }
-    ensures names { StepsKeepNames }
+    ensures identity { StepsKeepIdentity }
 {
     arrivals_stay_of_streams();
     known_frames_stay_kept();

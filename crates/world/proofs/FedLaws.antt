@@ -1,6 +1,6 @@
 -- What is known of replicas that are fed from a list of commits, and of steps.
 use Rattle.dispatcher.specs.Feeding.{FreshIsFed, CommitsKeepFed, BytesKeepFed, TrueHeadGoesOn, OpenKeepsFed, AskKeepsFed, RunKeepsFed}
-use Rattle.dispatcher.specs.Feeding.{TrueFrameIsTaken, ReadyIsAnswered, DumpIsTables}
+use Rattle.dispatcher.specs.Feeding.{TrueFrameIsTaken, ReadyIsAnswered, DumpIsTables, StepsKeepIdentity}
 use Rattle.world.specs.Inner.StepLaws.{StepLaws}
 
 pub record FedLaws : Type 0 where
@@ -14,4 +14,5 @@ pub record FedLaws : Type 0 where
   pub running : RunKeepsFed
   pub ready : ReadyIsAnswered
   pub dump : DumpIsTables
+  pub identity : StepsKeepIdentity
   pub steps : StepLaws

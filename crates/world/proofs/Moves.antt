@@ -1,5 +1,5 @@
 -- The few moves of sound parts, each of which leaves them sound.
-use Rattle.std.proofs.Common.{◌≡◌, ℕ, ◌≤◌, Bool, List, [], ◌∷◌, ◌++◌, length, Option, Some, Result, Ok, Err, refl, sym, ap}
+use Rattle.std.proofs.Common.{◌≡◌, ℕ, ◌≤◌, Bool, List, [], ◌∷◌, ◌++◌, length, Option, Some, Result, Ok, Err, sym, ap}
 use Rattle.std.proofs.Common.{subst, ◌∙◌, inl, inr, arith}
 use Rattle.std.specs.List.{slice_get}
 use Rattle.std.proofs.lemmas.List.{length-append, length-set}
@@ -11,8 +11,8 @@ use Rattle.wire.specs.declared.datagram.Datagram.TheVariants as datagrams
 use Rattle.wire.specs.declared.faults.WireFault.{WireFault}
 use Rattle.wire.specs.Reading.{reading}
 use Rattle.mvcc.specs.Transaction.{Transaction}
-use Rattle.dispatcher.specs.Feeding.{IsFedFrom, Tells}
-use Rattle.dispatcher.specs.State.{Replica, Protocol, with_protocol}
+use Rattle.dispatcher.specs.Feeding.{IsFedFrom, Tells, identity_of}
+use Rattle.dispatcher.specs.State.{Replica}
 use Rattle.dispatcher.specs.TableText.{names_of}
 use Rattle.script.specs.declared.output.Output.{Output}
 use Rattle.world.specs.Parts.{Parts}
@@ -26,17 +26,10 @@ use Rattle.world.proofs.Durable.{frame-stays, counts-stay}
 use Rattle.world.proofs.FedLaws.{FedLaws}
 use Rattle.world.proofs.Worlds.{seen}
 
--- what a replica may become: its names, workers, number and boot stay
-pub record Moves (old new : Replica) : Type 0 where
-  pub names_stay : new.names ≡ old.names
-  pub workers_stay : new.workers ≡ old.workers
-  pub number_stays : new.number ≡ old.number
-  pub boot_stays : new.boot ≡ old.boot
-
--- a replica that stays fed
+-- a replica that stays fed, and is the same
 pub record Goes (shape : Shape) (durable : List Commit) (old new : Replica) : Type 0 where
   pub feeding : IsFedFrom shape durable new
-  pub moves : Moves old new
+  pub identity : identity_of new ≡ identity_of old
 
 -- a step of the parts from sound ones, and the same step in the world
 abbrev pub Follows : Shape → Output × World → Output × Parts → Type 0
@@ -48,10 +41,10 @@ goes-fed : (shape : Shape) (names : List (List ℕ)) (workers : ℕ) (durable : 
     → IsFed shape names workers durable boots i old → Goes shape durable old new → IsFed shape names workers durable boots i new
 goes-fed shape names workers durable boots i old new fed goes = record {
   feeding = goes.feeding;
-  names_are = goes.moves.names_stay ∙ fed.names_are;
-  workers_are = goes.moves.workers_stay ∙ fed.workers_are;
-  number_is = goes.moves.number_stays ∙ fed.number_is;
-  boot_is = subst (IsInBoot boots) (sym goes.moves.boot_stays) fed.boot_is;
+  names_are = ap (λ (x : List (List ℕ) × ℕ × ℕ × ℕ). x.0) goes.identity ∙ fed.names_are;
+  workers_are = ap (λ (x : List (List ℕ) × ℕ × ℕ × ℕ). x.1) goes.identity ∙ fed.workers_are;
+  number_is = ap (λ (x : List (List ℕ) × ℕ × ℕ × ℕ). x.2) goes.identity ∙ fed.number_is;
+  boot_is = subst (λ (x : List (List ℕ) × ℕ × ℕ × ℕ). IsInBoot boots x.3) (sym goes.identity) fed.boot_is;
 }
 
 pub Sound-replica : (shape : Shape) (p : Parts) (i : ℕ) (old new : Replica) → Sound shape p → slice_get p.replicas i ≡ Some old
@@ -79,23 +72,6 @@ Follows-same shape p i r output sound at =
     let same : p ≡ with_replica p i r =
     ap (λ (replicas : List Replica). record p { replicas = replicas }) (sym (set-same p.replicas i r at)) in
     (ap (λ (p : Parts). (output, world_of p)) same, subst (Sound shape) same sound)
-
-pub Moves-same : (r : Replica) → Moves r r
-Moves-same r = record {
-  names_stay = refl;
-  workers_stay = refl;
-  number_stays = refl;
-  boot_stays = refl;
-}
-
--- a step of its protocol
-pub protocol-moves : (r : Replica) (q : Protocol) → Moves r (with_protocol r q)
-protocol-moves r q = record {
-  names_stay = refl;
-  workers_stay = refl;
-  number_stays = refl;
-  boot_stays = refl;
-}
 
 -- what is noted of a replica changes
 pub Sound-noted : (shape : Shape) (p : Parts) (asked_at : List ℕ) → Sound shape p → length asked_at ≡ length p.asked_at

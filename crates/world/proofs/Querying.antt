@@ -38,7 +38,7 @@ use Rattle.world.proofs.FedLaws.{FedLaws}
 use Rattle.world.proofs.Datagrams.{ask-read}
 use Rattle.world.specs.Standing.{boots_at, world_of, member_of}
 use Rattle.world.proofs.Worlds.{member_at, members-asked}
-use Rattle.world.proofs.Moves.{Goes, Follows, Sound-replica, Sound-noted, Sound-one, protocol-moves}
+use Rattle.world.proofs.Moves.{Goes, Follows, Sound-replica, Sound-noted, Sound-one}
 use Rattle.world.proofs.Replicas.{Follows-goes}
 
 -- ---- opening a query
@@ -91,10 +91,8 @@ query-opens laws shape p i plan (Some r) sound here =
     by false false (Ok fits) is =
         let count = length r.waiting + 1 in
         let new = with_protocol r (record (protocol_of r) { waiting = r.waiting ++ plan ∷ [] }) in
-        Follows-goes shape p i r (outputs.Opened count, member_at p i new) (outputs.Opened count) new sound here refl (record {
-          feeding = laws.opening shape p.primary.durable r plan count new fed.feeding is;
-          moves = protocol-moves r (protocol_of new);
-        })
+        Follows-goes shape p i r (outputs.Opened count, member_at p i new) (outputs.Opened count) new sound here refl
+        (record { feeding = laws.opening shape p.primary.durable r plan count new fed.feeding is; identity = refl })
 
 -- ---- asking
 
@@ -134,10 +132,7 @@ module _ (laws : FedLaws) (shape : Shape) (p : Parts) (i : ℕ) (r : Replica) (s
         let new = member_of (boots_at p.boots i) (length p.primary.durable) begun in
         let noted = slice_set p.asked_at i (length p.primary.durable) in
         let goes : Goes shape p.primary.durable r begun =
-        record {
-          feeding = laws.asking shape p.primary.durable r out begun fed.feeding taken;
-          moves = protocol-moves r (protocol_of begun);
-        } in (
+        record { feeding = laws.asking shape p.primary.durable r out begun fed.feeding taken; identity = refl } in (
           ap (λ (n : ℕ). made (slice_set w.members n new)) fed.number_is
               ∙ ap made (sym (members-asked p.replicas p.boots p.asked_at i begun (length p.primary.durable) sound.asked_there)),
           Sound-one shape (record (with_replica p i begun) { asked_at = noted }) out.packet

@@ -34,7 +34,7 @@ use Rattle.world.proofs.Lists.{set-same}
 use Rattle.world.proofs.Moving.{TakesMemory}
 use Rattle.world.proofs.Worlds.{member_at, member-changes}
 use Rattle.world.proofs.WorldMoves.{Found, found-is}
-use Rattle.world.proofs.Moves.{Moves, Follows, Sound-replica, Sound-one, Follows-same}
+use Rattle.world.proofs.Moves.{Follows, Sound-replica, Sound-one, Follows-same}
 use Rattle.world.proofs.Replicas.{Follows-goes}
 
 -- ---- what is known and what is missing
@@ -56,27 +56,6 @@ lacking-from worker (first ∷ arrivals) (count ∷ counts) =
 -- what a run finds is told by the seqs that are known
 pub readiness-same : (had : List ℕ) (at : ℕ) (r : Replica) → readiness_at (member_of had at r) ≡ readiness_of r
 readiness-same had at r = λ i. readiness (protocol_of r) (λ counts. lacking-from 0 r.arrivals counts i)
-
--- ---- what a run makes of a replica
-
--- it stands at the version that was fetched
-caught-moves : (r : Replica) (fetched : Fetched) (tables : Tables) (batch : Option Batch)
-    → Moves r (record (at_fetched r fetched tables) { batch = batch })
-caught-moves r fetched tables batch = record {
-  names_stay = refl;
-  workers_stay = refl;
-  number_stays = refl;
-  boot_stays = refl;
-}
-
--- it is broken
-broken-moves : (r : Replica) → Moves r (broken_of r)
-broken-moves r = record {
-  names_stay = refl;
-  workers_stay = refl;
-  number_stays = refl;
-  boot_stays = refl;
-}
 
 -- its member at the version that was fetched
 caught-member : (had : List ℕ) (at : ℕ) (r : Replica) (fetched : Fetched) (tables : Tables) (batch : Option Batch)
@@ -134,7 +113,7 @@ module _ (laws : FedLaws) (shape : Shape) (p : Parts) (i : ℕ) (r : Replica) (s
         ∙ ap (λ (x : Member). (outputs.Report (text shape), x)) (sym (caught-member m.boots m.asked_at r fetched tables None)))
         (record {
           feeding = subst (IsFedFrom shape durable) done.1 (laws.running shape durable r answer after fed (inl run));
-          moves = caught-moves r fetched tables None;
+          identity = refl;
         }))
 
     pub replica-runs : (answer : Run) (after : Replica) → ReplicaRuns r answer after
@@ -206,7 +185,7 @@ module _ (laws : FedLaws) (shape : Shape) (p : Parts) (i : ℕ) (r : Replica) (s
             ),
           ),
           Sound-replica shape p i r after sound here
-              (record { feeding = feeding; moves = caught-moves r fetched tables r.batch }),
+              (record { feeding = feeding; identity = refl }),
         )
 
     cut-broken : (fetched : Fetched) → ready_of r ≡ Some fetched → r.version < fetched.version
@@ -221,7 +200,7 @@ module _ (laws : FedLaws) (shape : Shape) (p : Parts) (i : ℕ) (r : Replica) (s
             inr (refl, sym (member-changes p i (broken_of r) (sound.fed i r here).number_is), below),
           ),
           Sound-replica shape p i r (broken_of r) sound here
-              (record { feeding = feeding; moves = broken-moves r }),
+              (record { feeding = feeding; identity = refl }),
         )
 
     pub cut-ends : (answer : Run) (after : Replica) → RunsOutOfMemory r answer after

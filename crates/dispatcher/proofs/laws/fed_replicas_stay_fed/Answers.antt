@@ -4,7 +4,7 @@ use Rattle.dispatcher.proofs.Feeding.{Arriving, fresh-fed, commits-feed, truth-s
 use Rattle.dispatcher.proofs.Feeding.{ask-feeds, same-tables}
 use Rattle.dispatcher.proofs.Taking.{Kinds, frame-taken}
 use Rattle.dispatcher.proofs.Dumping.{dump-tables}
-use Rattle.dispatcher.proofs.Names.{bytes-names, open-names, ask-names, run-names}
+use Rattle.dispatcher.proofs.Identities.{bytes-keep, open-keeps, ask-keeps, run-keeps}
 use Rattle.dispatcher.proofs.Reports.{run-feeds, run-consistent, answer-reports, ready-answers}
 use Rattle.dispatcher.proofs.laws.fed_replicas_stay_fed.Goals as goal
 
@@ -132,5 +132,5 @@ returns-clause-tables c = same-tables
 pub returns-clause-dump : goal.returns-clause-dump
 returns-clause-dump c = dump-tables
 
-pub returns-clause-names : goal.returns-clause-names
-returns-clause-names c = record { by_bytes = bytes-names; by_open = open-names; by_ask = ask-names; by_run = run-names }
+pub returns-clause-identity : goal.returns-clause-identity
+returns-clause-identity c = record { by_bytes = bytes-keep; by_open = open-keeps; by_ask = ask-keeps; by_run = run-keeps }

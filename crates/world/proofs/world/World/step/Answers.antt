@@ -25,6 +25,7 @@ invariant_of-self g c =
       running = e.run;
       ready = e.ready;
       dump = e.dump;
+      identity = e.identity;
       steps = c.steps_are_told.ensures;
     } in
     (step-keeps laws c.self.inside.cores c.args.event.now c.happen-output.result c.happen-output.new.self c.self.invariant
@@ -44,6 +45,7 @@ returns g c =
       running = e.run;
       ready = e.ready;
       dump = e.dump;
+      identity = e.identity;
       steps = c.steps_are_told.ensures;
     } in
     let done =

@@ -17,6 +17,7 @@ invariant_of-result c =
       running = e.run;
       ready = e.ready;
       dump = e.dump;
+      identity = e.identity;
       steps = c.steps_are_told.ensures;
     } in
     rw c.in_ok-cores.ensures
