@@ -17,7 +17,8 @@ pub fn read_address(word: &str) -> Option<SocketAddr> {
 
 /// The number that decimal digits are.
 pub fn read_number(word: &str) -> Option<u64> {
-    if word.is_empty() || !word.bytes().all(|byte| byte.is_ascii_digit()) {
+    // `parse` alone would take a sign.
+    if word.starts_with('+') {
         return None;
     }
     word.parse::<u64>().ok()

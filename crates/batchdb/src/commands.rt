@@ -202,8 +202,8 @@ fn primary_words<'a>(alloc: Global, words: &ArgMatches<'a>) -> Result<PrimaryWor
 fn replica_words<'a>(alloc: Global, words: &ArgMatches<'a>) -> Result<ReplicaWords<'a>, Failure> {
     Ok(ReplicaWords {
         schema: given(alloc, words, "SCHEMA")?,
-        number: number(alloc, words, "NUMBER")?,
-        boot: number(alloc, words, "BOOT")?,
+        number: number(alloc, "NUMBER", given(alloc, words, "NUMBER")?)?,
+        boot: number(alloc, "BOOT", given(alloc, words, "BOOT")?)?,
         listen: address(alloc, words, "LISTEN")?,
         primary: address(alloc, words, "PRIMARY")?,
         turns: turns(alloc, words)?,
@@ -214,7 +214,7 @@ fn replica_words<'a>(alloc: Global, words: &ArgMatches<'a>) -> Result<ReplicaWor
 
 fn journal_words<'a>(alloc: Global, words: &ArgMatches<'a>) -> Result<JournalWords<'a>, Failure> {
     let cut = match words.get_str("cut") {
-        Some(_) => Some(number(alloc, words, "cut")?),
+        Some(word) => Some(number(alloc, "--cut", word)?),
         None => None,
     };
     let dumps = words.get_flag("dump");
@@ -268,9 +268,8 @@ fn addresses(alloc: Global, words: &ArgMatches<'_>) -> Result<Vec<SocketAddr>, F
     Ok(list)
 }
 
-/// The number of that name.
-fn number(alloc: Global, words: &ArgMatches<'_>, name: &str) -> Result<u64, Failure> {
-    let word = given(alloc, words, name)?;
+/// The number that the word of that name is.
+fn number(alloc: Global, name: &str, word: &str) -> Result<u64, Failure> {
     match read_number(word) {
         Some(number) => Ok(number),
         None => Err(wrong(alloc, name, word)),

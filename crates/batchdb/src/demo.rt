@@ -210,8 +210,7 @@ fn reported_by_both<
     setup: &Setup,
 ) -> Result<(Reported, Reported), Failure> {
     let left = AtomicU64::new(2);
-    let any = SocketAddr::from((Ipv4Addr::LOCALHOST, 0));
-    let mut server = Server::new(alloc, any, WORKERS, false);
+    let mut server = Server::new(alloc, WORKERS, false);
     let Ports {
         mut primary,
         mut first,
@@ -319,12 +318,7 @@ fn answer<T: Threads + Wait + Sync>(
     let mut turns = Some(TURNS);
     match serve_replica(rt, alloc, replica, &queue, &mut pass, port, &mut turns) {
         Ok(report) => Ok(report),
-        Err(fault) => Err(serve_failure(
-            alloc,
-            SocketAddr::from((Ipv4Addr::LOCALHOST, 0)),
-            fault,
-            port,
-        )),
+        Err(fault) => Err(serve_failure(alloc, fault, port)),
     }
 }
 

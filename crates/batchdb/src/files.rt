@@ -15,23 +15,28 @@ use std::rt::Files;
 /// How many standard streams there are, which have the first descriptors: input, output, errors.
 const STREAMS: RawFd = 3;
 
+/// A device that stands for a stream which is missing.
+const NULL_DEVICE: &str = "/dev/null";
+
 /// Opens the null device for each standard stream that the program was started without. The files are to be
 /// kept as long as it runs: a file that is opened later would get such a stream's descriptor, and be read as
 /// the input, or have written into it what is printed.
 pub fn fill_standard_streams<H: Files<File = File>>(
     rt: &H,
     alloc: Global,
-) -> io::Result<Vec<File>> {
+) -> Result<Vec<File>, Failure> {
     let mut held = Vec::new(alloc);
     for _ in 0..STREAMS {
-        let null = File::options()
-            .read(true)
-            .write(true)
-            .open(rt, "/dev/null")?;
+        let null = match File::options().read(true).write(true).open(rt, NULL_DEVICE) {
+            Ok(null) => null,
+            Err(error) => return Err(refused(alloc, NULL_DEVICE, "open", error)),
+        };
         if null.as_raw_fd() >= STREAMS {
             return Ok(held);
         }
-        held.push(null)?;
+        if held.push(null).is_err() {
+            return Err(Failure::Memory);
+        }
     }
     Ok(held)
 }

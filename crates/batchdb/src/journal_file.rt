@@ -1,8 +1,10 @@
 //! A journal, looked at, dumped and cut.
 
+ghost use Rattle.std.specs.Prelude.{◌≡◌, IfOk};
+
 use crate::commands::JournalWords;
-use crate::failure::{Failure, Status};
-use crate::files::{failed, file_bytes, refused, setup_at};
+use crate::failure::{Failure, Status, shown};
+use crate::files::{failed, file_bytes, len_of, refused, setup_at};
 use crate::printing::print;
 use journal::{FileFault, FileJournal, JournalFault, JournalStore, OpenFault, Recovered, recover};
 use rows::{
@@ -26,7 +28,10 @@ pub fn run_journal<T: Files<File = File>, W: Write>(
     match words.cut {
         Some(len) => cut(rt, alloc, words, &setup, bytes.as_slice(), len, writer),
         None if words.dumps => dump(alloc, words.journal, &setup, bytes.as_slice(), writer),
-        None => tell(alloc, words.journal, &setup, bytes.as_slice(), writer),
+        None => {
+            let kept = kept_of(alloc, words.journal, &setup, bytes.as_slice())?;
+            tell(alloc, "", &kept, bytes.len(), writer)
+        }
     }
 }
 
@@ -39,20 +44,19 @@ fn kept_of(alloc: Global, path: &str, setup: &Setup, bytes: &[u8]) -> Result<Rec
     }
 }
 
-/// Tells what a journal keeps.
+/// Tells what a journal of so many bytes keeps, behind some text.
 fn tell<W: Write>(
     alloc: Global,
-    path: &str,
-    setup: &Setup,
-    bytes: &[u8],
+    before: &str,
+    kept: &Recovered,
+    len: usize,
     writer: &mut W,
 ) -> Result<(), Failure> {
-    let recovered = kept_of(alloc, path, setup, bytes)?;
-    let torn = (bytes.len() as u64).saturating_sub(recovered.bytes_kept);
+    let torn = (len as u64).saturating_sub(kept.bytes_kept);
     let text = format!(in alloc;
-        "kept {} commits, {} bytes, torn {torn}\n",
-        recovered.commits.len(),
-        recovered.bytes_kept
+        "{before}kept {} commits, {} bytes, torn {torn}\n",
+        kept.commits.len(),
+        kept.bytes_kept
     );
     match text {
         Ok(text) => print(alloc, writer, text.as_bytes()),
@@ -60,7 +64,8 @@ fn tell<W: Write>(
     }
 }
 
-/// Cuts a journal to so many bytes if that is sure, and tells what it keeps then.
+/// Cuts a journal to so many bytes if that is sure, and tells what it keeps then. It is cut at the end of a
+/// record only.
 fn cut<T: Files<File = File>, W: Write>(
     rt: &T,
     alloc: Global,
@@ -70,27 +75,61 @@ fn cut<T: Files<File = File>, W: Write>(
     len: u64,
     writer: &mut W,
 ) -> Result<(), Failure> {
+    let path = words.journal;
     let Some((front, behind)) = parted(bytes, len) else {
         return Err(failed(
             alloc,
-            words.journal,
+            path,
             format!(in alloc; "it has {} bytes only", bytes.len()).ok(),
         ));
     };
-    let recovered = kept_of(alloc, words.journal, setup, front)?;
-    if !words.is_sure {
-        return Err(Failure::new(
-            Status::NotRead,
+    let left = kept_of(alloc, path, setup, front)?;
+    if left.bytes_kept < len {
+        return Err(failed(
+            alloc,
+            path,
             format!(in alloc;
-                "batchdb: this would drop {} bytes and leave {} commits; say --yes to do it",
-                behind.len(),
-                recovered.commits.len()
+                "no record ends at byte {len}; the last one before it ends at byte {}",
+                left.bytes_kept
             )
             .ok(),
         ));
     }
-    cut_file(rt, alloc, words.journal, len)?;
-    tell(alloc, words.journal, setup, front, writer)
+    let count = left.commits.len();
+    if !words.is_sure {
+        return Err(unsure(alloc, path, setup, bytes, behind.len(), count));
+    }
+    cut_file(rt, alloc, path, bytes.len() as u64, len)?;
+    tell(alloc, "", &left, front.len(), writer)
+}
+
+/// What is said before a journal is cut: what that would drop, and how many commits it would leave.
+fn unsure(
+    alloc: Global,
+    path: &str,
+    setup: &Setup,
+    bytes: &[u8],
+    dropped: usize,
+    left: usize,
+) -> Failure {
+    let what = match recover(alloc, bytes, &setup.schema, setup.workers) {
+        Ok(all) => format!(in alloc;
+            "{dropped} bytes, which keep {} commits,",
+            all.commits.len().saturating_sub(left)
+        ),
+        Err(JournalFault::Memory) => return Failure::Memory,
+        // How many commits they keep is not known.
+        Err(_) => format!(in alloc; "{dropped} bytes"),
+    };
+    let (Ok(what), Some(path)) = (what, shown(alloc, path)) else {
+        return Failure::Memory;
+    };
+    Failure::new(
+        Status::NotRead,
+        format!(in alloc;
+            "batchdb: {path}: this would drop {what} and leave {left} commits; say --yes to do it"
+        ).ok(),
+    )
 }
 
 /// So many bytes from the front, and the others; `None` where there are fewer.
@@ -102,28 +141,42 @@ fn parted(bytes: &[u8], len: u64) -> Option<(&[u8], &[u8])> {
     Some(bytes.split_at(len))
 }
 
-/// Cuts the journal in a file, which nobody else may have open.
+/// Cuts the journal in a file, which nobody else may have open, and which has as many bytes as were looked at.
 fn cut_file<T: Files<File = File>>(
     rt: &T,
     alloc: Global,
     path: &str,
+    seen: u64,
     len: u64,
 ) -> Result<(), Failure> {
-    let mut journal = match FileJournal::open(rt, path) {
-        Ok(journal) => journal,
-        Err(OpenFault::Locked) => {
-            return Err(failed(
-                alloc,
-                path,
-                format!(in alloc; "a primary has the journal open").ok(),
-            ));
-        }
-        Err(OpenFault::System(error)) => return Err(refused(alloc, path, "open", error)),
-    };
+    let mut journal = opened(rt, alloc, path, "a primary has the journal open")?;
+    if len_of(rt, path) != seen {
+        return Err(failed(
+            alloc,
+            path,
+            format!(in alloc; "it was written to meanwhile; look at it again").ok(),
+        ));
+    }
     match journal.cut_to(len) {
         Ok(()) => Ok(()),
         Err(FileFault::System(error)) => Err(refused(alloc, path, "cut", error)),
         Err(fault) => Err(failed(alloc, path, format!(in alloc; "{fault}").ok())),
+    }
+}
+
+/// The journal in a file; `locked` is said where another process has it open.
+pub fn opened<T: Files<File = File>>(
+    rt: &T,
+    alloc: Global,
+    path: &str,
+    locked: &str,
+) -> Result<FileJournal, Failure>
+    ensures { IfOk result (λ journal. journal.faults ≡ 0) }
+{
+    match FileJournal::open(rt, path) {
+        Ok(journal) => Ok(journal),
+        Err(OpenFault::Locked) => Err(failed(alloc, path, format!(in alloc; "{locked}").ok())),
+        Err(OpenFault::System(error)) => Err(refused(alloc, path, "open", error)),
     }
 }
 
@@ -137,6 +190,8 @@ fn dump<W: Write>(
     writer: &mut W,
 ) -> Result<(), Failure> {
     let recovered = kept_of(alloc, path, setup, bytes)?;
+    // A comment to whoever reads the jobs.
+    tell(alloc, "# ", &recovered, bytes.len(), writer)?;
     for (index, commit) in recovered.commits.iter().enumerate() {
         let mut text = Vec::new(alloc);
         match push_job(&mut text, &setup.schema, index as u64, commit) {

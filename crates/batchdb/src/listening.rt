@@ -32,15 +32,16 @@ pub fn listening<H: Net, E: Write>(
     }
 }
 
-/// What a socket that failed at a receive says.
-pub fn socket_failure(alloc: Global, listen: SocketAddr, port: &WatchedPort<UdpPort>) -> Failure {
+/// What a socket that failed at a receive says: no node ends where a send fails, so the receive is what
+/// failed last.
+pub fn socket_failure(alloc: Global, port: &WatchedPort<UdpPort>) -> Failure {
+    let address = match port.port.local_addr() {
+        Ok(address) => address,
+        Err(error) => return failed(alloc, "the socket", format!(in alloc; "{error}").ok()),
+    };
     match port.port.last_fault() {
-        Some(error) => at_address(
-            alloc,
-            listen,
-            format!(in alloc; "receive or send: {error}").ok(),
-        ),
-        None => at_address(alloc, listen, format!(in alloc; "receive").ok()),
+        Some(error) => at_address(alloc, address, format!(in alloc; "receive: {error}").ok()),
+        None => at_address(alloc, address, format!(in alloc; "receive").ok()),
     }
 }
 

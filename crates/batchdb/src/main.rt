@@ -32,43 +32,26 @@ mod serving;
 mod watched_port;
 mod words;
 
-pub use program::{run_live, run_words, without_words};
+pub use program::{answer, run_words, without_words};
+use std::env;
 use std::process::ExitCode;
-use std::{env, io};
 
 /// Runs the words that the program was called with, and ends with their status.
-fn main(rt: HostRuntime) -> io::Result<ExitCode> {
-    let _held = files::fill_standard_streams(&rt, rt.alloc())?;
-    let mut words = Vec::new(rt.alloc());
-    match env::args(&rt) {
-        Ok(given) => {
-            for word in given {
-                words.push(word)?;
-            }
-        }
-        Err(fault) => {
-            let status = without_words(fault.kind(), &mut rt.stderr());
-            return Ok(ExitCode::from(status));
-        }
-    }
-    let mut texts = Vec::new(rt.alloc());
-    for word in &words {
-        texts.push(word.as_str())?;
-    }
-    let words = texts.as_slice();
-    let mut output = rt.stdout();
-    let mut errors = rt.stderr();
-    let status = if words.iter().any(|word| *word == "--live") {
-        run_live(&rt, rt.alloc(), words, rt.stdin(), &mut output, &mut errors)
-    } else {
-        run_words(
+fn main(rt: HostRuntime) -> ExitCode {
+    let _held = match files::fill_standard_streams(&rt, rt.alloc()) {
+        Ok(held) => held,
+        Err(failure) => return ExitCode::from(failure.tell(&mut rt.stderr())),
+    };
+    let status = match env::args(&rt) {
+        Ok(words) => answer(
             &rt,
             rt.alloc(),
             words,
-            &mut rt.stdin(),
-            &mut output,
-            &mut errors,
-        )
+            rt.stdin(),
+            &mut rt.stdout(),
+            &mut rt.stderr(),
+        ),
+        Err(fault) => without_words(fault.kind(), &mut rt.stderr()),
     };
-    Ok(ExitCode::from(status))
+    ExitCode::from(status)
 }

@@ -4,15 +4,16 @@ ghost use Rattle.std.specs.Prelude.{◌≡◌, ◌<◌, ◌≤◌, IfOk};
 ghost use Rattle.rows.specs.Limits.{workers_max};
 
 use crate::commands::{PrimaryWords, wrong};
-use crate::failure::Failure;
+use crate::failure::{Failure, shown};
 use crate::files::{failed, len_of, refused, setup_at};
 use crate::jobs::read_jobs;
+use crate::journal_file::opened;
 use crate::listening::listening;
 use crate::live_primary::{answer_text, serve_live};
 use crate::printing::print;
 use crate::serving::Server;
 use crate::watched_port::{Role, WatchedPort};
-use journal::{FileFault, FileJournal, JournalFault, JournalStore, OpenFault};
+use journal::{FileFault, FileJournal, JournalFault, JournalStore};
 use primary::{PrimaryCore, StartFault};
 use rows::limits::WORKERS_MAX;
 use script::Setup;
@@ -95,7 +96,7 @@ fn at_socket<
         says,
         errors,
     )?;
-    let mut server = Server::new(alloc, listen, setup.workers, says);
+    let mut server = Server::new(alloc, setup.workers, says);
     let jobs = if is_live { None } else { Some(jobs) };
     let ended = named(
         rt,
@@ -152,25 +153,18 @@ fn started<T: Files<File = File>, E: Write>(
     requires few { setup.now.workers ≤ workers_max }
     ensures { IfOk result (λ core. core.primary.workers ≡ setup.now.workers) }
 {
-    let journal = match FileJournal::open(rt, path) {
-        Ok(journal) => journal,
-        Err(OpenFault::Locked) => {
-            return Err(failed(
-                alloc,
-                path,
-                format!(in alloc; "another primary has the journal open").ok(),
-            ));
-        }
-        Err(OpenFault::System(error)) => return Err(refused(alloc, path, "open", error)),
-    };
+    let journal = opened(rt, alloc, path, "another primary has the journal open")?;
     let len = len_of(rt, path);
     match PrimaryCore::start(alloc, journal, &setup.schema, setup.workers) {
         Ok(core) => {
             if says {
+                let Some(name) = shown(alloc, path) else {
+                    return Err(Failure::Memory);
+                };
                 let kept = len_of(rt, path);
                 let _ = writeln!(
                     errors,
-                    "batchdb {}\njournal {path}: kept {} commits, {kept} bytes, cut {}",
+                    "batchdb {}\njournal {name}: kept {} commits, {kept} bytes, cut {}",
                     crate::program::VERSION,
                     core.durable(),
                     len.saturating_sub(kept)

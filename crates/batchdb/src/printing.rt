@@ -7,13 +7,17 @@ use std::sync::{Mutex, Wait};
 
 /// Writes a text and flushes it.
 pub fn print<W: Write>(alloc: Global, writer: &mut W, text: &[u8]) -> Result<(), Failure> {
-    if writer.write_all(text).is_err() || writer.flush().is_err() {
-        return Err(Failure::new(
+    let written = match writer.write_all(text) {
+        Ok(()) => writer.flush(),
+        Err(error) => Err(error),
+    };
+    match written {
+        Ok(()) => Ok(()),
+        Err(error) => Err(Failure::new(
             Status::Failed,
-            format!(in alloc; "batchdb: the output could not be written").ok(),
-        ));
+            format!(in alloc; "batchdb: the output could not be written: {error}").ok(),
+        )),
     }
-    Ok(())
 }
 
 /// Writes a text that other threads do not write into, and flushes it.

@@ -7,6 +7,7 @@ ghost use Rattle.batchdb.specs.Status.{fault_line, fault_status, status_max, Has
 
 use crate::commands::{Asking, Unasked, read_words};
 use crate::demo::run_demo;
+use crate::failure::shown;
 use crate::journal_file::run_journal;
 use crate::polled_input::PolledInput;
 use crate::primary_program::run_primary;
@@ -14,7 +15,8 @@ use crate::replica_program::run_replica;
 use crate::words::{Asked, asked_for};
 use clap::Error;
 use clap::error::ErrorKind;
-use std::alloc::Global;
+use std::alloc::{AllocError, Global};
+use std::env::Args;
 use std::fs::File;
 use std::io;
 use std::io::{Read, Write};
@@ -103,14 +105,27 @@ pub fn run_words<
     }
 }
 
-/// Runs the program with these words, which are a live node's, on input that is waited for only for a
-/// moment at a time, so that the node can end while nothing comes.
-pub fn run_live<
+/// Runs the program with these words. A live node's input is waited for only for a moment at a time, so
+/// that the node can end while nothing comes.
+pub fn answer<
     T: Threads + Wait + Net + Files<File = File> + Clock + Sync,
     R: Read + Drop + Send,
     W: Write + Send,
     E: Write + Send,
->(rt: &T, alloc: Global, words: &[&str], input: R, writer: &mut W, errors: &mut E) -> u8 {
+>(rt: &T, alloc: Global, words: Args, input: R, writer: &mut W, errors: &mut E) -> u8 {
+    let Ok(words) = listed(alloc, words) else {
+        say(errors, "batchdb: out of memory");
+        return FAILED;
+    };
+    let Ok(words) = texts_of(alloc, &words) else {
+        say(errors, "batchdb: out of memory");
+        return FAILED;
+    };
+    let words = words.as_slice();
+    let mut input = input;
+    if !words.contains(&"--live") {
+        return run_words(rt, alloc, words, &mut input, writer, errors);
+    }
     match PolledInput::new(rt, alloc, input) {
         Ok(mut input) => run_words(rt, alloc, words, &mut input, writer, errors),
         Err(fault) => {
@@ -118,6 +133,24 @@ pub fn run_live<
             FAILED
         }
     }
+}
+
+/// The words, as a list.
+fn listed(alloc: Global, words: Args) -> Result<Vec<String>, AllocError> {
+    let mut all = Vec::new(alloc);
+    for word in words {
+        all.push(word)?;
+    }
+    Ok(all)
+}
+
+/// The texts of words.
+fn texts_of(alloc: Global, words: &[String]) -> Result<Vec<&str>, AllocError> {
+    let mut texts = Vec::new(alloc);
+    for word in words {
+        texts.push(word.as_str())?;
+    }
+    Ok(texts)
 }
 
 /// Prints the version.
@@ -137,11 +170,17 @@ fn print<W: Write, E: Write>(text: &str, writer: &mut W, errors: &mut E) -> u8
     ensures status { result ≤ 1 }
     ensures done { result ≡ 0 → Appends (W.contents writer.old) (W.contents writer.new) text.now }
 {
-    if writer.write_all(text.as_bytes()).is_err() || writer.flush().is_err() {
-        say(errors, "batchdb: the output could not be written");
-        return FAILED;
+    let written = match writer.write_all(text.as_bytes()) {
+        Ok(()) => writer.flush(),
+        Err(error) => Err(error),
+    };
+    match written {
+        Ok(()) => DONE,
+        Err(error) => {
+            let _ = writeln!(errors, "batchdb: the output could not be written: {error}");
+            FAILED
+        }
     }
-    DONE
 }
 
 /// Says what is wrong with words that the program does not know, or what longer forms of known ones
@@ -215,16 +254,32 @@ fn tell<W: Write, E: Write>(
         × Appends (W.contents writer.old) (W.contents writer.new) text }
     ensures unwritten { result ≡ 2 → Keeps (W.contents writer.old) (W.contents writer.new) }
 {
-    let Some(text) = text_of(alloc, &answer) else {
+    if !answer.use_stderr() {
+        let Some(text) = text_of(alloc, &answer) else {
+            say(errors, "batchdb: out of memory");
+            return FAILED;
+        };
+        return print(text.as_str(), writer, errors);
+    }
+    let Some(text) = wrong_text(alloc, words) else {
         say(errors, "batchdb: out of memory");
         return FAILED;
     };
-    let text = text.as_str();
-    if answer.use_stderr() {
-        say_wrong(errors, text, hint_of(words));
-        return NOT_READ;
+    say_wrong(errors, text.as_str(), hint_of(words));
+    NOT_READ
+}
+
+/// What is wrong with words, in which each of them is as a fault line shows it. `None` when out of memory.
+fn wrong_text(alloc: Global, words: &[&str]) -> Option<String> {
+    let mut all = Vec::new(alloc);
+    for word in words {
+        all.push(shown(alloc, word)?).ok()?;
     }
-    print(text, writer, errors)
+    let texts = texts_of(alloc, &all).ok()?;
+    match parse(alloc, texts.as_slice()) {
+        Err(Unasked::Told(answer)) => text_of(alloc, &answer),
+        _ => None,
+    }
 }
 
 /// Writes what is wrong with words, in one line: the first paragraph of a text; what follows that is advice.

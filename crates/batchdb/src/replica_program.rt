@@ -111,7 +111,6 @@ fn serve_at_socket<
     )?;
     let mut follower = Follower {
         alloc,
-        listen: words.listen,
         primary: words.primary,
         turns: words.turns,
         is_live: words.is_live,
@@ -216,7 +215,6 @@ fn take_batches<T: Wait, R: Read>(
 #[derive(Drop)]
 struct Follower {
     alloc: Global,
-    listen: SocketAddr,
     primary: SocketAddr,
     /// How many turns it has: for all batches, or live for each.
     turns: Option<u64>,
@@ -297,7 +295,7 @@ impl Follower {
                 Ok(true)
             }
             Ok(None) => Ok(false),
-            Err(fault) => Err(serve_failure(self.alloc, self.listen, fault, port)),
+            Err(fault) => Err(serve_failure(self.alloc, fault, port)),
         }
     }
 
@@ -329,14 +327,9 @@ pub fn put_all<T: Wait>(rt: &T, queue: &QueryQueue, plans: Vec<Plan>) {
 }
 
 /// What is said of a replica that serves no longer.
-pub fn serve_failure(
-    alloc: Global,
-    listen: SocketAddr,
-    fault: ServeFault,
-    port: &WatchedPort<UdpPort>,
-) -> Failure {
+pub fn serve_failure(alloc: Global, fault: ServeFault, port: &WatchedPort<UdpPort>) -> Failure {
     match fault {
-        ServeFault::Socket => socket_failure(alloc, listen, port),
+        ServeFault::Socket => socket_failure(alloc, port),
         ServeFault::Broken => Failure::new(
             Status::Failed,
             format!(in alloc;

@@ -10,7 +10,6 @@ use shared::{Line, Origin, Seat};
 use sockets::{UdpPort, serve_primary};
 use std::alloc::Global;
 use std::io::Write;
-use std::net::SocketAddr;
 use std::rt::Clock;
 use std::sync::Wait;
 use std::sync::atomic::{AtomicU64, Ordering};
@@ -23,7 +22,6 @@ const SILENCE_SECONDS: u64 = 1;
 #[derive(Drop)]
 pub struct Server {
     alloc: Global,
-    listen: SocketAddr,
     /// For each worker the seq of the first frame that was not pushed yet.
     counters: [u64; WORKERS_MAX as usize],
     workers: u8,
@@ -35,10 +33,9 @@ pub struct Server {
 
 impl Server {
     /// Of a primary that has served no turn.
-    pub fn new(alloc: Global, listen: SocketAddr, workers: u8, says: bool) -> Server {
+    pub fn new(alloc: Global, workers: u8, says: bool) -> Server {
         Server {
             alloc,
-            listen,
             counters: [0; WORKERS_MAX as usize],
             workers,
             says,
@@ -130,7 +127,7 @@ impl Server {
         let mut turns = Some(1);
         let counters = &mut self.counters[..workers];
         if serve_primary(rt, line, seat, port, counters, &mut turns).is_err() {
-            return Err(socket_failure(self.alloc, self.listen, port));
+            return Err(socket_failure(self.alloc, port));
         }
         if self.says {
             say_asked(port, errors);
