@@ -15,6 +15,8 @@ use wire::Out;
 pub enum Patience {
     /// It waits at most 10 ms.
     Waits,
+    /// It waits at most 1 ms.
+    Pauses,
     /// It takes what is there.
     Takes,
 }

@@ -12,6 +12,7 @@ use crate::faults::ServeFault;
 use crate::port::{Patience, Port};
 use crate::turns::{BUFFER_LEN, ROUND_DATAGRAMS, TURN_ROUNDS, take_turn};
 use journal::JournalStore;
+use rows::limits::WORKERS_MAX;
 use shared::{Line, Origin, Seat};
 use std::sync::Wait;
 use wire::{Out, To};
@@ -22,12 +23,18 @@ const TURN_PUSHES: usize = 1024;
 /// How many frames of one worker are pushed in a turn, at most.
 const WORKER_PUSHES: usize = 256;
 
+/// How many frames of one worker are pushed in a row, at most, before the next worker's are. A replica that
+/// misses several workers' frames asks for one worker's, waits for the 16th of these, and by then has
+/// the others' as well.
+const ROW_PUSHES: usize = 4;
+
 /// Serves until the turns are used up; `None` means no limit. For each worker, `counters` has the
 /// seq of the first frame that was not pushed yet, initially 0; another call continues where this
 /// one stopped.
 ///
 /// In a turn it first pushes the next durable frames of each worker, 1024 at most, to all replicas,
-/// each once; then it answers what arrives, and waits at most 10 ms while nothing does. A datagram
+/// each once; then it answers what arrives, and waits while nothing does, at most 10 ms, or 1 ms if it
+/// has pushed a frame, since the next ones would soon be more than a replica's socket holds. A datagram
 /// for which there is no memory counts as lost, and so does one that cannot be sent.
 ///
 /// It also ends if the port has counted as many faults as it can. Fails with `Socket` if a receive
@@ -54,31 +61,73 @@ pub fn serve_primary<L: Origin, J: JournalStore, H: Wait + Drop, P: Port, R: Wai
         if port.faults() == u64::MAX || !take_turn(turns) {
             return Ok(());
         }
-        push_all(rt, line, seat, port, counters);
-        if let Err(fault) = hear_all(rt, line, seat, port, &mut buffer) {
+        let patience = push_all(rt, line, seat, port, counters);
+        if let Err(fault) = hear_all(rt, line, seat, port, &mut buffer, patience) {
             return Err(fault);
         }
     }
     unreachable!()
 }
 
-/// Pushes the next frames of each worker to all replicas.
+/// Pushes the next frames of each worker to all replicas, and answers how long to wait for what arrives.
 fn push_all<L: Origin, J: JournalStore, H: Wait + Drop, P: Port, R: Wait>(
     rt: &R,
     line: &Line<L, J, H>,
     seat: &mut Seat<L>,
     port: &mut P,
     counters: &mut [u64],
-)
+) -> Patience
     requires { length counters.old ≤ workers_max }
     ensures pushes { PushesAll L.schema L.workers P.is_honest P.came P.sent P.fault_count port.old port.new
         seat.old.list seat.new.list counters.old counters.new }
     ensures seat { seat.new ≡ record seat.old { list = seat.new.list } }
     ensures counters { length counters.new ≡ length counters.old }
 {
-    let most = pushes_of_each(counters.len());
+    let mut left = [pushes_of_each(counters.len()); WORKERS_MAX as usize];
+    let mut patience = Patience::Waits;
+    for _ in 0..WORKER_PUSHES / ROW_PUSHES {
+        if !push_row(rt, line, seat, port, counters, &mut left) {
+            return patience;
+        }
+        patience = Patience::Pauses;
+    }
+    patience
+}
+
+/// Pushes the next frames of each worker to all replicas, a row of each, and answers whether there were any.
+/// `left` has how many of each worker may still be pushed in this turn.
+fn push_row<L: Origin, J: JournalStore, H: Wait + Drop, P: Port, R: Wait>(
+    rt: &R,
+    line: &Line<L, J, H>,
+    seat: &mut Seat<L>,
+    port: &mut P,
+    counters: &mut [u64],
+    left: &mut [usize; WORKERS_MAX as usize],
+) -> bool
+    requires { length counters.old ≤ workers_max }
+    ensures pushes { PushesAll L.schema L.workers P.is_honest P.came P.sent P.fault_count port.old port.new
+        seat.old.list seat.new.list counters.old counters.new }
+    ensures seat { seat.new ≡ record seat.old { list = seat.new.list } }
+    ensures counters { length counters.new ≡ length counters.old }
+{
+    let mut has_pushed = false;
     for worker in 0..counters.len() {
-        counters[worker] = push_worker(rt, line, seat, worker as u8, port, counters[worker], most);
+        let most = left[worker].min(ROW_PUSHES);
+        let from = counters[worker];
+        counters[worker] = push_worker(rt, line, seat, worker as u8, port, from, most);
+        has_pushed = has_pushed || counters[worker] != from;
+        left[worker] = left_after(left[worker], most, counters[worker].saturating_sub(from));
+    }
+    has_pushed
+}
+
+/// How many frames of a worker may still be pushed in a turn after `pushed` of at most `most` were; none once
+/// there were fewer.
+fn left_after(left: usize, most: usize, pushed: u64) -> usize {
+    if pushed < most as u64 {
+        0
+    } else {
+        left.saturating_sub(most)
     }
 }
 
@@ -147,13 +196,14 @@ fn push<L: Origin, J: JournalStore, H: Wait + Drop, P: Port, R: Wait>(
     }
 }
 
-/// Receives and answers what arrives: it waits only for the first datagram.
+/// Receives and answers what arrives: with this patience the first datagram, and then what is there.
 fn hear_all<L: Origin, J: JournalStore, H: Wait + Drop, P: Port, R: Wait>(
     rt: &R,
     line: &Line<L, J, H>,
     seat: &mut Seat<L>,
     port: &mut P,
     buffer: &mut [u8],
+    first: Patience,
 ) -> Result<(), ServeFault>
     requires room { datagram_max < length buffer.old }
     ensures deeds { Deeds L.schema L.workers P.is_honest P.came P.sent P.fault_count port.old port.new
@@ -161,7 +211,7 @@ fn hear_all<L: Origin, J: JournalStore, H: Wait + Drop, P: Port, R: Wait>(
     ensures seat { seat.new ≡ record seat.old { list = seat.new.list } }
     ensures failed { IfErr result (λ fault. fault ≡ Socket) }
 {
-    let mut patience = Patience::Waits;
+    let mut patience = first;
     for _ in 0..TURN_ROUNDS * ROUND_DATAGRAMS {
         match hear(rt, line, seat, port, buffer, patience) {
             Ok(true) => {}

@@ -27,12 +27,12 @@ use wire::{Datagram, read};
 /// Serves until a batch is answered, and gives its report, or until the turns are used up; `None`
 /// means no limit. It may be called again and continues where it stopped.
 ///
-/// In a turn it asks while nothing is fetched for the batch; or, if there is no batch, it takes the
+/// In a turn it asks while nothing is fetched for the batch; if there is no batch, it first takes the
 /// queries of the queue for a new one, and drops those that do not fit the schema. It then runs the
 /// batch, which may use threads, and sends the Want of a missing frame. Then it receives, and waits
-/// at most 10 ms while nothing arrives. A Want is followed by the next one in the same turn once the
-/// last frame of its answer has arrived, and not before, unless that is late. A datagram for which
-/// there is no memory counts as lost, and so does one that cannot be sent.
+/// at most 10 ms while nothing arrives. The Head is awaited before it asks again, and a Want is followed
+/// by the next one once the last frame of its answer has arrived, and not before, unless these are late. A
+/// datagram for which there is no memory counts as lost, and so does one that cannot be sent.
 ///
 /// It also ends without a report if the replica's request number is the greatest of 64 bits, or the
 /// port has counted as many faults as it can. Fails with `Socket` if a receive failed; with
@@ -89,14 +89,30 @@ fn turn<S: ApplyStore + Sync, P: Port, R: Threads + Wait + Sync>(
     ensures broken { IfErr result (λ fault. fault ≡ Broken → replica.new.broken ≡ true) }
 {
     match ask(replica, port) {
-        Ok(()) => {}
-        Err(AskFault::Busy) => {}
+        Ok(()) => run_and_hear(rt, replica, port, buffer),
+        Err(AskFault::Busy) => run_and_hear(rt, replica, port, buffer),
         Err(AskFault::Empty) => match open_batch(rt, alloc, replica, queue, pass) {
-            Ok(()) => {}
-            Err(fault) => return Err(fault),
+            Ok(()) => ask_run_and_hear(rt, replica, port, buffer),
+            Err(fault) => Err(fault),
         },
-        Err(AskFault::Broken) => return Err(ServeFault::Broken),
+        Err(AskFault::Broken) => Err(ServeFault::Broken),
     }
+}
+
+/// Asks, if there is a query now, runs the batch and receives.
+fn ask_run_and_hear<S: ApplyStore + Sync, P: Port, R: Threads + Sync>(
+    rt: &R,
+    replica: &mut ReplicaCore<S>,
+    port: &mut P,
+    buffer: &mut [u8],
+) -> Result<Option<ByteList>, ServeFault>
+    requires room { datagram_max < length buffer.old }
+    ensures steps { Steps P.is_honest P.came P.sent P.fault_count port.old port.new replica.old replica.new
+        (failures result) (handed result) }
+    ensures broken { IfErr result (λ fault. fault ≡ Broken → replica.new.broken ≡ true) }
+{
+    // Where there is none, nothing is asked for.
+    let _ = ask(replica, port);
     run_and_hear(rt, replica, port, buffer)
 }
 
@@ -157,14 +173,24 @@ fn offer_all<S: ApplyStore + Sync>(
     Ok(())
 }
 
+/// What a node listens for.
+#[derive(Clone, Copy, Debug)]
+enum Awaited {
+    /// For nothing in particular.
+    Nothing,
+    /// The Head that answers its Ask.
+    Head,
+    /// The last frame of the answer to its Want.
+    Frame { worker: u8, seq: u64 },
+}
+
 /// The outcome of a run of the batch.
 #[derive(Debug, Drop)]
 enum Ran {
     /// The report.
     Answered(ByteList),
-    /// There is none yet. The first datagram is waited for, and the others are received with this
-    /// patience.
-    Hears(Patience),
+    /// There is none yet.
+    Hears(Awaited),
 }
 
 /// Runs the batch and receives, round after round, until the batch is answered or nothing arrived
@@ -180,14 +206,13 @@ fn run_and_hear<S: ApplyStore + Sync, P: Port, R: Threads + Sync>(
         (failures result) (handed result) }
     ensures broken { IfErr result (λ fault. fault ≡ Broken → replica.new.broken ≡ true) }
 {
-    let mut last = None;
     for _ in 0..TURN_ROUNDS {
-        let patience = match run(rt, replica, port, &mut last) {
+        let awaited = match run(rt, replica, port) {
             Ok(Ran::Answered(report)) => return Ok(Some(report)),
-            Ok(Ran::Hears(patience)) => patience,
+            Ok(Ran::Hears(awaited)) => awaited,
             Err(fault) => return Err(fault),
         };
-        match hear_round(replica, port, buffer, patience, last) {
+        match hear_round(replica, port, buffer, awaited) {
             Ok(true) => {}
             Ok(false) => return Ok(None),
             Err(fault) => return Err(fault),
@@ -196,67 +221,64 @@ fn run_and_hear<S: ApplyStore + Sync, P: Port, R: Threads + Sync>(
     Ok(None)
 }
 
-/// Runs the batch, and sends the Want of a frame that is missing; `last` is then the last frame of its
-/// answer.
+/// Runs the batch, and sends the Want of a frame that is missing.
 fn run<S: ApplyStore + Sync, P: Port, R: Threads + Sync>(
     rt: &R,
     replica: &mut ReplicaCore<S>,
     port: &mut P,
-    last: &mut Option<(u8, u64)>,
 ) -> Result<Ran, ServeFault>
     ensures steps { Steps P.is_honest P.came P.sent P.fault_count port.old port.new replica.old replica.new 0 (report_in result) }
     ensures no_failure { failures result ≡ 0 }
     ensures broken { IfErr result (λ fault. fault ≡ Broken → replica.new.broken ≡ true) }
 {
-    *last = None;
     if port.faults() == u64::MAX {
-        return Ok(Ran::Hears(Patience::Takes));
+        return Ok(Ran::Hears(Awaited::Nothing));
     }
     match replica.run(rt) {
         Run::Answered(report) => Ok(Ran::Answered(report)),
         Run::Waiting { worker, seq, want } => {
-            *last = Some((worker, seq.saturating_add(ROUND_DATAGRAMS as u64 - 1)));
             // One that could not be sent is lost, as it may be on its way; it is sent again in the next turn.
             let _ = port.send(want);
-            Ok(Ran::Hears(Patience::Waits))
+            Ok(Ran::Hears(Awaited::Frame {
+                worker,
+                seq: seq.saturating_add(ROUND_DATAGRAMS as u64 - 1),
+            }))
         }
-        Run::NoBatch => Ok(Ran::Hears(Patience::Takes)),
-        Run::WaitingHead => Ok(Ran::Hears(Patience::Takes)),
+        Run::NoBatch => Ok(Ran::Hears(Awaited::Nothing)),
+        Run::WaitingHead => Ok(Ran::Hears(Awaited::Head)),
         Run::Inconsistent => Err(ServeFault::Broken),
         Run::Broken => Err(ServeFault::Broken),
         Run::Memory => Err(ServeFault::Memory),
     }
 }
 
-/// Receives until the last frame of a Want's answer has arrived, but no more than so many datagrams
-/// that the answer must be late; without a Want, as many datagrams as one would bring. Answers false
-/// if nothing arrived any more. It waits for the first datagram, and receives the others with the
-/// given patience.
+/// Receives until what is awaited has arrived, but no more than so many datagrams that it must be late, and
+/// waits at most 10 ms for each; if nothing is awaited, as many datagrams as one Want would bring, of which
+/// it waits for the first. Answers false if nothing arrived any more.
 ///
-/// So a Want follows another only if that one was answered, or its answer is late. To count all
-/// datagrams would not do: every 16 pushed frames would cause one more Want, which brings 16 frames
-/// more, until the primary has no time for anything but Wants of old frames.
+/// So an Ask or a Want follows another only if that was answered, or its answer is late. To ask again after
+/// any datagram would not do: while frames are pushed, hundreds of Asks would come before the answer to the
+/// first, and 16 pushed frames would cause one more Want, which brings 16 frames more, until the primary has
+/// no time for anything else.
 fn hear_round<S: ApplyStore + Sync, P: Port>(
     replica: &mut ReplicaCore<S>,
     port: &mut P,
     buffer: &mut [u8],
-    then: Patience,
-    last: Option<(u8, u64)>,
+    awaited: Awaited,
 ) -> Result<bool, ServeFault>
     requires room { datagram_max < length buffer.old }
     ensures steps { Steps P.is_honest P.came P.sent P.fault_count port.old port.new replica.old replica.new (failures result) [] }
     ensures broken { IfErr result (λ fault. fault ≡ Broken → replica.new.broken ≡ true) }
 {
-    let most = if last.is_some() {
-        AWAITING_DATAGRAMS
-    } else {
-        ROUND_DATAGRAMS
+    let (most, then) = match awaited {
+        Awaited::Nothing => (ROUND_DATAGRAMS, Patience::Takes),
+        Awaited::Head | Awaited::Frame { .. } => (AWAITING_DATAGRAMS, Patience::Waits),
     };
     let mut patience = Patience::Waits;
     for _ in 0..most {
-        match hear(replica, port, buffer, patience, last) {
+        match hear(replica, port, buffer, patience, awaited) {
             Ok(Heard::Datagram) => {}
-            Ok(Heard::Last) => return Ok(true),
+            Ok(Heard::Awaited) => return Ok(true),
             Ok(Heard::Nothing) => return Ok(false),
             Err(fault) => return Err(fault),
         }
@@ -272,17 +294,17 @@ enum Heard {
     Nothing,
     /// A datagram.
     Datagram,
-    /// The last frame of the answer to a Want.
-    Last,
+    /// What is awaited.
+    Awaited,
 }
 
-/// Receives one datagram. `last` is the last frame of the answer to a Want, as its worker and seq.
+/// Receives one datagram.
 fn hear<S: ApplyStore + Sync, P: Port>(
     replica: &mut ReplicaCore<S>,
     port: &mut P,
     buffer: &mut [u8],
     patience: Patience,
-    last: Option<(u8, u64)>,
+    awaited: Awaited,
 ) -> Result<Heard, ServeFault>
     requires room { datagram_max < length buffer.old }
     ensures steps { Steps P.is_honest P.came P.sent P.fault_count port.old port.new replica.old replica.new (failures result) [] }
@@ -294,20 +316,25 @@ fn hear<S: ApplyStore + Sync, P: Port>(
     match port.recv(buffer, patience) {
         Ok(Some(len)) => match replica.on_bytes(&buffer[..len]) {
             Got::Broken => Err(ServeFault::Broken),
-            _ => Ok(taken_for(&buffer[..len], last)),
+            Got::Head(_) => Ok(Heard::Awaited),
+            _ => Ok(taken_for(&buffer[..len], awaited)),
         },
         Ok(None) => Ok(Heard::Nothing),
         Err(_) => Err(ServeFault::Socket),
     }
 }
 
-/// What these bytes are to a replica that awaits this frame.
-fn taken_for(bytes: &[u8], last: Option<(u8, u64)>) -> Heard {
-    let Some((of, end)) = last else {
+/// What these bytes, which are no Head for it, are to a replica that awaits this.
+fn taken_for(bytes: &[u8], awaited: Awaited) -> Heard {
+    let Awaited::Frame {
+        worker: of,
+        seq: end,
+    } = awaited
+    else {
         return Heard::Datagram;
     };
     match read(bytes) {
-        Ok(Datagram::Frame { worker, seq, .. }) if worker == of && seq == end => Heard::Last,
+        Ok(Datagram::Frame { worker, seq, .. }) if worker == of && seq == end => Heard::Awaited,
         _ => Heard::Datagram,
     }
 }

@@ -12,8 +12,8 @@ pub const BUFFER_LEN: usize = DATAGRAM_MAX + 1;
 /// answer one Want.
 pub const ROUND_DATAGRAMS: usize = 16;
 
-/// How many datagrams are received, at most, while the last frame of the answer to a Want is awaited:
-/// pushed frames arrive between those of the answer.
+/// How many datagrams are received, at most, while the answer to an Ask or the last frame of that to a Want
+/// is awaited: pushed frames arrive before it.
 pub const AWAITING_DATAGRAMS: usize = 256;
 
 /// How many rounds of receives a turn has, at most.

@@ -15,8 +15,11 @@ use std::net::{Net, SocketAddr};
 use std::time::Duration;
 use wire::{Out, To};
 
-/// How long a receive waits, at most, in milliseconds.
+/// How long a receive that waits does so, at most, in milliseconds.
 const WAIT_MILLIS: u64 = 10;
+
+/// How long a receive that pauses waits, at most, in milliseconds.
+const PAUSE_MILLIS: u64 = 1;
 
 /// A UDP socket, the addresses to which datagrams go, and what waits for the socket.
 ///
@@ -170,10 +173,15 @@ fn take_or_wait(
     ensures { IfOk result (IsWithin (length buffer.new)) }
 {
     let len = take(socket, buffer)?;
-    if len.is_some() || patience == Patience::Takes {
+    if len.is_some() {
         return Ok(len);
     }
-    poll.poll(events, Some(Duration::from_millis(WAIT_MILLIS)))?;
+    let millis = match patience {
+        Patience::Waits => WAIT_MILLIS,
+        Patience::Pauses => PAUSE_MILLIS,
+        Patience::Takes => return Ok(None),
+    };
+    poll.poll(events, Some(Duration::from_millis(millis)))?;
     take(socket, buffer)
 }
 

@@ -16,13 +16,13 @@ returns-then-faults-eq18446744073709551615-clause-seat g c = c.loop.invariant.se
 pub returns-in-Err-clause-serves : goal.returns-in-Err-clause-serves
 returns-in-Err-clause-serves g c =
     primary_serves _ _ _ _ _ _ _ _ _ _ _ _ _ _ (Err c.in-Err.fault)
-    (all_then _ _ _ _ _ _ _ _ _ _ _ _ _ _ _ c.loop.auto.counters c.loop.invariant.pushes c.push_all.ensures.pushes)
+    (all_then _ _ _ _ _ _ _ _ _ _ _ _ _ _ _ c.loop.auto.counters c.loop.invariant.pushes c.push_all-patience.ensures.pushes)
     (rw c.in-Err.is at c.hear_all.ensures.deeds)
 
 pub returns-in-Err-clause-seat : goal.returns-in-Err-clause-seat
 returns-in-Err-clause-seat g c =
-    seat_then c.args.seat.now c.push_all.new.seat c.hear_all.new.seat
-    (seat_then c.args.seat.now c.loop.seat c.push_all.new.seat c.loop.invariant.seat c.push_all.ensures.seat) c.hear_all.ensures.seat
+    seat_then c.args.seat.now c.push_all-patience.new.seat c.hear_all.new.seat
+    (seat_then c.args.seat.now c.loop.seat c.push_all-patience.new.seat c.loop.invariant.seat c.push_all-patience.ensures.seat) c.hear_all.ensures.seat
 
 pub loop-preserved : goal.loop-preserved
 loop-preserved g c = record {
@@ -32,8 +32,8 @@ loop-preserved g c = record {
   pushes =
       serves_all _ _ _ _ _ _ _ _ _ _ _ _ (tt {0})
       (primary_serves _ _ _ _ _ _ _ _ _ _ _ _ _ _ (Ok (tt {0}))
-      (all_then _ _ _ _ _ _ _ _ _ _ _ _ _ _ _ c.loop.auto.counters c.loop.invariant.pushes c.push_all.ensures.pushes)
+      (all_then _ _ _ _ _ _ _ _ _ _ _ _ _ _ _ c.loop.auto.counters c.loop.invariant.pushes c.push_all-patience.ensures.pushes)
       (rw c.in_default.is at c.hear_all.ensures.deeds));
-  seat = seat_then c.args.seat.now c.push_all.new.seat c.hear_all.new.seat
-      (seat_then c.args.seat.now c.loop.seat c.push_all.new.seat c.loop.invariant.seat c.push_all.ensures.seat) c.hear_all.ensures.seat;
+  seat = seat_then c.args.seat.now c.push_all-patience.new.seat c.hear_all.new.seat
+      (seat_then c.args.seat.now c.loop.seat c.push_all-patience.new.seat c.loop.invariant.seat c.push_all-patience.ensures.seat) c.hear_all.ensures.seat;
 }

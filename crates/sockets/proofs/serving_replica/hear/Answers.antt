@@ -14,6 +14,12 @@ pub returns-in-Broken-clause-broken : goal.returns-in-Broken-clause-broken
 returns-in-Broken-clause-broken g c = λ _.
     heard_is_broken _ _ (take c.in-Ok-Some.len c.recv.new.buffer) (rw c.in-Broken.is at c.on_bytes.ensures)
 
+pub returns-in-Head-clause-steps : goal.returns-in-Head-clause-steps
+returns-in-Head-clause-steps g c =
+    step_hears _ _ _ _ _ _ _ _ (take c.in-Ok-Some.len c.recv.new.buffer) c.on_bytes.result c.on_bytes.ensures
+    (λ h. rw c.in-Ok-Some.field-0-is at (c.in-Ok-Some.ensures.came h)) (c.recv.ensures.sent)
+    (rw c.in-Ok-Some.is at c.recv.ensures.faults)
+
 pub returns-in_default : goal.returns-in_default
 returns-in_default g c = record {
   steps =

@@ -9,8 +9,8 @@ loop-init g c = steps_nothing _ _ _ _ _ _ _ refl
 pub returns-in-Ok-Nothing-clause-steps : goal.returns-in-Ok-Nothing-clause-steps
 returns-in-Ok-Nothing-clause-steps g c = steps_then _ _ _ _ _ _ _ _ _ _ _ _ _ c.loop.invariant c.in-Ok-Nothing.ensures.steps
 
-pub returns-in-Ok-Last-clause-steps : goal.returns-in-Ok-Last-clause-steps
-returns-in-Ok-Last-clause-steps g c = steps_then _ _ _ _ _ _ _ _ _ _ _ _ _ c.loop.invariant c.in-Ok-Last.ensures.steps
+pub returns-in-Ok-Awaited-clause-steps : goal.returns-in-Ok-Awaited-clause-steps
+returns-in-Ok-Awaited-clause-steps g c = steps_then _ _ _ _ _ _ _ _ _ _ _ _ _ c.loop.invariant c.in-Ok-Awaited.ensures.steps
 
 pub returns-in-Err-clause-steps : goal.returns-in-Err-clause-steps
 returns-in-Err-clause-steps g c = steps_then _ _ _ _ _ _ _ _ _ _ _ _ _ c.loop.invariant c.in-Err.ensures.steps
