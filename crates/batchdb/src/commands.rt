@@ -97,74 +97,98 @@ pub fn read_words<'a>(
     }
 }
 
-/// The commands, and what stands behind each.
+/// How an argument is given.
+#[derive(Clone, Copy)]
+enum Form {
+    /// A word that has to be there.
+    Word,
+    /// Any number of words behind those.
+    Words,
+    /// A word behind an option.
+    Option,
+    /// An option by itself.
+    Flag,
+}
+
+/// The arguments of each command.
+const COMMANDS: &[(&str, &[(&str, Form)])] = &[
+    ("sim", &[("echo", Form::Flag)]),
+    (
+        "primary",
+        &[
+            ("SCHEMA", Form::Word),
+            ("JOURNAL", Form::Word),
+            ("LISTEN", Form::Word),
+            ("REPLICA", Form::Words),
+            ("turns", Form::Option),
+            ("live", Form::Flag),
+            ("say", Form::Flag),
+        ],
+    ),
+    (
+        "replica",
+        &[
+            ("SCHEMA", Form::Word),
+            ("NUMBER", Form::Word),
+            ("BOOT", Form::Word),
+            ("LISTEN", Form::Word),
+            ("PRIMARY", Form::Word),
+            ("turns", Form::Option),
+            ("live", Form::Flag),
+            ("say", Form::Flag),
+        ],
+    ),
+    ("demo", &[]),
+    (
+        "journal",
+        &[
+            ("SCHEMA", Form::Word),
+            ("JOURNAL", Form::Word),
+            ("dump", Form::Flag),
+            ("cut", Form::Option),
+            ("yes", Form::Flag),
+        ],
+    ),
+];
+
+/// All commands.
 fn command_of<'a>(
     alloc: Global,
     help: &'a str,
     version: &'a str,
 ) -> Result<Command<'a>, AllocError> {
-    Command::new(alloc, "batchdb")
+    let mut command = Command::new(alloc, "batchdb")
         .version(version)
-        .override_help(help)
-        .subcommand(
-            Command::new(alloc, "sim")
-                .override_help(help)
-                .arg(flag(alloc, "echo"))?,
-        )?
-        .subcommand(primary_command(alloc, help)?)?
-        .subcommand(replica_command(alloc, help)?)?
-        .subcommand(Command::new(alloc, "demo").override_help(help))?
-        .subcommand(journal_command(alloc, help)?)
+        .override_help(help);
+    for (name, arguments) in COMMANDS {
+        command = command.subcommand(command_with(alloc, name, help, arguments)?)?;
+    }
+    Ok(command)
 }
 
-fn primary_command<'a>(alloc: Global, help: &'a str) -> Result<Command<'a>, AllocError> {
-    Command::new(alloc, "primary")
-        .override_help(help)
-        .arg(word(alloc, "SCHEMA"))?
-        .arg(word(alloc, "JOURNAL"))?
-        .arg(word(alloc, "LISTEN"))?
-        .arg(Arg::new(alloc, "REPLICA").num_args(0..))?
-        .arg(option(alloc, "turns"))?
-        .arg(flag(alloc, "live"))?
-        .arg(flag(alloc, "say"))
+/// The command of this name, with these arguments.
+fn command_with<'a>(
+    alloc: Global,
+    name: &'a str,
+    help: &'a str,
+    arguments: &[(&'a str, Form)],
+) -> Result<Command<'a>, AllocError> {
+    let mut command = Command::new(alloc, name).override_help(help);
+    for (name, form) in arguments {
+        command = command.arg(argument_of(alloc, name, *form))?;
+    }
+    Ok(command)
 }
 
-fn replica_command<'a>(alloc: Global, help: &'a str) -> Result<Command<'a>, AllocError> {
-    Command::new(alloc, "replica")
-        .override_help(help)
-        .arg(word(alloc, "SCHEMA"))?
-        .arg(word(alloc, "NUMBER"))?
-        .arg(word(alloc, "BOOT"))?
-        .arg(word(alloc, "LISTEN"))?
-        .arg(word(alloc, "PRIMARY"))?
-        .arg(option(alloc, "turns"))?
-        .arg(flag(alloc, "live"))?
-        .arg(flag(alloc, "say"))
-}
-
-fn journal_command<'a>(alloc: Global, help: &'a str) -> Result<Command<'a>, AllocError> {
-    Command::new(alloc, "journal")
-        .override_help(help)
-        .arg(word(alloc, "SCHEMA"))?
-        .arg(word(alloc, "JOURNAL"))?
-        .arg(flag(alloc, "dump"))?
-        .arg(option(alloc, "cut"))?
-        .arg(flag(alloc, "yes"))
-}
-
-/// A word that has to be there.
-fn word<'a>(alloc: Global, name: &'a str) -> Arg<'a> {
-    Arg::new(alloc, name).required(true)
-}
-
-/// A word behind an option.
-fn option<'a>(alloc: Global, name: &'a str) -> Arg<'a> {
-    Arg::new(alloc, name).long(name).action(ArgAction::Set)
-}
-
-/// An option by itself.
-fn flag<'a>(alloc: Global, name: &'a str) -> Arg<'a> {
-    Arg::new(alloc, name).long(name).action(ArgAction::SetTrue)
+/// The argument of this name and form.
+fn argument_of<'a>(alloc: Global, name: &'a str, form: Form) -> Arg<'a> {
+    let argument = Arg::new(alloc, name);
+    match form {
+        Form::Word => argument.required(true),
+        Form::Words => argument.num_args(0..),
+        Form::Option => argument.long(name).action(ArgAction::Set),
+        Form::Flag => argument.long(name).action(ArgAction::SetTrue),
+    }
 }
 
 /// What words that were parsed ask for.

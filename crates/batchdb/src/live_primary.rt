@@ -232,22 +232,47 @@ fn take_requests<L: Origin, T: Wait, R: Read, W: Write>(
         }
         match requests.next(setup, reader)? {
             Requested::Request(Request::Job { worker, steps }) => {
-                if let Some(lane) = lanes.get(worker as usize) {
-                    if !lane.put(rt, LiveJob { index, steps }) {
-                        return Err(Failure::Memory);
-                    }
-                }
+                hand_on(rt, lanes, worker, LiveJob { index, steps })?;
                 index = index.saturating_add(1);
             }
             Requested::Request(Request::Get { table, row, column }) => {
-                let text = look_text(alloc, seat, table, row, column)?;
-                print_whole(rt, alloc, output, text.as_slice())?;
+                print_look(rt, alloc, seat, output, table, row, column)?;
             }
             Requested::NotYet => {}
             Requested::End => return Ok(()),
         }
     }
     unreachable!()
+}
+
+/// Hands a job to its worker.
+fn hand_on<T: Wait>(
+    rt: &T,
+    lanes: &[Lane<LiveJob>],
+    worker: u8,
+    job: LiveJob,
+) -> Result<(), Failure> {
+    let Some(lane) = lanes.get(worker as usize) else {
+        return Ok(());
+    };
+    if !lane.put(rt, job) {
+        return Err(Failure::Memory);
+    }
+    Ok(())
+}
+
+/// Writes the line of a look at what is durable.
+fn print_look<L: Origin, T: Wait, W: Write>(
+    rt: &T,
+    alloc: Global,
+    seat: &mut Seat<L>,
+    output: &Mutex<&mut W>,
+    table: u8,
+    row: RowId,
+    column: usize,
+) -> Result<(), Failure> {
+    let text = look_text(alloc, seat, table, row, column)?;
+    print_whole(rt, alloc, output, text.as_slice())
 }
 
 /// The line of a look at what is durable.

@@ -273,7 +273,13 @@ fn tell<W: Write, E: Write>(
 fn wrong_text(alloc: Global, words: &[&str]) -> Option<String> {
     let mut all = Vec::new(alloc);
     for word in words {
-        all.push(shown(alloc, word)?).ok()?;
+        // An empty one stands between the quotes of the text.
+        let word = if word.is_empty() {
+            String::new(alloc)
+        } else {
+            shown(alloc, word)?
+        };
+        all.push(word).ok()?;
     }
     let texts = texts_of(alloc, &all).ok()?;
     match parse(alloc, texts.as_slice()) {
