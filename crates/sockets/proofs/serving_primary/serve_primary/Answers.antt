@@ -22,7 +22,8 @@ returns-in-Err-clause-serves g c =
 pub returns-in-Err-clause-seat : goal.returns-in-Err-clause-seat
 returns-in-Err-clause-seat g c =
     seat_then c.args.seat.now c.push_all-patience.new.seat c.hear_all.new.seat
-    (seat_then c.args.seat.now c.loop.seat c.push_all-patience.new.seat c.loop.invariant.seat c.push_all-patience.ensures.seat) c.hear_all.ensures.seat
+    (seat_then c.args.seat.now c.loop.seat c.push_all-patience.new.seat c.loop.invariant.seat c.push_all-patience.ensures.seat)
+    c.hear_all.ensures.seat
 
 pub loop-preserved : goal.loop-preserved
 loop-preserved g c = record {
@@ -35,5 +36,6 @@ loop-preserved g c = record {
       (all_then _ _ _ _ _ _ _ _ _ _ _ _ _ _ _ c.loop.auto.counters c.loop.invariant.pushes c.push_all-patience.ensures.pushes)
       (rw c.in_default.is at c.hear_all.ensures.deeds));
   seat = seat_then c.args.seat.now c.push_all-patience.new.seat c.hear_all.new.seat
-      (seat_then c.args.seat.now c.loop.seat c.push_all-patience.new.seat c.loop.invariant.seat c.push_all-patience.ensures.seat) c.hear_all.ensures.seat;
+      (seat_then c.args.seat.now c.loop.seat c.push_all-patience.new.seat c.loop.invariant.seat c.push_all-patience.ensures.seat)
+      c.hear_all.ensures.seat;
 }
