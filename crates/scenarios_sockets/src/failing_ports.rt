@@ -68,8 +68,8 @@ fn turn_of<R: Threads + Wait + Sync>(
     }
 }
 
-/// How many calls of a node with one query fail until it answers: the first opens the query, and what comes
-/// then is a frame and the Head of its Ask.
+/// How many calls of a node with one query fail until it answers: the first opens the query and asks, and
+/// what comes then is a frame and the Head of its Ask.
 fn failures_of<R: Threads + Wait + Sync>(
     rt: &R,
     alloc: Global,
@@ -117,14 +117,14 @@ fn ending_of_replica<R: Threads + Wait + Sync>(
 }
 
 /// How a replica ends whose port fails at its first call, its second, and so on; the last does not fail.
-/// Its calls are: nothing comes; the Ask is sent; the frame comes; the Head comes; nothing comes.
+/// Its calls are: the Ask is sent; nothing comes; the Ask is sent again; the frame comes; the Head comes.
 const REPLICA_ENDINGS: [Ending; 6] = [
-    (1, 1, 1),
-    (0, 0, 1),
+    (0, 1, 1),
     (1, 2, 1),
-    (1, 2, 1),
-    (1, 1, 1),
-    (0, 1, 0),
+    (0, 1, 1),
+    (1, 3, 1),
+    (1, 3, 1),
+    (0, 2, 0),
 ];
 
 #[test]
