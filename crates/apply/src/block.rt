@@ -26,7 +26,7 @@ const STEP: usize = 128;
 
 /// Consecutive rows of a table: their identifiers, and a column of values for each column of the
 /// table. Contracts see a table of these rows.
-#[derive(Debug, Drop)]
+#[derive(Drop)]
 pub struct Block {
     ids: Vec<u64>,
     columns: Vec<Cells>,

@@ -19,7 +19,7 @@ const STEP: usize = 128;
 /// The values of one column, side by side: numbers of 64 bits, or bytes of one width.
 ///
 /// The identifiers beside it determine how many values there are, as many as `rows` below.
-#[derive(Debug, Drop)]
+#[derive(Drop)]
 pub enum Cells {
     Numbers(Vec<i64>),
     Octets { width: u8, bytes: Vec<u8> },

@@ -27,7 +27,7 @@ use store::{ApplyFault, ApplyStore, Lent, Store, StoreFault};
 ///
 /// Contracts see the tables of each partition, and whether the store is whole. Its answers are
 /// those of all partitions' tables together, and do not depend on the number of partitions.
-#[derive(Debug, Drop)]
+#[derive(Drop)]
 pub struct ColumnStore {
     alloc: Global,
     parts: Vec<Part>,

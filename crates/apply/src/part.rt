@@ -18,7 +18,7 @@ use std::alloc::{AllocError, Global};
 use store::{ApplyFault, StoreFault};
 
 /// The part of each table in one partition, and how the last list of commits ended there.
-#[derive(Debug, Drop)]
+#[derive(Drop)]
 pub struct Part {
     pub tables: Vec<Piece>,
     pub fault: Option<ApplyFault>,

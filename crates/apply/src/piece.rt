@@ -27,7 +27,7 @@ const ROWS_MAX: usize = 1 << 57;
 
 /// The rows of one table, as blocks of columns. Contracts see the kinds of its columns, which are
 /// allowed for a table, and its rows in rising identifier.
-#[derive(Debug, Drop)]
+#[derive(Drop)]
 pub struct Piece {
     kinds: KindList,
     blocks: Vec<Block>,

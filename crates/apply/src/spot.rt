@@ -1,5 +1,5 @@
 /// Where a row of a table is: in a partition, at a position among the rows of the table there.
-#[derive(Clone, Copy, Debug)]
+#[derive(Clone, Copy)]
 pub struct Spot {
     pub part: usize,
     pub position: usize,

@@ -1,7 +1,7 @@
 //! What a seat is answered about the durable list.
 
 /// The result of a flush.
-#[derive(Clone, Copy, Debug, PartialEq, Eq)]
+#[derive(Clone, Copy, PartialEq, Eq)]
 pub enum Flushed {
     /// This many commits are durable, and all of them are published.
     Published(u64),
@@ -11,7 +11,7 @@ pub enum Flushed {
 }
 
 /// The state of a ticket's commit.
-#[derive(Clone, Copy, Debug, PartialEq, Eq)]
+#[derive(Clone, Copy, PartialEq, Eq)]
 pub enum Settled {
     /// It is durable, under this number.
     Settled(u64),

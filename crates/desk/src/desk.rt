@@ -14,7 +14,7 @@ ghost use Rattle.desk.specs.State.{IsNew};
 
 use crate::answers::{Flushed, Settled};
 use crate::origin::Origin;
-use crate::parts::{Parts, merged, open_parts};
+use crate::parts::{Parts, audit_all, open_parts};
 use crate::roster::Roster;
 use crate::seat::Seat;
 use crate::telling::Telling;
@@ -297,6 +297,17 @@ impl<L: Origin, J: JournalStore, R: Wait + Drop> Desk<L, J, R> {
         if seats.len() + self.free.len() < self.count {
             return Err((self, seats));
         }
+        Ok(self.into_core(seats))
+    }
+
+    /// The core, if these are all seats that were given out.
+    fn into_core(self, seats: Vec<Seat<L>>) -> PrimaryCore<J>
+        requires parts { L.parts ≡ L.seats }
+        requires all { L.seats ≤ length seats.items + self.free }
+        ensures core { result ≡ self.core }
+        ensures all { length seats.items + self.free ≡ L.seats }
+        ensures counted { commit_count result.primary ≡ commit_count L.first + sum (map (λ seat. seat.share) seats.items) }
+    {
         let Desk {
             core,
             roster,
@@ -304,10 +315,8 @@ impl<L: Origin, J: JournalStore, R: Wait + Drop> Desk<L, J, R> {
             rest,
             ..
         } = self;
-        let mut roster = roster;
-        let mut all = merged(merged(rest, free), seats);
-        roster.audit(&mut all);
-        Ok(core)
+        audit_all(roster, rest, free, seats);
+        core
     }
 
     /// How many commits are durable after the first `count` pending ones are (all, if there are

@@ -117,8 +117,28 @@ fn manned<L: Origin, R: Wait + Drop>(
     Some(free)
 }
 
+/// Confirms that these are all seats, those that were not given out and the others, and that the
+/// shares of the latter are the number of commits; what is left of the ledger has none.
+pub(crate) fn audit_all<L: Origin>(
+    roster: Roster<L>,
+    rest: Share<L>,
+    free: Vec<Seat<L>>,
+    seats: Vec<Seat<L>>,
+)
+    requires parts { L.parts ≡ L.seats }
+    requires rest { (rest.parts ≡ 0) × (rest.amount ≡ 0) }
+    requires free { AllByRecursion (IsNew L.first) free.items }
+    requires all { L.seats ≤ length seats.items + length free.items }
+    ensures all { length seats.items + length free.items ≡ L.seats }
+    ensures counted { sum (map (λ seat. seat.share) seats.items) ≡ length roster.seats }
+{
+    let mut roster = roster;
+    let mut all = merged(merged(rest, free), seats);
+    roster.audit(&mut all);
+}
+
 /// A share merged with those of these seats.
-pub(crate) fn merged<L: Origin>(rest: Share<L>, seats: Vec<Seat<L>>) -> Share<L>
+fn merged<L: Origin>(rest: Share<L>, seats: Vec<Seat<L>>) -> Share<L>
     ensures parts { result.parts ≡ rest.parts + length seats.items }
     ensures within { result.parts ≤ L.parts }
     ensures amount { result.amount ≡ rest.amount + sum (map (λ seat. seat.share) seats.items) }

@@ -42,7 +42,7 @@ pub enum DumpFault {
 }
 
 /// Why a replica did not catch up to the fetched version.
-#[derive(Clone, Copy, Debug, PartialEq, Eq)]
+#[derive(Clone, Copy, PartialEq, Eq)]
 pub enum CatchUpFault {
     /// The frames are not those of one list of commits; the replica is broken.
     Inconsistent,

@@ -6,7 +6,7 @@ use rows::ByteList;
 use wire::Out;
 
 /// What was done with bytes that arrived.
-#[derive(Clone, Copy, Debug, PartialEq, Eq)]
+#[derive(Clone, Copy, PartialEq, Eq)]
 pub enum Got {
     /// A frame that was not known; it is now.
     Stored,
@@ -25,7 +25,7 @@ pub enum Got {
 }
 
 /// What a run of the batch did.
-#[derive(Debug, Drop)]
+#[derive(Drop)]
 pub enum Run {
     /// There is no batch.
     NoBatch,

@@ -34,7 +34,7 @@ use wire::{Counts, Datagram, LentEntries, Out, read};
 ///
 /// Contracts see what has arrived from each worker, the tables of its store and their version, the
 /// waiting queries, and its batch; they see nothing of the tables of a broken replica.
-#[derive(Debug, Drop)]
+#[derive(Drop)]
 pub struct ReplicaCore<S: ApplyStore + Sync> {
     alloc: Global,
     store: S,

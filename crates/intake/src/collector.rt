@@ -16,7 +16,7 @@ use std::marker::Model;
 use update_log::Frame;
 
 /// What has arrived from one worker: the known seqs, and the frames that are kept.
-#[derive(Debug, Drop)]
+#[derive(Drop)]
 pub struct Collector {
     known: KnownSeqs,
     kept: BTreeMap<u64, Frame>,

@@ -16,7 +16,7 @@ use update_log::Frame;
 /// The known frames of each worker, and which of them are kept.
 ///
 /// Contracts see, by worker, the seqs that are known and the frames that are kept.
-#[derive(Debug, Drop)]
+#[derive(Drop)]
 pub struct Intake {
     workers: Vec<Collector>,
 }

@@ -13,7 +13,7 @@ use std::marker::Model;
 /// take no memory; of the latter there are at most 4095, since none further ahead is taken.
 ///
 /// Contracts see the seqs in rising order.
-#[derive(Debug, Drop)]
+#[derive(Drop)]
 pub struct KnownSeqs {
     missing: u64,
     above: BTreeSet<u64>,

@@ -1,5 +1,5 @@
 /// What was done with a frame that arrived.
-#[derive(Clone, Copy, Debug, PartialEq, Eq)]
+#[derive(Clone, Copy, PartialEq, Eq)]
 pub enum Taken {
     /// It was known already, dropped or not.
     Repeat,

@@ -24,7 +24,7 @@ const FILE_MODE: u32 = 0o600;
 /// synced. After a write or a truncation that failed, it appends nothing until `cut_to` or
 /// `read_all` has cleared away what that left: the bytes after the last ones that are known to be
 /// there.
-#[derive(Debug, Drop)]
+#[derive(Drop)]
 pub struct FileJournal<D: Disk = File> {
     disk: D,
     /// How many bytes are known to be there.

@@ -10,7 +10,7 @@ use std::marker::Model;
 /// A journal in memory. It is honest, and never has a fault.
 ///
 /// Contracts see its bytes, and how many more it can take without memory.
-#[derive(Debug, Drop)]
+#[derive(Drop)]
 pub struct MemJournal {
     content: Vec<u8>,
 }

@@ -1,7 +1,7 @@
 use rows::Commit;
 
 /// A commit, and the number that its record has in a journal.
-#[derive(Debug, Drop)]
+#[derive(Drop)]
 pub struct NumberedCommit {
     pub number: u64,
     pub commit: Commit,

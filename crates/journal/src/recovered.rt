@@ -1,7 +1,7 @@
 use rows::Commit;
 
 /// What recovery finds in the bytes of a journal.
-#[derive(Debug, Drop)]
+#[derive(Drop)]
 pub struct Recovered {
     /// The kept commits in order; the first has number 1.
     pub commits: Vec<Commit>,

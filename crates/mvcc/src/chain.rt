@@ -13,7 +13,7 @@ use std::alloc::{AllocError, Global};
 use std::marker::Model;
 
 /// The versions that wrote one row, in order, each with the row's bytes after it.
-#[derive(Debug, Drop)]
+#[derive(Drop)]
 pub struct Chain {
     links: Vec<Link>,
 }

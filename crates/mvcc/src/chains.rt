@@ -14,7 +14,7 @@ use std::collections::BTreeMap;
 use std::marker::Model;
 
 /// For each row the chain of the versions that wrote it. Contracts see them by table and row.
-#[derive(Debug, Drop)]
+#[derive(Drop)]
 pub struct Chains {
     chains: BTreeMap<(u8, u64), Chain>,
 }

@@ -14,13 +14,13 @@ const INLINE_MAX: usize = 30;
 /// and a memory block of their own would cost more than they do.
 ///
 /// Contracts see the list of the bytes, or `None` if the row is not there.
-#[derive(Debug, Drop)]
+#[derive(Drop)]
 pub struct KeptBytes {
     kept: Kept,
 }
 
 /// Where bytes are kept.
-#[derive(Debug, Drop)]
+#[derive(Drop)]
 enum Kept {
     Absent,
     Inline { len: u8, buffer: [u8; INLINE_MAX] },

@@ -9,7 +9,7 @@ use std::collections::BTreeMap;
 use std::marker::Model;
 
 /// Indices of a list of entries, which contracts see as a list.
-#[derive(Debug, Drop)]
+#[derive(Drop)]
 pub struct Indices {
     items: Vec<usize>,
 }
@@ -34,7 +34,7 @@ impl Indices {
 /// For each row the indices, in a list of entries, of those that still matter for it.
 ///
 /// Contracts see the list of rows and indices.
-#[derive(Debug, Drop)]
+#[derive(Drop)]
 pub struct OwnRows {
     rows: BTreeMap<(u8, u64), Indices>,
 }

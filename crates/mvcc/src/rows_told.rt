@@ -10,7 +10,7 @@ use std::marker::Model;
 
 /// For each row that entries wrote, whether it is there after them. Contracts see the list of rows,
 /// by table and identifier.
-#[derive(Debug, Drop)]
+#[derive(Drop)]
 pub struct RowsTold {
     rows: BTreeMap<(u8, u64), bool>,
 }

@@ -32,7 +32,7 @@ use std::marker::Model;
 /// It sees the rows at its snapshot, changed by its own entries. Reading a row costs a look-up,
 /// however many entries there are: `OwnRows` has the indices of those that still matter for the
 /// row.
-#[derive(Debug, Drop)]
+#[derive(Drop)]
 pub struct Transaction {
     alloc: Global,
     snapshot: u64,

@@ -27,7 +27,7 @@ use std::marker::Model;
 ///
 /// Contracts see the schema and the list of commits. Each commit's entries are defined where they
 /// stand.
-#[derive(Debug, Drop)]
+#[derive(Drop)]
 pub struct Versions {
     alloc: Global,
     schema: Schema,

@@ -25,7 +25,7 @@ use std::alloc::{AllocError, Global};
 
 /// The places, among the columns of a block's rows, of the columns that a plan names: one for each
 /// condition, and one for each aggregate, which is of no use for a count.
-#[derive(Debug, Drop)]
+#[derive(Drop)]
 pub struct Places {
     pub conditions: Vec<usize>,
     pub aggregates: Vec<usize>,

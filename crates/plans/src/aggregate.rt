@@ -1,7 +1,7 @@
 use crate::column::Column;
 
 /// What a plan asks of each group of rows.
-#[derive(Clone, Copy, Debug, PartialEq, Eq)]
+#[derive(Clone, Copy, PartialEq, Eq)]
 pub enum Aggregate {
     /// How many rows it has.
     Count,

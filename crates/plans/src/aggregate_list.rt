@@ -6,7 +6,7 @@ use crate::aggregate::Aggregate;
 use std::marker::Model;
 
 /// The aggregates of a plan, in order.
-#[derive(Clone, Debug, Drop)]
+#[derive(Clone, Drop)]
 pub struct AggregateList {
     items: Vec<Aggregate>,
 }

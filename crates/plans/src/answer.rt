@@ -6,7 +6,7 @@ use crate::field_list::FieldList;
 use std::marker::Model;
 
 /// The answer of a query: a line for each group, in rising order of the groups' values.
-#[derive(Clone, Debug, Drop)]
+#[derive(Clone, Drop)]
 pub struct Answer {
     lines: Vec<FieldList>,
 }

@@ -16,7 +16,7 @@ use std::alloc::{AllocError, Global};
 use store::{Lent, Store};
 
 /// Rows of a table: those of these identifiers, each of which is there.
-#[derive(Clone, Copy, Debug)]
+#[derive(Clone, Copy)]
 pub struct Block<'s> {
     /// The number of the table.
     pub table: u8,

@@ -10,7 +10,7 @@ use rows::Value;
 use std::alloc::{AllocError, Global};
 
 /// The values of one column of some rows, in their order.
-#[derive(Debug, Drop)]
+#[derive(Drop)]
 pub enum Cells<'a> {
     /// Numbers that a store lends.
     Lent(&'a [i64]),

@@ -1,5 +1,5 @@
 /// A column that a plan names, counted from 0.
-#[derive(Clone, Copy, Debug, PartialEq, Eq)]
+#[derive(Clone, Copy, PartialEq, Eq)]
 pub enum Column {
     /// A column of the plan's own table.
     Own(u8),

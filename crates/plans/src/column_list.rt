@@ -6,7 +6,7 @@ use crate::column::Column;
 use std::marker::Model;
 
 /// The columns by which a plan groups, in order.
-#[derive(Clone, Debug, Drop)]
+#[derive(Clone, Drop)]
 pub struct ColumnList {
     items: Vec<Column>,
 }

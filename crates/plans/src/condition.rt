@@ -2,7 +2,7 @@ use crate::column::Column;
 use rows::Value;
 
 /// How a column's value is compared with another value.
-#[derive(Clone, Copy, Debug, PartialEq, Eq)]
+#[derive(Clone, Copy, PartialEq, Eq)]
 pub enum Comparison {
     Equal,
     NotEqual,
@@ -13,7 +13,7 @@ pub enum Comparison {
 }
 
 /// A condition on a row: its value in the column, compared with this value.
-#[derive(Clone, Copy, Debug, PartialEq, Eq)]
+#[derive(Clone, Copy, PartialEq, Eq)]
 pub struct Condition {
     pub column: Column,
     pub comparison: Comparison,

@@ -6,7 +6,7 @@ use crate::condition::Condition;
 use std::marker::Model;
 
 /// The conditions of a plan, in order.
-#[derive(Clone, Debug, Drop)]
+#[derive(Clone, Drop)]
 pub struct ConditionList {
     items: Vec<Condition>,
 }

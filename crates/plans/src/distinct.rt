@@ -17,7 +17,7 @@ use std::alloc::{AllocError, Global};
 
 /// The plans of a batch without those that are equal to one before, and for each plan of the batch
 /// the place of its equal among them.
-#[derive(Debug, Drop)]
+#[derive(Drop)]
 pub struct Distinct {
     pub plans: Vec<Plan>,
     pub places: Vec<usize>,

@@ -1,7 +1,7 @@
 use rows::Value;
 
 /// One word of a report's line.
-#[derive(Clone, Copy, Debug, PartialEq, Eq)]
+#[derive(Clone, Copy, PartialEq, Eq)]
 pub enum Field {
     /// A value of a row: one by which the rows were grouped, or a least or greatest value.
     Stored(Value),

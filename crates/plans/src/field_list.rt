@@ -6,7 +6,7 @@ use crate::field::Field;
 use std::marker::Model;
 
 /// The fields of a line, in order.
-#[derive(Clone, Debug, Drop)]
+#[derive(Clone, Drop)]
 pub struct FieldList {
     items: Vec<Field>,
 }

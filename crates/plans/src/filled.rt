@@ -17,7 +17,7 @@ use store::Store;
 
 /// Columns of a block's rows, each filled once. A place is an index among their cells; it stays what
 /// it is while more columns are filled.
-#[derive(Debug, Drop)]
+#[derive(Drop)]
 pub struct Filled<'s> {
     columns: Vec<Column>,
     cells: Vec<Cells<'s>>,

@@ -14,7 +14,7 @@ use std::marker::Model;
 
 /// The values by which a row is grouped, which contracts see as a list. They are ordered by the
 /// first values that differ.
-#[derive(Debug, Drop)]
+#[derive(Drop)]
 pub struct GroupKey {
     values: Vec<Value>,
 }

@@ -32,7 +32,7 @@ use store::Store;
 
 /// The groups of a plan, each with its aggregates of the rows so far. Contracts see them in rising
 /// order.
-#[derive(Debug, Drop)]
+#[derive(Drop)]
 pub struct Groups {
     map: BTreeMap<GroupKey, FieldList>,
 }

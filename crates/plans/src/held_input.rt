@@ -15,7 +15,7 @@ use rows::Value;
 use std::alloc::{AllocError, Global};
 
 /// What some rows contribute to an aggregate, lent by cells or made of them.
-#[derive(Debug, Drop)]
+#[derive(Drop)]
 pub enum HeldInput<'a> {
     Rows,
     LentNumbers(&'a [i64]),

@@ -1,7 +1,7 @@
 use rows::Value;
 
 /// What the rows of a block contribute to an aggregate.
-#[derive(Clone, Copy, Debug)]
+#[derive(Clone, Copy)]
 pub enum Input<'a> {
     /// Just that they are there: for a count.
     Rows,

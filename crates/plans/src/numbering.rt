@@ -11,7 +11,7 @@ use std::collections::BTreeMap;
 
 /// The groups that were met, each with a number: its place among the keys, which stand in order of
 /// arrival.
-#[derive(Debug, Drop)]
+#[derive(Drop)]
 pub struct Numbering {
     keys: Vec<GroupKey>,
     /// The numbers of the groups of one value that is a number.

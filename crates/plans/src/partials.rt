@@ -20,7 +20,7 @@ use std::marker::Model;
 
 /// What plans compute of a range of positions of their tables: the groups of each plan, and the lines
 /// of its answer. Two of them, of ranges one behind the other, are merged by `merge`.
-#[derive(Debug, Drop)]
+#[derive(Drop)]
 pub struct Partial {
     /// The aggregates of each plan.
     aggregates: Vec<AggregateList>,

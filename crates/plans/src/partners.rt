@@ -19,7 +19,7 @@ use std::alloc::{AllocError, Global};
 use store::Store;
 
 /// The rows of a block that are joined, and the places of the rows that they are joined with.
-#[derive(Debug, Drop)]
+#[derive(Drop)]
 pub struct Partners<P: Copy> {
     /// The number of the table that is joined.
     pub table: u8,

@@ -160,7 +160,7 @@ fn select_values(
 }
 
 /// The numbers from one to another, both included, or all but those.
-#[derive(Clone, Copy, Debug)]
+#[derive(Clone, Copy)]
 struct Range {
     low: i64,
     high: i64,

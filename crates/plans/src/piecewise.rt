@@ -19,7 +19,7 @@ use store::Store;
 const BLOCK_MAX: usize = 4096;
 
 /// What is computed of the rows of a piece.
-#[derive(Debug, Drop)]
+#[derive(Drop)]
 pub struct PieceGroups {
     /// The groups of each plan on the table; none of the others.
     pub groups: Vec<Groups>,

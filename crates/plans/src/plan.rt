@@ -9,7 +9,7 @@ use rows::Schema;
 
 /// A join: each row of a plan's table is joined with the row of another table whose identifier is
 /// in a column of the plan's table. A row whose column is negative, or names no row, is left out.
-#[derive(Clone, Copy, Debug, PartialEq, Eq)]
+#[derive(Clone, Copy, PartialEq, Eq)]
 pub struct Join {
     /// The column of the plan's table, from 0. It is one of numbers.
     pub column: u8,
@@ -19,7 +19,7 @@ pub struct Join {
 
 /// A query: which rows of a table it selects, how it groups them, and what it computes for each
 /// group.
-#[derive(Clone, Debug, Drop)]
+#[derive(Clone, Drop)]
 pub struct Plan {
     /// The number of the table, from 0.
     pub table: u8,

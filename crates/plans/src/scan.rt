@@ -26,7 +26,7 @@ use store::Store;
 
 /// What is computed of the rows of a table so far: for each plan its tallies, and for each that is
 /// the first of its class the numbers of groups.
-#[derive(Debug, Drop)]
+#[derive(Drop)]
 pub struct Scan {
     numberings: Vec<Numbering>,
     tallies: Vec<Tallies>,

@@ -27,7 +27,7 @@ use std::alloc::{AllocError, Global};
 use store::Store;
 
 /// What a block has for plans that are alike.
-#[derive(Debug, Drop)]
+#[derive(Drop)]
 pub struct SharedRows<'s, P: Copy> {
     /// The rows that the block's rows are joined with, if the plans join.
     partners: Option<Partners<P>>,

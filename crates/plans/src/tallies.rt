@@ -37,7 +37,7 @@ use rows::Value;
 use std::alloc::{AllocError, Global};
 
 /// What is kept of one aggregate, a place for each number.
-#[derive(Debug, Drop)]
+#[derive(Drop)]
 pub enum Tally {
     /// Nothing: the rows are counted once for all aggregates.
     Count,
@@ -47,7 +47,7 @@ pub enum Tally {
 }
 
 /// What is kept of a plan: how many rows each number has, and a tally for each aggregate.
-#[derive(Debug, Drop)]
+#[derive(Drop)]
 pub struct Tallies {
     counts: Vec<u64>,
     columns: Vec<Tally>,

@@ -9,7 +9,6 @@ use std::marker::Model;
 /// A flush that was written: the journal, and whether it took what it was offered.
 ///
 /// It is never dropped: it is handed to `PrimaryCore::end_flush`, which takes the journal back.
-#[derive(Debug)]
 pub struct Done<J: JournalStore> {
     journal: J,
     count: usize,

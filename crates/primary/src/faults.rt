@@ -47,7 +47,7 @@ pub enum FlushFault {
 }
 
 /// Why a primary was not started.
-#[derive(Debug, Drop)]
+#[derive(Drop)]
 pub enum StartFault<F> {
     /// The journal could not be read, truncated or written.
     Store(F),

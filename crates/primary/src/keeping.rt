@@ -17,7 +17,7 @@ use std::alloc::{AllocError, Global};
 use update_log::Streams;
 
 /// The versions of a list of commits, and its streams.
-#[derive(Debug, Drop)]
+#[derive(Drop)]
 pub struct Rebuilt {
     pub versions: Versions,
     pub streams: Streams,

@@ -32,7 +32,7 @@ use wire::{Datagram, Out, Packet, To, read};
 ///
 /// The versions contain the commits; the streams know for each frame which entries of its commit it
 /// has. Both contain the pending commits too, after the durable ones.
-#[derive(Debug, Drop)]
+#[derive(Drop)]
 pub struct Lists {
     alloc: Global,
     versions: Versions,

@@ -37,7 +37,7 @@ use wire::{Out, Packet};
 /// is lent out for a write. A journal that is honest and has not failed contains the text of the
 /// durable list after a start, and each call preserves that. Only what is durable is ever pushed or
 /// counted.
-#[derive(Debug, Drop)]
+#[derive(Drop)]
 pub struct PrimaryCore<J: JournalStore> {
     lists: Lists,
     journal: Option<J>,

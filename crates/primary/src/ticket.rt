@@ -1,7 +1,7 @@
 use rows::EntryList;
 
 /// What identifies a commit: its number, its worker and its entries.
-#[derive(Debug, Drop)]
+#[derive(Drop)]
 pub struct Ticket {
     pub number: u64,
     pub worker: u8,

@@ -12,7 +12,6 @@ use std::marker::Model;
 ///
 /// Writing it does not need the primary, so a thread that shares one releases it meanwhile. It is
 /// never dropped: it is written, and the result of the write ends the flush.
-#[derive(Debug)]
 pub struct Work<J: JournalStore> {
     journal: J,
     count: usize,

@@ -1,6 +1,7 @@
-//! What a transaction answers on versions that may be older than its snapshot.
+//! What a transaction answers on versions that may be older than its snapshot. They are there, so no
+//! call is answered `Unread`.
 
-ghost use Rattle.std.specs.Prelude.{◌≡◌, ◌≤◌, length};
+ghost use Rattle.std.specs.Prelude.{◌≡◌, ◌≤◌, length, IfErr};
 ghost use Rattle.rows.specs.Shape.{shape_of};
 ghost use Rattle.mvcc.specs.Transactions.{get_answer, insert_answer, set_answer, delete_answer};
 ghost use Rattle.published.specs.Answers.{IsAnswer, IsChange};
@@ -17,8 +18,9 @@ pub fn value_of(
     row: RowId,
     column: usize,
 ) -> Result<Value, LineFault>
-    ensures { IsAnswer transaction.now.snapshot (length versions.now.commits)
+    ensures answer { IsAnswer transaction.now.snapshot (length versions.now.commits)
         (get_answer (shape_of versions.now.schema) versions.now.commits transaction.now table row.0 column) result }
+    ensures read { IfErr result (λ fault. ¬ (fault ≡ LineFault.Unread)) }
 {
     if transaction.snapshot() > versions.len() {
         return Err(LineFault::Ahead);
@@ -36,9 +38,10 @@ pub fn insert_into(
     row: RowId,
     values: &[Value],
 ) -> Result<(), LineFault>
-    ensures { IsChange (length versions.now.commits)
+    ensures answer { IsChange (length versions.now.commits)
         (insert_answer (shape_of versions.now.schema) versions.now.commits transaction.old table row.0 values.now)
         transaction.old transaction.new result }
+    ensures read { IfErr result (λ fault. ¬ (fault ≡ LineFault.Unread)) }
 {
     if transaction.snapshot() > versions.len() {
         return Err(LineFault::Ahead);
@@ -57,9 +60,10 @@ pub fn set_in(
     column: usize,
     value: Value,
 ) -> Result<(), LineFault>
-    ensures { IsChange (length versions.now.commits)
+    ensures answer { IsChange (length versions.now.commits)
         (set_answer (shape_of versions.now.schema) versions.now.commits transaction.old table row.0 column value)
         transaction.old transaction.new result }
+    ensures read { IfErr result (λ fault. ¬ (fault ≡ LineFault.Unread)) }
 {
     if transaction.snapshot() > versions.len() {
         return Err(LineFault::Ahead);
@@ -76,9 +80,10 @@ pub fn delete_from(
     table: u8,
     row: RowId,
 ) -> Result<(), LineFault>
-    ensures { IsChange (length versions.now.commits)
+    ensures answer { IsChange (length versions.now.commits)
         (delete_answer (shape_of versions.now.schema) versions.now.commits transaction.old table row.0)
         transaction.old transaction.new result }
+    ensures read { IfErr result (λ fault. ¬ (fault ≡ LineFault.Unread)) }
 {
     if transaction.snapshot() > versions.len() {
         return Err(LineFault::Ahead);

@@ -1,6 +1,6 @@
 //! A seat: a reader of its own, and the list of commits that it has seen.
 
-ghost use Rattle.std.specs.Prelude.{◌≡◌, [], length, IfOk, IfErr, IfSome, MatchBool};
+ghost use Rattle.std.specs.Prelude.{◌≡◌, [], length, true, is_some, IfOk, IfErr, MatchBool, MatchOption};
 ghost use mathlib.Core.List.{IsPrefix};
 ghost use Rattle.journal.specs.Recovery.{IsJournaled};
 ghost use Rattle.rows.specs.Shape.{shape_of};
@@ -30,7 +30,7 @@ pub struct Seat<L: Line> {
 }
 
 impl<L: Line> Model for Seat<L> {
-    ghost use Rattle.std.specs.Prelude.{List};
+    ghost use Rattle.std.specs.Prelude.{◌≡◌, List, true, is_some};
     ghost use Rattle.rows.specs.Shape.{shape_of};
     ghost use Rattle.rows.specs.declared.commit.Commit.{Commit};
     ghost use Rattle.journal.specs.Recovery.{IsJournaled};
@@ -39,7 +39,7 @@ impl<L: Line> Model for Seat<L> {
 
     ghost view = { λ s. s.front };
 
-    ghost invariant = { λ s. IsJournaled L.workers (shape_of L.schema) s.front };
+    ghost invariant = { λ s. (is_some s.reader ≡ true) × IsJournaled L.workers (shape_of L.schema) s.front };
 }
 
 impl<L: Line> Seat<L> {
@@ -81,12 +81,13 @@ impl<L: Line> Seat<L> {
         ensures begun { IfOk result (λ t. t ≡ record { snapshot = length self.new; entries = [] }) }
         ensures refused { IfErr result (λ fault. fault ≡ Unread) }
     {
-        let Some(reading) = self.enter() else {
+        let Seat { reader, front } = self;
+        let Some(reading) = entered(reader) else {
             return Err(LineFault::Unread);
         };
-        self.follow(&reading);
-        self.reader = Some(reading.leave());
-        Ok(Transaction::begin(alloc, self.front.len()))
+        follow(front, &reading);
+        *reader = Some(reading.leave());
+        Ok(Transaction::begin(alloc, front.len()))
     }
 
     /// The value of a column of a row, as the transaction sees it. Takes no memory.
@@ -106,11 +107,12 @@ impl<L: Line> Seat<L> {
         ensures answer { IsAnswer transaction.now.snapshot (length self.new)
             (get_answer (shape_of L.schema) self.new transaction.now table row.0 column) result }
     {
-        let Some(reading) = self.read() else {
+        let Seat { reader, front } = self;
+        let Some(reading) = read(reader, front) else {
             return Err(LineFault::Unread);
         };
         let answer = value_of(&reading.get().versions, transaction, table, row, column);
-        self.reader = Some(reading.leave());
+        *reader = Some(reading.leave());
         answer
     }
 
@@ -130,11 +132,12 @@ impl<L: Line> Seat<L> {
             (insert_answer (shape_of L.schema) self.new transaction.old table row.0 values.now)
             transaction.old transaction.new result }
     {
-        let Some(reading) = self.read() else {
+        let Seat { reader, front } = self;
+        let Some(reading) = read(reader, front) else {
             return Err(LineFault::Unread);
         };
         let answer = insert_into(&reading.get().versions, transaction, table, row, values);
-        self.reader = Some(reading.leave());
+        *reader = Some(reading.leave());
         answer
     }
 
@@ -155,7 +158,8 @@ impl<L: Line> Seat<L> {
             (set_answer (shape_of L.schema) self.new transaction.old table row.0 column value)
             transaction.old transaction.new result }
     {
-        let Some(reading) = self.read() else {
+        let Seat { reader, front } = self;
+        let Some(reading) = read(reader, front) else {
             return Err(LineFault::Unread);
         };
         let answer = set_in(
@@ -166,7 +170,7 @@ impl<L: Line> Seat<L> {
             column,
             value,
         );
-        self.reader = Some(reading.leave());
+        *reader = Some(reading.leave());
         answer
     }
 
@@ -185,11 +189,12 @@ impl<L: Line> Seat<L> {
             (delete_answer (shape_of L.schema) self.new transaction.old table row.0)
             transaction.old transaction.new result }
     {
-        let Some(reading) = self.read() else {
+        let Seat { reader, front } = self;
+        let Some(reading) = read(reader, front) else {
             return Err(LineFault::Unread);
         };
         let answer = delete_from(&reading.get().versions, transaction, table, row);
-        self.reader = Some(reading.leave());
+        *reader = Some(reading.leave());
         answer
     }
 
@@ -202,49 +207,55 @@ impl<L: Line> Seat<L> {
     {
         self.front.meet(&mut other.front);
     }
+}
 
-    /// Enters what is published; `None` if it cannot be entered.
-    fn enter(&mut self) -> Option<Reading<Shown, (), Published<L>>>
-        ensures legal { IsJournaled L.workers (shape_of L.schema) self.new }
-        ensures same { self.new ≡ self.old }
-        ensures seen { IfSome result (λ r. IsOfLine L.book L.schema L.workers r.part.value) }
-    {
-        match self.reader.take()?.enter_as::<Sees<L>>() {
-            Ok(reading) => Some(reading),
-            Err(reader) => {
-                self.reader = Some(reader);
-                None
-            }
+/// Enters what is published; `None` if it cannot be entered, and then the reader is there again.
+fn entered<L: Line>(
+    reader: &mut Option<Reader<Shown, (), Published<L>>>,
+) -> Option<Reading<Shown, (), Published<L>>>
+    requires { is_some reader.old ≡ true }
+    ensures { MatchOption result (is_some reader.new ≡ true) (λ r. IsOfLine L.book L.schema L.workers r.part.value) }
+{
+    match reader.take()?.enter_as::<Sees<L>>() {
+        Ok(reading) => Some(reading),
+        Err(back) => {
+            *reader = Some(back);
+            None
         }
     }
+}
 
-    /// Takes the list that was entered, unless the seat has seen a longer one; answers whether it
-    /// did.
-    fn follow(&mut self, reading: &Reading<Shown, (), Published<L>>) -> bool
-        requires { IsOfLine L.book L.schema L.workers reading.now.part.value }
-        ensures legal { IsJournaled L.workers (shape_of L.schema) self.new }
-        ensures taken { MatchBool result (self.new ≡ reading.now.part.value.versions.commits) (self.new ≡ self.old) }
-        ensures later { IsPrefix self.old self.new }
-    {
-        let shown = reading.get();
-        let front = Front::of(&shown.seen, shown.versions.len());
-        self.front.follow(front)
-    }
+/// Takes the list that was entered, unless the seat has seen a longer one; answers whether it did.
+fn follow<L: Line>(front: &mut Front<L>, reading: &Reading<Shown, (), Published<L>>) -> bool
+    requires seen { IsOfLine L.book L.schema L.workers reading.now.part.value }
+    requires legal { IsJournaled L.workers (shape_of L.schema) front.old }
+    ensures legal { IsJournaled L.workers (shape_of L.schema) front.new }
+    ensures taken { MatchBool result (front.new ≡ reading.now.part.value.versions.commits) (front.new ≡ front.old) }
+    ensures later { IsPrefix front.old front.new }
+{
+    let shown = reading.get();
+    let entered = Front::of(&shown.seen, shown.versions.len());
+    front.follow(entered)
+}
 
-    /// Enters what is published, and takes its list. `None` if it cannot be entered, or is shorter
-    /// than what the seat has seen; the latter never happens, since what a seat has seen was
-    /// published before.
-    fn read(&mut self) -> Option<Reading<Shown, (), Published<L>>>
-        ensures legal { IsJournaled L.workers (shape_of L.schema) self.new }
-        ensures later { IsPrefix self.old self.new }
-        ensures seen { IfSome result (λ r. IsOfLine L.book L.schema L.workers r.part.value
-            × (self.new ≡ r.part.value.versions.commits)) }
-    {
-        let reading = self.enter()?;
-        if !self.follow(&reading) {
-            self.reader = Some(reading.leave());
-            return None;
-        }
-        Some(reading)
+/// Enters what is published, and takes its list. `None` if it cannot be entered, or is shorter than
+/// what the seat has seen; the latter never happens, since what a seat has seen was published
+/// before.
+fn read<L: Line>(
+    reader: &mut Option<Reader<Shown, (), Published<L>>>,
+    front: &mut Front<L>,
+) -> Option<Reading<Shown, (), Published<L>>>
+    requires there { is_some reader.old ≡ true }
+    requires legal { IsJournaled L.workers (shape_of L.schema) front.old }
+    ensures legal { IsJournaled L.workers (shape_of L.schema) front.new }
+    ensures later { IsPrefix front.old front.new }
+    ensures seen { MatchOption result (is_some reader.new ≡ true)
+        (λ r. IsOfLine L.book L.schema L.workers r.part.value × (front.new ≡ r.part.value.versions.commits)) }
+{
+    let reading = entered(reader)?;
+    if !follow(front, &reading) {
+        *reader = Some(reading.leave());
+        return None;
     }
+    Some(reading)
 }

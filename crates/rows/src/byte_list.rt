@@ -10,7 +10,7 @@ use std::marker::Model;
 ///
 /// Contracts see the list itself, so two entries with the same bytes are equal wherever their
 /// memory is. It is made from a `Vec` and converted back without taking memory.
-#[derive(Clone, Debug, Drop)]
+#[derive(Clone, Drop)]
 pub struct ByteList {
     items: Vec<u8>,
 }

@@ -7,7 +7,7 @@ ghost use Rattle.rows.specs.Inner.Equivalence.{same_commit_equiv};
 use crate::entry_list::EntryList;
 
 /// What one transaction changes: the worker that commits it, and its entries in order.
-#[derive(Clone, Debug, Drop)]
+#[derive(Clone, Drop)]
 pub struct Commit {
     pub worker: u8,
     pub entries: EntryList,

@@ -10,7 +10,7 @@ use crate::entry_ref::EntryRef;
 use crate::row_id::RowId;
 
 /// One physical change of one row of one table.
-#[derive(Clone, Debug, Drop)]
+#[derive(Clone, Drop)]
 pub enum Entry {
     /// Inserts a row into a table; `bytes` are its columns' bytes in order.
     Insert {

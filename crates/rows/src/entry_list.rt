@@ -14,7 +14,7 @@ use std::marker::Model;
 ///
 /// Contracts see the list itself, so two commits with the same entries are equal wherever their
 /// memory is. It is made from a `Vec` and converted back without taking memory.
-#[derive(Clone, Debug, Drop)]
+#[derive(Clone, Drop)]
 pub struct EntryList {
     items: Vec<Entry>,
 }

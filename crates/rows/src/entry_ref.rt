@@ -1,7 +1,7 @@
 use crate::row_id::RowId;
 
 /// An entry whose data is lent by the bytes from which it was read.
-#[derive(Clone, Copy, Debug)]
+#[derive(Clone, Copy)]
 pub enum EntryRef<'a> {
     /// Inserts a row into a table.
     Insert {

@@ -1,7 +1,7 @@
 use crate::limits::OCTETS_MAX;
 
 /// The kind of a column's values.
-#[derive(Clone, Copy, Debug, PartialEq, Eq)]
+#[derive(Clone, Copy, PartialEq, Eq)]
 pub enum Kind {
     /// A signed number of 64 bits, eight bytes wide.
     Int,

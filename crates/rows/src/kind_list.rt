@@ -7,7 +7,7 @@ use std::alloc::{AllocError, Global};
 use std::marker::Model;
 
 /// The kinds of a table's columns, in order.
-#[derive(Clone, Debug, Drop)]
+#[derive(Clone, Drop)]
 pub struct KindList {
     items: Vec<Kind>,
 }

@@ -21,7 +21,7 @@ use std::marker::Model;
 ///
 /// It has 1 to 16 tables with different names, each of 1 to 16 columns and at most 512 bytes a row;
 /// a column of `Octets` has 1 to 64 bytes. Tables are identified by their number, from 0.
-#[derive(Debug, Drop)]
+#[derive(Drop)]
 pub struct Schema {
     tables: IndexMap<String, KindList>,
 }

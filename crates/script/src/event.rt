@@ -2,14 +2,14 @@ use plans::Plan;
 use rows::{ByteList, Row, RowId, Value};
 
 /// A node that a datagram is delivered to.
-#[derive(Clone, Copy, Debug, PartialEq, Eq)]
+#[derive(Clone, Copy, PartialEq, Eq)]
 pub enum Node {
     Primary,
     Replica(u8),
 }
 
 /// What happens next: one step of a client, of the primary, of the network, or of a replica.
-#[derive(Debug, Drop)]
+#[derive(Drop)]
 pub enum Event {
     /// A transaction begins, on what is durable.
     Begin,

@@ -3,7 +3,7 @@ use plans::PlanFault;
 use rows::{ByteList, Value};
 
 /// What an event answers.
-#[derive(Debug, Drop)]
+#[derive(Drop)]
 pub enum Output {
     /// The transaction of that number has begun, and reads that version.
     Tx { number: u64, snapshot: u64 },

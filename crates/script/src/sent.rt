@@ -7,14 +7,14 @@ use std::marker::Model;
 
 /// A datagram that was sent: its index in the list of all that were ever sent, from 0, and its
 /// length in bytes.
-#[derive(Clone, Copy, Debug, PartialEq, Eq)]
+#[derive(Clone, Copy, PartialEq, Eq)]
 pub struct Sent {
     pub index: u64,
     pub len: usize,
 }
 
 /// The datagrams that one event sent, in order. Contracts see the list.
-#[derive(Debug, Drop)]
+#[derive(Drop)]
 pub struct SentList {
     items: Vec<Sent>,
 }

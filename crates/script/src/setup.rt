@@ -1,7 +1,7 @@
 use rows::Schema;
 
 /// What is fixed for a whole run: the tables, and the numbers of workers and replicas.
-#[derive(Debug, Drop)]
+#[derive(Drop)]
 pub struct Setup {
     pub schema: Schema,
     /// Workers of the primary; their numbers are below this.

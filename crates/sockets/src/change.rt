@@ -3,7 +3,7 @@
 use rows::{Row, RowId, Value};
 
 /// One change of a job, with the arguments of the seat's call that makes it.
-#[derive(Debug, Drop)]
+#[derive(Drop)]
 pub enum Change {
     /// Inserts a row into a table.
     Insert {

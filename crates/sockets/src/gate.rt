@@ -14,7 +14,7 @@ pub trait Gate {
 }
 
 /// A gate that never blocks.
-#[derive(Clone, Copy, Debug)]
+#[derive(Clone, Copy)]
 pub struct OpenGate;
 
 impl Gate for OpenGate {

@@ -5,7 +5,7 @@ ghost use Rattle.std.specs.Prelude.{◌<◌, ◌↔◌, All, IsTrue};
 use crate::change::Change;
 
 /// What a worker has to commit: changes that are committed together, in their order.
-#[derive(Debug, Drop)]
+#[derive(Drop)]
 pub struct Job {
     /// The worker that does the job, and commits it.
     pub worker: u8,

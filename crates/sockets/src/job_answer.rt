@@ -1,7 +1,7 @@
 //! The outcome of a job.
 
 /// The outcome of a job.
-#[derive(Clone, Copy, Debug, PartialEq, Eq)]
+#[derive(Clone, Copy, PartialEq, Eq)]
 pub enum JobAnswer {
     /// It is committed under this number, and durable.
     Ticket(u64),

@@ -15,7 +15,7 @@ use wire::Out;
 ///
 /// Contracts see the datagrams that it has handed out, those that it has still to hand out, what
 /// was sent, and its faults.
-#[derive(Debug, Drop)]
+#[derive(Drop)]
 pub struct MemPort {
     datagrams: Vec<ByteList>,
     handed_out: usize,

@@ -11,7 +11,7 @@ use crate::faults::PortFault;
 use wire::Out;
 
 /// Whether a receive may wait for a datagram that has not arrived yet.
-#[derive(Clone, Copy, Debug, PartialEq, Eq)]
+#[derive(Clone, Copy, PartialEq, Eq)]
 pub enum Patience {
     /// It waits at most 10 ms.
     Waits,

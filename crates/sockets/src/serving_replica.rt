@@ -174,7 +174,7 @@ fn offer_all<S: ApplyStore + Sync>(
 }
 
 /// What a node listens for.
-#[derive(Clone, Copy, Debug)]
+#[derive(Clone, Copy)]
 enum Awaited {
     /// For nothing in particular.
     Nothing,
@@ -185,7 +185,7 @@ enum Awaited {
 }
 
 /// The outcome of a run of the batch.
-#[derive(Debug, Drop)]
+#[derive(Drop)]
 enum Ran {
     /// The report.
     Answered(ByteList),
@@ -288,7 +288,6 @@ fn hear_round<S: ApplyStore + Sync, P: Port>(
 }
 
 /// The outcome of a receive.
-#[derive(Debug)]
 enum Heard {
     /// Nothing arrived.
     Nothing,

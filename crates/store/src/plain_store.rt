@@ -19,7 +19,7 @@ use std::thread::Threads;
 /// Contracts see its tables, and whether it is whole. It changes rows in place, and copies neither
 /// rows nor tables. Inserting or deleting a row moves the identifiers on its shorter side: none for
 /// the greatest identifier, and up to half of the table's for one in the middle.
-#[derive(Debug, Drop)]
+#[derive(Drop)]
 pub struct PlainStore {
     alloc: Global,
     tables: Vec<TableMap>,

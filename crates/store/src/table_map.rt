@@ -16,7 +16,7 @@ use std::marker::Model;
 
 /// One table. Contracts see the kinds of its columns, which are allowed for a table, and its rows
 /// in rising identifier.
-#[derive(Debug, Drop)]
+#[derive(Drop)]
 pub struct TableMap {
     kinds: KindList,
     rows: BTreeMap<u64, Row>,

@@ -4,7 +4,7 @@ use crate::frame_ref::FrameRef;
 use rows::EntryList;
 
 /// Entries of one commit on their way to the replicas: one element of its worker's stream.
-#[derive(Clone, Debug, Drop)]
+#[derive(Clone, Drop)]
 pub struct Frame {
     /// The worker of its stream, below 16.
     pub worker: u8,

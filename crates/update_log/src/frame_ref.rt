@@ -4,7 +4,7 @@ use std::marker::Model;
 /// A frame whose entries are lent by the commit from which it was cut.
 ///
 /// Contracts see the frame.
-#[derive(Debug, Drop)]
+#[derive(Drop)]
 pub struct FrameRef<'a> {
     /// The worker of its stream, below 16.
     pub worker: u8,

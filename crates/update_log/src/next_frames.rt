@@ -5,7 +5,7 @@ use std::marker::Model;
 /// the commit's entries each has and makes room for them, and `Streams::add` adds them.
 ///
 /// Contracts see the worker and which entries the frames have.
-#[derive(Debug, Drop)]
+#[derive(Drop)]
 pub struct NextFrames {
     pub(crate) worker: u8,
     pub(crate) spans: Vec<Span>,

@@ -1,5 +1,5 @@
 /// Which entries of which commit a frame has.
-#[derive(Clone, Copy, Debug)]
+#[derive(Clone, Copy)]
 pub struct Span {
     /// The number of the commit, from 1.
     pub commit: u64,

@@ -19,7 +19,7 @@ use std::marker::Model;
 /// with this seq.
 ///
 /// Contracts see the list of the spans, and how many more it can take without memory.
-#[derive(Debug, Drop)]
+#[derive(Drop)]
 pub struct Stream {
     spans: Vec<Span>,
 }

@@ -24,7 +24,7 @@ use std::marker::Model;
 /// Contracts see the streams by worker, and how many more frames each can take without memory. A
 /// relation (`AreStreamsOf`), which `new` establishes and `extend` preserves, states to which list
 /// of commits they belong.
-#[derive(Debug, Drop)]
+#[derive(Drop)]
 pub struct Streams {
     alloc: Global,
     workers: Vec<Stream>,

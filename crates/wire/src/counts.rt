@@ -12,7 +12,7 @@ const COUNTS_MAX: usize = WORKERS_MAX as usize;
 
 /// How many frames each worker has, in the order of the workers: at most 16 numbers, kept
 /// inline.
-#[derive(Debug, Drop)]
+#[derive(Drop)]
 pub struct Counts {
     items: ArrayVec<u64, COUNTS_MAX>,
 }

@@ -2,7 +2,7 @@ use crate::counts::Counts;
 use crate::lent_entries::LentEntries;
 
 /// A datagram, its entries lent by the bytes that it was read from.
-#[derive(Debug, Drop)]
+#[derive(Drop)]
 pub enum Datagram<'a> {
     /// From the primary: entries of the commit numbered `commit`, as number `seq` of `worker`'s
     /// stream; `last` is set on the last frame of a commit.

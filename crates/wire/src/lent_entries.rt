@@ -14,7 +14,7 @@ use std::marker::Model;
 /// Entries that fill bytes exactly, lent by those bytes.
 ///
 /// Contracts see the list of the entries.
-#[derive(Debug, Drop)]
+#[derive(Drop)]
 pub struct LentEntries<'a> {
     count: u16,
     bytes: &'a [u8],

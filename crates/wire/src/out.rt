@@ -1,7 +1,7 @@
 use crate::packet::Packet;
 
 /// The destination of a datagram.
-#[derive(Clone, Copy, Debug, PartialEq, Eq)]
+#[derive(Clone, Copy, PartialEq, Eq)]
 pub enum To {
     Primary,
     Replica(u8),
@@ -9,7 +9,7 @@ pub enum To {
 }
 
 /// A datagram, and its destination.
-#[derive(Debug, Drop)]
+#[derive(Drop)]
 pub struct Out {
     pub to: To,
     pub packet: Packet,

@@ -13,7 +13,7 @@ use std::marker::Model;
 use update_log::FrameRef;
 
 /// The bytes of a datagram, at most 1200, kept inline.
-#[derive(Debug, Drop)]
+#[derive(Drop)]
 pub struct Packet {
     buffer: [u8; DATAGRAM_MAX],
     len: usize,

@@ -7,7 +7,7 @@ use std::alloc::{AllocError, Global};
 use std::marker::Model;
 
 /// The boots of a replica, in their order.
-#[derive(Debug, Drop)]
+#[derive(Drop)]
 pub struct BootList {
     items: Vec<u64>,
 }

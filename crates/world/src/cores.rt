@@ -26,7 +26,7 @@ use std::marker::Model;
 /// in the order of their `begin` (none for one that is no longer open), every datagram that was
 /// ever sent, at its own length, and, for each replica, the boots that it has had and how many
 /// commits were durable when its newest batch asked.
-#[derive(Debug, Drop)]
+#[derive(Drop)]
 pub struct Cores {
     pub alloc: Global,
     pub setup: Setup,

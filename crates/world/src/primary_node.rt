@@ -9,7 +9,7 @@ use rows::Commit;
 
 /// The primary's core. While it is stopped there is none: only its journal is left, and beside it
 /// the commits that the journal keeps, at which only the world looks.
-#[derive(Debug, Drop)]
+#[derive(Drop)]
 pub enum PrimaryNode {
     Running(RunningPrimary),
     Stopped {

@@ -23,7 +23,7 @@ use wire::{Out, Packet};
 
 /// A primary's core whose journal is not lent out, and contains the text of what is durable unless
 /// it failed: an event that flushes takes the journal back before it ends.
-#[derive(Debug, Drop)]
+#[derive(Drop)]
 pub struct RunningPrimary {
     core: PrimaryCore<MemJournal>,
 }

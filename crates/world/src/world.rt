@@ -24,7 +24,7 @@ use std::thread::Threads;
 /// was ever sent. While the primary is stopped, only its journal is left of it.
 ///
 /// Contracts see each core as its callers do. `world_of` defines the world that they make.
-#[derive(Debug, Drop)]
+#[derive(Drop)]
 pub struct World {
     cores: Cores,
 }
