@@ -14,12 +14,11 @@ use Rattle.std.proofs.lemmas.Simd.{map-map}
 use Rattle.rows.specs.declared.value.Value.{Value}
 use Rattle.rows.specs.declared.value.Value.TheVariants as values
 use Rattle.rows.specs.Tables.{Rows, Table, Tables, rows_of, row_at}
-use Rattle.store.specs.Lent.{rows_in, rows_from, column_in}
-use Rattle.store.specs.Lent as lending
+use Rattle.store.specs.Lent.{rows_in, rows_from, column_in, octets_in}
 use Rattle.apply.specs.declared.cells.Cells.{Cells}
 use Rattle.apply.specs.declared.part.Part.{Part}
 use Rattle.apply.specs.Blocks.{beside, rows_with}
-use Rattle.apply.specs.Columns.{octets_in, values_in}
+use Rattle.apply.specs.Columns.{values_in}
 use Rattle.apply.specs.Orders.{AllOver, Rising}
 use Rattle.apply.specs.Partitions.{tables_in}
 use Rattle.apply.specs.Inner.Edits.{AllCells}
@@ -43,11 +42,6 @@ lends-numbers numbers lent from count is =
     ∙ ap (map Some)
     (sym (take-map values.Int count (drop from numbers)) ∙ ap (take count) (sym (drop-map values.Int from numbers)))
 
-octets-same : (rows width : ℕ) (bytes : List ℕ) → lending.octets_in rows width bytes ≡ octets_in rows width bytes
-octets-same zero width bytes = refl
-octets-same (suc rows) width bytes =
-    ap (λ others. values.Octets (take width bytes) ∷ others) (octets-same rows width (drop width bytes))
-
 module _ (width rows from count : ℕ) (bytes : List ℕ) (whole : length bytes ≡ rows * width) (within : from + count ≤ rows) where
   pub lends-enough : (behind : List ℕ) → behind ≡ drop (from * width) bytes → count * width ≤ length behind
   lends-enough behind is =
@@ -67,20 +61,20 @@ module _ (width rows from count : ℕ) (bytes : List ℕ) (whole : length bytes 
       ap length is ∙ length-take-le (count * width) (drop (from * width) bytes) (lends-enough (drop (from * width) bytes) refl)
 
   lends-values : (lent : List ℕ) → lent ≡ take (count * width) (drop (from * width) bytes)
-      → map Some (lending.octets_in count width lent) ≡ map Some (take count (drop from (octets_in rows width bytes)))
+      → map Some (octets_in count width lent) ≡ map Some (take count (drop from (octets_in rows width bytes)))
   lends-values lent is =
       ap (map Some)
-      (octets-same count width lent ∙ ap (octets_in count width) is
+      (ap (octets_in count width) is
       ∙ sym (octets-take width (rows - from) count (drop (from * width) bytes) (omega (arith, within)))
       ∙ ap (take count) (sym (octets-drop width rows from (rows - from) bytes (omega (arith, within)))))
 
   pub lends-octets : (lent : List ℕ) → lent ≡ take (count * width) (drop (from * width) bytes)
       → (length lent ≡ length (map Some (take count (drop from (octets_in rows width bytes)))) * width)
-      × (map Some (lending.octets_in (length (map Some (take count (drop from (octets_in rows width bytes))))) width lent)
+      × (map Some (octets_in (length (map Some (take count (drop from (octets_in rows width bytes))))) width lent)
       ≡ map Some (take count (drop from (octets_in rows width bytes))))
   lends-octets lent is =
       subst (λ n. (length lent ≡ n * width)
-      × (map Some (lending.octets_in n width lent) ≡ map Some (take count (drop from (octets_in rows width bytes)))))
+      × (map Some (octets_in n width lent) ≡ map Some (take count (drop from (octets_in rows width bytes)))))
       (sym lends-many) (lends-bytes lent is, lends-values lent is)
 
 -- ---- one column of rows

@@ -8,7 +8,7 @@ use Rattle.std.proofs.lemmas.List.{take-append-drop, take-take, drop-take, drop-
 use Rattle.std.proofs.lemmas.List.{drop-map}
 use Rattle.std.proofs.lemmas.List.{length-take-le, length-drop}
 use Rattle.rows.specs.declared.value.Value.TheVariants as values
-use Rattle.apply.specs.Columns.{octets_in}
+use Rattle.store.specs.Lent.{octets_in}
 
 module _ (width : ℕ) where
   more : (at : ℕ) → suc at * width ≡ width + at * width

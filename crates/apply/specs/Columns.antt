@@ -1,11 +1,12 @@
 -- One column: the values that its numbers or bytes are.
-use Rattle.std.specs.Prelude.{◌≡◌, ℕ, zero, suc, ◌+◌, ◌*◌, ◌<◌, ◌≤◌, List, [], ◌∷◌, map, length, take, drop, true}
+use Rattle.std.specs.Prelude.{◌≡◌, ℕ, ◌+◌, ◌*◌, ◌<◌, ◌≤◌, List, map, length, drop, true}
 use Rattle.std.specs.Prelude.{vec_len, vec_capacity}
 use Rattle.rows.specs.declared.kind.Kind.{Kind}
 use Rattle.rows.specs.declared.kind.Kind.TheVariants as kinds
 use Rattle.rows.specs.declared.value.Value.{Value}
 use Rattle.rows.specs.declared.value.Value.TheVariants as values
 use Rattle.rows.specs.Shape.{is_good}
+use Rattle.store.specs.Lent.{octets_in}
 use Rattle.apply.specs.declared.cells.Cells.{Cells}
 use Rattle.apply.specs.declared.cells.Cells.TheVariants.{Numbers, Octets}
 
@@ -13,11 +14,6 @@ use Rattle.apply.specs.declared.cells.Cells.TheVariants.{Numbers, Octets}
 abbrev pub kind_of : Cells → Kind
 kind_of (Numbers numbers) = kinds.Int
 kind_of (Octets width bytes) = kinds.Octets width
-
--- so many values of one width, side by side
-abbrev pub octets_in : ℕ → ℕ → List ℕ → List Value
-octets_in zero width bytes = []
-octets_in (suc rows) width bytes = values.Octets (take width bytes) ∷ octets_in rows width (drop width bytes)
 
 -- the values of a column, of so many rows
 abbrev pub values_in : ℕ → Cells → List Value

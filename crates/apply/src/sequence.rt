@@ -1,6 +1,6 @@
 //! The blocks of a table's rows, in order.
 
-ghost use Rattle.std.specs.Prelude.{◌≡◌, ◌+◌, ◌<◌, ◌≤◌, ◌^◌, length, take, true, false, [], Some, IfOk, IfSome, OnOk, OnErr, is_some};
+ghost use Rattle.std.specs.Prelude.{◌≡◌, ◌+◌, ◌/◌, ◌<◌, ◌≤◌, ◌^◌, length, take, true, false, [], Some, IfOk, IfSome, OnOk, OnErr, is_some};
 ghost use Rattle.std.specs.Prelude.{slice_index_or, not, if◌then◌else◌};
 ghost use Rattle.std.specs.Prelude.{vec_capacity};
 ghost use Rattle.std.specs.List.{list_all};
@@ -420,7 +420,10 @@ fn make_room(
 /// Where to cut a full block, for a row that is to be at a given place in it.
 fn cut_at(rows: usize, place: usize) -> usize
     requires { 1 < rows }
-    ensures { (0 < result) × (result < rows) }
+    ensures within { (0 < result) × (result < rows) }
+    ensures first { place ≡ 0 → result ≡ 1 }
+    ensures last { rows ≤ place → result + 1 ≡ rows }
+    ensures half { 0 < place → place < rows → result ≡ rows / 2 }
 {
     if place == 0 {
         1

@@ -1,5 +1,5 @@
 -- What a journal's store leaves after its calls, and when it counts a fault.
-use Rattle.std.specs.Prelude.{◌≡◌, ℕ, ◌+◌, ◌≤◌, List, ◌++◌, length, Option, None, Some, Result, Ok, Err}
+use Rattle.std.specs.Prelude.{◌≡◌, ℕ, ◌+◌, ◌≤◌, List, ◌++◌, length, Option, Some, Result, Ok, Err}
 use Rattle.journal.specs.Recovery.{IsBeginning}
 
 -- how many faults are counted, at most: the greatest number of 64 bits. A call that may fail is made below it

@@ -1,7 +1,7 @@
 //! A journal in a file.
 
-ghost use Rattle.std.specs.Prelude.{◌≡◌, ◌+◌, ◌<◌, length, take, drop, true, IfOk, is_some, nat_lt};
-ghost use Rattle.journal.specs.Storing.{faults_max};
+ghost use Rattle.std.specs.Prelude.{◌≡◌, ◌+◌, ◌<◌, ◌≤◌, ◌++◌, length, take, drop, true, false, IfOk, OnOk, OnErr, is_some, nat_lt};
+ghost use Rattle.journal.specs.Storing.{IsPartlyAppended, IsPartlyCut, faults_max};
 
 use crate::disk::Disk;
 use crate::faults::{FileFault, OpenFault};
@@ -37,15 +37,20 @@ pub struct FileJournal<D: Disk = File> {
 }
 
 impl<D: Disk> Model for FileJournal<D> {
-    ghost use Rattle.std.specs.Prelude.{◌≡◌, take, drop, true, is_some, nat_lt};
+    ghost use Rattle.std.specs.Prelude.{◌≡◌, ◌++◌, take, drop, true, is_some, nat_lt};
     ghost use Rattle.journal.specs.State.{FileState};
     ghost use Rattle.journal.specs.Inner.Settling.{StandsIn};
 
     ghost Value = { FileState };
 
-    ghost view = { λ j. record { bytes = take j.len (D.content j.disk); left_behind = drop j.len (D.content j.disk); faults = j.faults } };
+    ghost view = { λ j. record {
+      bytes = take j.len (D.synced j.disk);
+      left_behind = drop j.len (D.content j.disk) ++ drop j.len (D.synced j.disk);
+      unsettled = j.unsettled;
+      faults = j.faults;
+    } };
 
-    ghost invariant = { λ j. (D.is_honest ≡ true → StandsIn j.len j.unsettled (D.content j.disk))
+    ghost invariant = { λ j. (D.is_honest ≡ true → StandsIn j.len j.unsettled (D.content j.disk) (D.synced j.disk))
         × (is_some j.last_fault ≡ nat_lt 0 j.faults) };
 }
 
@@ -69,10 +74,16 @@ impl FileJournal<File> {
 }
 
 impl<D: Disk> FileJournal<D> {
-    /// The journal in a file that has `len` bytes.
+    /// The journal in a file that has `len` bytes, all of which were synced.
     pub fn on(disk: D, len: u64) -> FileJournal<D>
-        requires { D.is_honest ≡ true → len ≡ length (D.content disk) }
-        ensures { result ≡ record { bytes = take len (D.content disk); left_behind = drop len (D.content disk); faults = 0 } }
+        requires len { D.is_honest ≡ true → len ≡ length (D.content disk) }
+        requires synced { D.is_honest ≡ true → D.synced disk ≡ D.content disk }
+        ensures { result ≡ record {
+          bytes = take len (D.synced disk);
+          left_behind = drop len (D.content disk) ++ drop len (D.synced disk);
+          unsettled = false;
+          faults = 0;
+        } }
     {
         FileJournal {
             disk,
@@ -101,6 +112,52 @@ impl<D: Disk> FileJournal<D> {
         self.last_fault = Some(fault);
         fault
     }
+
+    /// The length of the file after an append of that many bytes. Fails with `Unsettled` if an
+    /// earlier write or truncation failed, and with `System` if no length is that large; then the
+    /// fault is counted, and nothing else changes.
+    fn end_after(&mut self, count: usize) -> Result<u64, FileFault>
+        requires { self.old.faults < faults_max }
+        ensures ok { OnOk result (self.new ≡ self.old) }
+        ensures settled { OnOk result (self.old.unsettled ≡ false) }
+        ensures end { D.is_honest ≡ true → IfOk result (λ end. end ≡ length self.old.bytes + count) }
+        ensures err { OnErr result (self.new ≡ record self.old { faults = self.old.faults + 1 }) }
+    {
+        if self.unsettled {
+            return Err(self.fault(FileFault::Unsettled));
+        }
+        let Some(end) = self.len.checked_add(count as u64) else {
+            let error = io::Error::from(ErrorKind::FileTooLarge);
+            return Err(self.fault(FileFault::System(error)));
+        };
+        Ok(end)
+    }
+}
+
+/// Appends bytes to a file and syncs them. If it fails, some beginning of them may follow the old
+/// bytes.
+fn append_synced<D: Disk>(disk: &mut D, len: u64, bytes: &[u8]) -> io::Result<()>
+    requires { D.is_honest ≡ true → len ≡ length (D.content disk.old) }
+    ensures ok { D.is_honest ≡ true → OnOk result (D.content disk.new ≡ D.content disk.old ++ bytes.now) }
+    ensures err { D.is_honest ≡ true → OnErr result (IsPartlyAppended (D.content disk.old) bytes.now (D.content disk.new)) }
+    ensures synced { D.is_honest ≡ true → OnOk result (D.synced disk.new ≡ D.content disk.new) }
+    ensures kept { D.is_honest ≡ true → OnErr result (D.synced disk.new ≡ D.synced disk.old) }
+{
+    disk.append(len, bytes)?;
+    disk.sync()
+}
+
+/// Truncates a file and syncs that. If it fails, some beginning of the old bytes is left, which is
+/// not shorter than `len`.
+fn cut_synced<D: Disk>(disk: &mut D, len: u64) -> io::Result<()>
+    requires { D.is_honest ≡ true → len ≤ length (D.content disk.old) }
+    ensures ok { D.is_honest ≡ true → OnOk result (D.content disk.new ≡ take len (D.content disk.old)) }
+    ensures err { D.is_honest ≡ true → OnErr result (IsPartlyCut len (D.content disk.old) (D.content disk.new)) }
+    ensures synced { D.is_honest ≡ true → OnOk result (D.synced disk.new ≡ D.content disk.new) }
+    ensures kept { D.is_honest ≡ true → OnErr result (D.synced disk.new ≡ D.synced disk.old) }
+{
+    disk.cut_to(len)?;
+    disk.sync()
 }
 
 /// The file at a path, for reading and writing; it is made if there is none.
@@ -161,16 +218,10 @@ impl<D: Disk> JournalStore for FileJournal<D> {
     /// Appends the bytes, and syncs them. Fails with `Unsettled` if an earlier write or truncation
     /// failed, and then changes nothing; and with `System`.
     fn append(&mut self, bytes: &[u8]) -> Result<(), FileFault> {
-        if self.unsettled {
-            return Err(self.fault(FileFault::Unsettled));
-        }
-        let Some(len) = self.len.checked_add(bytes.len() as u64) else {
-            let error = io::Error::from(ErrorKind::FileTooLarge);
-            return Err(self.fault(FileFault::System(error)));
-        };
-        match self.disk.append(self.len, bytes) {
+        let end = self.end_after(bytes.len())?;
+        match append_synced(&mut self.disk, self.len, bytes) {
             Ok(()) => {
-                self.len = len;
+                self.len = end;
                 Ok(())
             }
             Err(error) => {
@@ -184,7 +235,7 @@ impl<D: Disk> JournalStore for FileJournal<D> {
     /// then gone.
     fn cut_to(&mut self, len: u64) -> Result<(), FileFault> {
         self.len = self.len.min(len);
-        match self.disk.cut_to(self.len) {
+        match cut_synced(&mut self.disk, self.len) {
             Ok(()) => {
                 self.unsettled = false;
                 Ok(())

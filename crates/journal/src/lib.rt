@@ -9,8 +9,8 @@
 //!
 //! Promised: `recover` is exact, except that it may run out of memory; a text determines its
 //! commits; and the contracts of `JournalStore` specify what an honest store keeps after each
-//! outcome of each call. A `FileJournal` is honest if its file is. That a real file is honest is
-//! not proved.
+//! outcome of each call. A `FileJournal` is honest if its file is, and the bytes that it accounts for
+//! were synced. That a real file is honest is not proved.
 //!
 //! It uses `rows`, whose entries it spells and reads, and `store`, on which recovery tries the
 //! commits that it reads. Its definitions are `specs/Text.antt`, `Recovery.antt` and

@@ -25,6 +25,7 @@ use Rattle.plans.specs.declared.plan.Plan.{Plan}
 use Rattle.plans.specs.Order.{group_cmp, rising}
 use Rattle.plans.specs.Answers.{JoinedRow, group_of, groups_of, rows_in, rows_among, joined_with, meets, aggregate_of, line_of}
 use Rattle.plans.specs.Answers.{answer_lines}
+use Rattle.plans.specs.Partials.{groups_with}
 use Rattle.plans.specs.Inner.Kept.{GroupList, IsWithin, AreWithin, grown_all, opening_of, opening_groups, with_joined_row, kept_at}
 use Rattle.plans.specs.Inner.Kept.{GroupsAreKept, AreKept, row_among}
 use Rattle.plans.specs.Inner.TotalOrder.{group_cmp_total}
@@ -288,20 +289,36 @@ lines-paired : (plan : Plan) (rows : List JoinedRow) (groups : List (List Value)
 lines-paired plan _ [] = refl
 lines-paired plan rows (group ∷ groups) = ap (λ rest. line_of plan rows group ∷ rest) (lines-paired plan rows groups)
 
--- the lines of what is kept of all rows are those of the answer
-pub kept-lines : (plan : Plan) (rows : List JoinedRow) (count : ℕ) (groups : GroupList) → GroupsAreKept plan rows count groups
-    → IsStrictlySortedBy group_cmp (keys_of groups)
-    → map (λ entry. map Stored entry.0 ++ entry.1) groups ≡ answer_lines plan rows
-kept-lines plan rows count groups kept sorted =
+-- the lines of the groups of rows are those of the answer
+pub lines-with : (plan : Plan) (rows : List JoinedRow)
+    → map (λ entry. map Stored entry.0 ++ entry.1) (groups_with plan rows) ≡ answer_lines plan rows
+lines-with plan rows = lines-paired plan rows (rising (groups_of plan.groups rows))
+
+-- a group with its aggregates is found among them as it is kept
+found-with : (plan : Plan) (rows : List JoinedRow) (group : List Value)
+    → lookup (is_at (group_cmp group)) (groups_with plan rows) ≡ kept_at plan rows group
+found-with plan rows group =
+    let of_group : List Value → List Field = λ group. map (aggregate_of (rows_in plan.groups group rows)) plan.aggregates in
+    lookup-paired of_group group (rising (groups_of plan.groups rows))
+    ∙ ap (λ b. cond b (Some (of_group group)) None) (rising-any (λ other. is_eq (group_cmp group other)) (groups_of plan.groups rows))
+
+-- the groups of rows with their aggregates are what is kept of them
+pub with-kept : (plan : Plan) (rows : List JoinedRow) (count : ℕ) (groups : GroupList) → groups ≡ groups_with plan rows
+    → AreWithin count groups → GroupsAreKept plan rows count groups
+with-kept plan rows count groups is within = record {
+  found = λ group. ap (lookup (is_at (group_cmp group))) is ∙ found-with plan rows group;
+  within = within;
+}
+
+-- and what is kept of rows, in rising order, are their groups with their aggregates
+pub kept-with : (plan : Plan) (rows : List JoinedRow) (count : ℕ) (groups : GroupList) → GroupsAreKept plan rows count groups
+    → IsStrictlySortedBy group_cmp (keys_of groups) → groups ≡ groups_with plan rows
+kept-with plan rows count groups kept sorted =
     let of_group : List Value → List Field = λ group. map (aggregate_of (rows_in plan.groups group rows)) plan.aggregates in
     let names : List (List Value) = rising (groups_of plan.groups rows) in
     let defined = paired of_group names in
     let rise : IsStrictlySortedBy group_cmp (keys_of defined) =
     subst (IsStrictlySortedBy group_cmp) (sym (keys_of-paired of_group names)) (rising-sorted (groups_of plan.groups rows)) in
     let finds : (group : List Value) → lookup (is_at (group_cmp group)) groups ≡ lookup (is_at (group_cmp group)) defined =
-    λ group.
-    kept.found group
-    ∙ ap (λ b. cond b (Some (of_group group)) None) (sym (rising-any (λ other. is_eq (group_cmp group other)) (groups_of plan.groups rows)))
-    ∙ sym (lookup-paired of_group group names) in
-    ap (map (λ entry. map Stored entry.0 ++ entry.1)) (same_entries group_cmp_total group_cmp-exact groups defined sorted rise finds)
-    ∙ lines-paired plan rows names
+    λ group. kept.found group ∙ sym (found-with plan rows group) in
+    same_entries group_cmp_total group_cmp-exact groups defined sorted rise finds

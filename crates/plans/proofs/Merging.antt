@@ -22,7 +22,7 @@ use Rattle.plans.specs.Order.{group_cmp}
 use Rattle.plans.specs.Answers.{JoinedRow, joined_value, values_in, integer_of, total, lesser, greater, best, field_of, aggregate_of}
 use Rattle.plans.specs.Answers.{group_of, rows_in, rows_among}
 use Rattle.plans.specs.Inner.TotalOrder.{value_cmp_total}
-use Rattle.plans.specs.Merged.{better_of, merged, merged_all, merged_at, AggregatesMerge, GroupsMerge, RowsSplit}
+use Rattle.plans.specs.Inner.Merged.{better_of, merged, merged_all, merged_at, AggregatesMerge, GroupsMerge, RowsSplit}
 use Rattle.plans.proofs.Orders.{value_cmp-exact}
 use Rattle.plans.proofs.Aggregates.{pick, better_found, better_found-assoc, best-append, total-append, lesser-assoc, greater-assoc}
 use Rattle.plans.proofs.Keeping.{or_itself, is_group, is_group-append, absent-rows, rows_among-append}

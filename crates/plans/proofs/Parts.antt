@@ -21,7 +21,7 @@ use Rattle.plans.specs.declared.field.Field.TheVariants.{Stored, Number, Absent}
 use Rattle.plans.specs.declared.plan.Plan.{Plan}
 use Rattle.plans.specs.Order.{group_cmp}
 use Rattle.plans.specs.Answers.{JoinedRow}
-use Rattle.plans.specs.Merged.{merged, merged_all, merged_at}
+use Rattle.plans.specs.Inner.Merged.{merged, merged_all, merged_at}
 use Rattle.plans.specs.Inner.Kept.{GroupList, IsWithin, AreWithin, GroupsAreKept}
 use Rattle.plans.specs.Inner.TotalOrder.{group_cmp_total}
 use Rattle.plans.proofs.Orders.{same_group, is_itself, flips}

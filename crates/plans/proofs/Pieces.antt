@@ -21,7 +21,7 @@ use Rattle.store.specs.Laws.{IndexedRowIsFound}
 use Rattle.store.specs.Lent.{rows_in, rows_from}
 use Rattle.plans.specs.declared.plan.Plan.{Plan}
 use Rattle.plans.specs.Answers.{rows_among}
-use Rattle.plans.specs.Merged.{merged_at}
+use Rattle.plans.specs.Inner.Merged.{merged_at}
 use Rattle.plans.specs.Inner.Kept.{GroupList, kept_at, AreKept}
 use Rattle.plans.specs.Inner.Pieces.{rows_of_pieces, AreAtMost, PiecesAreScanned}
 use Rattle.plans.proofs.Keeping.{filter-none, or_all, rows_among-append}

@@ -18,11 +18,11 @@ use Rattle.plans.specs.declared.aggregate.Aggregate.{Aggregate}
 use Rattle.plans.specs.declared.plan.Plan.{Plan}
 use Rattle.plans.specs.Order.{group_cmp}
 use Rattle.plans.specs.Answers.{rows_among, answer_lines, plain_answer}
-use Rattle.plans.specs.Partials.{Parts, range, rows_between, answer_between, IsPartial}
+use Rattle.plans.specs.Partials.{Parts, range, rows_between, groups_between, answer_between, IsPartial}
 use Rattle.plans.specs.Inner.Kept.{GroupList, AreWithin, GroupsAreKept, opening_groups, row_among}
-use Rattle.plans.specs.Merged.{merged_at}
+use Rattle.plans.specs.Inner.Merged.{merged_at}
 use Rattle.plans.specs.Inner.Ranges.{TakesRow, LooksAt, AreMerged, lines_of}
-use Rattle.plans.proofs.Keeping.{opening-kept, kept-next, kept-lines, rows_among-append}
+use Rattle.plans.proofs.Keeping.{opening-kept, kept-next, kept-with, with-kept, lines-with, rows_among-append}
 use Rattle.plans.proofs.Parts.{AreWithin-add, kept-merged}
 
 -- ---- ranges
@@ -256,15 +256,24 @@ written_over n items news all same =
 abbrev pub AreSorted : GroupList → Type 0
 AreSorted groups = IsStrictlySortedBy group_cmp (keys_of groups)
 
-lines-between : (tables : Tables) (from to : ℕ) (plans : List Plan) (groups : List GroupList)
+kept-between : (tables : Tables) (from to : ℕ) (plans : List Plan) (groups : List GroupList)
     → AllZip (λ plan groups. GroupsAreKept plan (rows_between tables from to plan) (to - from) groups) plans groups → All AreSorted groups
-    → map lines_of groups ≡ map (answer_between tables from to) plans
-lines-between tables from to [] [] kept sorted = refl
-lines-between tables from to [] (list ∷ groups) kept sorted = absurd kept
-lines-between tables from to (plan ∷ plans) [] kept sorted = absurd kept
-lines-between tables from to (plan ∷ plans) (list ∷ groups) kept sorted =
-    let first = kept-lines plan (rows_between tables from to plan) (to - from) list kept.0 (All-head AreSorted list groups sorted) in
-    let rest = lines-between tables from to plans groups kept.1 (All-tail AreSorted list groups sorted) in
+    → groups ≡ map (groups_between tables from to) plans
+kept-between tables from to [] [] kept sorted = refl
+kept-between tables from to [] (list ∷ groups) kept sorted = absurd kept
+kept-between tables from to (plan ∷ plans) [] kept sorted = absurd kept
+kept-between tables from to (plan ∷ plans) (list ∷ groups) kept sorted =
+    let first = kept-with plan (rows_between tables from to plan) (to - from) list kept.0 (All-head AreSorted list groups sorted) in
+    let rest = kept-between tables from to plans groups kept.1 (All-tail AreSorted list groups sorted) in
+    λ i. first i ∷ rest i
+
+-- the lines of the groups at these positions are the answers
+pub lines-between : (tables : Tables) (from to : ℕ) (plans : List Plan)
+    → map lines_of (map (groups_between tables from to) plans) ≡ map (answer_between tables from to) plans
+lines-between tables from to [] = refl
+lines-between tables from to (plan ∷ plans) =
+    let first = lines-with plan (rows_between tables from to plan) in
+    let rest = lines-between tables from to plans in
     λ i. first i ∷ rest i
 
 -- the answers on all positions are the plain ones
@@ -285,15 +294,12 @@ pub partial-made : (tables : Tables) (plans : List Plan) (from to : ℕ) (aggreg
     (count : ℕ) (parts : Parts)
     → count ≡ to - from → aggregates ≡ map (λ plan. plan.aggregates) plans
     → AllZip (λ plan groups. GroupsAreKept plan (rows_between tables from to plan) (to - from) groups) plans groups → All AreSorted groups
-    → parts ≡ record { rows = count; aggregates = aggregates; groups = groups; answers = map lines_of groups }
+    → parts ≡ record { positions = count; aggregates = aggregates; groups = groups }
     → IsPartial tables plans from to parts
 partial-made tables plans from to aggregates groups count parts size lists kept sorted is = record {
-  rows = ap (λ parts. parts.rows) is ∙ size;
+  positions = ap (λ parts. parts.positions) is ∙ size;
   aggregates = ap (λ parts. parts.aggregates) is ∙ lists;
-  groups =
-      subst (AllZip (λ plan groups. GroupsAreKept plan (rows_between tables from to plan) (to - from) groups) plans)
-      (sym (ap (λ parts. parts.groups) is)) kept;
-  answers = ap (λ parts. parts.answers) is ∙ lines-between tables from to plans groups kept sorted;
+  groups = ap (λ parts. parts.groups) is ∙ kept-between tables from to plans groups kept sorted;
 }
 
 -- what is true of each second one
@@ -318,7 +324,8 @@ module _ (tables : Tables) (plans : List Plan) (a b c : ℕ) (le : a ≤ b) (mor
     (merged : (k : ℕ) (d : List Aggregate) (e : GroupList)
     → k < length first.groups → k < length first.aggregates → k < length second.groups
     → AreMerged (get_or first.aggregates k d) (get_or first.groups k e) (get_or second.groups k e) (get_or groups k e))
-    (within : All (AreWithin (first.rows + second.rows)) groups) where
+    (within : All (AreWithin (first.positions + second.positions)) groups) (front_within : All (AreWithin first.positions) first.groups)
+    (behind_within : All (AreWithin second.positions) second.groups) where
   abbrev Kept : ℕ → ℕ → Plan → GroupList → Type 0
   Kept from to plan groups = GroupsAreKept plan (rows_between tables from to plan) (to - from) groups
 
@@ -327,17 +334,17 @@ module _ (tables : Tables) (plans : List Plan) (a b c : ℕ) (le : a ≤ b) (mor
       sym (rows_among-append tables plan (range (rows_of tables plan.table) a b) (range (rows_of tables plan.table) b c))
       ∙ ap (rows_among tables plan) (range-append (rows_of tables plan.table) a b c le more)
 
-  count : first.rows + second.rows ≡ c - a
-  count = let one = front.rows in let other = behind.rows in omega (arith, one, other)
+  count : first.positions + second.positions ≡ c - a
+  count = let one = front.positions in let other = behind.positions in omega (arith, one, other)
 
   counts : (b - a) + (c - b) ≡ c - a
   counts = omega arith
 
   firsts : length first.groups ≡ length plans
-  firsts = zip-length (Kept a b) plans first.groups front.groups
+  firsts = ap length front.groups ∙ length-map plans (groups_between tables a b)
 
   seconds : length second.groups ≡ length plans
-  seconds = zip-length (Kept b c) plans second.groups behind.groups
+  seconds = ap length behind.groups ∙ length-map plans (groups_between tables b c)
 
   lists : length first.aggregates ≡ length plans
   lists = ap length front.aggregates ∙ length-map plans (λ plan. plan.aggregates)
@@ -345,8 +352,14 @@ module _ (tables : Tables) (plans : List Plan) (a b c : ℕ) (le : a ≤ b) (mor
   kept-both : (k : ℕ) (d : Plan) (e : GroupList) → k < length plans → Kept a c (get_or plans k d) (get_or groups k e)
   kept-both k d e lt =
       let plan : Plan = get_or plans k d in
-      let one = index-from_zip (Kept a b) plans first.groups front.groups k d e lt in
-      let other = index-from_zip (Kept b c) plans second.groups behind.groups k d e lt in
+      let one : Kept a b plan (get_or first.groups k e) =
+      with-kept plan (rows_between tables a b plan) (b - a) (get_or first.groups k e)
+      (ap (λ list. get_or list k e) front.groups ∙ get_or-map (groups_between tables a b) plans k d e lt)
+      (subst (λ n. AreWithin n (get_or first.groups k e)) front.positions (front_within k e (omega (arith, firsts, lt)))) in
+      let other : Kept b c plan (get_or second.groups k e) =
+      with-kept plan (rows_between tables b c plan) (c - b) (get_or second.groups k e)
+      (ap (λ list. get_or list k e) behind.groups ∙ get_or-map (groups_between tables b c) plans k d e lt)
+      (subst (λ n. AreWithin n (get_or second.groups k e)) behind.positions (behind_within k e (omega (arith, seconds, lt)))) in
       let of_plan : get_or first.aggregates k d.aggregates ≡ plan.aggregates =
       ap (λ list. get_or list k d.aggregates) front.aggregates ∙ get_or-map (λ plan. plan.aggregates) plans k d d.aggregates lt in
       let finds =
@@ -360,10 +373,10 @@ module _ (tables : Tables) (plans : List Plan) (a b c : ℕ) (le : a ≤ b) (mor
       (get_or second.groups k e) (get_or groups k e) one other finds fits))
 
   pub partial-merged : (parts : Parts) → All AreSorted groups
-      → parts ≡ record { rows = first.rows + second.rows; aggregates = first.aggregates; groups = groups; answers = map lines_of groups }
+      → parts ≡ record { positions = first.positions + second.positions; aggregates = first.aggregates; groups = groups }
       → IsPartial tables plans a c parts
   partial-merged parts sorted is =
-      partial-made tables plans a c first.aggregates groups (first.rows + second.rows) parts count front.aggregates
+      partial-made tables plans a c first.aggregates groups (first.positions + second.positions) parts count front.aggregates
       (zip-from_index (Kept a c) plans groups (size ∙ firsts) kept-both) sorted is
 
 pub get_or-last : {X : Type 0} (xs : List X) (x d : X) → get_or (xs ++ x ∷ []) (length xs) d ≡ x

@@ -1,5 +1,6 @@
 -- What only helps proofs: how what is kept for a plan grows by a row, and that the order of values is total.
 pub mod Kept
+pub mod Merged
 pub mod Places
 pub mod Pieces
 pub mod Ranges

@@ -3,7 +3,6 @@ pub mod Checking
 pub mod Order
 pub mod Answers
 pub mod Report
-pub mod Merged
 pub mod Partials
 pub mod Laws
 pub mod Worked

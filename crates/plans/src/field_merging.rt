@@ -5,7 +5,7 @@ ghost use Rattle.std.specs.List.{All};
 ghost use Rattle.std.specs.Option.{option_copied};
 ghost use Rattle.plans.specs.Answers.{lesser, greater};
 ghost use Rattle.plans.specs.Inner.Kept.{IsWithin};
-ghost use Rattle.plans.specs.Merged.{added, better_of, merged, merged_all, merged_at};
+ghost use Rattle.plans.specs.Inner.Merged.{added, better_of, merged, merged_all, merged_at};
 
 use crate::aggregate::Aggregate;
 use crate::comparing::{greater, lesser};

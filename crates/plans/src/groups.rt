@@ -12,7 +12,7 @@ ghost use Rattle.plans.specs.Order.{group_cmp};
 ghost use Rattle.plans.specs.Answers.{aggregate_of, group_of, column_in};
 ghost use Rattle.plans.specs.Inner.Kept.{opening_groups, with_joined_row, HasColumns, AreWithin};
 ghost use Rattle.plans.specs.Inner.Places.{row_at_place};
-ghost use Rattle.plans.specs.Merged.{merged_at};
+ghost use Rattle.plans.specs.Inner.Merged.{merged_at};
 
 use crate::aggregate::Aggregate;
 use crate::answer::Answer;

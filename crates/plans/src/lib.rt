@@ -4,9 +4,8 @@
 //! its columns names. It selects the rows that meet all conditions, groups them, and computes for
 //! each group what the plan asks: the number of rows, sums, least and greatest values.
 //! `specs/Checking.antt` defines which plans fit a schema, `Order.antt` how values are ordered,
-//! `Answers.antt` the plain answer of a plan on tables, `Merged.antt` how what is computed of parts
-//! of a table makes that of all, `Partials.antt` what plans compute of a range of positions, and
-//! `Report.antt` the text of answers. `Inner` only helps proofs.
+//! `Answers.antt` the plain answer of a plan on tables, `Partials.antt` what plans compute of a range
+//! of positions, and `Report.antt` the text of answers. `Inner` only helps proofs.
 //!
 //! Promised: `Plan::check` answers the first fault; `answer_batch` gives the plain answer of each
 //! plan on the rows of any whole store, except that it may run out of memory; `partial` gives what

@@ -20,49 +20,52 @@ use std::marker::Model;
 
 /// What plans compute of a range of positions of their tables: the groups of each plan, and the lines
 /// of its answer. Two of them, of ranges one behind the other, are merged by `merge`.
+///
+/// Contracts see the groups with their aggregates.
 #[derive(Drop)]
 pub struct Partial {
     /// The aggregates of each plan.
     aggregates: Vec<AggregateList>,
     /// The groups of each plan.
     groups: Vec<Groups>,
+    /// The lines of the groups of each plan.
     answers: Vec<Answer>,
-    /// How many rows of a table there are at most: the length of the range.
-    rows: usize,
+    /// The length of the range: of so many rows of a table the groups are at most.
+    positions: usize,
 }
 
 impl Model for Partial {
+    ghost use Rattle.std.specs.Prelude.{◌≡◌, map};
     ghost use Rattle.std.specs.List.{All};
     ghost use Rattle.plans.specs.Partials.{Parts};
     ghost use Rattle.plans.specs.Inner.Kept.{AreWithin};
+    ghost use Rattle.plans.specs.Inner.Ranges.{lines_of};
 
     ghost Value = { Parts };
 
     ghost view = { λ partial. record {
-      rows = partial.rows;
+      positions = partial.positions;
       aggregates = partial.aggregates.items;
       groups = partial.groups.items;
-      answers = partial.answers.items;
     } };
 
-    ghost invariant = { λ partial. All (AreWithin partial.rows) partial.groups.items };
+    ghost invariant = { λ partial. All (AreWithin partial.positions) partial.groups.items
+        × (partial.answers.items ≡ map lines_of partial.groups.items) };
 }
 
 impl Partial {
-    /// What is kept of plans with these aggregates, with the answers that it makes; its sums are those
-    /// of at most so many rows. Fails only if out of memory.
+    /// What is kept of plans with these aggregates, on so many positions. Fails only if out of memory.
     pub(crate) fn of(
         alloc: Global,
         aggregates: Vec<AggregateList>,
         groups: Vec<Groups>,
-        rows: usize,
+        positions: usize,
     ) -> Result<Partial, AllocError>
-        requires { All (AreWithin rows) groups.items }
+        requires { All (AreWithin positions) groups.items }
         ensures parts { IfOk result (λ partial. partial ≡ record {
-          rows = rows;
+          positions = positions;
           aggregates = aggregates.items;
           groups = groups.items;
-          answers = map lines_of groups.items;
         }) }
         ensures ordered { IfOk result (λ partial. All (λ list. IsStrictlySortedBy group_cmp (keys_of list)) groups.items) }
     {
@@ -71,7 +74,7 @@ impl Partial {
             aggregates,
             groups,
             answers,
-            rows,
+            positions,
         })
     }
 
@@ -85,32 +88,32 @@ impl Partial {
 
     /// The same, without the groups. Takes no memory.
     pub(crate) fn into_answers(self) -> Vec<Answer>
-        ensures { result.items ≡ self.answers }
+        ensures { result.items ≡ map lines_of self.groups }
     {
         self.answers
     }
 }
 
 /// What plans compute of two ranges of positions, the second one right behind the first: of those from
-/// `a` to before `b` and from `b` to before `c`, that of those from `a` to before `c`. Fails only if
-/// out of memory; so it does too where the ranges have more than `usize::MAX` positions in all.
+/// `a` to before `b` and from `b` to before `c`, that of those from `a` to before `c`. The ranges have
+/// at most `usize::MAX` positions in all. Fails only if out of memory.
 pub fn merge(alloc: Global, first: Partial, second: Partial) -> Result<Partial, AllocError>
-    ensures { IfOk result (λ partial. (tables : AnyTables) (plans : List AnyPlan) (a b c : ℕ) → a ≤ b → b ≤ c
+    requires { first.positions + second.positions < 2 ^ 64 }
+    ensures parts { IfOk result (λ partial. (tables : AnyTables) (plans : List AnyPlan) (a b c : ℕ) → a ≤ b → b ≤ c
         → IsPartial tables plans a b first → IsPartial tables plans b c second → IsPartial tables plans a c partial) }
+    ensures positions { IfOk result (λ partial. partial.positions ≡ first.positions + second.positions) }
 {
-    let Some(rows) = first.rows.checked_add(second.rows) else {
-        return Err(AllocError);
-    };
+    let positions = first.positions + second.positions;
     let aggregates = first.aggregates;
     let mut groups = first.groups;
     merge_each(
         aggregates.as_slice(),
         groups.as_mut_slice(),
         second.groups,
-        first.rows,
-        second.rows,
+        first.positions,
+        second.positions,
     )?;
-    Partial::of(alloc, aggregates, groups, rows)
+    Partial::of(alloc, aggregates, groups, positions)
 }
 
 /// Adds the groups of each of the others to those of the same plan, where both have it. Fails only if

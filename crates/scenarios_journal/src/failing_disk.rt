@@ -6,12 +6,13 @@ use journal::Disk;
 use std::alloc::Global;
 use std::io::{self, ErrorKind};
 
-/// A file in memory whose call of some number fails, counted from 0 among those that change it. It is
-/// honest in what it leaves: so many bytes of what was to be appended, or more than a cut was to
-/// keep.
+/// A file in memory whose call of some number fails, counted from 0 among those that change or sync
+/// it. It is honest in what it leaves: so many bytes of what was to be appended, or more than a cut
+/// was to keep; and what was synced before.
 #[derive(Drop)]
 pub struct FailingDisk {
     content: Vec<u8>,
+    synced: Vec<u8>,
     calls_before: u64,
     bytes_left: usize,
     has_failed: bool,
@@ -20,10 +21,11 @@ pub struct FailingDisk {
 impl FailingDisk {
     /// A file without bytes, whose call of that number fails and leaves so many bytes.
     pub fn new(alloc: Global, calls_before: u64, bytes_left: usize) -> FailingDisk
-        ensures { result.content.items ≡ [] }
+        ensures { (result.content.items ≡ []) × (result.synced.items ≡ []) }
     {
         FailingDisk {
             content: Vec::new(alloc),
+            synced: Vec::new(alloc),
             calls_before,
             bytes_left,
             has_failed: false,
@@ -32,7 +34,8 @@ impl FailingDisk {
 
     /// Whether this call is to fail.
     fn is_turn(&mut self) -> bool
-        ensures { self.new.content ≡ self.old.content }
+        ensures content { self.new.content ≡ self.old.content }
+        ensures synced { self.new.synced ≡ self.old.synced }
     {
         if self.calls_before == 0 && !self.has_failed {
             self.has_failed = true;
@@ -59,6 +62,8 @@ impl Disk for FailingDisk {
 
     ghost content = { λ d. d.content.items };
 
+    ghost synced = { λ d. d.synced.items };
+
     ghost is_honest = { true };
 
     fn append(&mut self, _len: u64, bytes: &[u8]) -> io::Result<()> {
@@ -78,6 +83,19 @@ impl Disk for FailingDisk {
         }
         self.content.truncate(len as usize);
         Ok(())
+    }
+
+    fn sync(&mut self) -> io::Result<()> {
+        if self.is_turn() {
+            return Err(io::Error::from(ErrorKind::Other));
+        }
+        match self.content.clone() {
+            Ok(synced) => {
+                self.synced = synced;
+                Ok(())
+            }
+            Err(_) => Err(io::Error::from(ErrorKind::OutOfMemory)),
+        }
     }
 
     fn read(&self, list: &mut [u8]) -> io::Result<()> {

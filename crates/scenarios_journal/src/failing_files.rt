@@ -235,10 +235,11 @@ struct Story {
     faults: u64,
 }
 
-/// No call fails; each append and the cut fail in turn, and leave nothing, a part, or all.
-const STORIES: [Story; 6] = [
+/// No call fails; each append, the cut, and their syncs fail in turn, and leave nothing, a part, or
+/// all. Each append and the cut are two calls: the change and its sync.
+const STORIES: [Story; 8] = [
     Story {
-        calls_before: 9,
+        calls_before: 99,
         bytes_left: 0,
         ends: [End::Done, End::Done, End::Done, End::Done, End::Done],
         stands: true,
@@ -254,26 +255,40 @@ const STORIES: [Story; 6] = [
     Story {
         calls_before: 1,
         bytes_left: 0,
-        ends: [End::Done, End::System, End::Done, End::Done, End::Done],
+        ends: [End::System, End::Unsettled, End::Done, End::Done, End::Done],
         stands: true,
-        faults: 1,
+        faults: 2,
     },
     Story {
-        calls_before: 1,
-        bytes_left: 43,
+        calls_before: 2,
+        bytes_left: 0,
         ends: [End::Done, End::System, End::Done, End::Done, End::Done],
         stands: true,
         faults: 1,
     },
     Story {
         calls_before: 2,
+        bytes_left: 43,
+        ends: [End::Done, End::System, End::Done, End::Done, End::Done],
+        stands: true,
+        faults: 1,
+    },
+    Story {
+        calls_before: 4,
         bytes_left: 5,
         ends: [End::Done, End::Done, End::System, End::Unsettled, End::Done],
         stands: false,
         faults: 2,
     },
     Story {
-        calls_before: 3,
+        calls_before: 5,
+        bytes_left: 0,
+        ends: [End::Done, End::Done, End::System, End::Unsettled, End::Done],
+        stands: false,
+        faults: 2,
+    },
+    Story {
+        calls_before: 6,
         bytes_left: 52,
         ends: [End::Done, End::Done, End::Done, End::System, End::Done],
         stands: false,
@@ -320,6 +335,8 @@ impl Disk for VastDisk {
 
     ghost content = { λ _. [] };
 
+    ghost synced = { λ _. [] };
+
     ghost is_honest = { false };
 
     fn append(&mut self, len: u64, bytes: &[u8]) -> io::Result<()> {
@@ -330,6 +347,10 @@ impl Disk for VastDisk {
     }
 
     fn cut_to(&mut self, _len: u64) -> io::Result<()> {
+        Ok(())
+    }
+
+    fn sync(&mut self) -> io::Result<()> {
         Ok(())
     }
 

@@ -10,7 +10,7 @@ use Rattle.plans.specs.declared.field.Field.TheVariants.{Stored}
 use Rattle.plans.specs.declared.plan.Plan.{Plan}
 use Rattle.plans.specs.Order.{group_cmp}
 use Rattle.plans.specs.Answers.{JoinedRow}
-use Rattle.plans.specs.Merged.{merged_at}
+use Rattle.plans.specs.Inner.Merged.{merged_at}
 use Rattle.plans.specs.Partials.{rows_between}
 use Rattle.plans.specs.Inner.Kept.{GroupList, GroupsAreKept, row_among, opening_groups}
 

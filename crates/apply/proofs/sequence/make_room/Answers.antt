@@ -42,9 +42,9 @@ made c =
     let head_kinds = ap (λ (block : Table). block.kinds) c.truncate.ensures ∙ ap (λ (block : Table). block.kinds) again ∙ kinds in
     let tail_kinds = ap (λ (block : Table). block.kinds) c.in_ok-tail.ensures ∙ ap (λ (block : Table). block.kinds) read ∙ kinds in
     let many : c.len-rows.result ≡ length rows = c.len-rows.ensures ∙ ap (λ (block : Table). length block.rows) first in
-    let within : cut < length rows = omega (arith, many, c.cut_at-cut.ensures.1) in
+    let within : cut < length rows = omega (arith, many, c.cut_at-cut.ensures.within.1) in
     let head_some : 0 < length head.rows = subst (λ rows. 0 < length rows) (sym head_rows)
-    (omega (arith, length-take-le cut rows (omega (arith, within)), c.cut_at-cut.ensures.0)) in
+    (omega (arith, length-take-le cut rows (omega (arith, within)), c.cut_at-cut.ensures.within.0)) in
     let tail_some : 0 < length tail.rows =
     subst (λ rows. 0 < length rows) (sym tail_rows) (omega (arith, length-drop cut rows, within)) in (
       ap (λ blocks. joined (slice_set blocks m head)) put ∙ joined-cut blocks m d head tail lt both,

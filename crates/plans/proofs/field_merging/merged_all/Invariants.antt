@@ -3,7 +3,7 @@ use Rattle.std.proofs.Common.{◌≡◌, ℕ, ◌+◌, ◌<◌, ◌≤◌, ◌++
 use Rattle.std.specs.List.{All}
 use Rattle.plans.specs.declared.field.Field.{Field}
 use Rattle.plans.specs.Inner.Kept.{IsWithin}
-use Rattle.plans.specs.Merged.{merged_all}
+use Rattle.plans.specs.Inner.Merged.{merged_all}
 use Rattle.plans.proofs.field_merging.merged_all.Given as goal
 
 abbrev pub invariant-loop-index : goal.invariant-loop-index

@@ -1,19 +1,18 @@
 -- The groups of each plan are those of both ranges.
-use Rattle.std.proofs.Common.{◌≡◌, ◌++◌, length, map, take, drop, sym, ap, subst, ◌∙◌}
+use Rattle.std.proofs.Common.{◌≡◌, ◌+◌, ◌++◌, length, take, drop, sym, ap, subst, ◌∙◌}
 use Rattle.std.specs.List.{All}
 use Rattle.plans.specs.Partials.{Parts, IsPartial}
-use Rattle.plans.specs.Inner.Ranges.{lines_of}
 use Rattle.plans.proofs.Ranged.{AreSorted, both-if-ok, partial-merged, through-merged, written_over}
 use Rattle.plans.proofs.partials.merge.Goals as goal
 
-pub returns : goal.returns
-returns c =
+pub returns-clause-parts : goal.returns-clause-parts
+returns-clause-parts c =
     let one = c.first.inside in
     let other = c.second.inside in
     let first : Parts =
-    record { rows = one.rows; aggregates = one.aggregates.items; groups = one.groups.items; answers = one.answers.items } in
+    record { positions = one.positions; aggregates = one.aggregates.items; groups = one.groups.items } in
     let second : Parts =
-    record { rows = other.rows; aggregates = other.aggregates.items; groups = other.groups.items; answers = other.answers.items } in
+    record { positions = other.positions; aggregates = other.aggregates.items; groups = other.groups.items } in
     let news = c.merge_each.new.groups in
     let size : length news ≡ length one.groups.items = c.merge_each.auto.groups ∙ ap length c.as_mut_slice.ensures.value in
     let whole : take one.groups.len (news ++ drop (length news) one.groups.items) ≡ news =
@@ -25,13 +24,6 @@ returns c =
     (subst (IsPartial tables plans b c') (sym c.second.view_is) behind) news size
     (through-merged one.aggregates.items c.as_slice.result.now one.groups.items c.as_mut_slice.result.now other.groups.items news
     c.as_slice.ensures.value c.as_mut_slice.ensures.value c.in_ok-merge_each.ensures.merged)
-    c.in_ok-merge_each.ensures.within partial (subst (All AreSorted) whole sorted)
-    (made
-    ∙ (λ j.
-    record {
-      rows = c.in-Some.ensures.1 j;
-      aggregates = one.aggregates.items;
-      groups = whole j;
-      answers = map lines_of (whole j);
-    })))
+    c.in_ok-merge_each.ensures.within c.first.invariant.0 c.second.invariant.0 partial (subst (All AreSorted) whole sorted)
+    (made ∙ (λ j. record { positions = one.positions + other.positions; aggregates = one.aggregates.items; groups = whole j })))
     c.of.ensures.parts c.of.ensures.ordered

@@ -1,10 +1,9 @@
 -- What is kept of each plan is what the plan computes of the range.
-use Rattle.std.proofs.Common.{◌≡◌, ◌-◌, ◌++◌, length, map, take, drop, refl, sym, ap, subst, ◌∙◌}
+use Rattle.std.proofs.Common.{◌≡◌, ◌-◌, ◌++◌, length, take, drop, refl, sym, ap, subst, ◌∙◌}
 use Rattle.std.specs.List.{All}
 use Rattle.std.proofs.lemmas.List.{length-map}
 use Rattle.plans.specs.Partials.{rows_between}
 use Rattle.plans.specs.Inner.Kept.{AreWithin, GroupsAreKept, opening_groups}
-use Rattle.plans.specs.Inner.Ranges.{lines_of}
 use Rattle.plans.proofs.Ranged.{AreSorted, both-if-ok, partial-made, zip-from_index, zip-second, written_over}
 use Rattle.plans.proofs.ranging.partial.Goals as goal
 
@@ -48,5 +47,5 @@ returns g c =
     partial-made tables plans from to lists news (to - from) parts refl c.in_ok-aggregates_of.ensures kept
     (subst (All AreSorted) whole sorted)
     (made
-    ∙ (λ j. record { rows = to - from; aggregates = lists; groups = whole j; answers = map lines_of (whole j) })))
+    ∙ (λ j. record { positions = to - from; aggregates = lists; groups = whole j })))
     c.of.ensures.parts c.of.ensures.ordered

@@ -1,10 +1,9 @@
 -- What is kept of each plan is what the plan computes of the rows of its table.
-use Rattle.std.proofs.Common.{◌≡◌, ◌-◌, ◌++◌, get_or, length, map, take, drop, sym, ap, subst, ◌∙◌, arith}
+use Rattle.std.proofs.Common.{◌≡◌, ◌-◌, ◌++◌, get_or, length, take, drop, sym, ap, subst, ◌∙◌, arith}
 use Rattle.std.specs.List.{All}
 use Rattle.std.proofs.lemmas.List.{length-map}
 use Rattle.plans.specs.Partials.{rows_between}
 use Rattle.plans.specs.Inner.Kept.{AreWithin, GroupsAreKept, opening_groups}
-use Rattle.plans.specs.Inner.Ranges.{lines_of}
 use Rattle.plans.proofs.Ranged.{AreSorted, partial-made, zip-from_index, zip-second, written_over}
 use Rattle.plans.proofs.together.lent_partial.Goals as goal
 
@@ -47,4 +46,4 @@ returns g c =
     partial-made tables plans 0 most lists news most c.in_ok-partial.partial counts c.in_ok-aggregates_of.ensures kept
     (subst (All AreSorted) whole c.in_ok-partial.ensures.ordered)
     (c.in_ok-partial.ensures.parts
-    ∙ (λ j. record { rows = most; aggregates = lists; groups = whole j; answers = map lines_of (whole j) }))
+    ∙ (λ j. record { positions = most; aggregates = lists; groups = whole j }))

@@ -13,5 +13,5 @@ returns-in_err-put-clause-err c = λ honest.
     when_err c.from_residual.result (
       [],
       (c.args.bytes.now, refl),
-      c.in_err-put.ensures.err ∙ ap (λ content. content.items) c.is_turn.ensures ∙ sym (append-nil c.args.self.now.content.items),
+      c.in_err-put.ensures.err ∙ ap (λ content. content.items) c.is_turn.ensures.content ∙ sym (append-nil c.args.self.now.content.items),
     )
