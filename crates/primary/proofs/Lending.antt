@@ -72,8 +72,13 @@ stops-allowed is_honest standing fault_count lent done write begun count now by 
     by.stands honest ∙ written (sym by.honest ∙ honest) by.runs in
     let begins : IsBeginning lent.records records =
     subst (λ (bytes : List ℕ). IsBeginning bytes records) (sym by.records) (offered-begin p count more.0) in
-    subst (λ (q : Primary). IsLeftByStop q (standing lent.journal) × IsLeftByStop q (standing done.journal)) (sym more.1) (
+    subst (λ (q : Primary). IsLeftByStop q (standing lent.journal)
+    × ((front : List ℕ) → IsBeginning front lent.records → IsLeftByStop q (standing lent.journal ++ front))
+    × IsLeftByStop q (standing done.journal)) (sym more.1) (
       left_by_stop longer (standing lent.journal) (standing lent.journal) [] text (records, refl)
           (sym (append-nil (standing lent.journal))),
+      λ front within.
+          left_by_stop longer (standing lent.journal) (standing lent.journal ++ front) front text
+          (begins-within front lent.records records within begins) refl,
       left_by_write is_honest standing fault_count lent done longer write honest text begins done.taken refl,
     )

@@ -3,6 +3,7 @@ use Rattle.std.specs.Prelude.{◌≡◌, ℕ, ◌+◌, List, ◌++◌, length, t
 use Rattle.std.specs.Prelude.{is_some, if◌then◌else◌}
 use Rattle.rows.specs.declared.commit.Commit.{Commit}
 use Rattle.rows.specs.Shape.{shape_of}
+use Rattle.journal.specs.Recovery.{IsBeginning}
 use Rattle.journal.specs.Storing.{IsPartlyAppended}
 use Rattle.journal.specs.Text.{journal_text, records_from}
 use Rattle.primary.specs.declared.faults.FlushFault.{FlushFault}
@@ -75,10 +76,12 @@ abbrev pub IsLeftByStop : Primary → List ℕ → Type 0
 IsLeftByStop p bytes =
     (count : ℕ) × (bytes ≡ journal_text p.workers (shape_of p.schema) p.durable ++ take count (records_from (length p.durable) p.pending))
 
--- a journal that was written when its flush began is what a stop may leave, before its write and after it, whatever was committed
--- meanwhile
+-- a journal that was written when its flush began is what a stop may leave, whatever was committed meanwhile: before its write; within
+-- it, when some beginning of the records stands after what stood; and after it
 abbrev pub StopsAreAllowed : {J : Type 0} → (J → Bool) → (J → List ℕ) → (J → ℕ) → Lent J → Returned J → Type 0
 StopsAreAllowed {J = J} is_honest standing fault_count lent done =
     (begun : Core J) (count : ℕ) (now : Primary) → IsLentBy is_honest standing fault_count begun count lent
     → IsWritten is_honest standing begun → HasMorePending begun.primary now → is_honest lent.journal ≡ true
-    → IsLeftByStop now (standing lent.journal) × IsLeftByStop now (standing done.journal)
+    → IsLeftByStop now (standing lent.journal)
+    × ((front : List ℕ) → IsBeginning front lent.records → IsLeftByStop now (standing lent.journal ++ front))
+    × IsLeftByStop now (standing done.journal)

@@ -44,8 +44,8 @@ impl<J: JournalStore> Work<J> {
     }
 
     /// Offers the records to the journal in one append, or nothing if no commit is offered. A crash
-    /// meanwhile, before the write or after it, leaves what a stop of the primary may leave. Takes
-    /// no memory.
+    /// before the write, within it or after it leaves what a stop of the primary may leave. Takes no
+    /// memory.
     pub fn write(self) -> Done<J>
         ensures left { IsWriteOf J.is_honest J.standing J.fault_count self result }
         ensures stops { StopsAreAllowed J.is_honest J.standing J.fault_count self result }

@@ -53,11 +53,14 @@ const COLUMNS: usize = 8;
 const VALUE: &str =
     " x0123456789abcdef0123456789abcdef0123456789abcdef0123456789abcdef0123456789abcdef0123456789abcdef0123456789abcdef0123456789abcdef";
 
-/// How many rows there are. Two go in a frame, and the text of all is more than 8192 bytes.
-const ROWS: usize = 9;
+/// How many rows there are. Two go in a frame, and the text of all is more than 20,000 bytes: no room
+/// for a shorter line is enough for it.
+const ROWS: usize = 21;
 
 /// How many bytes each of the frames has.
-const FRAMES: [usize; 5] = [1074, 1074, 1074, 1074, 550];
+const FRAMES: [usize; 11] = [
+    1074, 1074, 1074, 1074, 1074, 1074, 1074, 1074, 1074, 1074, 550,
+];
 
 /// The words of a row behind these.
 fn row_words(alloc: Global, front: &str, row: usize) -> Result<String, AllocError> {
@@ -92,11 +95,11 @@ fn wide_story(alloc: Global) -> Result<Story, AllocError> {
     let mut story = Story::new(alloc, WIDE)?;
     add_wide_commit(alloc, &mut story)?;
     story.add("open 0 query wide get count", "opened 1")?;
-    story.add("ask 0", "sent 5 23")?;
-    story.add("deliver 5 p", "sent 6 40")?;
-    story.add("deliver 6 r0", "head 1")?;
-    story.add("run 0", "version 1 queries 1\nquery 0 rows 1\n9")?;
-    let mut dump = String::from_str(alloc, "version 1 rows 9")?;
+    story.add("ask 0", "sent 11 23")?;
+    story.add("deliver 11 p", "sent 12 40")?;
+    story.add("deliver 12 r0", "head 1")?;
+    story.add("run 0", "version 1 queries 1\nquery 0 rows 1\n21")?;
+    let mut dump = String::from_str(alloc, "version 1 rows 21")?;
     for row in 0..ROWS {
         let line = row_words(alloc, "\nwide", row)?;
         dump.push_str(line.as_str())?;
@@ -133,7 +136,7 @@ fn has_memory_line(text: &[u8]) -> bool {
 #[test]
 fn a_late_long_line_without_memory_is_whole_or_not_begun(rt: HostRuntime) -> Result<(), Fail> {
     let story = wide_story(rt.alloc())?;
-    let mut text = Vec::with_capacity(rt.alloc(), 40_000)?;
+    let mut text = Vec::with_capacity(rt.alloc(), 60_000)?;
     assert!(rt; is_whole_or_not_begun(&rt, rt.alloc(), &story, Echo::No, &mut text)?);
     Ok(())
 }
@@ -144,7 +147,7 @@ fn a_late_long_line_behind_its_event_without_memory_is_whole_or_not_begun(
     rt: HostRuntime,
 ) -> Result<(), Fail> {
     let story = wide_story(rt.alloc())?;
-    let mut text = Vec::with_capacity(rt.alloc(), 40_000)?;
+    let mut text = Vec::with_capacity(rt.alloc(), 60_000)?;
     assert!(rt; is_whole_or_not_begun(&rt, rt.alloc(), &story, Echo::Events, &mut text)?);
     Ok(())
 }

@@ -1,9 +1,11 @@
 //! Writing the text of outputs to a writer, in pieces.
 
-ghost use Rattle.std.specs.Prelude.{◌≡◌, [], Err, IfOk, OnOk, OnErr};
+ghost use Rattle.std.specs.Prelude.{◌≡◌, ℕ, ◌+◌, ◌<◌, ◌≤◌, [], length, max, slice_get, vec_capacity, Err, IfOk, OnOk, OnErr};
 ghost use Rattle.std.specs.Io.KnownBytes.{Appends, Keeps};
-ghost use Rattle.script.specs.EventText.{echoed_text};
-ghost use Rattle.script.specs.OutputText.{outputs_text};
+ghost use Rattle.script.specs.declared.event.Event.{Event as EventOf};
+ghost use Rattle.script.specs.declared.output.Output.{Output as OutputOf};
+ghost use Rattle.script.specs.EventText.{echoed_one, echoed_text};
+ghost use Rattle.script.specs.OutputText.{output_text, outputs_text};
 ghost use Rattle.script.specs.Writing.{IsWrittenBut, IsPartlyWritten};
 
 use crate::event::Event;
@@ -72,17 +74,21 @@ pub fn write_echoed_text_of<W: Write>(
 }
 
 /// An empty text with room for a piece and, after it, the lines of any one of these outputs: each
-/// is put there once. So it cannot run out of memory once something is written.
+/// is put there once, for its length. So it cannot run out of memory once something is written.
 fn room_for(alloc: Global, outputs: &[Output]) -> Result<Vec<u8>, AllocError>
-    ensures { IfOk result (λ text. text.items ≡ []) }
+    ensures empty { IfOk result (λ text. text.items ≡ []) }
+    ensures room { IfOk result (λ text. (index : ℕ) (output : OutputOf) → slice_get outputs.now index ≡ Some output
+        → PIECE + length (output_text output) ≤ vec_capacity text) }
 {
     let mut text = Vec::new(alloc);
-    text.resize(PIECE, 0)?;
+    let mut longest = 0;
     for output in outputs {
-        text.truncate(PIECE);
+        text.clear();
         push_output(&mut text, output)?;
+        longest = longer(longest, text.len());
     }
     text.clear();
+    text.reserve(PIECE + longest)?;
     Ok(text)
 }
 
@@ -93,16 +99,33 @@ fn room_for_echoed(
     events: &[Event],
     outputs: &[Output],
 ) -> Result<Vec<u8>, AllocError>
-    ensures { IfOk result (λ text. text.items ≡ []) }
+    ensures empty { IfOk result (λ text. text.items ≡ []) }
+    ensures room { IfOk result (λ text. (index : ℕ) (event : EventOf) (output : OutputOf)
+        → slice_get events.now index ≡ Some event → slice_get outputs.now index ≡ Some output
+        → PIECE + length (echoed_one schema.now event output) ≤ vec_capacity text) }
 {
     let mut text = Vec::new(alloc);
-    text.resize(PIECE, 0)?;
-    for (event, output) in events.iter().zip(outputs) {
-        text.truncate(PIECE);
-        push_echoed(&mut text, schema, event, output)?;
+    let mut longest = 0;
+    let len = if events.len() < outputs.len() {
+        events.len()
+    } else {
+        outputs.len()
+    };
+    for index in 0..len {
+        text.clear();
+        push_echoed(&mut text, schema, &events[index], &outputs[index])?;
+        longest = longer(longest, text.len());
     }
     text.clear();
+    text.reserve(PIECE + longest)?;
     Ok(text)
+}
+
+/// The greater of two lengths.
+fn longer(one: usize, other: usize) -> usize
+    ensures { result ≡ max one other }
+{
+    if one < other { other } else { one }
 }
 
 /// Writes the text of outputs through an empty text that has room.
@@ -144,8 +167,9 @@ fn write_echoed<W: Write>(
     write_bytes(writer, text.as_slice())
 }
 
-/// Writes a text and empties it, if it is at least a piece.
+/// Writes a text and empties it, if it is at least a piece. What is kept is shorter.
 fn write_piece<W: Write>(writer: &mut W, text: &mut Vec<u8>) -> io::Result<()>
+    ensures kept { OnOk result (length text.new.items < PIECE) }
     ensures written { OnOk result (IsWrittenBut (W.contents writer.old) (W.contents writer.new) text.old.items text.new.items) }
     ensures interrupted { OnErr result (IsPartlyWritten (W.contents writer.old) (W.contents writer.new) text.old.items) }
 {
