@@ -1,21 +1,24 @@
-//! What it takes to change a store of columns of a million rows: to insert the rows in rising order, in
-//! falling order and shuffled, to patch drawn ones, to delete every second one, and to delete and insert
-//! single rows among them. A test prints the microseconds, which `bench/apply` reads; what passes is that
-//! the rows are there.
+//! What it takes to change a store of columns of many rows. A test does the runs of a table with a few rows,
+//! and prints the microseconds of each step; `bench/apply` names one run, which it then does with a million.
+//! What passes is that so many rows are left.
 
 use apply::ColumnStore;
 use rows::{Commit, EntryList, Schema};
 use scenarios_common::drawn_numbers::draw;
 use scenarios_common::wanted::{FIVE, NUMBERS, SIX, Wanted, made};
 use std::alloc::{AllocError, Global};
-use std::rt::Clock;
+use std::env;
+use std::rt::{Clock, Env};
 use std::test::Fail;
 use std::thread::Threads;
 use std::time::Instant;
 use store::Store;
 
-/// Rows that are inserted.
-const ROWS: usize = 1_000_000;
+/// Rows that are inserted in a run that is named.
+const MANY: usize = 1_000_000;
+
+/// Rows that are inserted in all others: enough that threads change them.
+const FEW: usize = 20_000;
 
 /// Entries of a commit.
 const ENTRIES: usize = 4096;
@@ -26,34 +29,121 @@ const PARTITIONS: usize = 8;
 /// Single rows that are deleted and inserted again.
 const SINGLES: usize = 1000;
 
-/// What is done with a row.
+/// Which rows a step changes, in their order.
 #[derive(Clone, Copy)]
-enum Change {
-    Insert,
-    Patch,
-    Delete,
-}
-
-/// In which order the rows are inserted.
-#[derive(Clone, Copy)]
-enum Order {
+enum Picked {
+    /// Each one.
     Rising,
     Falling,
     Shuffled,
+    /// As many drawn ones as there are rows, some of them twice.
+    Drawn,
+    /// A few drawn ones.
+    Singles,
+    /// Every second one.
+    Even,
 }
 
-/// The rows in an order.
-fn rows_in(alloc: Global, order: Order) -> Result<Vec<u64>, AllocError> {
-    let mut rows = Vec::with_capacity(alloc, ROWS)?;
-    for row in 0..ROWS as u64 {
-        rows.push(row)?;
+/// What a step does with its rows.
+#[derive(Clone, Copy, PartialEq)]
+enum Change {
+    /// The commits of the inserts are made, and not applied: `bench/apply` subtracts their memory.
+    Make,
+    Insert,
+    Patch,
+    Delete,
+    /// Each row is deleted and inserted again, each change in a commit of its own.
+    Replace,
+}
+
+/// A run: the word for it, what is done in a new store, and how many halves of the rows are left.
+#[derive(Clone, Copy)]
+struct Run {
+    word: &'static str,
+    steps: &'static [(Picked, Change)],
+    halves: usize,
+}
+
+/// All runs.
+const RUNS: [Run; 5] = [
+    Run {
+        word: "rising",
+        steps: &[
+            (Picked::Rising, Change::Insert),
+            (Picked::Drawn, Change::Patch),
+            (Picked::Singles, Change::Replace),
+            (Picked::Even, Change::Delete),
+        ],
+        halves: 1,
+    },
+    Run {
+        word: "falling",
+        steps: &[
+            (Picked::Falling, Change::Insert),
+            (Picked::Drawn, Change::Patch),
+            (Picked::Singles, Change::Replace),
+            (Picked::Even, Change::Delete),
+        ],
+        halves: 1,
+    },
+    Run {
+        word: "shuffled",
+        steps: &[
+            (Picked::Shuffled, Change::Insert),
+            (Picked::Drawn, Change::Patch),
+            (Picked::Singles, Change::Replace),
+            (Picked::Even, Change::Delete),
+        ],
+        halves: 1,
+    },
+    Run {
+        word: "made",
+        steps: &[(Picked::Rising, Change::Make)],
+        halves: 0,
+    },
+    Run {
+        word: "inserted",
+        steps: &[(Picked::Rising, Change::Insert)],
+        halves: 2,
+    },
+];
+
+/// So many of the first rows that are drawn from a seed.
+fn drawn(alloc: Global, rows: usize, seed: u64, count: usize) -> Result<Vec<u64>, AllocError> {
+    let mut list = Vec::new(alloc);
+    if rows == 0 {
+        return Ok(list);
     }
-    match order {
-        Order::Rising => {}
-        Order::Falling => rows.as_mut_slice().reverse(),
-        Order::Shuffled => shuffle(rows.as_mut_slice()),
+    let mut state = seed;
+    for _ in 0..count {
+        list.push(draw(&mut state, rows) as u64)?;
     }
-    Ok(rows)
+    Ok(list)
+}
+
+/// Those of the first rows that are multiples of a step.
+fn rising(alloc: Global, rows: usize, step: u64) -> Result<Vec<u64>, AllocError> {
+    let mut list = Vec::new(alloc);
+    for row in 0..rows as u64 {
+        if row.is_multiple_of(step) {
+            list.push(row)?;
+        }
+    }
+    Ok(list)
+}
+
+/// The first rows, in falling order.
+fn falling(alloc: Global, rows: usize) -> Result<Vec<u64>, AllocError> {
+    let mut list = rising(alloc, rows, 1)?;
+    list.as_mut_slice().reverse();
+    Ok(list)
+}
+
+/// The first rows, in a drawn order.
+fn shuffled(alloc: Global, rows: usize) -> Result<Vec<u64>, AllocError> {
+    let mut list = rising(alloc, rows, 1)?;
+    shuffle(list.as_mut_slice());
+    Ok(list)
 }
 
 /// Puts rows into a drawn order.
@@ -64,33 +154,24 @@ fn shuffle(rows: &mut [u64]) {
     }
 }
 
-/// As many drawn rows as there are rows.
-fn drawn_rows(alloc: Global) -> Result<Vec<u64>, AllocError> {
-    let mut rows = Vec::with_capacity(alloc, ROWS)?;
-    let mut state = 5;
-    for _ in 0..ROWS {
-        rows.push(draw(&mut state, ROWS) as u64)?;
+/// The rows of a step, of so many.
+fn rows_of(alloc: Global, rows: usize, picked: Picked) -> Result<Vec<u64>, AllocError> {
+    match picked {
+        Picked::Rising => rising(alloc, rows, 1),
+        Picked::Falling => falling(alloc, rows),
+        Picked::Shuffled => shuffled(alloc, rows),
+        Picked::Drawn => drawn(alloc, rows, 5, rows),
+        Picked::Singles => drawn(alloc, rows, 7, SINGLES),
+        Picked::Even => rising(alloc, rows, 2),
     }
-    Ok(rows)
-}
-
-/// Every second row.
-fn even_rows(alloc: Global) -> Result<Vec<u64>, AllocError> {
-    let mut rows = Vec::with_capacity(alloc, ROWS)?;
-    for row in 0..ROWS as u64 {
-        if row % 2 == 0 {
-            rows.push(row)?;
-        }
-    }
-    Ok(rows)
 }
 
 /// The change of a row.
 fn wanted(change: Change, row: u64) -> Wanted<'static> {
     match change {
-        Change::Insert => Wanted::Insert(0, row, &FIVE),
         Change::Patch => Wanted::Patch(0, row, 8, &SIX),
         Change::Delete => Wanted::Delete(0, row),
+        _ => Wanted::Insert(0, row, &FIVE),
     }
 }
 
@@ -113,7 +194,7 @@ fn commits_of(alloc: Global, rows: &[u64], change: Change) -> Result<Vec<Commit>
     Ok(commits)
 }
 
-/// How long it takes to apply commits. `None` if they are not applied, or the clock fails.
+/// How many microseconds it takes to apply commits. `None` if they are not applied, or the clock fails.
 fn applied_timed<R: Threads + Clock + Sync>(
     rt: &R,
     store: &mut ColumnStore,
@@ -126,7 +207,16 @@ fn applied_timed<R: Threads + Clock + Sync>(
     Some(end.ok()?.duration_since(start.ok()?).as_micros())
 }
 
-/// How long it takes to change these rows.
+/// No time, if so many rows are in as many commits as they need.
+fn are_all(commits: &[Commit], rows: usize) -> Option<u128> {
+    if commits.len() == rows.div_ceil(ENTRIES) {
+        Some(0)
+    } else {
+        None
+    }
+}
+
+/// How long it takes to change these rows; nothing if their commits are only made.
 fn changed_timed<R: Threads + Clock + Sync>(
     rt: &R,
     alloc: Global,
@@ -135,105 +225,92 @@ fn changed_timed<R: Threads + Clock + Sync>(
     change: Change,
 ) -> Option<u128> {
     let commits = commits_of(alloc, rows, change).ok()?;
+    if change == Change::Make {
+        return are_all(commits.as_slice(), rows.len());
+    }
     applied_timed(rt, store, commits.as_slice())
 }
 
-/// How long it takes to delete and insert drawn rows, each change in a commit of its own.
-fn singles_timed<R: Threads + Clock + Sync>(
+/// How long it takes to delete and insert each of these rows by itself.
+fn replaced_timed<R: Threads + Clock + Sync>(
     rt: &R,
     alloc: Global,
     store: &mut ColumnStore,
+    rows: &[u64],
 ) -> Option<u128> {
-    let mut state = 7;
     let mut taken: u128 = 0;
-    for _ in 0..SINGLES {
-        let row = [draw(&mut state, ROWS) as u64];
-        let deleted = changed_timed(rt, alloc, store, &row, Change::Delete)?;
-        let inserted = changed_timed(rt, alloc, store, &row, Change::Insert)?;
-        taken = taken.saturating_add(deleted).saturating_add(inserted);
+    for row in rows {
+        for change in [Change::Delete, Change::Insert] {
+            let more = changed_timed(rt, alloc, store, &[*row], change)?;
+            taken = taken.saturating_add(more);
+        }
     }
     Some(taken)
 }
 
-/// How long the inserts, the patches, the single changes and the deletes take in a store.
-fn measured_in<R: Threads + Clock + Sync>(
+/// How long a step takes.
+fn step_timed<R: Threads + Clock + Sync>(
     rt: &R,
     alloc: Global,
     store: &mut ColumnStore,
-    order: Order,
-) -> Option<[u128; 4]> {
-    let rows = rows_in(alloc, order).ok()?;
-    let inserts = changed_timed(rt, alloc, store, rows.as_slice(), Change::Insert)?;
-    let drawn = drawn_rows(alloc).ok()?;
-    let patches = changed_timed(rt, alloc, store, drawn.as_slice(), Change::Patch)?;
-    let singles = singles_timed(rt, alloc, store)?;
-    let even = even_rows(alloc).ok()?;
-    let deletes = changed_timed(rt, alloc, store, even.as_slice(), Change::Delete)?;
-    Some([inserts, patches, singles, deletes])
+    rows: usize,
+    (picked, change): (Picked, Change),
+) -> Option<u128> {
+    let rows = rows_of(alloc, rows, picked).ok()?;
+    if change == Change::Replace {
+        return replaced_timed(rt, alloc, store, rows.as_slice());
+    }
+    changed_timed(rt, alloc, store, rows.as_slice(), change)
 }
 
-/// The same in a new store. `None` also if it does not have half of the rows then.
-fn measured<R: Threads + Clock + Sync>(
+/// How long each step takes in a store; 0 for those that there are not. `None` if one of them is not done.
+fn steps_timed<R: Threads + Clock + Sync>(
     rt: &R,
     alloc: Global,
-    order: Order,
+    store: &mut ColumnStore,
+    rows: usize,
+    steps: &[(Picked, Change)],
+) -> Option<[u128; 4]> {
+    let mut all = [0; 4];
+    for (taken, step) in all.iter_mut().zip(steps) {
+        *taken = step_timed(rt, alloc, store, rows, *step)?;
+    }
+    Some(all)
+}
+
+/// The same of a run with so many rows in a new store. `None` also if fewer or more are left than it says.
+fn timed<R: Threads + Clock + Sync>(
+    rt: &R,
+    alloc: Global,
+    run: Run,
+    rows: usize,
 ) -> Result<Option<[u128; 4]>, Fail> {
     let schema = Schema::new(alloc, &NUMBERS)?;
     let mut store = ColumnStore::new(alloc, &schema, PARTITIONS)?;
-    let taken = measured_in(rt, alloc, &mut store, order);
-    if store.len(0) != ROWS / 2 {
+    let taken = steps_timed(rt, alloc, &mut store, rows, run.steps);
+    if store.len(0) != (rows / 2).saturating_mul(run.halves) {
         return Ok(None);
     }
     Ok(taken)
 }
 
-#[test]
-fn a_million_rows_in_rising_order(rt: HostRuntime) -> Result<(), Fail> {
-    let taken = measured(&rt, rt.alloc(), Order::Rising)?.ok_or("not applied")?;
-    println!(rt; "{} {} {} {}", taken[0], taken[1], taken[2], taken[3])?;
-    Ok(())
+/// With how many rows a run is done: with many if the environment names it, with none if it names another,
+/// and with a few if it names none.
+fn rows_asked<R: Env + Alloc>(rt: &R, run: Run) -> usize {
+    match env::var(rt, "RUN") {
+        Ok(word) => { if word.as_str() == run.word { MANY } else { 0 } }
+        Err(_) => FEW,
+    }
 }
 
 #[test]
-fn a_million_rows_in_falling_order(rt: HostRuntime) -> Result<(), Fail> {
-    let taken = measured(&rt, rt.alloc(), Order::Falling)?.ok_or("not applied")?;
-    println!(rt; "{} {} {} {}", taken[0], taken[1], taken[2], taken[3])?;
-    Ok(())
-}
-
-#[test]
-fn a_million_rows_shuffled(rt: HostRuntime) -> Result<(), Fail> {
-    let taken = measured(&rt, rt.alloc(), Order::Shuffled)?.ok_or("not applied")?;
-    println!(rt; "{} {} {} {}", taken[0], taken[1], taken[2], taken[3])?;
-    Ok(())
-}
-
-/// How many commits the rows are in.
-fn count_of_commits(alloc: Global) -> Result<usize, AllocError> {
-    let rows = rows_in(alloc, Order::Rising)?;
-    let commits = commits_of(alloc, rows.as_slice(), Change::Insert)?;
-    Ok(commits.len())
-}
-
-/// The commits alone: `bench/apply` subtracts their memory.
-#[test]
-fn a_million_rows_are_made(rt: HostRuntime) -> Result<(), Fail> {
-    assert_eq!(rt; count_of_commits(rt.alloc())?, ROWS.div_ceil(ENTRIES));
-    Ok(())
-}
-
-/// How many rows a new store has once they are inserted.
-fn count_inserted<R: Threads + Clock + Sync>(rt: &R, alloc: Global) -> Result<usize, Fail> {
-    let schema = Schema::new(alloc, &NUMBERS)?;
-    let mut store = ColumnStore::new(alloc, &schema, PARTITIONS)?;
-    let rows = rows_in(alloc, Order::Rising)?;
-    changed_timed(rt, alloc, &mut store, rows.as_slice(), Change::Insert).ok_or("not applied")?;
-    Ok(store.len(0))
-}
-
-/// The commits, and a store that has their rows.
-#[test]
-fn a_million_rows_are_inserted(rt: HostRuntime) -> Result<(), Fail> {
-    assert_eq!(rt; count_inserted(&rt, rt.alloc())?, ROWS);
+fn many_rows_in_each_order(rt: HostRuntime) -> Result<(), Fail> {
+    for run in RUNS {
+        let rows = rows_asked(&rt, run);
+        if rows > 0 {
+            let taken = timed(&rt, rt.alloc(), run, rows)?.ok_or("not applied")?;
+            println!(rt; "{} {} {} {}", taken[0], taken[1], taken[2], taken[3])?;
+        }
+    }
     Ok(())
 }

@@ -49,21 +49,25 @@ fn told(
     }
 }
 
-/// Whether two commits were answered the same. A ticket is kept.
+/// Whether two commits were answered the same.
 fn is_same(
-    answer: Result<Ticket, (usize, CommitFault)>,
-    other: Result<Ticket, (usize, CommitFault)>,
-    tickets: &mut Vec<Ticket>,
+    answer: &Result<Ticket, (usize, CommitFault)>,
+    other: &Result<Ticket, (usize, CommitFault)>,
 ) -> bool {
     match (answer, other) {
-        (Ok(ticket), Ok(other)) => {
-            let is_same = ticket.number == other.number
-                && ticket.worker == other.worker
-                && ticket.entries == other.entries;
-            is_same && tickets.push(ticket).is_ok()
-        }
+        (Ok(ticket), Ok(other)) => ticket.number == other.number
+            && ticket.worker == other.worker
+            && ticket.entries == other.entries,
         (Err(refusal), Err(other)) => refusal == other,
         _ => false,
+    }
+}
+
+/// Keeps the ticket, if there is one. Whether there is memory for it.
+fn is_kept(answer: Result<Ticket, (usize, CommitFault)>, tickets: &mut Vec<Ticket>) -> bool {
+    match answer {
+        Ok(ticket) => tickets.push(ticket).is_ok(),
+        Err(_) => true,
     }
 }
 
@@ -204,6 +208,34 @@ impl<L: Origin> Player<L> {
         }
     }
 
+    /// Commits the seat's transaction.
+    fn committed<R: Wait + Drop, W: Wait>(
+        &mut self,
+        rt: &W,
+        alloc: Global,
+        line: &Line<L, MemJournal, R>,
+    ) -> Result<Ticket, (usize, CommitFault)>
+        requires { 1 < L.workers }
+    {
+        let worker = self.worker();
+        let mine = mem::replace(&mut self.transaction, Transaction::begin(alloc, 0));
+        told(line.commit(rt, &mut self.seat, mine, worker))
+    }
+
+    /// Commits the same transaction on the other primary. One that lacks a worker answers as no line does.
+    fn committed_plain(
+        &mut self,
+        alloc: Global,
+        core: &mut PrimaryCore<MemJournal>,
+    ) -> Result<Ticket, (usize, CommitFault)> {
+        if core.workers() < 2 {
+            return Err((usize::MAX, CommitFault::Failed));
+        }
+        let worker = self.worker();
+        let plain = mem::replace(&mut self.plain, Transaction::begin(alloc, 0));
+        told(core.commit(plain, worker))
+    }
+
     /// Whether the commit of the transactions is answered the same. The player begins anew then.
     fn commits<R: Wait + Drop, W: Wait>(
         &mut self,
@@ -215,15 +247,11 @@ impl<L: Origin> Player<L> {
     ) -> bool
         requires { 1 < L.workers }
     {
-        if core.workers() < 2 {
+        let answer = self.committed(rt, alloc, line);
+        if !is_same(&answer, &self.committed_plain(alloc, core)) {
             return false;
         }
-        let worker = self.worker();
-        let mine = mem::replace(&mut self.transaction, Transaction::begin(alloc, 0));
-        let plain = mem::replace(&mut self.plain, Transaction::begin(alloc, 0));
-        let answer = told(line.commit(rt, &mut self.seat, mine, worker));
-        let other = told(core.commit(plain, worker));
-        is_same(answer, other, tickets) && self.begins(alloc, core)
+        is_kept(answer, tickets) && self.begins(alloc, core)
     }
 
     /// Whether a flush is answered the same.
@@ -369,15 +397,28 @@ fn other_played<L: Origin, R: Wait + Drop, W: Wait>(
     CALLS
 }
 
-/// The same of a line of this primary, and of another primary. `None` if it is out of memory.
+/// The same of another primary that is new.
+fn other_on_new<L: Origin, R: Wait + Drop, W: Wait>(
+    rt: &W,
+    alloc: Global,
+    line: &Line<L, MemJournal, R>,
+    players: &mut [Player<L>],
+    seed: u64,
+) -> Result<usize, Fail>
+    requires { 1 < L.workers }
+{
+    let mut core = core_on(alloc, MemJournal::new(alloc))?;
+    Ok(other_played(rt, alloc, line, &mut core, players, seed))
+}
+
+/// The same of a line of this primary.
 fn other_answered<L: Origin, R: Wait>(
     rt: &R,
     alloc: Global,
     core: PrimaryCore<MemJournal>,
     start: Start,
-    plain: &mut PrimaryCore<MemJournal>,
     seed: u64,
-) -> Option<usize>
+) -> Result<usize, Fail>
     requires book { start.opened.seen.book ≡ L.book }
     requires schema { core.primary.schema ≡ L.schema }
     requires workers { core.primary.workers ≡ L.workers }
@@ -387,25 +428,30 @@ fn other_answered<L: Origin, R: Wait>(
     requires seats { start.seats ≡ L.seats }
 {
     if core.workers() < 2 {
-        return None;
+        return Err("workers".into());
     }
-    let line = Line::<L, MemJournal, &R>::new(alloc, rt, core, start).ok()?;
-    let mut players = players_of(rt, alloc, &line)?;
-    Some(other_played(rt, alloc, &line, plain, &mut players, seed))
+    let Ok(line) = Line::<L, MemJournal, &R>::new(alloc, rt, core, start) else {
+        return Err("line".into());
+    };
+    match players_of(rt, alloc, &line) {
+        Some(mut players) => other_on_new(rt, alloc, &line, &mut players, seed),
+        None => Err("players".into()),
+    }
 }
 
-/// The same of two new primaries.
-fn other_of_new<R: Wait>(rt: &R, alloc: Global, seed: u64) -> Result<Option<usize>, Fail> {
-    let mut plain = core_on(alloc, MemJournal::new(alloc))?;
+/// The same of a new primary.
+fn other_of_new<R: Wait>(rt: &R, alloc: Global, seed: u64) -> Result<usize, Fail> {
     let core = core_on(alloc, MemJournal::new(alloc))?;
-    let start = Start::new(3).ok().ok_or("start")?;
-    Ok(other_answered::<Brand, R>(rt, alloc, core, start, &mut plain, seed))
+    match Start::new(3) {
+        Ok(start) => other_answered::<Brand, R>(rt, alloc, core, start, seed),
+        Err(_) => Err("start".into()),
+    }
 }
 
 #[test]
 fn drawn_calls_are_answered_as_by_a_primary_alone(rt: HostRuntime) -> Result<(), Fail> {
     for seed in SEEDS {
-        assert_eq!(rt; other_of_new(&rt, rt.alloc(), seed)?, Some(CALLS));
+        assert_eq!(rt; other_of_new(&rt, rt.alloc(), seed)?, CALLS);
     }
     Ok(())
 }

@@ -25,10 +25,7 @@ struct Outcome<J: JournalStore + Drop> {
     core: PrimaryCore<J>,
     /// Of the commits that were settled.
     tickets: Vec<Ticket>,
-    /// The sum of all rows.
-    sum: i64,
-    /// How many clerks found that the journal failed, and were refused from then on.
-    failed: usize,
+    came: Came,
 }
 
 /// So many clerks, each with a seat of its own, and its number.
@@ -123,9 +120,56 @@ fn work_all<L: Origin + Send + Sync, J: JournalStore + Drop + Send, R: Threads +
     wrong.load(Ordering::SeqCst) == 0
 }
 
+/// What the clerks of a line came to.
+#[derive(Clone, Copy)]
+struct Came {
+    /// The sum of all rows.
+    sum: i64,
+    /// How many clerks found that the journal failed, and were refused from then on.
+    failed: usize,
+}
+
+/// Has the clerks make their transfers. `None` if an answer was one that may not be.
+fn worked<L: Origin + Send + Sync, J: JournalStore + Drop + Send, R: Threads + Wait + Sync>(
+    rt: &R,
+    alloc: Global,
+    line: &Line<L, J, &R>,
+    clerks: &mut [Clerk<L>],
+    each: u32,
+) -> Option<Came>
+    requires { 1 < L.workers }
+{
+    if !work_all(rt, alloc, line, clerks, each) {
+        return None;
+    }
+    let failed = failed(rt, alloc, line, clerks)?;
+    let sum = sum_of_all(alloc, &mut clerks.get_mut(0)?.seat)?;
+    Some(Came { sum, failed })
+}
+
+/// Ends a line with the seats of its clerks.
+fn ended<L: Origin, J: JournalStore + Drop, R: Wait + Drop>(
+    alloc: Global,
+    line: Line<L, J, R>,
+    clerks: Vec<Clerk<L>>,
+    came: Came,
+) -> Option<Outcome<J>>
+    requires { L.parts ≡ L.seats }
+{
+    let (seats, tickets) = parted(alloc, clerks)?;
+    match line.end(seats) {
+        Ok(core) => Some(Outcome {
+            core,
+            tickets,
+            came,
+        }),
+        Err(_) => None,
+    }
+}
+
 /// What is left once so many clerks have made their transfers on a line of this primary. `None` if an
 /// answer was one that may not be.
-fn ended<L: Origin + Send + Sync, J: JournalStore + Drop + Send, R: Threads + Wait + Sync>(
+fn left<L: Origin + Send + Sync, J: JournalStore + Drop + Send, R: Threads + Wait + Sync>(
     rt: &R,
     alloc: Global,
     core: PrimaryCore<J>,
@@ -145,21 +189,16 @@ fn ended<L: Origin + Send + Sync, J: JournalStore + Drop + Send, R: Threads + Wa
         return None;
     }
     let count = start.seats;
-    let line = Line::<L, J, &R>::new(alloc, rt, core, start).ok()?;
-    let mut clerks = clerks_of(rt, alloc, &line, count)?;
-    if !work_all(rt, alloc, &line, &mut clerks, each) {
+    let Ok(line) = Line::<L, J, &R>::new(alloc, rt, core, start) else {
         return None;
+    };
+    let Some(mut clerks) = clerks_of(rt, alloc, &line, count) else {
+        return None;
+    };
+    match worked(rt, alloc, &line, &mut clerks, each) {
+        Some(came) => ended(alloc, line, clerks, came),
+        None => None,
     }
-    let failed = failed(rt, alloc, &line, &mut clerks)?;
-    let sum = sum_of_all(alloc, &mut clerks.get_mut(0)?.seat)?;
-    let (seats, tickets) = parted(alloc, clerks)?;
-    let core = line.end(seats).ok()?;
-    Some(Outcome {
-        core,
-        tickets,
-        sum,
-        failed,
-    })
 }
 
 /// The sum of the numbers of tickets.
@@ -173,13 +212,13 @@ fn sum_of_numbers(tickets: &[Ticket]) -> u64 {
 
 /// Whether all rows sum up to 0, and there are so many tickets, which have the numbers from 1 up to what
 /// is durable.
-fn are_kept(ended: &Outcome<MemJournal>, count: u64) -> bool {
+fn are_kept(outcome: &Outcome<MemJournal>, count: u64) -> bool {
     let numbers = count.wrapping_mul(count.wrapping_add(1)) / 2;
-    ended.sum == 0
-        && ended.failed == 0
-        && ended.core.durable() == count
-        && ended.tickets.len() as u64 == count
-        && sum_of_numbers(&ended.tickets) == numbers
+    outcome.came.sum == 0
+        && outcome.came.failed == 0
+        && outcome.core.durable() == count
+        && outcome.tickets.len() as u64 == count
+        && sum_of_numbers(&outcome.tickets) == numbers
 }
 
 /// Whether the commit of each ticket is among these, under its number.
@@ -200,17 +239,17 @@ fn are_among(tickets: &[Ticket], commits: &[Commit]) -> bool {
 /// Whether all clerks found that the journal failed, and it keeps the commit of each ticket.
 fn are_recovered(
     alloc: Global,
-    ended: &Outcome<FailingJournal>,
+    outcome: &Outcome<FailingJournal>,
     count: usize,
 ) -> Result<bool, Fail> {
-    if ended.core.lent() || ended.failed != count {
+    if outcome.core.lent() || outcome.came.failed != count {
         return Ok(false);
     }
     let schema = Schema::new(alloc, &NUMBERS)?;
-    let recovered = recover(alloc, ended.core.journal().content(), &schema, WORKERS)
+    let recovered = recover(alloc, outcome.core.journal().content(), &schema, WORKERS)
         .ok()
         .ok_or("the journal is refused")?;
-    Ok(ended.sum == 0 && are_among(&ended.tickets, &recovered.commits))
+    Ok(outcome.came.sum == 0 && are_among(&outcome.tickets, &recovered.commits))
 }
 
 /// How many clerks there are where the journal does not fail.
@@ -219,12 +258,26 @@ const CLERKS: u8 = 16;
 /// How many transfers each of them makes.
 const EACH: u32 = 1000;
 
+/// Whether clerks in threads keep the sum on this primary.
+fn keep_the_sum<R: Threads + Wait + Sync>(
+    rt: &R,
+    alloc: Global,
+    core: PrimaryCore<MemJournal>,
+) -> bool {
+    let Ok(start) = Start::new(CLERKS) else {
+        return false;
+    };
+    match left::<Brand, MemJournal, R>(rt, alloc, core, start, EACH) {
+        Some(outcome) => are_kept(&outcome, 1 + CLERKS as u64 * EACH as u64),
+        None => false,
+    }
+}
+
 #[test]
 fn clerks_in_threads_keep_the_sum(rt: HostRuntime) -> Result<(), Fail> {
     let core = core_on(rt.alloc(), MemJournal::new(rt.alloc()))?;
-    let start = Start::new(CLERKS).ok().ok_or("start")?;
-    let ended = ended::<Brand, MemJournal, _>(&rt, rt.alloc(), core, start, EACH).ok_or("ended")?;
-    assert!(rt; are_kept(&ended, 1 + CLERKS as u64 * EACH as u64));
+    let is_kept = keep_the_sum(&rt, rt.alloc(), core);
+    assert!(rt; is_kept);
     Ok(())
 }
 
@@ -244,13 +297,25 @@ fn failing_core(alloc: Global) -> Result<PrimaryCore<FailingJournal>, Fail> {
     core_on(alloc, journal)
 }
 
+/// Whether four clerks on this primary keep what was settled.
+fn keep_what_was_settled<R: Threads + Wait + Sync>(
+    rt: &R,
+    alloc: Global,
+    core: PrimaryCore<FailingJournal>,
+) -> Result<bool, Fail> {
+    let Ok(start) = Start::new(4) else {
+        return Ok(false);
+    };
+    match left::<Brand, FailingJournal, R>(rt, alloc, core, start, EACH) {
+        Some(outcome) => are_recovered(alloc, &outcome, 4),
+        None => Ok(false),
+    }
+}
+
 #[test]
 fn a_journal_that_fails_keeps_what_was_settled(rt: HostRuntime) -> Result<(), Fail> {
     let core = failing_core(rt.alloc())?;
-    let start = Start::new(4).ok().ok_or("start")?;
-    let ended = ended::<Brand, FailingJournal, _>(&rt, rt.alloc(), core, start, EACH).ok_or(
-        "ended",
-    )?;
-    assert!(rt; are_recovered(rt.alloc(), &ended, 4)?);
+    let is_kept = keep_what_was_settled(&rt, rt.alloc(), core)?;
+    assert!(rt; is_kept);
     Ok(())
 }

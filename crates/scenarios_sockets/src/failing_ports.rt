@@ -4,8 +4,7 @@
 ghost use Rattle.std.specs.Prelude.{◌≡◌, ◌<◌};
 
 use crate::cores::{core_of, replica_of};
-use crate::ledger::COUNT_AND_SUM;
-use crate::nodes::{put_one, report_of};
+use crate::nodes::{COUNT_AND_SUM, put_one, report_of};
 use dispatcher::ReplicaCore;
 use journal::MemJournal;
 use primary::PrimaryCore;

@@ -1,19 +1,11 @@
-//! Scenarios of `sockets`, by its public calls: nodes over the loopback and through a port that loses,
-//! repeats and reorders; ports that fail at each call in turn; datagrams that no node sends; and a replica that catches up.
+//! Scenarios of `sockets`, by its public calls: ports that fail at each call in turn, and datagrams that no
+//! node sends.
 #![tactic(auto)]
 
-#[cfg(test)]
-mod catching_up;
 #[cfg(test)]
 mod cores;
 #[cfg(test)]
 mod failing_ports;
-#[cfg(test)]
-mod ledger;
-#[cfg(test)]
-mod loopback;
-#[cfg(test)]
-mod lossy_port;
 #[cfg(test)]
 mod nodes;
 #[cfg(test)]

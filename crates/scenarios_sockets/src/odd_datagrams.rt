@@ -1,8 +1,7 @@
 //! Datagrams that no node sends, and addresses that nothing can be sent to.
 
 use crate::cores::replica_of;
-use crate::ledger::COUNT_AND_SUM;
-use crate::nodes::{put_one, report_of};
+use crate::nodes::{COUNT_AND_SUM, put_one, report_of};
 use dispatcher::ReplicaCore;
 use mio::net::UdpSocket;
 use queue::QueryQueue;
