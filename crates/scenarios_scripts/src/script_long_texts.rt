@@ -9,15 +9,15 @@ use world::{Echo, RunFault, run_script};
 
 /// A script, what it prints, and what it prints with its events.
 #[derive(Drop)]
-pub struct Story {
-    pub script: String,
-    pub plain: String,
+struct Story {
+    script: String,
+    plain: String,
     echoed: String,
 }
 
 impl Story {
     /// A script of these settings alone.
-    pub fn new(alloc: Global, settings: &str) -> Result<Story, AllocError> {
+    fn new(alloc: Global, settings: &str) -> Result<Story, AllocError> {
         Ok(Story {
             script: String::from_str(alloc, settings)?,
             plain: String::new(alloc),
@@ -26,7 +26,7 @@ impl Story {
     }
 
     /// One event more, and the lines that it answers.
-    pub fn add(&mut self, event: &str, answer: &str) -> Result<(), AllocError> {
+    fn add(&mut self, event: &str, answer: &str) -> Result<(), AllocError> {
         push_line(&mut self.script, "", event)?;
         push_line(&mut self.plain, "", answer)?;
         push_line(&mut self.echoed, "> ", event)?;

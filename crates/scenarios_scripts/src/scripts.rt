@@ -7,8 +7,8 @@ use std::process::Abort;
 use std::test::Fail;
 use std::thread::Threads;
 use world::{
-    Echo, Event, Node, Output, RunFault, Setup, allowed_runs_are_exact, read_script, run,
-    run_script, stops_keep_what_stands, worked_scripts,
+    Echo, Event, Node, Output, Setup, allowed_runs_are_exact, read_script, run, run_script,
+    stops_keep_what_stands, worked_scripts,
 };
 
 /// What a script prints.
@@ -17,7 +17,7 @@ pub fn printed<R: Threads + Sync>(rt: &R, alloc: Global, script: &[u8]) -> Resul
 }
 
 /// What a script prints, with its events or without.
-pub fn printed_with<R: Threads + Sync>(
+fn printed_with<R: Threads + Sync>(
     rt: &R,
     alloc: Global,
     echo: Echo,
@@ -32,11 +32,8 @@ pub fn printed_with<R: Threads + Sync>(
 /// One table of two numbers.
 pub const SETTINGS: &str = "workers 1\nreplicas 1\ntable acct int int\n";
 
-/// The same with two workers and two replicas.
-pub const TWO_WORKERS: &str = "workers 2\nreplicas 2\ntable acct int int\n";
-
 /// Two tables, one with a column of bytes.
-pub const TWO_TABLES: &str = "workers 1\nreplicas 1\ntable acct int int\ntable item int bytes2\n";
+const TWO_TABLES: &str = "workers 1\nreplicas 1\ntable acct int int\ntable item int bytes2\n";
 
 /// Refuses what the events behind these settings print, unless it is what stands beside them; and
 /// what they print where events are shown, unless each event stands there as it is written here.
@@ -99,18 +96,6 @@ pub fn push_line(text: &mut String, front: &str, line: &str) -> Result<(), Alloc
     text.push_str(front)?;
     text.push_str(line)?;
     text.push_str("\n")
-}
-
-/// The line that says why a script does not run; nothing where it does, or where it wrote anything.
-pub fn refusal<R: Threads + Sync>(rt: &R, alloc: Global, script: &[u8]) -> Result<String, Fail> {
-    let mut reader = script;
-    let mut text = Vec::new(alloc);
-    match run_script(rt, alloc, Echo::No, &mut reader, &mut text) {
-        Err(RunFault::Script { line, reason }) if text.is_empty() => {
-            Ok(format!(in alloc; "line {line}: {reason}")?)
-        }
-        _ => Ok(String::new(alloc)),
-    }
 }
 
 /// Events, each beside what it answers.
