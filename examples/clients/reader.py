@@ -9,6 +9,8 @@ address that it was given for a replica, not to the one that a datagram came fro
 never started before. The exit status is 3 if the primary does not answer.
 """
 
+import os
+import select
 import socket
 import struct
 import sys
@@ -64,6 +66,7 @@ class Reader:
         self.applied = [0] * self.workers  # how many frames of each worker were applied
         self.socket = socket.socket(socket.AF_INET, socket.SOCK_DGRAM)
         self.socket.bind(address(listen))
+        self.typed = b""  # what was typed and does not make a line yet
 
     def take(self, data):
         """Takes one datagram: a Frame that is new, or the Head that is waited for. Everything else is ignored."""
@@ -76,8 +79,31 @@ class Reader:
         elif data[3] == HEAD and self.head is None:
             number, boot, request, version, _, *counts = struct.unpack(f">BQQQB{data[31]}Q", data[6:])
             own = (self.number, self.boot, self.request, self.workers)
-            if (number, boot, request, len(counts)) == own and version >= self.version:
+            is_newer = version >= self.version and all(count >= applied for count, applied in zip(counts, self.applied))
+            if (number, boot, request, len(counts)) == own and is_newer:
                 self.head = version, counts
+
+    def receive(self, seconds):
+        """Takes a datagram if one arrives in that time."""
+        self.socket.settimeout(seconds)
+        try:
+            self.take(self.socket.recv(65536))
+        except (TimeoutError, struct.error, LookupError, ValueError):
+            pass  # nothing arrived, or no datagram
+
+    def next_line(self):
+        """Waits for a line of standard input, and takes what arrives meanwhile; false at the end of the input."""
+        while b"\n" not in self.typed:
+            ready, _, _ = select.select([self.socket, 0], [], [])
+            if self.socket in ready:
+                self.receive(SECONDS_OF_A_TRY)
+            if 0 in ready:
+                data = os.read(0, 65536)
+                if not data:
+                    return False
+                self.typed += data
+        self.typed = self.typed.partition(b"\n")[2]
+        return True
 
     def send_until(self, data, done):
         """Sends a datagram, and again after each time without an answer, until done."""
@@ -85,11 +111,7 @@ class Reader:
             self.socket.sendto(data, self.primary)
             end = time.monotonic() + SECONDS_OF_A_TRY
             while (left := end - time.monotonic()) > 0:
-                self.socket.settimeout(left)
-                try:
-                    self.take(self.socket.recv(65536))
-                except (TimeoutError, struct.error, LookupError, ValueError):
-                    continue  # nothing arrived, or no datagram
+                self.receive(left)
                 if done():
                     return
         raise TimeoutError
@@ -140,7 +162,7 @@ def main():
         while True:
             reader.update()
             print(reader.text(), flush=True)
-            if not sys.stdin.readline():
+            if not reader.next_line():
                 return 0
     except TimeoutError:
         print("reader: no answer from " + sys.argv[5], file=sys.stderr)
