@@ -12,7 +12,8 @@ returns-in-Some g c =
     let most = c.longest-most.result in
     let is : IsPartial tables plans 0 most c.in-Some.all =
     subst (λ all. IfSome all (IsPartial tables plans 0 most)) c.in-Some.is c.in_ok-all.ensures in
-    c.into_answers.ensures ∙ ap (map lines_of) is.groups ∙ lines-between tables 0 most plans ∙ answers-all tables most plans c.longest-most.ensures
+    c.into_answers.ensures ∙ ap (map lines_of) is.groups ∙ lines-between tables 0 most plans
+    ∙ answers-all tables most plans c.longest-most.ensures
 
 pub returns : goal.returns
 returns g c =
