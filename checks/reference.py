@@ -1,0 +1,662 @@
+"""The formats and the simulator once more, slowly and plainly, as docs/FORMATS.md has them: entries, datagrams, journals, plans,
+reports, and what each event of a script answers. It shares nothing with the program; checks/hostile and checks/faults compare the two.
+"""
+
+import copy
+import struct
+from collections import namedtuple
+
+INSERT, PATCH, DELETE = 1, 2, 3
+FRAME, ASK, HEAD, WANT = 1, 2, 3, 4
+DATAGRAM_MAX = 1200
+FRAME_OVERHEAD = 26
+WANTED_MAX = 16
+WINDOW = 4096
+ENTRIES_MAX = 4096
+RECORD_MIN, RECORD_MAX = 21, 2146315
+WAITING_MAX = 64
+U64_MAX = 2**64 - 1
+
+# An entry's data is that of an insert or a patch; its offset that of a patch.
+Entry = namedtuple("Entry", "operation table row offset data")
+Commit = namedtuple("Commit", "worker entries")
+Frame = namedtuple("Frame", "worker seq commit last entries")
+Ask = namedtuple("Ask", "replica boot request")
+Head = namedtuple("Head", "replica boot request version counts")
+Want = namedtuple("Want", "replica worker start")
+
+
+class Schema:
+    """The settings; a column's kind is 0 for an `int`, or how many bytes it has."""
+
+    def __init__(self, text):
+        self.text = text
+        lines = [line.split(" ") for line in text.splitlines() if line and not line.startswith("#")]
+        self.workers, self.replicas = int(lines[0][1]), int(lines[1][1])
+        self.names = [words[1] for words in lines[2:]]
+        self.kinds = [[0 if kind == "int" else int(kind[5:]) for kind in words[2:]] for words in lines[2:]]
+        sizes = [[kind or 8 for kind in kinds] for kinds in self.kinds]
+        self.columns = [[(sum(it[:column]), it[column]) for column in range(len(it))] for it in sizes]
+        self.widths = [sum(it) for it in sizes]
+
+    def fits(self, entry):
+        if entry.table >= len(self.names):
+            return False
+        if entry.operation == INSERT:
+            return len(entry.data) == self.widths[entry.table]
+        return entry.operation == DELETE or (entry.offset, len(entry.data)) in self.columns[entry.table]
+
+    def value(self, table, column, data):
+        """The value of a column, as it is printed."""
+        offset, size = self.columns[table][column]
+        part = data[offset:offset + size]
+        return "x" + part.hex() if self.kinds[table][column] else str(int.from_bytes(part, "big", signed=True))
+
+
+def value_bytes(word):
+    """The kind of a value that stands in a script, and its bytes."""
+    if word.startswith("x"):
+        return len(word) // 2, bytes.fromhex(word[1:])
+    return 0, int(word).to_bytes(8, "big", signed=True)
+
+
+# ---- entries
+
+
+def spell_entry(entry):
+    head = struct.pack(">BBQ", entry.operation, entry.table, entry.row)
+    if entry.operation == INSERT:
+        return head + struct.pack(">H", len(entry.data)) + entry.data
+    if entry.operation == PATCH:
+        return head + struct.pack(">HH", entry.offset, len(entry.data)) + entry.data
+    return head
+
+
+def read_entries(body, count):
+    """The entries, if the bytes are exactly so many; otherwise None."""
+    entries, at = [], 0
+    for _ in range(count):
+        if len(body) < at + 10:
+            return None
+        operation, table, row = struct.unpack_from(">BBQ", body, at)
+        at += 10
+        sizes = {INSERT: 2, PATCH: 4, DELETE: 0}.get(operation)
+        if sizes is None or table >= 16 or len(body) < at + sizes:
+            return None
+        offset = int.from_bytes(body[at:at + 2], "big") if operation == PATCH else 0
+        size = int.from_bytes(body[at + sizes - 2:at + sizes], "big") if sizes else 0
+        at += sizes
+        if operation == INSERT and not 1 <= size <= 512 or operation == PATCH and not (1 <= size <= 64 and offset + size <= 512):
+            return None
+        if len(body) < at + size:
+            return None
+        entries.append(Entry(operation, table, row, offset, body[at:at + size]))
+        at += size
+    return entries if at == len(body) else None
+
+
+# ---- datagrams
+
+
+def spell(datagram):
+    if isinstance(datagram, Frame):
+        kind, body = FRAME, struct.pack(">BQQBH", *datagram[:4], len(datagram.entries)) + b"".join(map(spell_entry, datagram.entries))
+    elif isinstance(datagram, Ask):
+        kind, body = ASK, struct.pack(">BQQ", *datagram)
+    elif isinstance(datagram, Head):
+        kind, body = HEAD, struct.pack(f">BQQQB{len(datagram.counts)}Q", *datagram[:4], len(datagram.counts), *datagram.counts)
+    else:
+        kind, body = WANT, struct.pack(">BBQ", *datagram)
+    return struct.pack(">2sBBH", b"BD", 1, kind, 6 + len(body)) + body
+
+
+def read_datagram(data):
+    """The datagram that the bytes are; None if they are none."""
+    if len(data) < 6 or data[:3] != b"BD\x01" or data[3] not in (FRAME, ASK, HEAD, WANT):
+        return None
+    if int.from_bytes(data[4:6], "big") != len(data) or len(data) > DATAGRAM_MAX:
+        return None
+    kind, body = data[3], data[6:]
+    if kind == FRAME and len(body) >= 20:
+        worker, seq, commit, last, count = struct.unpack_from(">BQQBH", body)
+        entries = read_entries(body[20:], count)
+        if worker < 16 and commit >= 1 and last <= 1 and count >= 1 and entries is not None:
+            return Frame(worker, seq, commit, last, entries)
+    if kind == ASK and len(body) == 17 and body[0] < 16:
+        return Ask(*struct.unpack(">BQQ", body))
+    if kind == HEAD and len(body) >= 26 and body[0] < 16 and 1 <= body[25] <= 16 and len(body) == 26 + 8 * body[25]:
+        return Head(*struct.unpack(">BQQQ", body[:25]), struct.unpack(f">{body[25]}Q", body[26:]))
+    if kind == WANT and len(body) == 10 and body[0] < 16 and body[1] < 16:
+        return Want(*struct.unpack(">BBQ", body))
+    return None
+
+
+def cut(worker, commit, seq, entries):
+    """The frames of a commit, the first with that seq."""
+    parts = [[]]
+    for entry in entries:
+        if parts[-1] and FRAME_OVERHEAD + sum(len(spell_entry(it)) for it in [*parts[-1], entry]) > DATAGRAM_MAX:
+            parts.append([])
+        parts[-1].append(entry)
+    return [spell(Frame(worker, seq + it, commit, int(it == len(parts) - 1), part)) for it, part in enumerate(parts)]
+
+
+# ---- tables and journals
+
+
+def change(rows, entry):
+    """Makes a change that fits; tells whether it is defined. A row's bytes are never changed in place."""
+    here = rows[entry.table]
+    if (entry.operation == INSERT) == (entry.row in here):
+        return False
+    if entry.operation == DELETE:
+        del here[entry.row]
+    elif entry.operation == INSERT:
+        here[entry.row] = entry.data
+    else:
+        old = here[entry.row]
+        here[entry.row] = old[:entry.offset] + entry.data + old[entry.offset + len(entry.data):]
+    return True
+
+
+def header(schema):
+    return b"BDJ1" + bytes([schema.workers, len(schema.kinds)]) + b"".join(bytes([len(kinds), *kinds]) for kinds in schema.kinds)
+
+
+def record(number, commit):
+    body = struct.pack(">BQH", commit.worker, number, len(commit.entries)) + b"".join(map(spell_entry, commit.entries))
+    return struct.pack(">I", len(body)) + body
+
+
+def journal(schema, commits):
+    return header(schema) + b"".join(record(number + 1, commit) for number, commit in enumerate(commits))
+
+
+Kept = namedtuple("Kept", "commits bytes")
+Refused = namedtuple("Refused", "fault at")
+
+
+def recover(schema, data):
+    """What a journal keeps, or why it is refused."""
+    start = header(schema)
+    if len(data) < len(start) and start.startswith(data):
+        return Kept([], 0)
+    if not data.startswith(start):
+        return Refused("OtherHeader", None)
+    rows, commits, at = [{} for _ in schema.kinds], [], len(start)
+    while True:
+        if len(data) - at < 4:
+            return Kept(commits, at)
+        length = int.from_bytes(data[at:at + 4], "big")
+        if not RECORD_MIN <= length <= RECORD_MAX:
+            return Refused("Damaged", at)
+        if len(data) - at - 4 < length:
+            return Kept(commits, at)
+        worker, number, count = struct.unpack_from(">BQH", data, at + 4)
+        entries = read_entries(data[at + 15:at + 4 + length], count) if 1 <= count <= ENTRIES_MAX else None
+        if entries is None:
+            return Refused("Damaged", at)
+        if number != len(commits) + 1:
+            return Refused("OutOfOrder", at)
+        if worker >= schema.workers or not all(schema.fits(entry) and change(rows, entry) for entry in entries):
+            return Refused("Illegal", at)
+        commits.append(Commit(worker, entries))
+        at += 4 + length
+
+
+FAULT_LINES = {
+    "OtherHeader": "the journal is of another schema or of another number of workers",
+    "Damaged": "the journal is damaged at byte {}",
+    "OutOfOrder": "a commit is out of order at byte {} of the journal",
+    "Illegal": "a commit is not legal at byte {} of the journal",
+}
+
+
+# ---- plans and reports
+
+Plan = namedtuple("Plan", "table join conditions by aggregates")
+COMPARED = {
+    "=": lambda a, b: a == b,
+    "!=": lambda a, b: a != b,
+    "<": lambda a, b: a < b,
+    "<=": lambda a, b: a <= b,
+    ">": lambda a, b: a > b,
+    ">=": lambda a, b: a >= b,
+}
+
+
+def read_plan(schema, words):
+    """The plan of these words, which read. A column is whether it is of the joined table, and its number."""
+
+    def column(word):
+        return word.startswith("j"), int(word.lstrip("j"))
+
+    words = words[1:]
+    table, join, conditions, by, aggregates = schema.names.index(words.pop(0)), None, [], [], []
+    if words[0] == "join":
+        join = int(words[1]), schema.names.index(words[2])
+        words = words[3:]
+    while words[0] in ("where", "and"):
+        conditions.append((column(words[1]), words[2], value_bytes(words[3])))
+        words = words[4:]
+    if words[0] == "by":
+        end = words.index("get")
+        by, words = [column(word) for word in words[1:end]], words[end:]
+    words = words[1:]
+    while words:
+        word = words.pop(0)
+        aggregates.append((word, None if word == "count" else column(words.pop(0))))
+    return Plan(table, join, conditions, by, aggregates)
+
+
+def plan_fault(schema, plan):
+    """The number of a plan's first fault, or None."""
+
+    def kind(column):
+        joined, number = column
+        if joined and plan.join is None:
+            return None
+        kinds = schema.kinds[plan.join[1] if joined else plan.table]
+        return kinds[number] if number < len(kinds) else None
+
+    if len(plan.conditions) > 8 or len(plan.by) > 2 or len(plan.aggregates) > 8:
+        return 4
+    if not plan.aggregates:
+        return 5
+    if plan.join is not None:
+        found = kind((False, plan.join[0]))
+        if found is None or found:
+            return 2 if found is None else 3
+    for column, _, (given, _) in plan.conditions:
+        found = kind(column)
+        if found is None or found != given:
+            return 2 if found is None else 3
+    for column in plan.by:
+        if kind(column) is None:
+            return 2
+    for word, column in plan.aggregates:
+        found = None if column is None else kind(column)
+        if column is not None and (found is None or found and word == "sum"):
+            return 2 if found is None else 3
+    return None
+
+
+def answer(schema, rows, plan):
+    """The lines of a plan's answer on these rows."""
+
+    def typed(table, column, data):
+        offset, size = schema.columns[table][column]
+        part = data[offset:offset + size]
+        return part if schema.kinds[table][column] else int.from_bytes(part, "big", signed=True)
+
+    def shown(value):
+        return "-" if value is None else "x" + value.hex() if isinstance(value, bytes) else str(value)
+
+    groups = {} if plan.by else {(): []}
+    for data in rows[plan.table].values():
+        other = None
+        if plan.join is not None:
+            named = typed(plan.table, plan.join[0], data)
+            other = rows[plan.join[1]].get(named) if named >= 0 else None
+            if other is None:
+                continue
+
+        def look(column):
+            return typed(plan.join[1], column[1], other) if column[0] else typed(plan.table, column[1], data)
+
+        def wanted(given):
+            return given[1] if given[0] else int.from_bytes(given[1], "big", signed=True)
+
+        if all(COMPARED[sign](look(column), wanted(given)) for column, sign, given in plan.conditions):
+            values = [None if column is None else look(column) for _, column in plan.aggregates]
+            groups.setdefault(tuple(look(column) for column in plan.by), []).append(values)
+    lines = []
+    for key in sorted(groups):
+        words = [shown(value) for value in key]
+        for place, (word, _) in enumerate(plan.aggregates):
+            values = [it[place] for it in groups[key]]
+            if word == "count":
+                words.append(str(len(values)))
+            elif word == "sum":
+                words.append(str(sum(values)))
+            else:
+                words.append(shown((min if word == "min" else max)(values) if values else None))
+        lines.append(" ".join(words))
+    return lines
+
+
+def report(schema, version, rows, plans):
+    lines = [f"version {version} queries {len(plans)}"]
+    for number, plan in enumerate(plans):
+        found = answer(schema, rows, plan)
+        lines += [f"query {number} rows {len(found)}", *found]
+    return lines
+
+
+def table_text(schema, version, rows):
+    lines = [f"version {version} rows {sum(map(len, rows))}"]
+    for table, name in enumerate(schema.names):
+        for row in sorted(rows[table]):
+            values = [schema.value(table, column, rows[table][row]) for column in range(len(schema.kinds[table]))]
+            lines.append(" ".join([name, str(row), *values]))
+    return lines
+
+
+# ---- the simulator
+
+
+class Replica:
+    def __init__(self, number, workers, boots):
+        self.number, self.boots, self.boot = number, boots, boots[-1]
+        self.request, self.version, self.broken = 0, 0, False
+        self.known = [set() for _ in range(workers)]
+        self.waiting, self.batch, self.head = [], None, None
+
+    def first_missing(self, worker):
+        seq = 0
+        while seq in self.known[worker]:
+            seq += 1
+        return seq
+
+    def lacked(self):
+        """The least worker of whom a frame below the Head's count is missing, and the first such; or None."""
+        for worker, count in enumerate(self.head.counts):
+            if self.first_missing(worker) < count:
+                return worker, self.first_missing(worker)
+        return None
+
+
+class World:
+    """The simulator. `step` answers an event's lines and leaves what is so after it; `without_memory` leaves what may be so where
+    a growth was refused in it."""
+
+    def __init__(self, schema):
+        self.schema = schema
+        self.commits, self.durable, self.stopped = [], 0, False
+        # The rows after each number of commits.
+        self.tables = [[{} for _ in schema.kinds]]
+        self.transactions = []
+        self.sent, self.sent_set = [], set()
+        self.replicas = [Replica(number, schema.workers, [1]) for number in range(schema.replicas)]
+
+    # -- the primary
+
+    def rows_after(self, version):
+        while len(self.tables) <= version:
+            rows = [dict(it) for it in self.tables[-1]]
+            for entry in self.commits[len(self.tables) - 1].entries:
+                change(rows, entry)
+            self.tables.append(rows)
+        return self.tables[version]
+
+    def journal(self, count):
+        return journal(self.schema, self.commits[:count])
+
+    def report(self, queries):
+        """The lines of a replica's report at the durable version."""
+        return report(self.schema, self.durable, self.rows_after(self.durable), [read_plan(self.schema, it.split(" ")) for it in queries])
+
+    def frames(self, worker):
+        """The worker's stream of durable frames."""
+        frames = []
+        for number, commit in enumerate(self.commits[:self.durable]):
+            if commit.worker == worker:
+                frames += cut(worker, number + 1, len(frames), commit.entries)
+        return frames
+
+    def send(self, data):
+        self.sent.append(data)
+        self.sent_set.add(data)
+        return f"sent {len(self.sent) - 1} {len(data)}"
+
+    def changed(self, number, make):
+        """An insert, set or delete of a transaction; `make` answers an entry, or what is said instead."""
+        draft = self.transactions[number] if number < len(self.transactions) else None
+        if draft is None:
+            return ["no tx"]
+        version, entries, rows = draft
+        entry = make(rows)
+        if isinstance(entry, str):
+            return [entry]
+        if len(entries) == ENTRIES_MAX:
+            return ["too many entries"]
+        change(rows, entry)
+        entries.append(entry)
+        return ["ok"]
+
+    def on_insert(self, number, name, row, *values):
+        table, typed = self.schema.names.index(name), [value_bytes(word) for word in values]
+
+        def make(rows):
+            if [kind for kind, _ in typed] != self.schema.kinds[table]:
+                return "unfit"
+            return "exists" if int(row) in rows[table] else Entry(INSERT, table, int(row), 0, b"".join(part for _, part in typed))
+
+        return self.changed(int(number), make)
+
+    def on_set(self, number, name, row, column, value):
+        table, (kind, data) = self.schema.names.index(name), value_bytes(value)
+
+        def make(rows):
+            if int(column) >= len(self.schema.kinds[table]) or self.schema.kinds[table][int(column)] != kind:
+                return "unfit"
+            if int(row) not in rows[table]:
+                return "missing"
+            return Entry(PATCH, table, int(row), self.schema.columns[table][int(column)][0], data)
+
+        return self.changed(int(number), make)
+
+    def on_delete(self, number, name, row):
+        table = self.schema.names.index(name)
+        return self.changed(int(number), lambda rows: Entry(DELETE, table, int(row), 0, b"") if int(row) in rows[table] else "missing")
+
+    def on_get(self, number, name, row, column):
+        draft = self.transactions[int(number)] if int(number) < len(self.transactions) else None
+        if draft is None:
+            return ["no tx"]
+        table = self.schema.names.index(name)
+        if int(column) >= len(self.schema.kinds[table]):
+            return ["unfit"]
+        if int(row) not in draft[2][table]:
+            return ["missing"]
+        return ["value " + self.schema.value(table, int(column), draft[2][table][int(row)])]
+
+    def on_begin(self):
+        self.transactions.append((self.durable, [], [dict(it) for it in self.rows_after(self.durable)]))
+        return [f"tx {len(self.transactions) - 1} at {self.durable}"]
+
+    def on_abort(self, number):
+        if int(number) >= len(self.transactions) or self.transactions[int(number)] is None:
+            return ["no tx"]
+        self.transactions[int(number)] = None
+        return ["ok"]
+
+    def on_commit(self, number, worker):
+        draft = self.transactions[int(number)] if int(number) < len(self.transactions) else None
+        if draft is None:
+            return ["no tx"]
+        self.transactions[int(number)] = None
+        version, entries, _ = draft
+        if not entries:
+            return ["read only"]
+        touched = {(it.table, it.row) for it in entries}
+        for other in range(len(self.commits), version, -1):
+            if any((it.table, it.row) in touched for it in self.commits[other - 1].entries):
+                return [f"conflict {other}"]
+        self.commits.append(Commit(int(worker), entries))
+        return [f"ticket {len(self.commits)}"]
+
+    def on_flush(self, count):
+        self.durable = min(self.durable + int(count), len(self.commits))
+        return [f"durable {self.durable}"]
+
+    def on_stop(self, count):
+        left = self.journal(len(self.commits))[:len(self.journal(self.durable)) + int(count)]
+        self.commits = recover(self.schema, left).commits
+        self.durable, self.stopped = len(self.commits), True
+        del self.tables[self.durable + 1:]
+        self.transactions = [None] * len(self.transactions)
+        return ["stopped"]
+
+    def on_start(self):
+        if not self.stopped:
+            return ["running"]
+        self.stopped = False
+        return [f"durable {self.durable}"]
+
+    # -- the network
+
+    def on_push(self, worker, seq):
+        frames = self.frames(int(worker))
+        return [self.send(frames[int(seq)])] if int(seq) < len(frames) else ["no frame"]
+
+    def arrived(self, node, data):
+        datagram = read_datagram(data)
+        if node == "p":
+            if isinstance(datagram, Ask):
+                counts = tuple(len(self.frames(worker)) for worker in range(self.schema.workers))
+                return [self.send(spell(Head(*datagram, self.durable, counts)))]
+            if isinstance(datagram, Want) and datagram.worker < self.schema.workers:
+                found = self.frames(datagram.worker)[datagram.start:datagram.start + WANTED_MAX]
+                return [self.send(it) for it in found] or ["ignored"]
+            return ["ignored"]
+        replica = self.replicas[int(node[1:])]
+        if replica.broken:
+            return ["broken"]
+        if isinstance(datagram, Frame):
+            if datagram.worker >= self.schema.workers or not all(map(self.schema.fits, datagram.entries)):
+                return ["ignored"]
+            if datagram.seq in replica.known[datagram.worker]:
+                return ["repeat"]
+            if datagram.seq >= replica.first_missing(datagram.worker) + WINDOW or datagram.seq == U64_MAX:
+                return ["ahead"]
+            replica.known[datagram.worker].add(datagram.seq)
+            return ["stored"]
+        if isinstance(datagram, Head) and datagram[:3] == (replica.number, replica.boot, replica.request):
+            if replica.batch is not None and replica.head is None:
+                replica.head = datagram
+                return [f"head {datagram.version}"]
+        return ["ignored"]
+
+    def on_deliver(self, index, node):
+        return self.arrived(node, self.sent[int(index)]) if int(index) < len(self.sent) else ["never sent"]
+
+    def on_raw(self, node, word):
+        data = b"" if word == "-" else bytes.fromhex(word)
+        if data not in self.sent_set and read_datagram(data) is not None:
+            return ["forged"]
+        return self.arrived(node, data)
+
+    def on_show(self, index):
+        return [self.sent[int(index)].hex()] if int(index) < len(self.sent) else ["never sent"]
+
+    # -- a replica
+
+    def on_open(self, number, *words):
+        replica = self.replicas[int(number)]
+        if replica.broken or len(replica.waiting) >= WAITING_MAX:
+            return ["broken" if replica.broken else "batch full"]
+        plan = read_plan(self.schema, list(words))
+        fault = plan_fault(self.schema, plan)
+        if fault is not None:
+            return [f"bad plan {fault}"]
+        replica.waiting.append(plan)
+        return [f"opened {len(replica.waiting)}"]
+
+    def on_ask(self, number):
+        replica = self.replicas[int(number)]
+        if replica.broken:
+            return ["broken"]
+        if replica.head is not None:
+            return ["busy"]
+        if replica.batch is None:
+            if not replica.waiting:
+                return ["empty"]
+            replica.batch, replica.waiting = replica.waiting, []
+            replica.request += 1
+        return [self.send(spell(Ask(replica.number, replica.boot, replica.request)))]
+
+    def on_run(self, number):
+        replica = self.replicas[int(number)]
+        if replica.broken or replica.batch is None or replica.head is None:
+            return ["broken" if replica.broken else "no batch" if replica.batch is None else "waiting head"]
+        lacked = replica.lacked()
+        if lacked is not None:
+            return ["waiting {} {}".format(*lacked), self.send(spell(Want(replica.number, *lacked)))]
+        replica.version = replica.head.version
+        lines = report(self.schema, replica.version, self.rows_after(replica.version), replica.batch)
+        replica.batch = replica.head = None
+        return lines
+
+    def on_restart(self, number, boot):
+        replica = self.replicas[int(number)]
+        if int(boot) in replica.boots:
+            return ["boot used"]
+        self.replicas[int(number)] = Replica(int(number), self.schema.workers, [*replica.boots, int(boot)])
+        return [f"boot {boot}"]
+
+    def on_version(self, number):
+        return [f"version {self.replicas[int(number)].version}"]
+
+    def on_dump(self, number):
+        replica = self.replicas[int(number)]
+        return ["broken"] if replica.broken else table_text(self.schema, replica.version, self.rows_after(replica.version))
+
+    # -- all of it
+
+    OF_THE_PRIMARY = ("begin", "insert", "set", "delete", "get", "commit", "abort", "flush", "stop", "push")
+
+    def step(self, line):
+        word, *words = line.split(" ")
+        if self.stopped and (word in self.OF_THE_PRIMARY or word == "deliver" and words[1] == "p" or word == "raw" and words[0] == "p"):
+            return ["stopped"]
+        return getattr(self, "on_" + word)(*words)
+
+    TAKES_MEMORY = {
+        "begin": ("tx",), "insert": ("ok",), "set": ("ok",), "delete": ("ok",), "commit": ("ticket",), "start": ("durable",),
+        "push": ("sent",), "ask": ("sent",), "deliver": ("sent", "stored"), "raw": ("sent", "stored"), "open": ("opened",),
+        "run": ("waiting", "version"), "dump": ("version",), "restart": ("boot",),
+    }
+
+    def without_memory(self, line):
+        """What an event may answer where memory is refused, each with the world after it."""
+        word, *words = line.split(" ")
+        after = copy.deepcopy(self)
+        lines = after.step(line)
+        if word == "flush":
+            takes = not self.stopped and min(int(words[0]), len(self.commits) - self.durable) > 0
+        elif word == "stop":
+            takes = not self.stopped
+        elif word == "show":
+            takes = lines != ["never sent"]
+        else:
+            takes = lines[0].split(" ")[0] in self.TAKES_MEMORY.get(word, ()) and lines[0] not in ("waiting head", "boot used")
+        if not takes:
+            return []
+        found = [(["memory"], copy.deepcopy(self))]
+        if word == "run" and lines[0].startswith("version"):
+            replica = self.replicas[int(words[0])]
+            if replica.version < replica.head.version:
+                for answered in ("memory", "broken"):
+                    world = copy.deepcopy(self)
+                    other = world.replicas[int(words[0])]
+                    if answered == "memory":
+                        other.version = replica.head.version
+                    else:
+                        other.broken = True
+                    found.append(([answered], world))
+        return found
+
+
+def read_script(text):
+    """The settings of a script, and its events."""
+    lines = [line for line in text.splitlines() if line and not line.startswith("#")]
+    settings = [line for line in lines if line.split(" ")[0] in ("workers", "replicas", "table")]
+    return Schema("\n".join(settings)), lines[len(settings):]
+
+
+def told(text):
+    """What a script prints while no memory is refused."""
+    schema, events = read_script(text)
+    world = World(schema)
+    return [line for event in events for line in world.step(event)]

@@ -1,0 +1,172 @@
+"""A crate whose wrong bodies are tried: copies of it with edits made, checks of these by the prover, and what a check says of an edit."""
+
+import collections
+import os
+import re
+import shutil
+import subprocess
+import tempfile
+
+from edits import Fault, Sources, edits_of, rounds_of
+
+PARTS = ("src", "specs", "proofs")
+# The files of a function's proof that a hole stands for.
+ANSWERS = ("Invariants.antt", "Answers.antt")
+HOLE = "use {statement}.{{statement}}\n\npub {name}_spec : {{M : Type 1}} → statement M\n{name}_spec = ?\n"
+# A hole that the prover has no use for.
+UNWANTED = re.compile(r"\./proofs/(\S+)/Proof\.antt: error(?:\[reserved-name\]|: rattle does not read this file)")
+PLACE = re.compile(r"(?:note: )?(?:\./)?((?:src|specs|proofs)/\S+?):(\d+):\d+: (.*)")
+# What a proof file says because a text names what an edit took away, or because something else is not proved.
+NO_REASON = re.compile(r"has no field|is not in scope|has no `|was not admitted|depends on .* rejected")
+# What the prover says where it cannot read a text.
+UNREAD = re.compile(r"is not in scope|has no field|is no name|operand is missing|expected the end|cannot continue")
+LIMIT = re.compile(r"antt ran out of|outgrew the memory limit|stopped at the step limit")
+OWN_GOAL = re.compile(r"`search` did not prove (`[^`]+`)")
+
+# What a check came to: its status, the lines that it printed, and its processor seconds.
+Checked = collections.namedtuple("Checked", "status lines seconds")
+# Whether an edit is refused, and why or why not.
+Verdict = collections.namedtuple("Verdict", "is_refused reason")
+
+
+class Crate:
+    """A crate, whose libraries are those that stand in crates/*/out of the tree `built`."""
+
+    def __init__(self, root, built, kit, name, named):
+        self.name, self.kit, self.folder = name, kit, f"{root}/crates/{name}"
+        self.libraries = [f"{built}/crates/{it}/out/rlib/{it}.rlib" for it in below(name, named)]
+        lost = next((it for it in self.libraries if not os.path.isdir(it)), None)
+        if lost:
+            raise Fault(f"{name}: its library {os.path.basename(lost)} is not built")
+        self.words = self.words_of(built, named)
+        self.sources = Sources(self.folder)
+        self.edits = edits_of(name, self.folder, self.sources)
+        self.keep = self.cited_proofs()
+
+    def words_of(self, built, named):
+        """The prover's words for a check of the crate, as `rt` gives them."""
+        root = "src/main.rt" if os.path.isfile(f"{self.folder}/src/main.rt") else "src/lib.rt"
+        words = ["--crate-name", self.name, root]
+        for it in ["std", *named[self.name]]:
+            folder = f"{built}/crates/{it}/out/rlib" if it in named else f"{self.kit}/rlibs"
+            words += ["--extern", f"{it}={folder}/{it}.rlib"]
+        for it in [f"{self.kit}/rlibs", *(os.path.dirname(it) for it in self.libraries)]:
+            words += ["-L", f"dependency={it}"]
+        logic = ["--antt-project", f"{self.kit}/rattle/logic/antt-project.json", "--logic-built", f"{self.kit}/logic_built"]
+        return [*words, *logic, "--links", f"{self.name}="]
+
+    def size(self):
+        return sum(len(it) for it in self.sources.texts.values())
+
+    def cited_proofs(self):
+        """The paths of the functions whose proof files a file elsewhere names: these stay."""
+        files = "Answers|Invariants|Goals|Given|Proof"
+        own, found = re.compile(rf"Rattle\.{self.name}\.proofs\.([\w.+-]+?)\.(?:{files})\b"), set()
+        for at, _, names in os.walk(f"{self.folder}/proofs"):
+            here = os.path.relpath(at, f"{self.folder}/proofs").replace("/", ".")
+            for name in names:
+                with open(f"{at}/{name}", encoding="utf-8") as file:
+                    found |= {it for it in own.findall(file.read()) if it != here}
+        return {it.replace(".", "::") for it in found}
+
+    def is_in_cycle(self, function):
+        """Whether the function is one of a cycle of calls: the proofs of such functions look into each other's bodies."""
+        *above, own = function.path.split("::")
+        return os.path.isdir("/".join([self.folder, "proofs", *above, f"+{own}"]))
+
+    def rounds(self):
+        return rounds_of(self.edits, self.is_in_cycle)
+
+    def leave_holes(self, copy, changed):
+        """Puts a hole in the place of the proof of each function that is not changed, so that it counts by its contract alone. A function
+        of a cycle of calls keeps its proof."""
+        for function in self.sources.functions():
+            if function.has_body and function.path not in changed | self.keep and not self.is_in_cycle(function):
+                *above, own = function.path.split("::")
+                folder = "/".join([copy, "proofs", *above, own])
+                os.makedirs(folder, exist_ok=True)
+                for it in (it for it in ANSWERS if os.path.exists(f"{folder}/{it}")):
+                    os.remove(f"{folder}/{it}")
+                with open(f"{folder}/Proof.antt", "w", encoding="utf-8") as proof:
+                    proof.write(HOLE.format(statement=".".join(["Rattle", self.name, "proofs", *above, own, "Statement"]), name=own))
+
+    def copy_with(self, edits, room):
+        copy = tempfile.mkdtemp(prefix=f"{self.name}-", dir=room)
+        for part in PARTS:
+            if os.path.isdir(f"{self.folder}/{part}"):
+                shutil.copytree(f"{self.folder}/{part}", f"{copy}/{part}")
+        for edit in edits:
+            edit.apply(copy)
+        return copy
+
+    def check(self, edits, functions, room):
+        """Checks a copy with these edits: these functions of it, over holes for the others; or all of it if none is named."""
+        copy = self.copy_with(edits, room)
+        words = [f"{self.kit}/bin/rattle", "check", *self.words, "--jobs", "1"]
+        if functions:
+            self.leave_holes(copy, functions)
+            words += ["--allow-holes", *(it for path in sorted(functions) for it in ("--only", path))]
+        checked = run(words, copy)
+        shutil.rmtree(copy)
+        unwanted = {it.replace("/", "::") for line in checked.lines for it in UNWANTED.findall(line)} - self.keep
+        if unwanted:
+            # The prover says so at once, before it proves anything.
+            self.keep |= unwanted
+            return self.check(edits, functions, room)
+        return checked
+
+
+def below(crate, named):
+    """The crates of the repository that a crate stands on, lowest first."""
+    found = [other for it in named[crate] if it in named for other in [*below(it, named), it]]
+    return list(dict.fromkeys(found))
+
+
+def run(words, folder):
+    with tempfile.TemporaryFile("w+", errors="replace") as said:
+        started = subprocess.Popen(words, cwd=folder, stdin=subprocess.DEVNULL, stdout=said, stderr=subprocess.STDOUT)
+        _, status, used = os.wait4(started.pid, 0)
+        started.returncode = os.waitstatus_to_exitcode(status)
+        said.seek(0)
+        return Checked(started.returncode, said.read().rstrip("\n").split("\n"), used.ru_utime + used.ru_stime)
+
+
+def own_reason(crate, edit, lines):
+    """Why a changed function of the edit is not proved, for a reason of its own, or None. That it calls one that is not proved is none."""
+    for function in edit.functions:
+        said = next((it for it in lines if it.startswith(f"fn {crate.name}::{function.path}: ")), "")
+        if re.match(r"fn \S+: (not proved|no proof)", said):
+            goal = OWN_GOAL.search(said)
+            reason = goal[1] if goal else next(filter(None, (reason_in(function, it) for it in lines)), None)
+            if reason:
+                return f"{function.path}: {reason}"
+    return None
+
+
+def reason_in(function, line):
+    """What a line says of a goal of the function that is not proved, or of a written answer of it that does not prove its goal; or None."""
+    place = PLACE.match(line)
+    if not place or NO_REASON.search(place[3]):
+        return None
+    is_goal = place[1] == function.file and function.first <= int(place[2]) <= function.last and "is not proved" in place[3]
+    is_answer = place[1].startswith(f"proofs/{function.path.replace('::', '/')}/") and place[3].startswith("error: ")
+    return place[3].removeprefix("error: ") if is_goal or is_answer else None
+
+
+def verdict_alone(checked):
+    """What a check of a whole crate with one edit says, by the rules of `rt must-fail`; but what is refused only since a proof names what
+    the edit took away counts as not refused: that says nothing of a contract."""
+    status, lines = checked.status, checked.lines
+    told = [it for it in lines if PLACE.match(it) and (": error" in it or it.startswith("note: "))]
+    unread = next((it for it in told if PLACE.match(it)[1].startswith(("src/", "specs/")) and UNREAD.search(it)), "")
+    if status == 1 and lines[-1].startswith("logic=not-proved") and not unread:
+        reason = next((it for it in told if not NO_REASON.search(it)), "")
+        nothing = "only since a proof names what it took away: change a value, keep names"
+        return Verdict(bool(reason), f"alone: {reason}" if reason else nothing)
+    if status == 3 and any(LIMIT.search(it) for it in lines):
+        return Verdict(True, "alone, by a limit of the prover")
+    if status == 0:
+        return Verdict(False, "the crate is still proved")
+    if status < 0:
+        return Verdict(False, "its check was killed, most likely for memory: run this again with fewer lanes")
+    return Verdict(False, f"it does not reach the prover: {unread or next((it for it in lines if 'error' in it), lines[-1])}")

@@ -1,0 +1,222 @@
+"""Scripts that were worked by hand, each event with what it answers: `EVENT -> LINE | LINE`. checks/faults runs each of them with all of
+its memory, and then with each of its requests for memory refused.
+"""
+
+ONE_TABLE = "workers 2\nreplicas 2\ntable acct int int\n"
+WITH_SITES = ONE_TABLE + "table site bytes2\n"
+
+# The frame of commit 1 of worker 0, which inserts row 7 with the values 5 and -1, and the same bytes changed in one way each.
+FRAME = "424401010036" "00" "0000000000000000" "0000000000000001" "01" "0001" "0100" "0000000000000007" "0010" "0000000000000005" + "ff" * 8
+CUT, WITH_A_BYTE_MORE = FRAME[:-2], FRAME + "00"
+OF_OTHER_MAGIC, OF_LAST_2 = "4245" + FRAME[4:], FRAME[:46] + "02" + FRAME[48:]
+
+ROW_7_PENDING = """
+begin -> tx 0 at 0
+insert 0 acct 7 5 -1 -> ok
+commit 0 0 -> ticket 1
+"""
+ROW_7 = ROW_7_PENDING + "flush 1 -> durable 1"
+
+
+def batch(replica, first, version, queries, report):
+    """A batch of a replica that has all frames; the index of its Ask is `first`."""
+    opened = "".join(f"open {replica} {query} -> opened {number + 1}\n" for number, query in enumerate(queries))
+    return f"""{opened}
+ask {replica} -> sent {first} 23
+deliver {first} p -> sent {first + 1} 48
+deliver {first + 1} r{replica} -> head {version}
+run {replica} -> version {version} queries {len(queries)} | {report}
+"""
+
+
+def inserts(count):
+    """So many rows are inserted."""
+    return "\n".join(f"insert 0 acct {row} {row} 0 -> ok" for row in range(count))
+
+
+CASES = {
+    "a commit is reported": (ONE_TABLE, f"""
+{ROW_7}
+push 0 0 -> sent 0 54
+deliver 0 r0 -> stored
+{batch(0, 1, 1, ["query acct get count"], "query 0 rows 1 | 1")}
+show 0 -> {FRAME}
+"""),
+    "an empty database": (ONE_TABLE, batch(0, 0, 0, ["query acct get count sum 0 min 0"], "query 0 rows 1 | 0 0 -")),
+    "a commit without entries": (ONE_TABLE, """
+begin -> tx 0 at 0
+commit 0 0 -> read only
+begin -> tx 1 at 0
+insert 1 acct 1 0 0 -> ok
+commit 1 0 -> ticket 1
+"""),
+    "a commit of two frames": (ONE_TABLE, f"""
+begin -> tx 0 at 0
+{inserts(42)}
+commit 0 0 -> ticket 1
+flush 1 -> durable 1
+push 0 0 -> sent 0 1174
+push 0 1 -> sent 1 54
+push 0 2 -> no frame
+"""),
+    "the longest frame": (ONE_TABLE, "\n".join([
+        "begin -> tx 0 at 0", inserts(38), *(f"delete 0 acct {row} -> ok" for row in range(11)),
+        "commit 0 0 -> ticket 1", "flush 1 -> durable 1", "push 0 0 -> sent 0 1200", "push 0 1 -> no frame",
+    ])),
+    "the first committer wins": (ONE_TABLE, f"""
+{ROW_7}
+begin -> tx 1 at 1
+begin -> tx 2 at 1
+set 1 acct 7 0 6 -> ok
+set 2 acct 7 0 8 -> ok
+commit 1 0 -> ticket 2
+commit 2 1 -> conflict 2
+"""),
+    "write skew": (ONE_TABLE, """
+begin -> tx 0 at 0
+insert 0 acct 7 5 -1 -> ok
+insert 0 acct 8 5 -1 -> ok
+commit 0 0 -> ticket 1
+flush 1 -> durable 1
+begin -> tx 1 at 1
+begin -> tx 2 at 1
+get 1 acct 8 0 -> value 5
+get 2 acct 7 0 -> value 5
+set 1 acct 7 0 0 -> ok
+set 2 acct 8 0 0 -> ok
+commit 1 0 -> ticket 2
+commit 2 1 -> ticket 3
+"""),
+    "a stop before the last byte": (ONE_TABLE, f"""
+{ROW_7_PENDING}
+stop 42 -> stopped
+start -> durable 0
+begin -> tx 1 at 0
+insert 1 acct 9 1 2 -> ok
+commit 1 1 -> ticket 1
+flush 1 -> durable 1
+push 0 0 -> no frame
+push 1 0 -> sent 0 54
+deliver 0 r0 -> stored
+deliver 0 r1 -> stored
+{batch(0, 1, 1, ["query acct get count"], "query 0 rows 1 | 1")}
+{batch(1, 3, 1, ["query acct get count"], "query 0 rows 1 | 1")}
+dump 0 -> version 1 rows 1 | acct 9 1 2
+dump 1 -> version 1 rows 1 | acct 9 1 2
+"""),
+    "a stop behind the last byte": (ONE_TABLE, f"""
+{ROW_7_PENDING}
+stop 43 -> stopped
+start -> durable 1
+push 0 0 -> sent 0 54
+"""),
+    "a stop in the second of two": (ONE_TABLE, f"""
+{ROW_7_PENDING}
+begin -> tx 1 at 0
+insert 1 acct 8 5 -1 -> ok
+commit 1 0 -> ticket 2
+stop 60 -> stopped
+start -> durable 1
+begin -> tx 2 at 1
+insert 2 acct 9 5 -1 -> ok
+commit 2 0 -> ticket 2
+flush 1 -> durable 2
+stop 0 -> stopped
+start -> durable 2
+"""),
+    "two boots": (ONE_TABLE, """
+open 0 query acct get count -> opened 1
+ask 0 -> sent 0 23
+deliver 0 p -> sent 1 48
+restart 0 2 -> boot 2
+open 0 query acct get count -> opened 1
+ask 0 -> sent 2 23
+deliver 1 r0 -> ignored
+run 0 -> waiting head
+deliver 2 p -> sent 3 48
+deliver 3 r0 -> head 0
+run 0 -> version 0 queries 1 | query 0 rows 1 | 0
+restart 0 1 -> boot used
+restart 0 2 -> boot used
+"""),
+    "a frame is wanted": (ONE_TABLE, f"""
+{ROW_7_PENDING}
+begin -> tx 1 at 0
+insert 1 acct 8 5 -1 -> ok
+commit 1 1 -> ticket 2
+flush 2 -> durable 2
+push 0 0 -> sent 0 54
+push 1 0 -> sent 1 54
+deliver 1 r0 -> stored
+deliver 1 r0 -> repeat
+open 0 query acct get count -> opened 1
+ask 0 -> sent 2 23
+deliver 2 p -> sent 3 48
+deliver 3 r0 -> head 2
+run 0 -> waiting 0 0 | sent 4 16
+deliver 4 p -> sent 5 54
+deliver 5 r0 -> stored
+deliver 0 r0 -> repeat
+run 0 -> version 2 queries 1 | query 0 rows 1 | 2
+"""),
+    "bytes that are no datagram": (ONE_TABLE, f"""
+raw r0 {CUT} -> ignored
+raw r0 {WITH_A_BYTE_MORE} -> ignored
+raw r0 {OF_OTHER_MAGIC} -> ignored
+raw r0 {OF_LAST_2} -> ignored
+dump 0 -> version 0 rows 0
+raw r0 - -> ignored
+raw r0 {FRAME} -> forged
+"""),
+    "a sum of 65 bits": (ONE_TABLE, f"""
+begin -> tx 0 at 0
+insert 0 acct 1 9223372036854775807 0 -> ok
+insert 0 acct 2 9223372036854775807 0 -> ok
+commit 0 0 -> ticket 1
+flush 1 -> durable 1
+push 0 0 -> sent 0 82
+deliver 0 r0 -> stored
+{batch(0, 1, 1, ["query acct get sum 0"], "query 0 rows 1 | 18446744073709551614")}
+"""),
+    "a join": (WITH_SITES, f"""
+begin -> tx 0 at 0
+insert 0 site 1 x4e45 -> ok
+insert 0 site 2 x5357 -> ok
+insert 0 acct 10 1 100 -> ok
+insert 0 acct 11 2 50 -> ok
+insert 0 acct 12 1 -30 -> ok
+insert 0 acct 13 9 7 -> ok
+insert 0 acct 14 -1 8 -> ok
+commit 0 0 -> ticket 1
+flush 1 -> durable 1
+push 0 0 -> sent 0 194
+deliver 0 r0 -> stored
+open 0 query site get sum 0 -> bad plan 3
+{batch(0, 1, 1, [
+    "query acct join 0 site by j0 get count sum 1 max 1",
+    "query acct join 0 site where 1 > 0 and j0 != x5357 get count sum 1",
+    "query acct where 0 > 100 by 0 get count",
+], "query 0 rows 2 | x4e45 2 70 100 | x5357 1 50 50 | query 1 rows 1 | 1 100 | query 2 rows 0")}
+"""),
+    "Asks that are not answered": (ONE_TABLE, """
+ask 0 -> empty
+run 0 -> no batch
+open 0 query acct get count -> opened 1
+ask 0 -> sent 0 23
+ask 0 -> sent 1 23
+show 0 -> 42440102001700 0000000000000001 0000000000000001
+show 1 -> 42440102001700 0000000000000001 0000000000000001
+deliver 0 p -> sent 2 48
+deliver 2 r0 -> head 0
+deliver 2 r0 -> ignored
+ask 0 -> busy
+deliver 0 r1 -> ignored
+deliver 2 p -> ignored
+""".replace("00 0000000000000001 0000000000000001", "00" + "0000000000000001" * 2)),
+}
+
+
+def case_of(text):
+    """The events of a case, and the lines that each answers."""
+    steps = [line.split(" -> ") for line in text.splitlines() if line]
+    return [event for event, _ in steps], [line for _, lines in steps for line in lines.split(" | ")]
