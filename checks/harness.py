@@ -1,7 +1,10 @@
-"""What the scripts checks/hostile and checks/faults share: tallies, stories, nodes that run, and what a journal is to have kept. Their
-words:
+"""What the checks share: the program, cases, runs of a program, programs that run on, addresses, limits of time. Each takes
+this word:
 
     [PROGRAM]      another program than crates/batchdb/out/batchdb
+
+checks/hostile and checks/faults have tallies, stories, nodes, and what a journal is to have kept besides, and take more words:
+
     --only PART    one part alone
     --few          a twentieth of the inputs, for a quick look
     --jobs N       so many processes at once; as many as there are processors if not given
@@ -18,6 +21,7 @@ import re
 import shutil
 import socket
 import subprocess
+import sys
 import tempfile
 import threading
 import time
@@ -28,10 +32,12 @@ import reference as own
 ROOT = os.path.dirname(os.path.dirname(os.path.abspath(__file__)))
 PARSER = argparse.ArgumentParser()
 PARSER.add_argument("program", nargs="?", default=f"{ROOT}/crates/batchdb/out/batchdb")
-PARSER.add_argument("--only", metavar="PART", help="one part alone")
-PARSER.add_argument("--few", action="store_true", help="a twentieth of the inputs, for a quick look")
-PARSER.add_argument("--jobs", type=int, default=os.cpu_count(), metavar="N", help="how many processes at once")
-PARSER.add_argument("--shown", type=int, default=5, metavar="N", help="how many failures of a part are shown")
+# A check whose inputs are so many that it has parts.
+if os.path.basename(sys.argv[0]) in ("hostile", "faults"):
+    PARSER.add_argument("--only", metavar="PART", help="one part alone")
+    PARSER.add_argument("--few", action="store_true", help="a twentieth of the inputs, for a quick look")
+    PARSER.add_argument("--jobs", type=int, default=os.cpu_count(), metavar="N", help="how many processes at once")
+    PARSER.add_argument("--shown", type=int, default=5, metavar="N", help="how many failures of a part are shown")
 WORDS = PARSER.parse_args()
 PROGRAM = os.path.abspath(WORDS.program)
 FEW = 20
@@ -42,6 +48,21 @@ SHOWN_LENGTH = 800
 ROOM_MAX = 16384
 ONE_TABLE = "workers 1\nreplicas 2\ntable acct int int\n"
 TWO_TABLES = "workers 2\nreplicas 2\ntable acct int int\ntable site bytes2\n"
+# Which cases held.
+held = []
+
+
+def case(name, found, expected):
+    """Notes whether a case holds, and prints it at once if it does not."""
+    held.append(found == expected)
+    if not held[-1]:
+        print(f"FAILED: {name}\n  expected {expected!r}\n  found    {found!r}")
+
+
+def last_line(what):
+    """Prints how many cases held, and returns the status of the check."""
+    print(f"{sum(held)} of {len(held)} {what}")
+    return 0 if held and all(held) else 1
 
 
 class Tally:
@@ -67,11 +88,44 @@ def few(inputs):
     return inputs[::FEW] if WORDS.few else inputs
 
 
-def run(*words, given="", **more):
+def run(*words, given="", command=(PROGRAM,), **more):
     """Returns the exit status, and what the program wrote to its output and to its errors."""
     pipes = {"stdin": more.pop("stdin")} if "stdin" in more else {"input": given}
-    done = subprocess.run([PROGRAM, *words], **pipes, capture_output=True, text=True, timeout=SECONDS_MAX, **more)
+    done = subprocess.run([*command, *words], **pipes, capture_output=True, text=True, timeout=SECONDS_MAX, **more)
     return done.returncode, done.stdout, done.stderr
+
+
+@contextlib.contextmanager
+def started(*words, command=(PROGRAM,), seconds=SECONDS_MAX, **more):
+    """A program that runs on; it is killed at the end, and after so many seconds."""
+    pipes = {name: subprocess.PIPE for name in ("stdin", "stdout", "stderr")}
+    process = subprocess.Popen([*command, *words], text=True, bufsize=1, **{**pipes, **more})
+    watch = threading.Timer(seconds, process.kill)
+    watch.start()
+    try:
+        yield process
+    finally:
+        watch.cancel()
+        process.kill()
+        process.wait()
+        for pipe in filter(None, (process.stdin, process.stdout, process.stderr)):
+            with contextlib.suppress(OSError):
+                pipe.close()
+
+
+def line_that(lines, pattern):
+    """The match of the first line from here on that has this form; None if the program ends before."""
+    for line in lines:
+        found = re.search(pattern, line)
+        if found:
+            return found
+    return None
+
+
+def listening(process):
+    """The address that a program says it listens on; None if it ends before."""
+    found = line_that(iter(process.stderr.readline, ""), r"^listening on (\S+)$")
+    return found and found[1]
 
 
 def built(at, name):
@@ -271,6 +325,11 @@ def bound():
 def word_of(it):
     """The address of a socket, as a node is given it."""
     return "127.0.0.1:{}".format(it.getsockname()[1])
+
+
+def free_address():
+    with bound() as it:
+        return word_of(it)
 
 
 def event_of(schema, entry):
