@@ -90,9 +90,12 @@ def few(inputs):
 
 def run(*words, given="", command=(PROGRAM,), **more):
     """Returns the exit status, and what the program wrote to its output and to its errors."""
-    pipes = {"stdin": more.pop("stdin")} if "stdin" in more else {"input": given}
-    done = subprocess.run([*command, *words], **pipes, capture_output=True, text=True, timeout=SECONDS_MAX, **more)
-    return done.returncode, done.stdout, done.stderr
+    # (as bytes: line ends are shown, and sent, as they are)
+    pipes = {"stdout": subprocess.PIPE, "stderr": subprocess.PIPE, **more}
+    if "stdin" not in more:
+        pipes["input"] = given.encode() if isinstance(given, str) else given
+    done = subprocess.run([*command, *words], timeout=SECONDS_MAX, **pipes)
+    return done.returncode, (done.stdout or b"").decode(), (done.stderr or b"").decode()
 
 
 @contextlib.contextmanager
