@@ -17,22 +17,16 @@ import tempfile
 import threading
 import time
 
-ROOT = os.path.dirname(os.path.dirname(os.path.abspath(__file__)))
-PROGRAM = os.path.abspath(sys.argv[1]) if len(sys.argv) > 1 else f"{ROOT}/crates/batchdb/out/batchdb"
+from harness import PROGRAM, ROOT, case
+
 # No line takes nearly as long; it keeps one that does not come from being waited for.
 SECONDS_MAX = 20
 # Ports below those that the system gives to whoever asks for any.
 to_try = iter(range(random.randrange(10000, 30000), 32000))
 Block = collections.namedtuple("Block", "heading language lines")
 Table = collections.namedtuple("Table", "head rows")
-# Which cases held, each line that a command wrote, with the command, and the blocks that were run.
-held, said, shown = [], [], []
-
-
-def case(name, found, expected):
-    held.append(found == expected)
-    if not held[-1]:
-        print(f"FAILED: {name}\n  expected {expected!r}\n  found    {found!r}")
+# Each line that a command wrote, with the command, and the blocks that were run.
+said, shown = [], []
 
 
 def read(path):
