@@ -168,7 +168,7 @@ def spread(function, jobs):
 
 def write(path, data):
     with open(path, "wb") as file:
-        file.write(data)
+        file.write(data if isinstance(data, bytes) else data.encode())
 
 
 def contents(path):
