@@ -154,15 +154,15 @@ def reason_in(function, line):
 
 
 def verdict_alone(checked):
-    """What a check of a whole crate with one edit says, by the rules of `rt must-fail`; but what is refused only since a proof names what
-    the edit took away counts as not refused: that says nothing of a contract."""
+    """What a check of a whole crate with one edit says, by the rules of `rt must-fail`. That a proof names what the edit took away says
+    nothing of a contract, though it refuses the edit: so this is told."""
     status, lines = checked.status, checked.lines
     told = [it for it in lines if PLACE.match(it) and (": error" in it or it.startswith("note: "))]
     unread = next((it for it in told if PLACE.match(it)[1].startswith(("src/", "specs/")) and UNREAD.search(it)), "")
     if status == 1 and lines[-1].startswith("logic=not-proved") and not unread:
         reason = next((it for it in told if not NO_REASON.search(it)), "")
-        nothing = "only since a proof names what it took away: change a value, keep names"
-        return Verdict(bool(reason), f"alone: {reason}" if reason else nothing)
+        nothing = "alone, ONLY SINCE A PROOF NAMES WHAT IT TOOK AWAY, which says nothing of a contract: change a value, keep names"
+        return Verdict(True, f"alone: {reason}" if reason else nothing)
     if status == 3 and any(LIMIT.search(it) for it in lines):
         return Verdict(True, "alone, by a limit of the prover")
     if status == 0:
