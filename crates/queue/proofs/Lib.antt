@@ -1,3 +1,3 @@
 pub mod Owned
-pub mod Keeping
 pub mod Listed
+pub mod Keeping

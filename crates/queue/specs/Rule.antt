@@ -1,8 +1,7 @@
 -- The rule of the queue: the list of all plans that were ever put, who put and who took each, and what a pass knows of it.
-use Rattle.std.specs.Prelude.{◌≡◌, ◌==◌, ◌≤◌, if◌then◌else◌, ℕ, suc, List, [], ◌∷◌, ◌++◌, length, drop, map}
+use Rattle.std.specs.Prelude.{◌≡◌, ◌==◌, ◌<◌, ◌≤◌, if◌then◌else◌, ℕ, suc, List, [], ◌∷◌, ◌++◌, length, drop, map}
 use mathlib.Core.Option.{some}
 use lib.ListN.{get_elem?}
-use Rattle.crossbeam_queue.specs.Fifo.{Held}
 use Rattle.plans.specs.declared.plan.Plan.{Plan}
 use Rattle.queue.specs.declared.moves.Queued.{Queued}
 use Rattle.queue.specs.declared.moves.Moves.{Moves}
@@ -46,14 +45,26 @@ moves_until pass moment = record {
 abbrev pub no_moves : Moves
 no_moves = record { put = []; taken = [] }
 
--- the rule: at each moment the queue holds what was put and not taken, each pass knows all that was put and taken with it,
--- and nothing was put or taken without one
-pub record IsInOrder (items : List Plan) (passes : List Moves) : Type 0 where
+-- what a seat of the ring holds of the pass that it stands for: a seat holds the moves of one pass, but for the time in which
+-- two passes are compared
+abbrev pub first_of : List Moves → Moves
+first_of [] = no_moves
+first_of (moves ∷ more) = moves
+
+-- the rule: at each moment the queue holds what was put and not taken; each pass has a number of its own and one place, at a seat
+-- of the ring; there all that was put and taken with it is known; and nothing was put or taken without a pass
+pub record IsInOrder (items : List Plan) (seats : List (List Moves)) : Type 0 where
   pub moment : Moment
   pub sound : IsMoment moment
   pub holds : items ≡ waiting moment
-  pub each : (pass : ℕ) (moves : Moves) → get_elem? passes pass ≡ some moves → moves ≡ moves_until pass moment
-  pub no_other : (pass : ℕ) → length passes ≤ pass → moves_until pass moment ≡ no_moves
+  -- how many passes there are: their numbers are below it
+  pub count : ℕ
+  -- at which seat a pass is, and at which place there
+  pub seat_of : ℕ → ℕ
+  pub place_of : ℕ → ℕ
+  pub each : (seat place : ℕ) (held : List Moves) (moves : Moves) → get_elem? seats seat ≡ some held → get_elem? held place ≡ some moves
+      → (pass : ℕ) × (pass < count) × (seat_of pass ≡ seat) × (place_of pass ≡ place) × (moves ≡ moves_until pass moment)
+  pub no_other : (pass : ℕ) → count ≤ pass → moves_until pass moment ≡ no_moves
 
 -- these are all moves of a pass until a moment: a moment that is not before any of them
 pub record AreMovesAt (moves : Moves) (pass : ℕ) (moment : Moment) : Type 0 where
@@ -110,14 +121,3 @@ pub record TakesBatch (old : Moves) (before : List Plan) (count : ℕ) (new : Mo
   pub more : new.taken ≡ old.taken ++ added
   pub same : new.put ≡ old.put
   pub given : after ≡ before ++ map plan_in added
-
--- at a moment that is not before any of these moves, the queue held these plans
-pub record HeldPlans (moves : Moves) (items : List Plan) : Type 0 where
-  pub pass : ℕ
-  pub moment : Moment
-  pub made : AreMovesAt moves pass moment
-  pub holds : items ≡ waiting moment
-
--- at such a moment it held so many
-abbrev pub HeldThen : ℕ → Moves → Type 0
-HeldThen count moves = Held count (λ (items : List Plan). HeldPlans moves items)

@@ -6,9 +6,10 @@
 //! every step keeps; `Passes.antt` defines what contracts see of a queue and of a pass.
 //!
 //! Promised, whatever the schedule: a plan that is put becomes the last of that list; a plan that
-//! is returned was not put, and is returned only if the queue was full; plans leave in the order of
-//! the list, each at most once, and the queue holds those that have not left; `take_batch` takes
-//! 64, or fewer only if the queue was empty.
+//! is returned was not put; plans leave in the order of the list, each at most once, and the queue
+//! holds those that have not left; `take_batch` takes 64 at most; of any two passes none put or took
+//! what the other did. That a plan is returned only by a full queue, and that a batch has fewer than
+//! 64 plans only if the queue was empty, is tested, and no clause says it.
 //!
 //! It uses `plans`, and `crossbeam_queue` for the steps. If a call fails for lack of memory, its
 //! value is unchanged unless the call says otherwise.

@@ -87,6 +87,30 @@ fn three_batches<R: Wait>(rt: &R, alloc: Global) -> Result<Option<[Option<usize>
     Ok(Some([first, second, third]))
 }
 
+/// Puts two plans with one pass, and takes a batch with another; the two are compared before and after
+/// each.
+fn taken_by_another<R: Wait>(rt: &R, alloc: Global) -> Result<Option<usize>, AllocError> {
+    let queue = QueryQueue::new(alloc, 2)?;
+    let (Some(mut putter), Some(mut taker)) = (queue.pass(), queue.pass()) else {
+        return Ok(None);
+    };
+    queue.are_apart(&mut putter, &mut taker);
+    if first_back(rt, alloc, &queue, &mut putter, 2).is_some() {
+        return Ok(None);
+    }
+    queue.are_apart(&mut taker, &mut putter);
+    let count = taken(rt, alloc, &queue, &mut taker, 0)?;
+    queue.are_apart(&mut putter, &mut taker);
+    Ok(count)
+}
+
+/// A plan that one pass puts, another takes, and comparing them changes nothing.
+#[test]
+fn what_one_pass_puts_another_takes(rt: HostRuntime) -> Result<(), Fail> {
+    assert_eq!(rt; taken_by_another(&rt, rt.alloc())?, Some(2));
+    Ok(())
+}
+
 /// The third of three plans comes back from a queue with room for two.
 #[test]
 fn a_full_queue_gives_a_plan_back(rt: HostRuntime) -> Result<(), Fail> {

@@ -1,0 +1,2 @@
+-- What only helps proofs; no public clause rests on it.
+pub mod Seats
