@@ -1,7 +1,8 @@
 //! A journal in a file.
 
-ghost use Rattle.std.specs.Prelude.{◌≡◌, ◌+◌, ◌<◌, ◌≤◌, ◌++◌, length, take, drop, true, false, IfOk, OnOk, OnErr, is_some, nat_lt};
-ghost use Rattle.journal.specs.Storing.{IsPartlyAppended, IsPartlyCut, faults_max};
+ghost use Rattle.std.specs.Prelude.{◌≡◌, ◌+◌, ◌^◌, ◌<◌, ◌≤◌, [], ◌++◌, length, take, drop, true, false, Err, IfOk, IsErr, OnOk, OnErr};
+ghost use Rattle.std.specs.Prelude.{is_some, nat_lt};
+ghost use Rattle.journal.specs.Storing.{CountsFault, IsPartlyAppended, IsPartlyCut, faults_max};
 
 use crate::disk::Disk;
 use crate::faults::{FileFault, OpenFault};
@@ -106,7 +107,8 @@ impl<D: Disk> FileJournal<D> {
     /// Counts a fault, and keeps it.
     fn fault(&mut self, fault: FileFault) -> FileFault
         requires { self.old.faults < faults_max }
-        ensures { self.new ≡ record self.old { faults = self.old.faults + 1 } }
+        ensures counted { self.new ≡ record self.old { faults = self.old.faults + 1 } }
+        ensures same { result ≡ fault }
     {
         self.faults += 1;
         self.last_fault = Some(fault);
@@ -120,6 +122,7 @@ impl<D: Disk> FileJournal<D> {
         requires { self.old.faults < faults_max }
         ensures ok { OnOk result (self.new ≡ self.old) }
         ensures settled { OnOk result (self.old.unsettled ≡ false) }
+        ensures unsettled { self.old.unsettled ≡ true → result ≡ Err FileFault.Unsettled }
         ensures end { D.is_honest ≡ true → IfOk result (λ end. end ≡ length self.old.bytes + count) }
         ensures err { OnErr result (self.new ≡ record self.old { faults = self.old.faults + 1 }) }
     {
@@ -216,8 +219,19 @@ impl<D: Disk> JournalStore for FileJournal<D> {
     }
 
     /// Appends the bytes, and syncs them. Fails with `Unsettled` if an earlier write or truncation
-    /// failed, and then changes nothing; and with `System`.
-    fn append(&mut self, bytes: &[u8]) -> Result<(), FileFault> {
+    /// failed, and with `System`. After `Unsettled`, or if no length is that large, only the fault is
+    /// counted, and nothing else changes.
+    fn append(&mut self, bytes: &[u8]) -> Result<(), FileFault>
+        requires { self.old.faults < faults_max }
+        ensures ok { D.is_honest ≡ true → OnOk result (self.new.bytes ≡ self.old.bytes ++ bytes.now) }
+        ensures err { D.is_honest ≡ true → OnErr result (IsPartlyAppended self.old.bytes bytes.now self.new.bytes) }
+        ensures settled { D.is_honest ≡ true → OnOk result (self.new.left_behind ≡ []) }
+        ensures faults { CountsFault result self.old.faults self.new.faults }
+        ensures unsettled { self.old.unsettled ≡ true
+            → (result ≡ Err FileFault.Unsettled) × (self.new ≡ record self.old { faults = self.old.faults + 1 }) }
+        ensures too_large { D.is_honest ≡ true → 2 ^ 64 ≤ length self.old.bytes + length bytes.now
+            → IsErr result × (self.new ≡ record self.old { faults = self.old.faults + 1 }) }
+    {
         let end = self.end_after(bytes.len())?;
         match append_synced(&mut self.disk, self.len, bytes) {
             Ok(()) => {

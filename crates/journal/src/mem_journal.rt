@@ -69,10 +69,11 @@ impl JournalStore for MemJournal {
     }
 
     fn append(&mut self, bytes: &[u8]) -> Result<(), Infallible> {
-        match self.content.extend_from_slice(bytes) {
-            Ok(()) => Ok(()),
-            Err(_) => unreachable!(),
+        // Into the room that is reserved: `extend_from_slice` could take memory.
+        for byte in bytes {
+            self.content.push_reserved(*byte);
         }
+        Ok(())
     }
 
     fn cut_to(&mut self, len: u64) -> Result<(), Infallible> {

@@ -18,7 +18,7 @@ returns-in-Err-clause-err g c honest =
     let same : c.min-self-inside.result ≡ asked = omega (arith, c.min-self-inside.ensures, short) in
     let kept : now ≡ was = c.in-Err.ensures.kept honest in
     cut-is_partly asked old c.fault.new.self.bytes within
-    (ap (λ (state : FileState). state.bytes) c.fault.ensures
+    (ap (λ (state : FileState). state.bytes) c.fault.ensures.counted
     ∙ ap (λ (n : ℕ). take n now) same
     ∙ ap (take asked) kept
     ∙ take-shorter asked len was short
