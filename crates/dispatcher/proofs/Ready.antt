@@ -1,12 +1,11 @@
 -- Which replicas can answer their batch.
 use Rattle.std.proofs.Common.{◌≡◌, ℕ, Bool, true, false, cond, List, Option, Some, None, refl, ap, subst, ◌∙◌}
-use Rattle.std.proofs.lemmas.Bool.{cond-false}
 use Rattle.std.proofs.lemmas.Option.{none-some, same_Some}
 use Rattle.intake.specs.Steps.{lacking}
 use Rattle.plans.specs.declared.plan.Plan.{Plan}
 use Rattle.dispatcher.specs.State.{Replica, Batch, Fetched}
-use Rattle.dispatcher.specs.Protocol.{Readiness, Broken, Ready, readiness_by, batch_readiness, fetched_in}
-use Rattle.dispatcher.specs.Steps.{readiness_of, ready_of}
+use Rattle.dispatcher.specs.Protocol.{Readiness, Ready, readiness, fetched_in}
+use Rattle.dispatcher.specs.Steps.{readiness_of}
 
 -- a replica that can answer its batch: a version was fetched for it, and no frame below the counts at it is missing
 pub record CanAnswer (r : Replica) (batch : Batch) (fetched : Fetched) : Type 0 where
@@ -18,12 +17,13 @@ pub record CanAnswer (r : Replica) (batch : Batch) (fetched : Fetched) : Type 0 
 -- what a run finds where a version was fetched, by the first frame that is missing
 pub finds : (r : Replica) (batch : Batch) (fetched : Fetched) (missing : Option (ℕ × ℕ)) → r.broken ≡ false → r.batch ≡ Some batch
     → batch.fetched ≡ Some fetched → lacking r.arrivals fetched.counts ≡ missing
-    → readiness_of r ≡ batch_readiness batch.plans (λ counts. missing) (Some fetched)
+    → readiness_of r ≡ readiness false (Some (record { plans = batch.plans; fetched = Some fetched })) (λ counts. missing)
 finds r batch fetched missing whole there has lacks =
-    cond-false r.broken Broken (readiness_by (lacking r.arrivals) r.batch) whole
-    ∙ ap (readiness_by (lacking r.arrivals)) there
-    ∙ ap (batch_readiness batch.plans (lacking r.arrivals)) has
-    ∙ ap (λ (missing : Option (ℕ × ℕ)). batch_readiness batch.plans (λ counts. missing) (Some fetched)) lacks
+    ap (λ broken. readiness broken r.batch (lacking r.arrivals)) whole
+    ∙ ap (λ batch. readiness false batch (lacking r.arrivals)) there
+    ∙ ap (λ found. readiness false (Some (record { plans = batch.plans; fetched = found })) (lacking r.arrivals)) has
+    ∙ ap (λ (missing : Option (ℕ × ℕ)).
+    readiness false (Some (record { plans = batch.plans; fetched = Some fetched })) (λ counts. missing)) lacks
 
 -- what is known of what a run finds
 abbrev Found : Replica → Readiness → Type 0
@@ -35,20 +35,21 @@ found-is r = by_broken r.broken refl
   where
     by_missing : (plans : List Plan) (fetched : Fetched) (missing : Option (ℕ × ℕ)) → r.broken ≡ false
         → r.batch ≡ Some (record { plans = plans; fetched = Some fetched }) → lacking r.arrivals fetched.counts ≡ missing
-        → Found r (batch_readiness plans (λ counts. missing) (Some fetched))
+        → Found r (readiness false (Some (record { plans = plans; fetched = Some fetched })) (λ counts. missing))
     by_missing plans fetched (Some frame) whole there lacks = tt
     by_missing plans fetched None whole there lacks = record { whole = whole; there = there; has = refl; complete = lacks }
 
     by_fetched : (plans : List Plan) (found : Option Fetched) → r.broken ≡ false
-        → r.batch ≡ Some (record { plans = plans; fetched = found }) → Found r (batch_readiness plans (lacking r.arrivals) found)
+        → r.batch ≡ Some (record { plans = plans; fetched = found })
+        → Found r (readiness false (Some (record { plans = plans; fetched = found })) (lacking r.arrivals))
     by_fetched plans None whole there = tt
     by_fetched plans (Some fetched) whole there = by_missing plans fetched (lacking r.arrivals fetched.counts) whole there refl
 
-    by_batch : (batch : Option Batch) → r.broken ≡ false → r.batch ≡ batch → Found r (readiness_by (lacking r.arrivals) batch)
+    by_batch : (batch : Option Batch) → r.broken ≡ false → r.batch ≡ batch → Found r (readiness false batch (lacking r.arrivals))
     by_batch None whole there = tt
     by_batch (Some batch) whole there = by_fetched batch.plans batch.fetched whole there
 
-    by_broken : (broken : Bool) → r.broken ≡ broken → Found r (cond broken Broken (readiness_by (lacking r.arrivals) r.batch))
+    by_broken : (broken : Bool) → r.broken ≡ broken → Found r (readiness broken r.batch (lacking r.arrivals))
     by_broken true is = tt
     by_broken false is = by_batch r.batch is refl
 
@@ -56,7 +57,8 @@ pub ready-is : (r : Replica) (plans : List Plan) (fetched : Fetched) → readine
     → CanAnswer r (record { plans = plans; fetched = Some fetched }) fetched
 ready-is r plans fetched is = subst (Found r) is (found-is r)
 
-pub ready-parts : (r : Replica) (fetched : Fetched) → ready_of r ≡ Some fetched → (batch : Batch) × CanAnswer r batch fetched
+pub ready-parts : (r : Replica) (fetched : Fetched) → fetched_in (readiness_of r) ≡ Some fetched
+    → (batch : Batch) × CanAnswer r batch fetched
 ready-parts r fetched e = by (readiness_of r) (found-is r) e
   where
     by : (found : Readiness) → Found r found → fetched_in found ≡ Some fetched → (batch : Batch) × CanAnswer r batch fetched
@@ -72,5 +74,5 @@ ready-parts r fetched e = by (readiness_of r) (found-is r) e
     by other is e = absurd (none-some fetched e)
 
 -- and it is said to be ready
-pub ready-can : (r : Replica) (batch : Batch) (fetched : Fetched) → CanAnswer r batch fetched → ready_of r ≡ Some fetched
+pub ready-can : (r : Replica) (batch : Batch) (fetched : Fetched) → CanAnswer r batch fetched → fetched_in (readiness_of r) ≡ Some fetched
 ready-can r batch fetched can = ap fetched_in (finds r batch fetched None can.whole can.there can.has can.complete)

@@ -10,7 +10,7 @@ use Rattle.dispatcher.specs.Feeding.{IsFedFrom, RunKeepsFed, RunIsConsistent, An
 use Rattle.dispatcher.specs.State.{Replica, Batch, Fetched}
 use Rattle.dispatcher.specs.Report.{report_of}
 use Rattle.dispatcher.specs.Protocol.{Readiness, Broken, NoBatch, WaitsForHead, WaitsForFrame, Ready}
-use Rattle.dispatcher.specs.Steps.{at_fetched, Ends, readiness_of, RunsReplica, RunsAs, RunsOutOfMemory}
+use Rattle.dispatcher.specs.Steps.{at_fetched, Ends, readiness_of, RunsAs, RunsOutOfMemory}
 use Rattle.dispatcher.proofs.CatchingUp.{Merges, can-catch-up, caught-is}
 use Rattle.dispatcher.proofs.Feeding.{Arriving, broken-fed, caught-fed, finished-fed}
 use Rattle.dispatcher.proofs.Ready.{CanAnswer, finds, ready-parts, ready-is}
@@ -59,7 +59,7 @@ module _ (merges : Merges) (shape : Shape) (commits : List Commit) (r : Replica)
       )
   ends-reports batch fetched can (inr cannot) = absurd (can-catch-up merges shape commits r batch fetched fed can cannot.0)
 
-  ran-parts : RunsReplica r answer new → Ran shape commits r answer new
+  ran-parts : RunsAs (readiness_of r) r answer new → Ran shape commits r answer new
   ran-parts ran = by (readiness_of r) refl ran
     where
       by : (found : Readiness) → readiness_of r ≡ found → RunsAs found r answer new → Ran shape commits r answer new
@@ -142,7 +142,7 @@ answer-reports merges shape commits r text new fed (inr wants) = elim wants.2 [
 
 -- a run by what is known of the batch
 runs-ends : (r : Replica) (batch : Batch) (fetched : Fetched) (answer : Run) (new : Replica) → CanAnswer r batch fetched
-    → RunsReplica r answer new → Ends r batch.plans fetched answer new
+    → RunsAs (readiness_of r) r answer new → Ends r batch.plans fetched answer new
 runs-ends r batch fetched answer new can ran =
     subst (λ (found : Readiness). RunsAs found r answer new) (finds r batch fetched None can.whole can.there can.has can.complete) ran
 

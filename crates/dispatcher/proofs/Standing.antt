@@ -18,7 +18,8 @@ use Rattle.intake.specs.Steps.{lacking}
 use Rattle.dispatcher.specs.declared.batch.Batch.{Batch as HeldBatch}
 use Rattle.dispatcher.specs.declared.batch.Fetched.{Fetched as HeldFetched}
 use Rattle.dispatcher.specs.State.{Replica, Batch, Fetched}
-use Rattle.dispatcher.specs.Steps.{ready_of}
+use Rattle.dispatcher.specs.Protocol.{fetched_in}
+use Rattle.dispatcher.specs.Steps.{readiness_of}
 use Rattle.dispatcher.specs.declared.replica_core.ReplicaCore.TheInside.{Inside}
 use Rattle.dispatcher.specs.Inner.Invariant.{fetched_of, batch_held, replica_of, GoesOn, BatchGoesOn, IsCore}
 use Rattle.dispatcher.proofs.Lists.{pointwise-same}
@@ -92,13 +93,13 @@ batch-caught (Some held) batch fetched e f =
 
 -- where the replica is ready
 pub ready-goes : (r : Replica) (held : Option HeldBatch) (fetched : Fetched) → r.batch ≡ option_map batch_held held
-    → ready_of r ≡ Some fetched → BatchGoesOn r.version r.applied held → FetchedGoesOn r.version r.applied fetched
+    → fetched_in (readiness_of r) ≡ Some fetched → BatchGoesOn r.version r.applied held → FetchedGoesOn r.version r.applied fetched
 ready-goes r held fetched is ready goes =
     let parts = ready-parts r fetched ready in
     batch-goes r.version r.applied held parts.0 fetched (sym is ∙ parts.1.there) parts.1.has goes
 
 pub ready-caught : (r : Replica) (held : Option HeldBatch) (fetched : Fetched) → r.batch ≡ option_map batch_held held
-    → ready_of r ≡ Some fetched → BatchGoesOn fetched.version fetched.counts held
+    → fetched_in (readiness_of r) ≡ Some fetched → BatchGoesOn fetched.version fetched.counts held
 ready-caught r held fetched is ready =
     let parts = ready-parts r fetched ready in
     batch-caught held parts.0 fetched (sym is ∙ parts.1.there) parts.1.has

@@ -25,7 +25,8 @@ use Rattle.plans.specs.declared.plan.Plan.{Plan}
 use Rattle.dispatcher.specs.State.{Replica, Batch, Fetched}
 use Rattle.dispatcher.specs.Report.{report_of}
 use Rattle.dispatcher.specs.TableText.{table_text}
-use Rattle.dispatcher.specs.Steps.{started_replica, received, got_of, goes_on, opened, asked, at_fetched, ready_of, RunsReplica, MayRun}
+use Rattle.dispatcher.specs.Protocol.{fetched_in}
+use Rattle.dispatcher.specs.Steps.{started_replica, received, got_of, goes_on, opened, asked, at_fetched, readiness_of, RunsAs, MayRun}
 use Rattle.dispatcher.specs.Steps.{dumped}
 
 -- the fetched version is one of the list, with each worker's frame count at that version
@@ -142,7 +143,7 @@ AnswerIsReport =
 abbrev pub ReadyIsAnswered : Type 0
 ReadyIsAnswered =
     (shape : Shape) (commits : List Commit) (r : Replica) (batch : Batch) (fetched : Fetched) (answer : Run) (new : Replica)
-    → IsFedFrom shape commits r → r.batch ≡ Some batch → ready_of r ≡ Some fetched → RunsReplica r answer new
+    → IsFedFrom shape commits r → r.batch ≡ Some batch → fetched_in (readiness_of r) ≡ Some fetched → RunsAs (readiness_of r) r answer new
     → (answer ≡ runs.Answered (report_of (tables_after shape commits fetched.version) fetched.version batch.plans))
     × (new ≡ record (at_fetched r fetched (tables_after shape commits fetched.version)) { batch = None })
 

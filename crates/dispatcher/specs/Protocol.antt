@@ -1,6 +1,6 @@
 -- What a replica does with queries and Heads: its steps as far as they need no frame and no table.
-use Rattle.std.specs.Prelude.{ℕ, ◌+◌, List, [], ◌∷◌, ◌++◌, length, Bool, false, Option, None, Some, Result, Ok, Err, ◌==◌, ◌&&◌, nat_le}
-use Rattle.std.specs.Prelude.{if◌then◌else◌}
+use Rattle.std.specs.Prelude.{ℕ, ◌+◌, List, [], ◌∷◌, ◌++◌, length, Bool, true, false, Option, None, Some, Result, Ok, Err, ◌==◌, ◌&&◌}
+use Rattle.std.specs.Prelude.{nat_le, if◌then◌else◌}
 use Rattle.rows.specs.Limits.{waiting_queries_max}
 use Rattle.wire.specs.declared.datagram.Datagram.TheVariants as datagrams
 use Rattle.wire.specs.declared.out.Out.{Out}
@@ -90,21 +90,19 @@ pub data Readiness : Type 0 where
   WaitsForFrame : (worker seq : ℕ) → Readiness
   Ready : List Plan → Fetched → Readiness
 
--- what a run of a batch finds, by what was fetched for it, and by the first frame that is missing below the counts of that
-abbrev pub batch_readiness : List Plan → (List ℕ → Option (ℕ × ℕ)) → Option Fetched → Readiness
-batch_readiness plans missing None = WaitsForHead
-batch_readiness plans missing (Some fetched) = unless_missing (missing fetched.counts)
+-- what a run finds, by whether the replica is broken, by its batch, and by the first frame that is missing below given counts
+abbrev pub readiness : Bool → Option Batch → (List ℕ → Option (ℕ × ℕ)) → Readiness
+readiness true batch missing = Broken
+readiness false None missing = NoBatch
+readiness false (Some batch) missing = by_fetched batch.fetched
   where
-    unless_missing : Option (ℕ × ℕ) → Readiness
-    unless_missing None = Ready plans fetched
-    unless_missing (Some frame) = WaitsForFrame frame.0 frame.1
+    by_frame : Fetched → Option (ℕ × ℕ) → Readiness
+    by_frame fetched None = Ready batch.plans fetched
+    by_frame fetched (Some frame) = WaitsForFrame frame.0 frame.1
 
-abbrev pub readiness_by : (List ℕ → Option (ℕ × ℕ)) → Option Batch → Readiness
-readiness_by missing None = NoBatch
-readiness_by missing (Some batch) = batch_readiness batch.plans missing batch.fetched
-
-abbrev pub readiness : Protocol → (List ℕ → Option (ℕ × ℕ)) → Readiness
-readiness q missing = if q.broken then Broken else readiness_by missing q.batch
+    by_fetched : Option Fetched → Readiness
+    by_fetched None = WaitsForHead
+    by_fetched (Some fetched) = by_frame fetched (missing fetched.counts)
 
 -- what was fetched for a batch that can be answered
 abbrev pub fetched_in : Readiness → Option Fetched

@@ -154,27 +154,19 @@ RunsAs (Ready plans fetched) old answer new = Ends old plans fetched answer new
 
 -- what a run of a replica finds
 abbrev pub readiness_of : Replica → Readiness
-readiness_of r = readiness (protocol_of r) (lacking r.arrivals)
-
--- a run of the batch: the answer, and the replica after it. Being out of memory aside.
-abbrev pub RunsReplica : Replica → Run → Replica → Type 0
-RunsReplica old answer new = RunsAs (readiness_of old) old answer new
-
--- what was fetched for a replica's batch, if the batch can be answered: the replica is not broken, and no frame is missing
-abbrev pub ready_of : Replica → Option Fetched
-ready_of r = fetched_in (readiness_of r)
+readiness_of r = readiness r.broken r.batch (lacking r.arrivals)
 
 -- what a run may answer and leave when it is out of memory, which happens only if a version was fetched and no frame is
 -- missing: `Memory`, with the tables at the old or at the fetched version; or `Broken`, if there was a commit to apply
 abbrev pub RunsOutOfMemory : Replica → Run → Replica → Type 0
 RunsOutOfMemory old answer new =
-    (fetched : Fetched) × (ready_of old ≡ Some fetched)
+    (fetched : Fetched) × (fetched_in (readiness_of old) ≡ Some fetched)
     × (((answer ≡ runs.Memory) × ((new ≡ old) ⊎ CaughtUp old fetched new)) ⊎
     ((answer ≡ runs.Broken) × (new ≡ broken_of old) × (old.version < fetched.version)))
 
--- what a run may answer and leave
+-- what a run may answer and leave: what it does by what it finds, unless it is out of memory
 abbrev pub MayRun : Replica → Run → Replica → Type 0
-MayRun old answer new = RunsReplica old answer new ⊎ RunsOutOfMemory old answer new
+MayRun old answer new = RunsAs (readiness_of old) old answer new ⊎ RunsOutOfMemory old answer new
 
 -- a dump: the text of its tables at its version, or the fault. Being out of memory aside.
 abbrev pub dumped : Replica → Result (List ℕ) DumpFault

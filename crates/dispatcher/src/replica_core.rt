@@ -7,7 +7,8 @@ ghost use Rattle.rows.specs.Limits.{workers_max, replicas_max};
 ghost use Rattle.rows.specs.Shape.{shape_of};
 ghost use Rattle.rows.specs.Tables.{opening};
 ghost use Rattle.dispatcher.specs.State.{Replica};
-ghost use Rattle.dispatcher.specs.Steps.{started_replica, opened, asked, received, frame_comes, own_head_comes, MayTake, ready_of};
+ghost use Rattle.dispatcher.specs.Protocol.{fetched_in};
+ghost use Rattle.dispatcher.specs.Steps.{started_replica, opened, asked, received, frame_comes, own_head_comes, MayTake, readiness_of};
 ghost use Rattle.dispatcher.specs.Steps.{HoldNext, MayRun, dumped};
 ghost use Rattle.dispatcher.specs.Inner.Parts.{CatchesUp, Applies, MayAnswerBatch};
 
@@ -365,7 +366,7 @@ impl<S: ApplyStore + Sync> ReplicaCore<S> {
         version: u64,
         counts: Counts,
     ) -> Result<(), CatchUpFault>
-        requires { ready_of self.old ≡ Some (record { version = version; counts = counts }) }
+        requires { fetched_in (readiness_of self.old) ≡ Some (record { version = version; counts = counts }) }
         ensures { CatchesUp self.old (record { version = version; counts = counts }) result self.new }
     {
         known_frames_stay_kept();
@@ -396,7 +397,7 @@ impl<S: ApplyStore + Sync> ReplicaCore<S> {
         version: u64,
         counts: Counts,
     ) -> Result<(), CatchUpFault>
-        requires { ready_of self.old ≡ Some (record { version = version; counts = counts }) }
+        requires { fetched_in (readiness_of self.old) ≡ Some (record { version = version; counts = counts }) }
         ensures { Applies self.old (record { version = version; counts = counts }) commits.now result self.new }
     {
         known_frames_stay_kept();

@@ -1,36 +1,135 @@
--- A run is one step and the run behind it.
-use Rattle.std.proofs.Common.{◌≡◌, ℕ, ◌+◌, ◌<◌, ◌≤◌, List, [], ◌∷◌, length, get_or, drop, refl}
-use Rattle.std.proofs.lemmas.List.{drop_more, drop_all}
+-- A run of the cores so far, one more step of it, and what is so of it at its end.
+use Rattle.std.proofs.Common.{◌≡◌, ◌≤◌, List, [], ◌∷◌, ◌++◌, length, map, refl, sym, ap, subst, ◌∙◌}
+use Rattle.std.specs.List.{AllByRecursion}
+use Rattle.std.proofs.lemmas.List.{map-append, length-map}
+use Rattle.journal.specs.Recovery.{IsBeginning}
+use Rattle.rows.specs.Commits.{IsLegal}
+use Rattle.rows.specs.Limits.{replicas_max}
+use Rattle.rows.specs.Shape.{shape_of}
 use Rattle.script.specs.declared.event.Event.{Event}
 use Rattle.script.specs.declared.output.Output.{Output}
-use Rattle.world.specs.Parts.{Parts}
-use Rattle.world.specs.Allowed.{RunsBy}
+use Rattle.script.specs.declared.setup.Setup.{Setup}
+use Rattle.script.specs.Events.{IsPossible}
+use Rattle.world.specs.Parts.{Parts, parts_started}
+use Rattle.world.specs.Steps.{World, opening_world}
+use Rattle.world.specs.Allowed.{Step, LeadsTo, events_in, outputs_in, IsAllowed, Runs}
+use Rattle.world.specs.Database.{IsDatabaseRun, new_database}
 use Rattle.world.specs.Standing.{world_of, AreFed, JournalStands, StopLeaves}
-use Rattle.world.specs.Theorem.{IsStep, IsCoreStep}
-use Rattle.world.proofs.Reports.{begins-through, step-by, run-grows}
+use Rattle.world.specs.Theorem.{seen, database_of, IsFaultless, AreOfOneRun, HasOneDumpOfVersion, KeepsPromises}
+use Rattle.world.specs.Inner.StepLaws.{StepLaws}
+use Rattle.world.proofs.Databases.{runs-of-database}
+use Rattle.world.proofs.Dumps.{run-dumps}
+use Rattle.world.proofs.Moments.{run-stands}
+use Rattle.world.proofs.Reports.{allowed-exact}
+use Rattle.world.proofs.Slots.{all_map, all_push, all_weaker}
+use Rattle.world.proofs.Undamaged.{step-fine}
+use Rattle.world.proofs.Worlds.{world-started}
 
-pub step_first : (old mid end : Parts) (events : List Event) (i : ℕ) (event : Event) (output : Output) (more : List Output)
-    → i < length events → event ≡ get_or events i event
-    → IsStep old.primary.durable (world_of old) event output (world_of mid) → AreFed mid → JournalStands mid → StopLeaves old event mid
-    → RunsBy (IsCoreStep end.primary.durable) mid (drop (i + 1) events) more end
-    → RunsBy (IsCoreStep end.primary.durable) old (drop i events) (output ∷ more) end
-step_first old mid end events i event output more within at step fed journal leaves run =
-    let durable = end.primary.durable in
-    let later =
-    run-grows (λ (p : Parts). p.primary.durable) (IsCoreStep durable) (λ first e o second core. core.0.durable) mid end
-    (drop (i + 1) events) more run in
-    let begins = begins-through old.primary.durable mid.primary.durable durable step.durable later in
-    rw (drop_more events i event within, ← at) (
-      mid,
-      (
-        step-by durable (world_of old) event output (world_of mid) begins step,
-        fed,
-        journal,
-        leaves,
-      ),
-      run,
-    )
+-- ---- step by step
 
-pub none_left : (end : Parts) (events : List Event) (i : ℕ) → length events ≤ i
-    → RunsBy (IsCoreStep end.primary.durable) end (drop i events) [] end
-none_left end events i past = rw (drop_all i events past) refl
+-- a step of the cores that the world allows, and after which they stand
+abbrev pub KeepsStanding : Step Parts → Type 0
+KeepsStanding step = IsAllowed (seen step) × AreFed step.new × JournalStands step.new × StopLeaves step.old step.event step.new
+
+-- the steps by these events and with these outputs, from the cores' start to where they are now
+pub record RunsSoFar (setup : Setup) (events : List Event) (outputs : List Output) (now : Parts) : Type 0 where
+  pub steps : List (Step Parts)
+  pub events_are : events_in steps ≡ events
+  pub outputs_are : outputs_in steps ≡ outputs
+  pub leads : LeadsTo (parts_started setup) steps now
+  pub kept : AllByRecursion KeepsStanding steps
+
+pub none_yet : (setup : Setup) → RunsSoFar setup [] [] (parts_started setup)
+none_yet setup = record { steps = []; events_are = refl; outputs_are = refl; leads = refl; kept = tt }
+
+leads-push : (old : Parts) (steps : List (Step Parts)) (step : Step Parts) → LeadsTo old steps step.old
+    → LeadsTo old (steps ++ step ∷ []) step.new
+leads-push old [] step leads = (leads, refl)
+leads-push old (first ∷ steps) step leads = (leads.0, leads-push first.new steps step leads.1)
+
+pub one_more : (setup : Setup) (events : List Event) (outputs : List Output) (step : Step Parts)
+    → RunsSoFar setup events outputs step.old → KeepsStanding step
+    → RunsSoFar setup (events ++ step.event ∷ []) (outputs ++ step.output ∷ []) step.new
+one_more setup events outputs step run kept = record {
+  steps = run.steps ++ step ∷ [];
+  events_are =
+      map-append (λ (s : Step Parts). s.event) run.steps (step ∷ [])
+      ∙ ap (λ (l : List Event). l ++ step.event ∷ []) run.events_are;
+  outputs_are =
+      map-append (λ (s : Step Parts). s.output) run.steps (step ∷ [])
+      ∙ ap (λ (l : List Output). l ++ step.output ∷ []) run.outputs_are;
+  leads = leads-push (parts_started setup) run.steps step run.leads;
+  kept = all_push KeepsStanding run.steps step kept run.kept;
+}
+
+-- ---- as a run of the world
+
+seen-leads : (old end : Parts) (steps : List (Step Parts)) → LeadsTo old steps end → LeadsTo (world_of old) (map seen steps) (world_of end)
+seen-leads old end [] leads = ap world_of leads
+seen-leads old end (step ∷ steps) leads = (ap world_of leads.0, seen-leads step.new end steps leads.1)
+
+seen-events : (steps : List (Step Parts)) → events_in (map seen steps) ≡ events_in steps
+seen-events [] = refl
+seen-events (step ∷ steps) = ap (λ (l : List Event). step.event ∷ l) (seen-events steps)
+
+seen-outputs : (steps : List (Step Parts)) → outputs_in (map seen steps) ≡ outputs_in steps
+seen-outputs [] = refl
+seen-outputs (step ∷ steps) = ap (λ (l : List Output). step.output ∷ l) (seen-outputs steps)
+
+pub keeps_promises : (laws : StepLaws) (setup : Setup) (events : List Event) (outputs : List Output) (end : Parts)
+    → setup.replicas ≤ replicas_max → AllByRecursion (IsPossible setup.workers setup.replicas) events
+    → IsLegal (shape_of setup.schema) setup.workers end.primary.durable → RunsSoFar setup events outputs end
+    → KeepsPromises setup events outputs
+keeps_promises laws setup events outputs end few possible legal run =
+    let worlds = map seen run.steps in
+    let commits = end.primary.durable in
+    let told = seen-outputs run.steps ∙ run.outputs_are in
+    let allowed =
+    all_weaker KeepsStanding (λ (step : Step Parts). IsAllowed (seen step)) run.steps (λ step kept. kept.0) run.kept in
+    let fed = all_weaker KeepsStanding (λ (step : Step Parts). AreFed step.new) run.steps (λ step kept. kept.1) run.kept in
+    let grow =
+    all_weaker (λ (step : Step Parts). IsAllowed (seen step))
+    (λ (step : Step Parts). IsBeginning step.old.primary.durable step.new.primary.durable) run.steps
+    (λ step may. (step-fine laws (world_of step.old) step.event step.output (world_of step.new) may).grows) allowed in
+    let runs : Runs (opening_world setup) worlds (world_of end) = record {
+      leads =
+          subst (λ (w : World). LeadsTo w worlds (world_of end)) (world-started setup)
+          (seen-leads (parts_started setup) end run.steps run.leads);
+      allowed = all_map seen IsAllowed run.steps allowed;
+    } in
+    let can =
+    subst (AllByRecursion (IsPossible setup.workers setup.replicas)) (sym (seen-events run.steps ∙ run.events_are)) possible in
+    let exact = allowed-exact laws setup worlds (world_of end) few can runs in
+    let database =
+    subst (λ (l : List Output). IsDatabaseRun setup.schema (new_database setup.replicas) l (database_of (world_of end))) told
+    (runs-of-database laws setup worlds (world_of end) few can runs) in
+    let has : AreOfOneRun setup events outputs = record {
+      run = record {
+        steps = run.steps;
+        end = end;
+        events_are = run.events_are;
+        outputs_are = run.outputs_are;
+        leads = run.leads;
+        allowed = runs;
+      };
+      exact = exact;
+      legal = legal;
+      cores = record {
+        fed = fed;
+        journal = all_weaker KeepsStanding (λ (step : Step Parts). JournalStands step.new) run.steps (λ step kept. kept.2) run.kept;
+        leaves =
+            all_weaker KeepsStanding (λ (step : Step Parts). StopLeaves step.old step.event step.new) run.steps (λ step kept. kept.3)
+            run.kept;
+        tables = run-stands setup end run.steps run.leads allowed grow fed;
+      };
+      database = database;
+    } in
+    record {
+      promise = (database_of (world_of end), database);
+      each =
+          ap length (sym run.outputs_are) ∙ length-map run.steps (λ (step : Step Parts). step.output)
+          ∙ sym (length-map run.steps (λ (step : Step Parts). step.event)) ∙ ap length run.events_are;
+      run = has;
+      dumps = subst HasOneDumpOfVersion told (run-dumps setup worlds (world_of end) commits runs exact.reports);
+      faultless = subst (AllByRecursion IsFaultless) told exact.faultless;
+    }

@@ -1,20 +1,17 @@
 -- Each step of a fresh world is, as users see it, one of the database.
-use Rattle.std.proofs.Common.{◌≡◌, ℕ, zero, suc, ◌≤◌, inl, inr, List, [], ◌∷◌, map, replicate, Some}
-use Rattle.std.proofs.Common.{refl, ap, subst, ◌∙◌}
+use Rattle.std.proofs.Common.{◌≡◌, ℕ, zero, suc, inl, inr, List, [], ◌∷◌, map, replicate, Some}
+use Rattle.std.proofs.Common.{refl, sym, ap, subst, ◌∙◌}
 use Rattle.std.specs.List.{slice_get, slice_set, AllByRecursion}
 use Rattle.std.specs.Option.{option_map}
 use Rattle.std.proofs.lemmas.Option.{none-some}
-use Rattle.rows.specs.Limits.{replicas_max}
 use Rattle.rows.specs.declared.kind.Kind.{Kind}
 use Rattle.script.specs.declared.event.Event.{Event}
 use Rattle.script.specs.declared.output.Output.{Output}
 use Rattle.script.specs.declared.output.Output.TheVariants as outputs
-use Rattle.script.specs.declared.setup.Setup.{Setup}
-use Rattle.script.specs.Events.{IsPossible}
 use Rattle.world.specs.Database.{Reader, Database, new_reader, HasAsked, IsFetched, IsMoved, IsAnswered, Becomes, Says, IsDatabaseStep}
-use Rattle.world.specs.Database.{IsDatabaseRun, IsPromised, new_database}
+use Rattle.world.specs.Database.{IsDatabaseRun}
 use Rattle.world.specs.Steps.{World, Member, fresh_from, with_member, opening_world}
-use Rattle.world.specs.Allowed.{RunsBy, Runs}
+use Rattle.world.specs.Allowed.{Step, LeadsTo, events_in, outputs_in, IsAllowed}
 use Rattle.world.specs.Outputs.{of_commit}
 use Rattle.world.specs.Theorem.{seen_batch, reader_of, database_of, RunsAreOfDatabase}
 use Rattle.world.specs.Inner.Fresh.{Fresh, HasBoot}
@@ -26,7 +23,7 @@ use Rattle.world.proofs.Undamaged.{step-fine}
 use Rattle.world.proofs.Requested.{step-counts}
 use Rattle.world.proofs.Lists.{set-same}
 use Rattle.world.proofs.WorldMoves.{new_batch, IsSilent, commit-silent, Change, hears, opens, fetches, reports, moves, breaks, restarts}
-use Rattle.world.proofs.WorldMoves.{Move, idle, tells, dumps, refuses, sends, asks, becomes, step-moves}
+use Rattle.world.proofs.WorldMoves.{Move, idle, tells, dumps, refuses, commits, flushes, starts, sends, asks, becomes, step-moves}
 
 -- what a step says and what becomes of the replicas, as users see it
 abbrev pub Tells : World → Output × World → Type 0
@@ -124,6 +121,9 @@ move-tells w event output new h (dumps i m is here) =
     (i, reader_of m, map-get w.members i m here, ((h.members_are i m here).below, refl), refl)
 move-tells w event output new h (refuses number worker draft fault here refused) =
     same-readers w (of_commit fault) new (commit-silent fault) refl
+move-tells w event output new h (commits number worker draft ticket taken) = refl
+move-tells w event output new h (flushes count runs) = refl
+move-tells w event output new h (starts is) = refl
 move-tells w event output new h (sends answer more is sent) = same-readers w answer new is.0 refl
 move-tells w event output new h (asks i m here none) =
     inr (seen_as w event h i m here (HasAsked w.primary.durable) (new_batch w m) refl
@@ -138,48 +138,30 @@ readers-started workers number zero = refl
 readers-started workers number (suc count) = ap (λ (l : List Reader). new_reader ∷ l) (readers-started workers (suc number) count)
 
 -- a run of a fresh world, seen as its users see it
-runs-tell : (laws : StepLaws) (schema : List (List ℕ × List Kind)) (old end : World) (todo : List Event) (done : List Output)
-    → AllByRecursion HasBoot todo → Fresh old → old.primary.schema ≡ schema → Runs old todo done end
-    → RunsBy (λ old event output new. IsDatabaseStep schema old output new) (database_of old) todo done (database_of end)
-runs-tell laws schema old end [] [] boots h same run = ap database_of run
-runs-tell laws schema old end [] (output ∷ done) boots h same run = absurd run
-runs-tell laws schema old end (event ∷ todo) [] boots h same run = absurd run
-runs-tell laws schema old end (event ∷ todo) (output ∷ done) boots h same run =
-    let mid = run.0 in
-    let serves = step-serves laws old event output mid boots.0 h run.1 in
-    let fine = step-fine laws old event output mid run.1 in
-    let schema_stays = (step-counts old event output mid run.1).schema in (
+runs-tell : (laws : StepLaws) (schema : List (List ℕ × List Kind)) (old end : World) (steps : List (Step World))
+    → AllByRecursion HasBoot (events_in steps) → Fresh old → old.primary.schema ≡ schema → LeadsTo old steps end
+    → AllByRecursion IsAllowed steps → IsDatabaseRun schema (database_of old) (outputs_in steps) (database_of end)
+runs-tell laws schema old end [] boots fresh same leads allowed = ap database_of leads
+runs-tell laws schema old end (step ∷ steps) boots fresh same leads allowed =
+    let before = step.old in
+    let mid = step.new in
+    let here = subst Fresh (sym leads.0) fresh in
+    let schema_is = ap (λ (w : World). w.primary.schema) leads.0 ∙ same in
+    let serves = step-serves laws before step.event step.output mid boots.0 here allowed.0 in
+    let fine = step-fine laws before step.event step.output mid allowed.0 in
+    let schema_stays = (step-counts before step.event step.output mid allowed.0).schema in (
       database_of mid,
-      (
+      subst (λ (w : World). IsDatabaseStep schema (database_of w) step.output (database_of mid)) leads.0 (
         fine.grows,
-        subst (λ (s : List (List ℕ × List Kind)). Says s (database_of old) output (database_of mid).readers) same
-            (move-tells old event output mid h (step-moves old event output mid run.1)),
+        subst (λ (s : List (List ℕ × List Kind)). Says s (database_of before) step.output (database_of mid).readers) schema_is
+            (move-tells before step.event step.output mid here (step-moves before step.event step.output mid allowed.0)),
       ),
-      runs-tell laws schema mid end todo done boots.1 serves.fresh (schema_stays ∙ same) run.2,
+      runs-tell laws schema mid end steps boots.1 serves.fresh (schema_stays ∙ schema_is) leads.1 allowed.1,
     )
 
 pub runs-of-database : (laws : StepLaws) → RunsAreOfDatabase
-runs-of-database laws setup todo done end few possible run =
-    subst (λ (d : Database). RunsBy (λ old event output new. IsDatabaseStep setup.schema old output new) d todo done (database_of end))
+runs-of-database laws setup steps end few possible run =
+    subst (λ (d : Database). IsDatabaseRun setup.schema d (outputs_in steps) (database_of end))
     (ap (λ (readers : List Reader). record { commits = []; readers = readers }) (readers-started setup.workers 0 setup.replicas))
-    (runs-tell laws setup.schema (opening_world setup) end todo done (possible-boots setup.workers setup.replicas todo possible)
-    (opening-fresh setup few) refl run)
-
--- a run by events is one by its outputs alone
-by-outputs : (schema : List (List ℕ × List Kind)) (old end : Database) (todo : List Event) (done : List Output)
-    → RunsBy (λ old event output new. IsDatabaseStep schema old output new) old todo done end → IsDatabaseRun schema old done end
-by-outputs schema old end [] [] run = run
-by-outputs schema old end [] (output ∷ done) run = absurd run
-by-outputs schema old end (event ∷ todo) [] run = absurd run
-by-outputs schema old end (event ∷ todo) (output ∷ done) run =
-    (run.0, run.1, by-outputs schema run.0 end todo done run.2)
-
--- the promise of each run by events that are possible
-pub run-promised : (laws : StepLaws) (setup : Setup) (todo : List Event) (done : List Output) (end : World)
-    → setup.replicas ≤ replicas_max → AllByRecursion (IsPossible setup.workers setup.replicas) todo
-    → Runs (opening_world setup) todo done end → IsPromised setup.schema setup.replicas done
-run-promised laws setup todo done end few possible run = (
-  database_of end,
-  by-outputs setup.schema (new_database setup.replicas) (database_of end) todo done
-      (runs-of-database laws setup todo done end few possible run),
-)
+    (runs-tell laws setup.schema (opening_world setup) end steps
+    (possible-boots setup.workers setup.replicas (events_in steps) possible) (opening-fresh setup few) refl run.leads run.allowed)

@@ -14,11 +14,9 @@ use Rattle.script.specs.declared.event.Event.{Event}
 use Rattle.script.specs.declared.output.Output.{Output}
 use Rattle.script.specs.declared.output.Output.TheVariants as outputs
 use Rattle.script.specs.declared.setup.Setup.{Setup}
-use Rattle.world.specs.Parts.{Parts, parts_started}
-use Rattle.world.specs.Steps.{World}
-use Rattle.world.specs.Allowed.{RunsBy}
-use Rattle.world.specs.Standing.{world_of}
-use Rattle.world.specs.Theorem.{SaysRows, IsCoreStep, IsRun, TellsVersion, HasOneDumpOfVersion}
+use Rattle.world.specs.Steps.{World, opening_world}
+use Rattle.world.specs.Allowed.{Step, LeadsTo, outputs_in, IsAllowed, Runs}
+use Rattle.world.specs.Theorem.{SaysRows, TellsVersion, HasOneDumpOfVersion}
 use Rattle.world.proofs.Lists.{All-get}
 use Rattle.world.proofs.Requested.{step-counts}
 
@@ -68,22 +66,25 @@ says-dump schema commits w event (outputs.Dump text) same h =
     )
 says-dump schema commits w event other same h = tt
 
-dumps-by : (schema : List (List ℕ × List Kind)) (commits : List Commit) (old end : Parts) (todo : List Event) (done : List Output)
-    → old.primary.schema ≡ schema → RunsBy (IsCoreStep commits) old todo done end → AllByRecursion (IsDumpBy schema commits) done
-dumps-by schema commits old end [] [] same run = tt
-dumps-by schema commits old end [] (output ∷ done) same run = absurd run
-dumps-by schema commits old end (event ∷ todo) [] same run = tt
-dumps-by schema commits old end (event ∷ todo) (output ∷ done) same run =
-    let stays = step-counts (world_of old) event output (world_of run.0) run.1.0.happens in (
-      says-dump schema commits (world_of old) event output same run.1.0.rows,
-      dumps-by schema commits run.0 end todo done (stays.schema ∙ same) run.2,
+dumps-by : (schema : List (List ℕ × List Kind)) (commits : List Commit) (old end : World) (steps : List (Step World))
+    → old.primary.schema ≡ schema → LeadsTo old steps end → AllByRecursion IsAllowed steps
+    → AllByRecursion (λ (step : Step World). SaysRows commits step.old step.event step.output) steps
+    → AllByRecursion (IsDumpBy schema commits) (outputs_in steps)
+dumps-by schema commits old end [] same leads allowed says = tt
+dumps-by schema commits old end (step ∷ steps) same leads allowed says =
+    let here = ap (λ (w : World). w.primary.schema) leads.0 ∙ same in
+    let stays = step-counts step.old step.event step.output step.new allowed.0 in (
+      says-dump schema commits step.old step.event step.output here says.0,
+      dumps-by schema commits step.new end steps (stays.schema ∙ here) leads.1 allowed.1 says.1,
     )
 
-pub run-dumps : (setup : Setup) (todo : List Event) (done : List Output) → IsRun setup todo done → HasOneDumpOfVersion setup todo done
-run-dumps setup todo done run version i j text other fits here there one two =
+pub run-dumps : (setup : Setup) (steps : List (Step World)) (end : World) (commits : List Commit) → Runs (opening_world setup) steps end
+    → AllByRecursion (λ (step : Step World). SaysRows commits step.old step.event step.output) steps
+    → HasOneDumpOfVersion (outputs_in steps)
+run-dumps setup steps end commits run says version i j text other fits here there one two =
     let schema = setup.schema in
-    let commits = run.end.primary.durable in
-    let all = dumps-by schema commits (parts_started setup) run.end todo done refl run.steps in
+    let done = outputs_in steps in
+    let all = dumps-by schema commits (opening_world setup) end steps refl run.leads run.allowed says in
     let first = All-get (IsDumpBy schema commits) done all i (outputs.Dump text) here in
     let second = All-get (IsDumpBy schema commits) done all j (outputs.Dump other) there in
     let same =

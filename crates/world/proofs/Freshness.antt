@@ -129,9 +129,9 @@ move-fresh laws w event output new boots h (ends number) = Fresh-transactions w 
 move-fresh laws w event output new boots h (refuses number worker draft fault here refused) = Fresh-transactions w _ h
 move-fresh laws w event output new boots h (commits number worker draft ticket taken) =
     Fresh-committed w worker draft _ h (commit-numbered w.primary worker draft ticket taken)
-move-fresh laws w event output new boots h (flushes count) = Fresh-flushed w count h
-move-fresh laws w event output new boots h (stops bytes) = Fresh-stopped w bytes h
-move-fresh laws w event output new boots h starts = Fresh-started w h
+move-fresh laws w event output new boots h (flushes count runs) = Fresh-flushed w count h
+move-fresh laws w event output new boots h (stops bytes runs) = Fresh-stopped w bytes h
+move-fresh laws w event output new boots h (starts is) = Fresh-started w h
 move-fresh laws w event output new boots h (sends answer more is sent) = Fresh-sent w more h (sent-fresh laws w more h sent)
 move-fresh laws w event output new boots h (asks i m here none) =
     let next = new_batch w m in

@@ -24,6 +24,7 @@ pub mod Fresh
 pub mod FreshDatagrams
 pub mod Freshness
 pub mod Databases
+pub mod Acknowledging
 pub mod Reports
 pub mod Dumps
 pub mod Moments

@@ -1,5 +1,6 @@
 -- Two replicas that stand at one version hold the same tables, at whatever two moments of a run.
-use Rattle.std.proofs.Common.{◌≡◌, ℕ, zero, suc, ◌≤◌, inl, inr, false, List, [], ◌∷◌, ◌++◌, length, refl, sym, ap, subst, ◌∙◌, arith}
+use Rattle.std.proofs.Common.{◌≡◌, ℕ, zero, suc, ◌≤◌, false, List, [], ◌∷◌, ◌++◌, length, map, refl, sym, ap, subst, ◌∙◌}
+use Rattle.std.proofs.Common.{arith}
 use Rattle.std.specs.List.{AllByRecursion}
 use Rattle.std.proofs.lemmas.List.{length-append}
 use Rattle.rows.specs.declared.commit.Commit.{Commit}
@@ -9,19 +10,16 @@ use Rattle.rows.specs.Commits.{tables_after}
 use Rattle.journal.specs.Recovery.{IsBeginning}
 use Rattle.dispatcher.specs.Feeding.{IsFedFrom}
 use Rattle.dispatcher.specs.State.{Replica}
-use Rattle.script.specs.declared.event.Event.{Event}
-use Rattle.script.specs.declared.output.Output.{Output}
 use Rattle.script.specs.declared.setup.Setup.{Setup}
 use Rattle.world.specs.Parts.{Parts, replicas_from, parts_started}
-use Rattle.world.specs.Allowed.{RunsBy, Passes}
+use Rattle.world.specs.Allowed.{Step, LeadsTo, IsAllowed}
 use Rattle.world.specs.Standing.{world_of, AreFed, TablesAgree}
-use Rattle.world.specs.Theorem.{IsCoreStep, OfEachRun, CoresStand}
+use Rattle.world.specs.Theorem.{seen, cores_of}
 use Rattle.world.proofs.Durable.{tables-stay}
 use Rattle.world.proofs.Lists.{All-get}
 use Rattle.world.proofs.Reports.{run-grows}
 use Rattle.world.proofs.Requested.{step-counts}
 use Rattle.world.proofs.Slots.{all_weaker}
-use Rattle.world.proofs.Worlds.{world-started}
 
 -- a replica that is not broken holds the tables after exactly the commits of the list up to its version
 abbrev Holds : Shape → List Commit → Replica → Type 0
@@ -44,40 +42,32 @@ fed-hold schema p same fed =
     (all_weaker (IsFedFrom (shape_of p.primary.schema) p.primary.durable) (Holds (shape_of p.primary.schema) p.primary.durable) p.replicas
     (λ r feeding whole. (feeding.below, feeding.tables_are whole)) fed)
 
--- what a state through which a run goes is, by the list that is durable at its end
+-- what the cores through which a run goes are, by the list that is durable at its end
 abbrev Told : List (List ℕ × List Kind) → List Commit → Parts → Type 0
 Told schema commits p = (p.primary.schema ≡ schema) × AllHold (shape_of schema) commits p
 
-ends-grown : (commits : List Commit) (old end : Parts) (todo : List Event) (done : List Output)
-    → RunsBy (IsCoreStep commits) old todo done end → IsBeginning old.primary.durable end.primary.durable
-ends-grown commits old end todo done run =
-    run-grows (λ (p : Parts). p.primary.durable) (IsCoreStep commits) (λ first event output second step. step.0.durable) old end todo
-    done run
+told-later : (schema : List (List ℕ × List Kind)) (commits more : List Commit) (p : Parts) → IsBeginning commits more
+    → Told schema commits p → Told schema more p
+told-later schema commits more p begins told = (
+  told.0,
+  subst (λ (l : List Commit). AllHold (shape_of schema) l p) (sym begins.1)
+      (hold-longer (shape_of schema) commits begins.0 p told.1),
+)
 
-told-now : (commits : List Commit) (schema : List (List ℕ × List Kind)) (old end : Parts) (todo : List Event)
-    (done : List Output)
-    → RunsBy (IsCoreStep commits) old todo done end
-    → Told schema old.primary.durable old → Told schema end.primary.durable old
-told-now commits schema old end todo done run told =
-    let grown = ends-grown commits old end todo done run in (
-      told.0,
-      subst (λ (l : List Commit). AllHold (shape_of schema) l old) (sym grown.1)
-          (hold-longer (shape_of schema) old.primary.durable grown.0 old told.1),
+-- the cores that each step leaves, if every replica there is fed from what is durable
+steps-told : (schema : List (List ℕ × List Kind)) (old end : Parts) (steps : List (Step Parts)) → old.primary.schema ≡ schema
+    → LeadsTo old steps end → AllByRecursion (λ (step : Step Parts). IsAllowed (seen step)) steps
+    → AllByRecursion (λ (step : Step Parts). IsBeginning step.old.primary.durable step.new.primary.durable) steps
+    → AllByRecursion (λ (step : Step Parts). AreFed step.new) steps
+    → AllByRecursion (Told schema end.primary.durable) (map (λ (step : Step Parts). step.new) steps)
+steps-told schema old end [] same leads allowed grow fed = tt
+steps-told schema old end (step ∷ steps) same leads allowed grow fed =
+    let stays = step-counts (world_of step.old) step.event step.output (world_of step.new) allowed.0 in
+    let here = stays.schema ∙ ap (λ (p : Parts). p.primary.schema) leads.0 ∙ same in
+    let later = run-grows (λ (p : Parts). p.primary.durable) step.new end steps leads.1 grow.1 in (
+      told-later schema step.new.primary.durable end.primary.durable step.new later (here, fed-hold schema step.new here fed.0),
+      steps-told schema step.new end steps here leads.1 allowed.1 grow.1 fed.1,
     )
-
-passes-told : (commits : List Commit) (schema : List (List ℕ × List Kind)) (old end : Parts) (todo : List Event)
-    (done : List Output) (run : RunsBy (IsCoreStep commits) old todo done end) (p : Parts) → Told schema old.primary.durable old
-    → Passes (IsCoreStep commits) old todo done end run p → Told schema end.primary.durable p
-passes-told commits schema old end [] [] run p told passes =
-    subst (Told schema end.primary.durable) (sym passes) (told-now commits schema old end [] [] run told)
-passes-told commits schema old end [] (output ∷ done) run p told passes = absurd run
-passes-told commits schema old end (event ∷ todo) [] run p told passes = absurd run
-passes-told commits schema old end (event ∷ todo) (output ∷ done) run p told (inl here) =
-    subst (Told schema end.primary.durable) (sym here) (told-now commits schema old end (event ∷ todo) (output ∷ done) run told)
-passes-told commits schema old end (event ∷ todo) (output ∷ done) run p told (inr later) =
-    let mid = run.0 in
-    let same = (step-counts (world_of old) event output (world_of mid) run.1.0.happens).schema ∙ told.0 in
-    passes-told commits schema mid end todo done run.2 p (same, fed-hold schema mid same run.1.1) later
 
 -- replicas at the beginning have no rows, and none are durable
 started-hold : (schema : List (List ℕ × List Kind)) (workers number count : ℕ)
@@ -92,11 +82,19 @@ told-agree schema commits p q one two i j r other here there whole sound same =
     ∙ ap (tables_after (shape_of schema) commits) same
     ∙ sym (All-get (Holds (shape_of schema) commits) q.replicas two.1 j other there sound).1
 
-pub run-stands : (setup : Setup) (todo : List Event) (done : List Output) → OfEachRun CoresStand setup todo done
-run-stands setup todo done run =
-    let told = passes-told run.end.primary.durable setup.schema (parts_started setup) run.end todo done run.steps in
-    let start : Told setup.schema [] (parts_started setup) = (refl, started-hold setup.schema setup.workers 0 setup.replicas) in (
-      world-started setup,
-      λ p q one two.
-          told-agree setup.schema run.end.primary.durable p q (told p start one) (told q start two),
-    )
+pub run-stands : (setup : Setup) (end : Parts) (steps : List (Step Parts)) → LeadsTo (parts_started setup) steps end
+    → AllByRecursion (λ (step : Step Parts). IsAllowed (seen step)) steps
+    → AllByRecursion (λ (step : Step Parts). IsBeginning step.old.primary.durable step.new.primary.durable) steps
+    → AllByRecursion (λ (step : Step Parts). AreFed step.new) steps
+    → AllByRecursion (λ (p : Parts). AllByRecursion (TablesAgree p) (cores_of setup steps)) (cores_of setup steps)
+run-stands setup end steps leads allowed grow fed =
+    let schema = setup.schema in
+    let commits = end.primary.durable in
+    let cores = cores_of setup steps in
+    let start : Told schema [] (parts_started setup) = (refl, started-hold schema setup.workers 0 setup.replicas) in
+    let told : AllByRecursion (Told schema commits) cores = (
+      told-later schema [] commits (parts_started setup) (commits, refl) start,
+      steps-told schema (parts_started setup) end steps refl leads allowed grow fed,
+    ) in
+    all_weaker (Told schema commits) (λ (p : Parts). AllByRecursion (TablesAgree p) cores) cores
+    (λ p one. all_weaker (Told schema commits) (TablesAgree p) cores (λ q two. told-agree schema commits p q one two) told) told

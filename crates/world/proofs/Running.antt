@@ -18,8 +18,7 @@ use Rattle.dispatcher.specs.Feeding.{IsFedFrom, Tells}
 use Rattle.dispatcher.specs.State.{Replica, Batch, Fetched, protocol_of}
 use Rattle.dispatcher.specs.Protocol.{Readiness, Broken, NoBatch, WaitsForHead, WaitsForFrame, Ready, want_for, readiness, fetched_in}
 use Rattle.dispatcher.specs.Report.{report_of}
-use Rattle.dispatcher.specs.Steps.{at_fetched, broken_of, readiness_of, ready_of, CaughtUp, RunsOutOfMemory}
-use Rattle.dispatcher.specs.Steps.{RunsReplica as ReplicaRuns, RunsAs}
+use Rattle.dispatcher.specs.Steps.{at_fetched, broken_of, readiness_of, CaughtUp, RunsAs, RunsOutOfMemory}
 use Rattle.script.specs.declared.output.Output.{Output}
 use Rattle.script.specs.declared.output.Output.TheVariants as outputs
 use Rattle.world.specs.Parts.{Parts}
@@ -55,7 +54,7 @@ lacking-from worker (first ∷ arrivals) (count ∷ counts) =
 
 -- what a run finds is told by the seqs that are known
 pub readiness-same : (had : List ℕ) (at : ℕ) (r : Replica) → readiness_at (member_of had at r) ≡ readiness_of r
-readiness-same had at r = λ i. readiness (protocol_of r) (λ counts. lacking-from 0 r.arrivals counts i)
+readiness-same had at r = λ i. readiness r.broken r.batch (λ counts. lacking-from 0 r.arrivals counts i)
 
 -- its member at the version that was fetched
 caught-member : (had : List ℕ) (at : ℕ) (r : Replica) (fetched : Fetched) (tables : Tables) (batch : Option Batch)
@@ -90,7 +89,7 @@ module _ (laws : FedLaws) (shape : Shape) (p : Parts) (i : ℕ) (r : Replica) (s
         (ap (λ (p : Parts). (output, world_of p)) same, subst (Sound shape) same (Sound-one shape p bytes sound tells))
 
     run-finishes : (plans : List Plan) (fetched : Fetched) (answer : Run) (after : Replica)
-        → readiness_of r ≡ Ready plans fetched → ReplicaRuns r answer after
+        → readiness_of r ≡ Ready plans fetched → RunsAs (readiness_of r) r answer after
         → Follows shape (run_happens (world_of p) (member_at p i r) (Ready plans fetched)) (run_output p i (answer, after))
     run-finishes plans fetched answer after is run =
         let fed = (sound.fed i r here).feeding in
@@ -116,7 +115,7 @@ module _ (laws : FedLaws) (shape : Shape) (p : Parts) (i : ℕ) (r : Replica) (s
           identity = refl;
         }))
 
-    pub replica-runs : (answer : Run) (after : Replica) → ReplicaRuns r answer after
+    pub replica-runs : (answer : Run) (after : Replica) → RunsAs (readiness_of r) r answer after
         → Follows shape (run_happens (world_of p) (member_at p i r) (readiness_at (member_at p i r))) (run_output p i (answer, after))
     replica-runs answer after run =
         subst (λ (found : Readiness). Follows shape (run_happens (world_of p) (member_at p i r) found) (run_output p i (answer, after)))
@@ -168,7 +167,7 @@ module _ (laws : FedLaws) (shape : Shape) (p : Parts) (i : ℕ) (r : Replica) (s
         let follows = Follows-same shape p i r outputs.Memory sound here in
         (inl (refl, ap (λ (x : Output × World). x.1) (sym follows.0)), follows.1)
 
-    memory-caught : (fetched : Fetched) (tables : Tables) → ready_of r ≡ Some fetched
+    memory-caught : (fetched : Fetched) (tables : Tables) → fetched_in (readiness_of r) ≡ Some fetched
         → IsFedFrom shape p.primary.durable (at_fetched r fetched tables)
         → Ends shape p (member_at p i r) (outputs.Memory, with_replica p i (at_fetched r fetched tables))
     memory-caught fetched tables is_ready feeding =
@@ -188,7 +187,7 @@ module _ (laws : FedLaws) (shape : Shape) (p : Parts) (i : ℕ) (r : Replica) (s
               (record { feeding = feeding; identity = refl }),
         )
 
-    cut-broken : (fetched : Fetched) → ready_of r ≡ Some fetched → r.version < fetched.version
+    cut-broken : (fetched : Fetched) → fetched_in (readiness_of r) ≡ Some fetched → r.version < fetched.version
         → IsFedFrom shape p.primary.durable (broken_of r)
         → Ends shape p (member_at p i r) (outputs.Broken, with_replica p i (broken_of r))
     cut-broken fetched is_ready below feeding =

@@ -1,5 +1,6 @@
 -- What holds of a list where one element is set, and of what stands at an index.
-use Rattle.std.proofs.Common.{◌≡◌, ℕ, zero, suc, List, [], ◌∷◌, ◌++◌, Option, None, Some, slice_get, slice_set, IfSome, refl, ap, sym}
+use Rattle.std.proofs.Common.{◌≡◌, ℕ, zero, suc, List, [], ◌∷◌, ◌++◌, map, Option, None, Some, slice_get, slice_set}
+use Rattle.std.proofs.Common.{IfSome, refl, ap, sym}
 use Rattle.std.specs.List.{AllByRecursion}
 use Rattle.std.specs.Option.{option_and_then}
 use Rattle.std.proofs.lemmas.Option.{same_Some}
@@ -41,3 +42,8 @@ all_push P (y ∷ ys) x here all = (all.0, all_push P ys x here all.1)
 pub all_weaker : {X : Type 0} (P Q : X → Type 0) (xs : List X) → ((x : X) → P x → Q x) → AllByRecursion P xs → AllByRecursion Q xs
 all_weaker P Q [] weaker all = tt
 all_weaker P Q (y ∷ ys) weaker all = (weaker y all.0, all_weaker P Q ys weaker all.1)
+
+-- what holds of each element as it is seen holds of what is seen
+pub all_map : {X Y : Type 0} (f : X → Y) (P : Y → Type 0) (xs : List X) → AllByRecursion (λ x. P (f x)) xs → AllByRecursion P (map f xs)
+all_map f P [] all = tt
+all_map f P (x ∷ xs) all = (all.0, all_map f P xs all.1)

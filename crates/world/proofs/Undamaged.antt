@@ -204,7 +204,7 @@ move-fine laws w event output new (commits number worker draft ticket taken) =
           ended-begun (committed w.primary worker draft.entries) w.transactions number
           (λ i other here. pending-begun w.primary worker draft.entries other (undamaged.begun i other here));
     })
-move-fine laws w event output new (flushes count) = record {
+move-fine laws w event output new (flushes count runs) = record {
   grows = (take count w.primary.pending, refl);
   output = λ undamaged. tt;
   undamaged =
@@ -213,7 +213,7 @@ move-fine laws w event output new (flushes count) = record {
         begun = λ i draft here. flushed-begun w.primary count draft (undamaged.begun i draft here);
       };
 }
-move-fine laws w event output new (stops bytes) = record {
+move-fine laws w event output new (stops bytes runs) = record {
   grows = (take (whole_in (length w.primary.durable) w.primary.pending bytes) w.primary.pending, refl);
   output = λ undamaged. tt;
   undamaged = λ undamaged. record { whole = refl; begun = λ i draft here. absurd (none-open w.transactions i draft here) };

@@ -14,7 +14,7 @@ use Rattle.rows.specs.Shape.{Shape, AreTables, shape_of}
 use Rattle.rows.specs.Commits.{tables_after}
 use Rattle.update_log.specs.Streams.{stream_of}
 use Rattle.wire.specs.declared.out.Out.{Out}
-use Rattle.journal.specs.Recovery.{IsRecovered}
+use Rattle.journal.specs.Recovery.{IsBeginning, IsRecovered}
 use Rattle.journal.specs.Text.{journal_text}
 use Rattle.primary.specs.State.{Primary}
 use Rattle.dispatcher.specs.declared.faults.AskFault.{AskFault}
@@ -26,7 +26,7 @@ use Rattle.dispatcher.specs.declared.outcome.Run.TheVariants as runs
 use Rattle.plans.specs.declared.plan.Plan.{Plan}
 use Rattle.dispatcher.specs.State.{Replica}
 use Rattle.dispatcher.specs.Protocol.{fetched_in}
-use Rattle.dispatcher.specs.Steps.{started_replica, opened, asked, dumped, RunsReplica, RunsOutOfMemory, MayRun}
+use Rattle.dispatcher.specs.Steps.{started_replica, opened, asked, dumped, readiness_of, RunsAs, RunsOutOfMemory, MayRun}
 use Rattle.dispatcher.specs.TableText.{names_of, table_text}
 use Rattle.dispatcher.specs.Feeding.{IsFedFrom}
 use Rattle.mvcc.specs.Transactions.{insert_answer, set_answer, delete_answer, get_answer}
@@ -41,7 +41,7 @@ use Rattle.world.specs.Inner.CoreSteps.{HappensBeside, KeepsStopped, MayAnswer, 
 use Rattle.world.specs.Inner.CoreSteps.{opening_query}
 use Rattle.world.specs.Inner.CoreSteps.{ask_by, asking, run_output, raw_by, version_by, dump_by, of_dumped, restart_by}
 use Rattle.world.specs.Inner.CoreSteps.{with_restarted}
-use Rattle.world.specs.Theorem.{IsStep}
+use Rattle.world.specs.Theorem.{SaysRows, IsFaultless}
 use Rattle.world.specs.Steps.{World, Member, open_transaction, happens, unless_stopped, on_member, deliver_happens, readiness_at}
 use Rattle.world.specs.Steps.{run_happens, raw_happens, is_forged, delivered, dump_at, restart_happens, had_boot}
 use Rattle.world.specs.Allowed.{MayHappen, RunIsInterruptedAt}
@@ -282,7 +282,7 @@ cut-takes p i r answer after wants takes = elim wants.2 [
 
 -- what a run does, memory aside
 run-told : (laws : FedLaws) (shape : Shape) (p : Parts) (i : ℕ) (r : Replica) (answer : Run) (after : Replica) → Sound shape p
-    → slice_get p.replicas i ≡ Some r → RunsReplica r answer after
+    → slice_get p.replicas i ≡ Some r → RunsAs (readiness_of r) r answer after
     → Follows shape (happens (world_of p) (events.Run i)) (run_output p i (answer, after))
 run-told laws shape p i r answer after sound here run =
     found-member shape p i _ _
@@ -525,7 +525,10 @@ may-boot p other output new may = tt
 
 -- what a step of the parts of a world is, and that it leaves the parts of one
 pub record IsKeptStep (old : Parts) (event : Event) (output : Output) (new : Parts) : Type 0 where
-  pub step : IsStep old.primary.durable (world_of old) event output (world_of new)
+  pub happens : MayHappen (world_of old) event output (world_of new)
+  pub rows : SaysRows old.primary.durable (world_of old) event output
+  pub durable : IsBeginning old.primary.durable new.primary.durable
+  pub faultless : IsFaultless output
   pub fed : AreFed new
   pub journal : HasText new → JournalStands new
   pub leaves : StopLeaves old event new
@@ -547,7 +550,10 @@ step-keeps laws old event output new kept lists may =
     let undamaged = fine.undamaged kept.undamaged in
     let journal = first.2 kept.journal in
     record {
-      step = record { happens = first.0; rows = serves.rows; durable = fine.grows; faultless = fine.output kept.undamaged };
+      happens = first.0;
+      rows = serves.rows;
+      durable = fine.grows;
+      faultless = fine.output kept.undamaged;
       fed = fed-sound new sound;
       journal = λ text. journal-stands new journal text undamaged.whole;
       leaves = leaves-bytes old event output new may;

@@ -37,7 +37,7 @@ use Rattle.dispatcher.specs.declared.faults.OpenFault.TheVariants as open_faults
 use Rattle.dispatcher.specs.State.{Batch, Fetched, Protocol}
 use Rattle.dispatcher.specs.Protocol.{opens_checked, ask_for, want_for, with_batch, asks_by, is_own, takes_head}
 use Rattle.dispatcher.specs.Protocol.{Readiness, Broken, NoBatch, WaitsForHead, WaitsForFrame, Ready}
-use Rattle.dispatcher.specs.Protocol.{batch_readiness, readiness_by, fetched_in}
+use Rattle.dispatcher.specs.Protocol.{readiness, fetched_in}
 use Rattle.dispatcher.specs.Steps.{got_of}
 use Rattle.dispatcher.specs.Report.{report_of}
 use Rattle.script.specs.declared.event.Event.{Event}
@@ -87,30 +87,32 @@ found-is m = by m.protocol.broken m.protocol.batch refl
 
     at : (plans : List Plan) (fetched : Fetched) (first : Option (ℕ × ℕ))
         → m.protocol.batch ≡ Some (record { plans = plans; fetched = Some fetched })
-        → Found m.protocol (batch_readiness plans (λ counts. first) (Some fetched))
+        → Found m.protocol (readiness false (Some (record { plans = plans; fetched = Some fetched })) (λ counts. first))
     at plans fetched None has = has
     at plans fetched (Some frame) has = tt
 
     on : (plans : List Plan) (fetched : Option Fetched) → m.protocol.batch ≡ Some (record { plans = plans; fetched = fetched })
-        → Found m.protocol (batch_readiness plans missing fetched)
+        → Found m.protocol (readiness false (Some (record { plans = plans; fetched = fetched })) missing)
     on plans None has = tt
     on plans (Some fetched) has = at plans fetched (missing fetched.counts) has
 
     by : (broken : Bool) (batch : Option Batch) → m.protocol.batch ≡ batch
-        → Found m.protocol (cond broken Broken (readiness_by missing batch))
+        → Found m.protocol (readiness broken batch missing)
     by true batch has = tt
     by false None has = tt
     by false (Some batch) has = on batch.plans batch.fetched has
 
 -- ---- the moves
 
--- an output that tells nothing of a replica's rows, version or start
+-- an output that tells nothing of a replica's rows, version or start, nor which commits there are
 abbrev pub IsSilent : Output → Type 0
 IsSilent (outputs.Report text) = ⊥
 IsSilent (outputs.Dump text) = ⊥
 IsSilent (outputs.Version version) = ⊥
 IsSilent (outputs.Head version) = ⊥
 IsSilent (outputs.Boot boot) = ⊥
+IsSilent (outputs.Ticket number) = ⊥
+IsSilent (outputs.Durable commits) = ⊥
 IsSilent other = Unit {0}
 
 -- nor reports damage
@@ -186,12 +188,12 @@ pub data Move (w : World) (event : Event) : Output → World → Type 0 where
   commits : (number worker : ℕ) (draft : Transaction) (ticket : ℕ) → commit_answer w.primary worker draft ≡ Ok ticket
       → Move w event (outputs.Ticket ticket)
       (record w { primary = committed w.primary worker draft.entries; transactions = slice_set w.transactions number None })
-  flushes : (count : ℕ)
+  flushes : (count : ℕ) → w.stopped ≡ false
       → Move w event (outputs.Durable (length (flushed w.primary count).durable)) (record w { primary = flushed w.primary count })
-  stops : (bytes : ℕ)
+  stops : (bytes : ℕ) → w.stopped ≡ false
       → Move w event outputs.Stopped
       (record w { primary = stopped_at w.primary bytes; stopped = true; transactions = closed w.transactions })
-  starts : Move w event (outputs.Durable (length w.primary.durable)) (record w { stopped = false })
+  starts : event ≡ events.Start → Move w event (outputs.Durable (length w.primary.durable)) (record w { stopped = false })
   -- datagrams, and one replica
   sends : (output : Output) (more : List (List ℕ)) → IsPlain output → AreSent w more
       → Move w event output (record w { sent = w.sent ++ more })
@@ -278,12 +280,12 @@ module _ (w : World) (event : Event) where
   abbrev Moved : Output × World → Type 0
   Moved answer = Move w event answer.0 answer.1
 
-  served : (next : Output × World) → Moved next → Moved (unless_stopped w next)
-  served next moved = by w.stopped
+  served : (next : Output × World) → (w.stopped ≡ false → Moved next) → Moved (unless_stopped w next)
+  served next moved = by w.stopped refl
     where
-      by : (stopped : Bool) → Moved (cond stopped (outputs.Stopped, w) next)
-      by true = idle outputs.Stopped (tt, tt)
-      by false = moved
+      by : (stopped : Bool) → w.stopped ≡ stopped → Moved (cond stopped (outputs.Stopped, w) next)
+      by true e = idle outputs.Stopped (tt, tt)
+      by false e = moved e
 
   changing : (number : ℕ) (found : Option Transaction) (answer : Transaction → Result Transaction TxFault)
       → open_transaction w.transactions number ≡ found
@@ -316,16 +318,16 @@ module _ (w : World) (event : Event) where
   aborting number None = idle outputs.NoTx (tt, tt)
   aborting number (Some draft) = ends number
 
-  flushing : (count : ℕ) (failed : Bool) → w.primary.failed ≡ failed
+  flushing : (count : ℕ) (failed : Bool) → w.stopped ≡ false → w.primary.failed ≡ failed
       → Moved (cond failed (outputs.Failed, w)
       (outputs.Durable (length (flushed w.primary count).durable), record w { primary = flushed w.primary count }))
-  flushing count true e = fails e
-  flushing count false e = flushes count
+  flushing count true runs e = fails e
+  flushing count false runs e = flushes count runs
 
-  starting : (stopped : Bool)
+  starting : (stopped : Bool) → event ≡ events.Start
       → Moved (cond stopped (outputs.Durable (length w.primary.durable), record w { stopped = false }) (outputs.Running, w))
-  starting true = starts
-  starting false = idle outputs.Running (tt, tt)
+  starting true is = starts is
+  starting false is = idle outputs.Running (tt, tt)
 
   pushing : (found : Option Frame) → Moved (push_happens w (option_map frame_spelling found))
   pushing None = idle outputs.NoFrame (tt, tt)
@@ -426,30 +428,30 @@ module _ (w : World) (event : Event) where
       by other has fetched = absurd (none-some cut.0 fetched)
 
 happening : (w : World) (event : Event) → Moved w event (happens w event)
-happening w events.Begin = served w _ _ begins
+happening w events.Begin = served w _ _ (λ runs. begins)
 happening w (events.Insert transaction table row values) =
-    served w _ _ (changing w _ transaction (open_transaction w.transactions transaction)
+    served w _ _ (λ runs. changing w _ transaction (open_transaction w.transactions transaction)
     (λ draft. insert_answer (shape_of w.primary.schema) w.primary.durable draft table row.0 values) refl
     (λ draft new e. inl (table, row.0, values, e)))
 happening w (events.Set transaction table row column value) =
-    served w _ _ (changing w _ transaction (open_transaction w.transactions transaction)
+    served w _ _ (λ runs. changing w _ transaction (open_transaction w.transactions transaction)
     (λ draft. set_answer (shape_of w.primary.schema) w.primary.durable draft table row.0 column value) refl
     (λ draft new e. inr (inl (table, row.0, column, value, e))))
 happening w (events.Delete transaction table row) =
-    served w _ _ (changing w _ transaction (open_transaction w.transactions transaction)
+    served w _ _ (λ runs. changing w _ transaction (open_transaction w.transactions transaction)
     (λ draft. delete_answer (shape_of w.primary.schema) w.primary.durable draft table row.0) refl
     (λ draft new e. inr (inr (table, row.0, e))))
 happening w (events.Get transaction table row column) =
-    served w _ _ (looking w _ (open_transaction w.transactions transaction)
+    served w _ _ (λ runs. looking w _ (open_transaction w.transactions transaction)
     (λ draft. get_answer (shape_of w.primary.schema) w.primary.durable draft table row.0 column))
 happening w (events.Commit transaction worker) =
-    served w _ _ (committing w _ transaction worker (open_transaction w.transactions transaction) refl)
-happening w (events.Abort transaction) = served w _ _ (aborting w _ transaction (open_transaction w.transactions transaction))
-happening w (events.Flush count) = served w _ _ (flushing w _ count w.primary.failed refl)
-happening w (events.Stop bytes) = served w _ _ (stops bytes)
-happening w events.Start = starting w _ w.stopped
-happening w (events.Push worker seq) = served w _ _ (pushing w _ (slice_get (stream_of w.primary.durable worker) seq))
-happening w (events.Deliver index nodes.Primary) = served w _ _ (delivering w _ index nodes.Primary (slice_get w.sent index) refl)
+    served w _ _ (λ runs. committing w _ transaction worker (open_transaction w.transactions transaction) refl)
+happening w (events.Abort transaction) = served w _ _ (λ runs. aborting w _ transaction (open_transaction w.transactions transaction))
+happening w (events.Flush count) = served w _ _ (λ runs. flushing w _ count w.primary.failed runs refl)
+happening w (events.Stop bytes) = served w _ _ (λ runs. stops bytes runs)
+happening w events.Start = starting w _ w.stopped refl
+happening w (events.Push worker seq) = served w _ _ (λ runs. pushing w _ (slice_get (stream_of w.primary.durable worker) seq))
+happening w (events.Deliver index nodes.Primary) = served w _ _ (λ runs. delivering w _ index nodes.Primary (slice_get w.sent index) refl)
 happening w (events.Deliver index (nodes.Replica number)) = delivering w _ index (nodes.Replica number) (slice_get w.sent index) refl
 happening w (events.Show index) = showing w _ (slice_get w.sent index)
 happening w (events.Open replica plan) =
@@ -469,7 +471,7 @@ happening w (events.Dump replica) =
 happening w (events.Restart replica boot) =
     at_member w _ replica (slice_get w.members replica) _ refl
     (λ m here. restarting w _ replica m boot (had_boot m.boots boot) here refl refl)
-happening w (events.Raw nodes.Primary bytes) = served w _ _ (raw_handing w _ nodes.Primary bytes (is_forged w.sent bytes) refl)
+happening w (events.Raw nodes.Primary bytes) = served w _ _ (λ runs. raw_handing w _ nodes.Primary bytes (is_forged w.sent bytes) refl)
 happening w (events.Raw (nodes.Replica number) bytes) = raw_handing w _ (nodes.Replica number) bytes (is_forged w.sent bytes) refl
 
 -- whatever an event may answer and leave is a move

@@ -1,6 +1,7 @@
--- Which outputs are allowed for a list of events, out of memory included.
-use Rattle.std.specs.Prelude.{◌≡◌, ◌<◌, List, [], ◌∷◌, length, take, Bool, true, false, ◌&&◌, not, nat_lt, Option, None, Some, slice_get}
-use Rattle.std.specs.Prelude.{◌⊎◌}
+-- What an event may answer and leave, out of memory included; and runs of the world.
+use Rattle.std.specs.Prelude.{◌≡◌, ◌<◌, List, [], ◌∷◌, length, map, take, Bool, true, false, ◌&&◌, not, nat_lt, Option, None, Some}
+use Rattle.std.specs.Prelude.{slice_get, ◌⊎◌}
+use Rattle.std.specs.List.{AllByRecursion}
 use Rattle.dispatcher.specs.State.{Fetched}
 use Rattle.dispatcher.specs.Protocol.{fetched_in}
 use Rattle.script.specs.declared.event.Event.{Event}
@@ -57,29 +58,32 @@ abbrev pub MayHappen : World → Event → Output → World → Type 0
 MayHappen old event output new =
     (happens old event ≡ (output, new)) ⊎ LacksMemory old event output new ⊎ RunIsInterruptedAt old event output new
 
--- a run: one step after the other, each from the state that the one before it left
-abbrev pub RunsBy : {State : Type 0} → (State → Event → Output → State → Type 0) → State → List Event → List Output → State → Type 0
-RunsBy Step old [] [] new = new ≡ old
-RunsBy {State} Step old (event ∷ events) (output ∷ outputs) new =
-    (mid : State) × Step old event output mid × RunsBy Step mid events outputs new
-RunsBy Step old events outputs new = ⊥
+-- ---- runs
 
--- a state through which a run goes: the first one, or one that a step of it left
-abbrev pub Passes : {State : Type 0} (Step : State → Event → Output → State → Type 0) (old : State) (events : List Event)
-    (outputs : List Output) (new : State) → RunsBy Step old events outputs new → State → Type 0
-Passes Step old [] [] new run state = state ≡ old
-Passes Step old (event ∷ events) (output ∷ outputs) new run state =
-    (state ≡ old) ⊎ Passes Step run.0 events outputs new run.2 state
-Passes Step old events outputs new run state = ⊥
+-- one step of a run: the state before it, the event, what that answered, and the state that it left
+pub record Step (State : Type 0) : Type 0 where
+  pub old : State
+  pub event : Event
+  pub output : Output
+  pub new : State
 
--- something holds at each step of a run
-abbrev pub AtEach : {State : Type 0} (Step Fact : State → Event → Output → State → Type 0) (old : State) (events : List Event)
-    (outputs : List Output) (new : State) → RunsBy Step old events outputs new → Type 0
-AtEach Step Fact old [] [] new run = Unit {0}
-AtEach Step Fact old (event ∷ events) (output ∷ outputs) new run =
-    Fact old event output run.0 × AtEach Step Fact run.0 events outputs new run.2
-AtEach Step Fact old events outputs new run = ⊥
+-- these steps lead from one state to another, each from the state that the one before it left
+abbrev pub LeadsTo : {State : Type 0} → State → List (Step State) → State → Type 0
+LeadsTo old [] new = new ≡ old
+LeadsTo old (step ∷ steps) new = (step.old ≡ old) × LeadsTo step.new steps new
 
--- a run of the world
-abbrev pub Runs : World → List Event → List Output → World → Type 0
-Runs old events outputs new = RunsBy MayHappen old events outputs new
+-- the events of steps, and what they answered
+abbrev pub events_in : {State : Type 0} → List (Step State) → List Event
+events_in {State} steps = map (λ (step : Step State). step.event) steps
+
+abbrev pub outputs_in : {State : Type 0} → List (Step State) → List Output
+outputs_in {State} steps = map (λ (step : Step State). step.output) steps
+
+-- a step of the world that may happen
+abbrev pub IsAllowed : Step World → Type 0
+IsAllowed step = MayHappen step.old step.event step.output step.new
+
+-- a run of the world: each step of it may happen
+pub record Runs (old : World) (steps : List (Step World)) (new : World) : Type 0 where
+  pub leads : LeadsTo old steps new
+  pub allowed : AllByRecursion IsAllowed steps

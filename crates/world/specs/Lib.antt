@@ -2,6 +2,7 @@ pub mod Outputs
 pub mod Stops
 pub mod Steps
 pub mod Allowed
+pub mod Acknowledged
 pub mod Worked
 pub mod Parts
 pub mod Standing

@@ -12,8 +12,7 @@ use Rattle.world.specs.declared.faults.RunFault.{RunFault}
 use Rattle.world.specs.declared.faults.RunFault.TheVariants as faults
 use Rattle.world.specs.declared.script_running.Echo.{Echo}
 use Rattle.world.specs.declared.script_running.Echo.TheVariants as echoes
-use Rattle.world.specs.Database.{IsPromised}
-use Rattle.world.specs.Theorem.{IsRun}
+use Rattle.world.specs.Theorem.{KeepsPromises}
 
 -- a reader gave these bytes, and has no more: if it is known what it had, they are all of that
 abbrev pub WasRead : Option (List ℕ) → Option (List ℕ) → List ℕ → Type 0
@@ -24,14 +23,13 @@ abbrev pub run_text : Echo → Setup → List Event → List Output → List ℕ
 run_text echoes.No setup events outputs = outputs_text outputs
 run_text echoes.Events setup events outputs = echoed_text setup.schema events outputs
 
--- a text that a script may print: that of a run of its events, whose outputs keep the promise
+-- a text that a script may print: that of a run of its events, whose outputs keep all promises
 pub record IsPrinted (echo : Echo) (script : List ℕ) (text : List ℕ) : Type 0 where
   pub setup : Setup
   pub events : List Event
   pub outputs : List Output
   pub read : IsScript script setup events
-  pub run : IsRun setup events outputs
-  pub promise : IsPromised setup.schema setup.replicas outputs
+  pub kept : KeepsPromises setup events outputs
   pub text_is : text ≡ run_text echo setup events outputs
 
 -- the words for a fault: of a script that does not read, its line and the reason

@@ -255,7 +255,7 @@ wait_happens w worker seq bytes =
 
 -- what a run of a replica finds
 abbrev pub readiness_at : Member → Readiness
-readiness_at m = readiness m.protocol (lacking (arrived m.known))
+readiness_at m = readiness m.protocol.broken m.protocol.batch (lacking (arrived m.known))
 
 -- a run, by what it finds. A batch of which no frame is missing is answered by its report: the plain answers on the rows after
 -- exactly the first commits of the durable list, up to the version that was fetched

@@ -1,4 +1,4 @@
--- The theorem: what one step of the world keeps, and what a run of it is. And the promises that follow of each run.
+-- The theorem: what is so of each run of the world; and that the outputs are those of one run of the cores, of which this and more is so.
 use Rattle.std.specs.Prelude.{◌≡◌, ℕ, ◌^◌, ◌<◌, ◌≤◌, List, ◌∷◌, ◌++◌, length, map, Option, Some, slice_get, codes, decimal}
 use Rattle.std.specs.Option.{option_map}
 use Rattle.std.specs.List.{AllByRecursion}
@@ -20,8 +20,9 @@ use Rattle.script.specs.declared.output.Output.TheVariants.{Dump}
 use Rattle.script.specs.declared.setup.Setup.{Setup}
 use Rattle.world.specs.Parts.{Parts, parts_started}
 use Rattle.world.specs.Steps.{World, Member, opening_world}
-use Rattle.world.specs.Allowed.{MayHappen, RunsBy, Passes, AtEach, Runs}
-use Rattle.world.specs.Database.{Reader, Database, new_database, IsDatabaseStep, IsPromised}
+use Rattle.world.specs.Acknowledged.{KeepsAcknowledged}
+use Rattle.world.specs.Allowed.{Step, LeadsTo, events_in, outputs_in, Runs}
+use Rattle.world.specs.Database.{Reader, Database, new_database, IsDatabaseRun, IsPromised}
 use Rattle.world.specs.Standing.{world_of, AreFed, TablesAgree, JournalStands, StopLeaves}
 
 -- ---- what a step keeps
@@ -63,107 +64,21 @@ IsFaultless other = Unit {0}
 
 -- ---- a run
 
--- one step of the world, by a list of commits: what it answers and leaves may happen, what it says of rows is exact by that list,
--- what was durable is the beginning of what is durable, and no damage is reported
-pub record IsStep (commits : List Commit) (old : World) (event : Event) (output : Output) (new : World) : Type 0 where
-  pub happens : MayHappen old event output new
-  pub rows : SaysRows commits old event output
-  pub durable : IsBeginning old.primary.durable new.primary.durable
-  pub faultless : IsFaultless output
+-- what is so of the steps of a run of the world, by the one list of commits that is durable at its end: each report and each dump is
+-- exact by that list, and no report is older than its batch; what was durable stays; so does what was acknowledged; and no output
+-- reports damage
+pub record IsExact (commits : List Commit) (steps : List (Step World)) : Type 0 where
+  pub reports : AllByRecursion (λ (step : Step World). SaysRows commits step.old step.event step.output) steps
+  pub durable : AllByRecursion (λ (step : Step World). IsBeginning step.old.primary.durable step.new.primary.durable) steps
+  pub acknowledged : KeepsAcknowledged steps
+  pub faultless : AllByRecursion IsFaultless (outputs_in steps)
 
--- one step of the cores: it is one of the world that they make, and leaves every replica fed from what is durable, that on the
--- journal, and after a stop the very bytes that the stop names
-abbrev pub IsCoreStep : List Commit → Parts → Event → Output → Parts → Type 0
-IsCoreStep commits old event output new =
-    IsStep commits (world_of old) event output (world_of new) × AreFed new × JournalStands new × StopLeaves old event new
-
--- a run of the cores from their start on: all its steps are by the one list that is durable at its end, and that is legal
-pub record IsRun (setup : Setup) (events : List Event) (outputs : List Output) : Type 0 where
-  pub end : Parts
-  pub legal : IsLegal (shape_of setup.schema) setup.workers end.primary.durable
-  pub steps : RunsBy (IsCoreStep end.primary.durable) (parts_started setup) events outputs end
-
--- ---- what is promised of a run
-
--- something is so of each run of the cores that has these outputs
-abbrev pub OfEachRun : ((setup : Setup) (events : List Event) (outputs : List Output) → IsRun setup events outputs → Type 0)
-    → Setup → List Event → List Output → Type 0
-OfEachRun Fact setup events outputs = (run : IsRun setup events outputs) → Fact setup events outputs run
-
--- something holds at each step of a run, of the worlds that its cores make and by the list that is durable at its end
-abbrev pub HoldsAlong : (List Commit → World → Event → Output → World → Type 0) → (setup : Setup) (events : List Event)
-    (outputs : List Output) → IsRun setup events outputs → Type 0
-HoldsAlong Fact setup events outputs run =
-    AtEach (IsCoreStep run.end.primary.durable)
-    (λ old event output new. Fact run.end.primary.durable (world_of old) event output (world_of new))
-    (parts_started setup) events outputs run.end run.steps
-
--- the world allows the run: it goes with these outputs from its opening to where the cores end, and each step of the cores is
--- one of its
-abbrev pub IsAllowed : (setup : Setup) (events : List Event) (outputs : List Output) → IsRun setup events outputs → Type 0
-IsAllowed setup events outputs run =
-    Runs (opening_world setup) events outputs (world_of run.end) × HoldsAlong (λ commits. MayHappen) setup events outputs run
-
--- each report and each dump is exact by the one list that is durable at the end, and no report is older than its batch
-abbrev pub HasExactReports : (setup : Setup) (events : List Event) (outputs : List Output) → IsRun setup events outputs → Type 0
-HasExactReports setup events outputs run =
-    HoldsAlong (λ commits old event output new. SaysRows commits old event output) setup events outputs run
-
--- a text that begins with this version, as that of a dump does
-abbrev pub TellsVersion : ℕ → List ℕ → Type 0
-TellsVersion version text = (rest : List ℕ) × (text ≡ codes "version " ++ decimal version ++ 32 ∷ rest)
-
--- two dumps of one version are equal, of whatever replicas and at whatever moments
-abbrev pub HasOneDumpOfVersion : Setup → List Event → List Output → Type 0
-HasOneDumpOfVersion setup events outputs =
-    (version i j : ℕ) (text other : List ℕ) → version < 2 ^ 64
-    → slice_get outputs i ≡ Some (Dump text) → slice_get outputs j ≡ Some (Dump other)
-    → TellsVersion version text → TellsVersion version other → text ≡ other
-
--- each step keeps what is durable
-abbrev pub HasGrowingList : (setup : Setup) (events : List Event) (outputs : List Output) → IsRun setup events outputs → Type 0
-HasGrowingList setup events outputs run =
-    HoldsAlong (λ commits old event output new. IsBeginning old.primary.durable new.primary.durable) setup events outputs run
-
--- the one list is legal
-abbrev pub HasLegalList : (setup : Setup) (events : List Event) (outputs : List Output) → IsRun setup events outputs → Type 0
-HasLegalList setup events outputs run = IsLegal (shape_of setup.schema) setup.workers run.end.primary.durable
-
--- no output reports damage
-abbrev pub HasNoFault : Setup → List Event → List Output → Type 0
-HasNoFault setup events outputs = AllByRecursion IsFaultless outputs
-
--- the run goes through these cores
-abbrev pub GoesThrough : (setup : Setup) (events : List Event) (outputs : List Output) → IsRun setup events outputs → Parts → Type 0
-GoesThrough setup events outputs run p =
-    Passes (IsCoreStep run.end.primary.durable) (parts_started setup) events outputs run.end run.steps p
-
--- the cores stand where the world does from the beginning of the run on, and replicas at one version hold the same tables, at
--- whatever two moments of it
-abbrev pub CoresStand : (setup : Setup) (events : List Event) (outputs : List Output) → IsRun setup events outputs → Type 0
-CoresStand setup events outputs run =
-    (world_of (parts_started setup) ≡ opening_world setup)
-    × ((p q : Parts) → GoesThrough setup events outputs run p → GoesThrough setup events outputs run q → TablesAgree p q)
-
--- all that is promised of the outputs of events
-pub record KeepsPromises (setup : Setup) (events : List Event) (outputs : List Output) : Type 0 where
-  pub promise : IsPromised setup.schema setup.replicas outputs
-  pub each : length outputs ≡ length events
-  pub run : IsRun setup events outputs
-  pub cores : OfEachRun CoresStand setup events outputs
-  pub allowed : OfEachRun IsAllowed setup events outputs
-  pub reports : OfEachRun HasExactReports setup events outputs
-  pub dumps : HasOneDumpOfVersion setup events outputs
-  pub durable : OfEachRun HasGrowingList setup events outputs
-  pub legal : OfEachRun HasLegalList setup events outputs
-  pub faultless : HasNoFault setup events outputs
-
--- and each run of the world itself by events that are possible, whoever makes it, is by the one list that is durable at its end
+-- what is so of each run of the world by events that are possible, whoever makes it
 abbrev pub AllowedRunsAreExact : Type 0
 AllowedRunsAreExact =
-    (setup : Setup) (events : List Event) (outputs : List Output) (end : World) → setup.replicas ≤ replicas_max
-    → AllByRecursion (IsPossible setup.workers setup.replicas) events → Runs (opening_world setup) events outputs end
-    → RunsBy (IsStep end.primary.durable) (opening_world setup) events outputs end
+    (setup : Setup) (steps : List (Step World)) (end : World) → setup.replicas ≤ replicas_max
+    → AllByRecursion (IsPossible setup.workers setup.replicas) (events_in steps) → Runs (opening_world setup) steps end
+    → IsExact end.primary.durable steps
 
 -- ---- the database that users see
 
@@ -182,7 +97,63 @@ database_of w = record { commits = w.primary.durable; readers = map reader_of w.
 -- each run of the world by events that are possible, whoever makes it, is one of the database
 abbrev pub RunsAreOfDatabase : Type 0
 RunsAreOfDatabase =
-    (setup : Setup) (events : List Event) (outputs : List Output) (end : World) → setup.replicas ≤ replicas_max
-    → AllByRecursion (IsPossible setup.workers setup.replicas) events → Runs (opening_world setup) events outputs end
-    → RunsBy (λ old event output new. IsDatabaseStep setup.schema old output new) (new_database setup.replicas) events outputs
-    (database_of end)
+    (setup : Setup) (steps : List (Step World)) (end : World) → setup.replicas ≤ replicas_max
+    → AllByRecursion (IsPossible setup.workers setup.replicas) (events_in steps) → Runs (opening_world setup) steps end
+    → IsDatabaseRun setup.schema (new_database setup.replicas) (outputs_in steps) (database_of end)
+
+-- ---- a run of the cores
+
+-- a step of the cores, as one of the world that they make
+abbrev pub seen : Step Parts → Step World
+seen step = record { old = world_of step.old; event = step.event; output = step.output; new = world_of step.new }
+
+-- a run of the cores from their start on, by these events and with these outputs: the world that they make allows each step
+pub record IsRun (setup : Setup) (events : List Event) (outputs : List Output) : Type 0 where
+  pub steps : List (Step Parts)
+  pub end : Parts
+  pub events_are : events_in steps ≡ events
+  pub outputs_are : outputs_in steps ≡ outputs
+  pub leads : LeadsTo (parts_started setup) steps end
+  pub allowed : Runs (opening_world setup) (map seen steps) (world_of end)
+
+-- the cores through which a run goes: those at their start, and those that each step left
+abbrev pub cores_of : Setup → List (Step Parts) → List Parts
+cores_of setup steps = parts_started setup ∷ map (λ (step : Step Parts). step.new) steps
+
+-- the cores stand where the world does: each step leaves every replica fed from what is durable, and that on the journal; after a stop
+-- the very bytes that it names are there; and replicas at one version hold the same tables, at whatever two moments
+pub record CoresStand (setup : Setup) (steps : List (Step Parts)) : Type 0 where
+  pub fed : AllByRecursion (λ (step : Step Parts). AreFed step.new) steps
+  pub journal : AllByRecursion (λ (step : Step Parts). JournalStands step.new) steps
+  pub leaves : AllByRecursion (λ (step : Step Parts). StopLeaves step.old step.event step.new) steps
+  pub tables : AllByRecursion (λ (p : Parts). AllByRecursion (TablesAgree p) (cores_of setup steps)) (cores_of setup steps)
+
+-- the outputs are those of one run of the cores, and of this run all of the following is so: it is exact by the one list that is
+-- durable at its end; that list is legal; the cores stand; and users see it as a run of the database
+pub record AreOfOneRun (setup : Setup) (events : List Event) (outputs : List Output) : Type 0 where
+  pub run : IsRun setup events outputs
+  pub exact : IsExact run.end.primary.durable (map seen run.steps)
+  pub legal : IsLegal (shape_of setup.schema) setup.workers run.end.primary.durable
+  pub cores : CoresStand setup run.steps
+  pub database : IsDatabaseRun setup.schema (new_database setup.replicas) outputs (database_of (world_of run.end))
+
+-- ---- what is promised of outputs
+
+-- a text that begins with this version, as that of a dump does
+abbrev pub TellsVersion : ℕ → List ℕ → Type 0
+TellsVersion version text = (rest : List ℕ) × (text ≡ codes "version " ++ decimal version ++ 32 ∷ rest)
+
+-- two dumps of one version are equal, of whatever replicas and at whatever moments
+abbrev pub HasOneDumpOfVersion : List Output → Type 0
+HasOneDumpOfVersion outputs =
+    (version i j : ℕ) (text other : List ℕ) → version < 2 ^ 64
+    → slice_get outputs i ≡ Some (Dump text) → slice_get outputs j ≡ Some (Dump other)
+    → TellsVersion version text → TellsVersion version other → text ≡ other
+
+-- all that is promised of the outputs of events
+pub record KeepsPromises (setup : Setup) (events : List Event) (outputs : List Output) : Type 0 where
+  pub promise : IsPromised setup.schema setup.replicas outputs
+  pub each : length outputs ≡ length events
+  pub run : AreOfOneRun setup events outputs
+  pub dumps : HasOneDumpOfVersion outputs
+  pub faultless : AllByRecursion IsFaultless outputs

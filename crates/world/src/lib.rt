@@ -8,9 +8,10 @@
 //!
 //! `specs/` defines what may happen: the world as its users see it (`Steps.antt`), what a crash of
 //! the primary leaves (`Stops.antt`) and which outputs are allowed (`Allowed.antt`), the cores as
-//! parts and the world that they make (`Parts.antt`, `Standing.antt`), what a step and a run are
-//! (`Theorem.antt`), what a script's run reads and prints (`Scripts.antt`), and the promise to
-//! users on one page (`Database.antt`). `specs/Inner` only helps proofs.
+//! parts and the world that they make (`Parts.antt`, `Standing.antt`), what is acknowledged
+//! (`Acknowledged.antt`), what a step and a run are (`Theorem.antt`), what a script's run reads and
+//! prints (`Scripts.antt`), and the promise to users on one page (`Database.antt`). `specs/Inner`
+//! only helps proofs.
 //!
 //! It uses `primary` and `dispatcher`, which know nothing of each other, `journal` for what a
 //! primary's journal keeps, `mvcc` for transactions, `plans` for queries, and `script` for events

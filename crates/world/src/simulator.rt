@@ -4,8 +4,7 @@ ghost use Rattle.std.specs.Prelude.{◌≡◌, ◌<◌, ◌≤◌, length, IfOk}
 ghost use Rattle.std.specs.List.{AllByRecursion};
 ghost use Rattle.script.specs.Events.{IsPossible};
 ghost use Rattle.world.specs.Database.{IsPromised};
-ghost use Rattle.world.specs.Theorem.{IsRun, OfEachRun, IsAllowed, HasExactReports, HasOneDumpOfVersion, HasGrowingList};
-ghost use Rattle.world.specs.Theorem.{HasLegalList, HasNoFault, CoresStand, KeepsPromises};
+ghost use Rattle.world.specs.Theorem.{AreOfOneRun, HasOneDumpOfVersion, IsFaultless, KeepsPromises};
 ghost use Rattle.rows.specs.Limits.{workers_max, replicas_max};
 
 use crate::laws::steps_are_told;
@@ -25,12 +24,12 @@ use std::thread::Threads;
 /// has the plain answers on the rows after exactly the commits of one list up to the version
 /// fetched for its batch, which is at least what was durable when the batch asked.
 ///
-/// Behind it is a run of the cores, by one legal list of commits: at each of its steps the world
-/// allows what is answered and left, reports and dumps are exact by that list, what is durable only
-/// grows, also across crashes, and is on the primary's journal, every replica is fed from it, and
-/// no output reports damage. Replicas at one version hold the same tables, at whatever two moments
-/// of that run. `run` says that there is one; what the other clauses say of a run, they say of each
-/// that has these outputs, and so all of the same.
+/// Behind it is one run of the cores with these outputs, each step of which the world allows. Of
+/// this run is proved (`AreOfOneRun`): reports and dumps are exact by the one legal list of commits
+/// that is durable at its end. What is durable only grows, also across crashes, and is on the
+/// primary's journal. What was acknowledged stands under its number. Every replica is fed from that
+/// list, and replicas at one version hold the same tables, at whatever two moments. No output
+/// reports damage.
 pub fn run<R: Threads + Sync>(
     rt: &R,
     alloc: Global,
@@ -43,14 +42,9 @@ pub fn run<R: Threads + Sync>(
     requires possible { AllByRecursion (IsPossible setup.now.workers setup.now.replicas) events.now }
     ensures promise { IfOk result (λ outputs. IsPromised setup.now.schema setup.now.replicas outputs.items) }
     ensures each { IfOk result (λ outputs. length outputs.items ≡ length events.now) }
-    ensures run { IfOk result (λ outputs. IsRun setup.now events.now outputs.items) }
-    ensures cores { IfOk result (λ outputs. OfEachRun CoresStand setup.now events.now outputs.items) }
-    ensures allowed { IfOk result (λ outputs. OfEachRun IsAllowed setup.now events.now outputs.items) }
-    ensures reports { IfOk result (λ outputs. OfEachRun HasExactReports setup.now events.now outputs.items) }
-    ensures dumps { IfOk result (λ outputs. HasOneDumpOfVersion setup.now events.now outputs.items) }
-    ensures durable { IfOk result (λ outputs. OfEachRun HasGrowingList setup.now events.now outputs.items) }
-    ensures legal { IfOk result (λ outputs. OfEachRun HasLegalList setup.now events.now outputs.items) }
-    ensures faultless { IfOk result (λ outputs. HasNoFault setup.now events.now outputs.items) }
+    ensures run { IfOk result (λ outputs. AreOfOneRun setup.now events.now outputs.items) }
+    ensures dumps { IfOk result (λ outputs. HasOneDumpOfVersion outputs.items) }
+    ensures faultless { IfOk result (λ outputs. AllByRecursion IsFaultless outputs.items) }
 {
     run_on(rt, alloc, PARTITIONS, setup, events)
 }

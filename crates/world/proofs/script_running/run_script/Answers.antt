@@ -16,8 +16,7 @@ returns-in-Ok-flush-clause-printed g c =
       events = events;
       outputs = outputs;
       read = search rules;
-      run = search rules;
-      promise = search rules;
+      kept = record { promise = search rules; each = search rules; run = search rules; dumps = search rules; faultless = search rules };
       text_is = refl;
     } in
     (script, text, given, printed, search rules)
@@ -35,8 +34,7 @@ returns-in-Ok-write_run-clause-interrupted g c = λ same.
       events = events;
       outputs = outputs;
       read = search rules;
-      run = search rules;
-      promise = search rules;
+      kept = record { promise = search rules; each = search rules; run = search rules; dumps = search rules; faultless = search rules };
       text_is = refl;
     } in
     (script, text, given, printed, ([], (text, sym (append-nil text), search rules)))
@@ -54,8 +52,7 @@ returns-in-Err-Write-clause-interrupted g c = λ same.
       events = events;
       outputs = outputs;
       read = search rules;
-      run = search rules;
-      promise = search rules;
+      kept = record { promise = search rules; each = search rules; run = search rules; dumps = search rules; faultless = search rules };
       text_is = refl;
     } in
     (script, text, given, printed, search rules)

@@ -14,23 +14,8 @@ returns g c = record {
   run =
       IfOk-weaker _ (λ outputs. KeepsPromises c.args.setup.now c.args.events.now outputs.items) _ (λ _ kept. kept.run)
       c.run_on.ensures;
-  cores =
-      IfOk-weaker _ (λ outputs. KeepsPromises c.args.setup.now c.args.events.now outputs.items) _ (λ _ kept. kept.cores)
-      c.run_on.ensures;
-  allowed =
-      IfOk-weaker _ (λ outputs. KeepsPromises c.args.setup.now c.args.events.now outputs.items) _ (λ _ kept. kept.allowed)
-      c.run_on.ensures;
-  reports =
-      IfOk-weaker _ (λ outputs. KeepsPromises c.args.setup.now c.args.events.now outputs.items) _ (λ _ kept. kept.reports)
-      c.run_on.ensures;
   dumps =
       IfOk-weaker _ (λ outputs. KeepsPromises c.args.setup.now c.args.events.now outputs.items) _ (λ _ kept. kept.dumps)
-      c.run_on.ensures;
-  durable =
-      IfOk-weaker _ (λ outputs. KeepsPromises c.args.setup.now c.args.events.now outputs.items) _ (λ _ kept. kept.durable)
-      c.run_on.ensures;
-  legal =
-      IfOk-weaker _ (λ outputs. KeepsPromises c.args.setup.now c.args.events.now outputs.items) _ (λ _ kept. kept.legal)
       c.run_on.ensures;
   faultless =
       IfOk-weaker _ (λ outputs. KeepsPromises c.args.setup.now c.args.events.now outputs.items) _ (λ _ kept. kept.faultless)

@@ -1,9 +1,6 @@
--- Whatever run is still to come is, behind the outputs so far, a run of all events.
-use Rattle.std.proofs.Common.{◌≡◌, ◌++◌, List, length, drop}
-use Rattle.script.specs.declared.output.Output.{Output}
-use Rattle.world.specs.Parts.{Parts, parts_started}
-use Rattle.world.specs.Allowed.{RunsBy}
-use Rattle.world.specs.Theorem.{IsCoreStep}
+-- The events so far, with the outputs so far, are those of a run of the cores to where they are.
+use Rattle.std.proofs.Common.{◌≡◌, length, take}
+use Rattle.world.proofs.Continuing.{RunsSoFar}
 use Rattle.world.proofs.simulator.run_on.Given as goal
 
 abbrev pub invariant-loop-event : goal.invariant-loop-event
@@ -11,7 +8,5 @@ invariant-loop-event g l = record {
   schema : l.world.primary.schema ≡ l.setup.schema;
   workers : l.world.primary.workers ≡ l.setup.workers;
   replicas : length l.world.replicas ≡ l.setup.replicas;
-  behind : (more : List Output) (end : Parts) → RunsBy (IsCoreStep end.primary.durable) l.world (drop l.event-index l.events) more end
-      → RunsBy (IsCoreStep end.primary.durable) (parts_started l.setup) l.events
-      (l.outputs.items ++ more) end;
+  so_far : RunsSoFar l.setup (take l.event-index l.events) l.outputs.items l.world;
 }

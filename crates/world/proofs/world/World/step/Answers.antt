@@ -52,13 +52,13 @@ returns g c =
     step-keeps laws c.self.inside.cores c.args.event.now c.happen-output.result c.happen-output.new.self c.self.invariant
     c.keeps_core.ensures.lists c.happen-output.ensures in
     rw (← c.self.view_is) (record {
-      happens = done.step.happens;
-      rows = done.step.rows;
-      durable = done.step.durable;
+      happens = done.happens;
+      rows = done.rows;
+      durable = done.durable;
       fed = done.fed;
       journal = done.journal c.keeps_core-2.ensures.text;
       leaves = done.leaves;
-      faultless = done.step.faultless;
+      faultless = done.faultless;
       schema = done.schema;
       workers = done.workers;
       replicas = done.replicas;
