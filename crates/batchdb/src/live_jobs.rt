@@ -8,7 +8,7 @@ use mvcc::{Transaction, TxFault};
 use primary::CommitFault;
 use rows::{RowId, Value};
 use shared::{Line, LineFault, Origin, Seat};
-use sockets::{JobAnswer, Stop, TRIES_AGAIN, WorkersFault, acknowledged, begun, look, make_change};
+use sockets::{JobAnswer, Stop, TRIES_AGAIN, WorkersFault, acknowledged, begun, make_change};
 use std::alloc::Global;
 use std::sync::Wait;
 use std::thread;
@@ -43,9 +43,8 @@ pub fn do_live_job<L: Origin, J: JournalStore + Drop, H: Wait + Drop, R: Wait>(
         Err(Stop::Refused) => return Ok(JobAnswer::Refused),
         Err(Stop::Memory) => return Err(WorkersFault::Memory),
     };
-    look(alloc, seat);
     match line.commit(rt, seat, transaction, worker) {
-        Ok(ticket) => acknowledged(rt, alloc, line, seat, &ticket),
+        Ok(ticket) => acknowledged(rt, line, seat, &ticket),
         Err((_, CommitFault::Conflict(number))) => Ok(JobAnswer::Conflict(number)),
         Err((_, CommitFault::Failed)) => Err(WorkersFault::Journal),
         Err((_, CommitFault::Memory)) => Err(WorkersFault::Memory),

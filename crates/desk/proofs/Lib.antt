@@ -5,3 +5,5 @@ pub mod Refusals
 pub mod Flushes
 pub mod Sent
 pub mod Shares
+pub mod Seats
+pub mod Readable

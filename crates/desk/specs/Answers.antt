@@ -1,9 +1,16 @@
 -- What a seat is answered, by the list of commits that it has seen.
 use Rattle.std.specs.Prelude.{◌≡◌, ℕ, ◌-◌, ◌<◌, ◌≤◌, List, [], length, true, Option, None, Some, slice_get, nat_lt, ◌==◌, if◌then◌else◌}
+use Rattle.std.specs.List.{AllByRecursion}
 use Rattle.rows.specs.declared.commit.Commit.{Commit}
 use Rattle.rows.specs.declared.kind.Kind.{Kind}
+use Rattle.rows.specs.Limits.{workers_max}
+use Rattle.rows.specs.Shape.{Shape}
+use Rattle.journal.specs.Recovery.{IsJournaled}
 use Rattle.mvcc.specs.History.{defined_at}
 use Rattle.mvcc.specs.Transaction.{Transaction}
+use Rattle.update_log.specs.Frames.{IsSendable}
+use Rattle.update_log.specs.Streams.{stream_of}
+use Rattle.primary.specs.Journaling.{AreNumbered}
 use Rattle.primary.specs.State.{Primary}
 use Rattle.primary.specs.Steps.{started_primary}
 use Rattle.primary.specs.declared.faults.CommitFault.{CommitFault}
@@ -55,3 +62,12 @@ IsSettled list ticket settles.Unpublished = length list < ticket.number
 -- a primary of which just this list is durable, and nothing pending: what is sent of a list is what it sends
 abbrev pub primary_of : List (List ℕ × List Kind) → ℕ → List Commit → Primary
 primary_of schema workers list = started_primary schema workers list
+
+-- a list whose frames and Heads can be read back from what is sent: a journal may be of it, its commits and frames have numbers of 64
+-- bits, a datagram spells each of its frames, and there are 1 to 16 workers
+pub record IsReadable (workers : ℕ) (shape : Shape) (list : List Commit) : Type 0 where
+  pub legal : IsJournaled workers shape list
+  pub numbered : AreNumbered list
+  pub sendable : (worker : ℕ) → AllByRecursion IsSendable (stream_of list worker)
+  pub some : 0 < workers
+  pub few : workers ≤ workers_max

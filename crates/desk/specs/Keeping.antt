@@ -1,8 +1,8 @@
 -- What holds of a desk whenever the lock of its line is taken.
-use Rattle.std.specs.Prelude.{◌≡◌, ℕ, ◌+◌, ◌<◌, ◌≤◌, List, [], ◌∷◌, length, Some, slice_get, ◌==◌, if◌then◌else◌}
+use Rattle.std.specs.Prelude.{◌≡◌, ℕ, suc, ◌+◌, ◌<◌, ◌≤◌, List, [], ◌∷◌, length, Some, slice_get, ◌==◌, if◌then◌else◌}
 use mathlib.Core.List.{IsPrefix}
 use Rattle.primary.specs.State.{Primary}
-use Rattle.desk.specs.State.{OnDesk}
+use Rattle.desk.specs.State.{SeatState, OnDesk}
 
 -- how many commits a primary has, durable or pending
 abbrev pub commit_count : Primary → ℕ
@@ -17,6 +17,11 @@ last_carried seat last before (carried ∷ seats) =
 -- the last number of a seat, 0 for none, of a line that was made with this primary
 abbrev pub last_number : Primary → List ℕ → ℕ → ℕ
 last_number first seats seat = last_carried seat 0 (commit_count first) seats
+
+-- the seats that are not given out: their numbers are this one and those that follow it, in their order
+abbrev pub HaveNumbersFrom : ℕ → List SeatState → Type 0
+HaveNumbersFrom number [] = Unit {0}
+HaveNumbersFrom number (seat ∷ seats) = (seat.number ≡ number) × HaveNumbersFrom (suc number) seats
 
 -- a desk of a line that was made with this primary, for so many seats
 pub record IsKept {J : Type 0} (first : Primary) (seats : ℕ) (desk : OnDesk J) : Type 0 where

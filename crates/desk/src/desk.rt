@@ -2,13 +2,15 @@
 
 ghost use Rattle.std.specs.Prelude.{◌≡◌, ◌⊎◌, ◌+◌, ◌<◌, ◌≤◌, [], ◌∷◌, ◌++◌, length, map, sum, take};
 ghost use Rattle.std.specs.Prelude.{Ok, Err, None, true, false, ◌&&◌, nat_lt, nat_le, is_some, is_none, IfOk, IfErr, IfSome, OnOk, OnErr};
-ghost use Rattle.std.specs.Prelude.{MatchBool, MatchOption};
+ghost use Rattle.std.specs.Prelude.{IsOk, MatchBool, MatchOption};
 ghost use mathlib.Core.List.{IsPrefix};
+ghost use Rattle.rows.specs.Shape.{shape_of};
+ghost use Rattle.journal.specs.Recovery.{IsJournaled};
 ghost use Rattle.primary.specs.Journaling.{IsUnchanged, IsFlushRefusal};
 ghost use Rattle.primary.specs.Lending.{IsLentBy, EndsWritten, ended};
 ghost use Rattle.primary.specs.Sending.{pushed, answers};
 ghost use Rattle.primary.specs.Steps.{commit_answer, committed};
-ghost use Rattle.desk.specs.Answers.{IsCommitRefusal, IsFlushed, TellsDurable, IsSettled, Stands, left_to_flush, primary_of};
+ghost use Rattle.desk.specs.Answers.{IsCommitRefusal, IsFlushed, TellsDurable, IsSettled, Stands, left_to_flush, primary_of, IsReadable};
 ghost use Rattle.desk.specs.Keeping.{IsKept, commit_count};
 ghost use Rattle.desk.specs.State.{IsNew};
 
@@ -48,7 +50,7 @@ impl<L: Origin, J: JournalStore, R: Wait + Drop> Model for Desk<L, J, R> {
     ghost use Rattle.std.specs.Prelude.{◌≡◌, length};
     ghost use Rattle.std.specs.List.{AllByRecursion};
     ghost use Rattle.desk.specs.State.{OnDesk, IsNew};
-    ghost use Rattle.desk.specs.Keeping.{IsKept};
+    ghost use Rattle.desk.specs.Keeping.{IsKept, HaveNumbersFrom};
 
     ghost Value = { OnDesk J };
 
@@ -73,7 +75,7 @@ impl<L: Origin, J: JournalStore, R: Wait + Drop> Model for Desk<L, J, R> {
     })
         × (L.first.schema ≡ L.schema) × (L.first.workers ≡ L.workers)
         × (d.count ≡ L.seats) × (d.rest.parts ≡ 0) × (d.rest.amount ≡ 0)
-        × AllByRecursion (IsNew L.first) d.free.items };
+        × AllByRecursion (IsNew L.first) d.free.items × HaveNumbersFrom 0 d.free.items };
 }
 
 impl<L: Origin, J: JournalStore, R: Wait + Drop> Desk<L, J, R> {
@@ -128,12 +130,17 @@ impl<L: Origin, J: JournalStore, R: Wait + Drop> Desk<L, J, R> {
     }
 
     /// A seat that is not given out yet; `None` if all are. It has seen what was durable when the
-    /// line was made. Takes no memory.
+    /// line was made, and its number is how many seats are left then, so no two seats of a line have
+    /// the same number. Takes no memory.
     pub fn seat(&mut self) -> Option<Seat<L>>
-        ensures { MatchOption result ((self.old.free ≡ 0) × (self.new ≡ self.old))
+        ensures given { MatchOption result ((self.old.free ≡ 0) × (self.new ≡ self.old))
             (λ seat. IsNew L.first seat × (self.old.free ≡ self.new.free + 1) × (self.new ≡ record self.old { free = self.new.free })) }
+        ensures number { IfSome result (λ seat. seat.number ≡ self.new.free) }
+        ensures legal { IfSome result (λ seat. IsJournaled L.workers (shape_of L.schema) seat.list) }
     {
-        self.free.pop()
+        let seat = self.free.pop()?;
+        seat.keeps_legal();
+        Some(seat)
     }
 
     /// Publishes what is durable; answers whether there was memory for it.
@@ -160,12 +167,15 @@ impl<L: Origin, J: JournalStore, R: Wait + Drop> Desk<L, J, R> {
         ensures durable { IsPrefix seat.new.list self.new.core.primary.durable }
         ensures all { MatchBool result ((seat.new.list ≡ self.new.core.primary.durable) × (self.new.shown ≡ self.new.core.primary.durable))
             (seat.new.list ≡ seat.old.list) }
+        ensures legal { IsJournaled L.workers (shape_of L.schema) seat.new.list }
     {
         self.telling.confirm(&seat.reading);
         if !self.publish() {
+            seat.keeps_legal();
             return false;
         }
         self.telling.teach(&mut seat.reading);
+        seat.keeps_legal();
         true
     }
 
@@ -192,7 +202,9 @@ impl<L: Origin, J: JournalStore, R: Wait + Drop> Desk<L, J, R> {
         ensures seen { IfErr result (λ refusal. IsCommitRefusal L.schema seat.old.list transaction refusal.1) }
         ensures journal { self.new.core.journal ≡ self.old.core.journal }
         ensures kept { (self.new.told ≡ self.old.told) × (self.new.shown ≡ self.old.shown) × (self.new.free ≡ self.old.free) }
+        ensures legal { IsJournaled L.workers (shape_of L.schema) seat.new.list }
     {
+        seat.keeps_legal();
         self.telling.confirm(&seat.reading);
         // The number that is recorded for a seat is the seat's own, since no two seats have the
         // same number.
@@ -215,6 +227,7 @@ impl<L: Origin, J: JournalStore, R: Wait + Drop> Desk<L, J, R> {
     /// `NotYet`: the list is the whole durable one, and shorter than the number; `Unpublished`: the
     /// list is shorter, and there was no memory to publish what is durable.
     pub fn settle(&mut self, seat: &mut Seat<L>, ticket: &Ticket) -> Settled
+        ensures legal { IsJournaled L.workers (shape_of L.schema) seat.new.list }
         ensures later { IsPrefix seat.old.list seat.new.list }
         ensures seat { seat.new ≡ record seat.old { list = seat.new.list } }
         ensures answer { IsSettled seat.new.list ticket.now result }
@@ -256,8 +269,10 @@ impl<L: Origin, J: JournalStore, R: Wait + Drop> Desk<L, J, R> {
         worker: u8,
         seq: u64,
     ) -> Result<Option<Packet>, AllocError>
+        ensures legal { IsJournaled L.workers (shape_of L.schema) seat.new.list }
         ensures ok { IfOk result (λ packet. (seat.new.list ≡ self.new.core.primary.durable)
             × (packet ≡ pushed (primary_of L.schema L.workers seat.new.list) worker seq)) }
+        ensures readable { IfOk result (λ _. IsReadable L.workers (shape_of L.schema) seat.new.list) }
         ensures err { OnErr result (seat.new ≡ seat.old) }
         ensures later { IsPrefix seat.old.list seat.new.list }
         ensures seat { seat.new ≡ record seat.old { list = seat.new.list } }
@@ -266,14 +281,17 @@ impl<L: Origin, J: JournalStore, R: Wait + Drop> Desk<L, J, R> {
         if !self.catch_up(seat) {
             return Err(AllocError);
         }
+        self.core.keeps_legal();
         Ok(self.core.push(worker, seq))
     }
 
     /// What the primary sends for bytes that arrived, after what is durable was published and the
     /// seat has seen it. Fails only if out of memory.
     pub fn on_bytes(&mut self, seat: &mut Seat<L>, bytes: &[u8]) -> Result<Vec<Out>, AllocError>
+        ensures legal { IsJournaled L.workers (shape_of L.schema) seat.new.list }
         ensures ok { IfOk result (λ outs. (seat.new.list ≡ self.new.core.primary.durable)
             × (outs.items ≡ answers (primary_of L.schema L.workers seat.new.list) bytes.now)) }
+        ensures readable { IfOk result (λ _. IsReadable L.workers (shape_of L.schema) seat.new.list) }
         ensures later { IsPrefix seat.old.list seat.new.list }
         ensures seat { seat.new ≡ record seat.old { list = seat.new.list } }
         ensures same { self.new ≡ record self.old { told = self.new.told; shown = self.new.shown } }
@@ -281,6 +299,7 @@ impl<L: Origin, J: JournalStore, R: Wait + Drop> Desk<L, J, R> {
         if !self.catch_up(seat) {
             return Err(AllocError);
         }
+        self.core.keeps_legal();
         self.core.on_bytes(bytes)
     }
 
@@ -361,6 +380,7 @@ impl<L: Origin, J: JournalStore + Drop, R: Wait + Drop> Desk<L, J, R> {
     /// Publishes what is durable, this many commits, and shows it to the seat.
     fn flushed(&mut self, seat: &mut Seat<L>, durable: u64) -> Flushed
         requires { durable ≡ length self.old.core.primary.durable }
+        ensures legal { IsJournaled L.workers (shape_of L.schema) seat.new.list }
         ensures answer { IsFlushed seat.old.list seat.new.list result }
         ensures all { TellsDurable self.new.core.primary.durable seat.new.list result }
         ensures later { IsPrefix seat.old.list seat.new.list }
@@ -378,6 +398,7 @@ impl<L: Origin, J: JournalStore + Drop, R: Wait + Drop> Desk<L, J, R> {
     /// flush has the journal: what is durable is published. `None` if no flush has the journal, or
     /// the commits are not durable.
     pub fn flushed_before(&mut self, seat: &mut Seat<L>, target: u64) -> Option<Flushed>
+        ensures legal { IsJournaled L.workers (shape_of L.schema) seat.new.list }
         ensures flushed { IfSome result (IsFlushed seat.old.list seat.new.list) }
         ensures all { IfSome result (TellsDurable self.new.core.primary.durable seat.new.list) }
         ensures durable { IfSome result (λ _. (self.old.core.journal ≡ None) × (target ≤ length self.old.core.primary.durable)) }
@@ -391,15 +412,18 @@ impl<L: Origin, J: JournalStore + Drop, R: Wait + Drop> Desk<L, J, R> {
         if self.core.lent() && target <= durable {
             Some(self.flushed(seat, durable))
         } else {
+            seat.keeps_legal();
             None
         }
     }
 
     /// Ends the flush that this desk began, as the core does, and publishes what is then durable.
     pub fn end_flush(&mut self, seat: &mut Seat<L>, done: Done<J>) -> Result<Flushed, FlushFault>
+        ensures legal { IsJournaled L.workers (shape_of L.schema) seat.new.list }
         ensures not_lent { is_some self.old.core.journal ≡ true
             → (result ≡ Err FlushFault.NotLent) × (self.new ≡ self.old) }
         ensures ended { self.old.core.journal ≡ None → self.new.core ≡ ended self.old.core.primary done }
+        ensures answer { self.old.core.journal ≡ None → MatchBool done.taken (IsOk result) (result ≡ Err FlushFault.Journal) }
         ensures written { self.old.core.journal ≡ None
             → EndsWritten J.is_honest J.standing J.fault_count self.old.core.primary done self.new.core }
         ensures flushed { IfOk result (IsFlushed seat.old.list seat.new.list) }
@@ -411,7 +435,10 @@ impl<L: Origin, J: JournalStore + Drop, R: Wait + Drop> Desk<L, J, R> {
     {
         match self.core.end_flush(done) {
             Ok(durable) => Ok(self.flushed(seat, durable)),
-            Err(fault) => Err(fault),
+            Err(fault) => {
+                seat.keeps_legal();
+                Err(fault)
+            }
         }
     }
 }

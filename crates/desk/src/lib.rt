@@ -12,9 +12,10 @@
 //! taken, and `specs/Answers.antt` what a seat is answered.
 //!
 //! Promised: what is published is a beginning of the durable list; each commit since the line was
-//! made has a seat, and the shares of all seats add up to their number; a ticket is the core's, and
-//! its number is above the seat's last one. What is settled, pushed or answered agrees with the
-//! list that the seat has then seen, which is the whole durable list.
+//! made has a seat, and the shares of all seats add up to their number; no two seats have the same
+//! number; a ticket is the core's, and its number is above the seat's last one. What is settled,
+//! pushed or answered agrees with the list that the seat has then seen, which is legal and, unless
+//! memory was refused, the whole durable list. What is sent of it can be read back.
 //!
 //! It uses `primary` and `published`. If a call fails for lack of memory, its values are unchanged
 //! unless the call says otherwise, except that more of the durable list may be told, published and

@@ -2,6 +2,7 @@
 
 ghost use Rattle.std.specs.Prelude.{◌≡◌, ◌+◌, ◌<◌, ◌≤◌, [], length, map, sum, IfSome};
 ghost use Rattle.std.specs.List.{AllByRecursion};
+ghost use Rattle.desk.specs.Keeping.{HaveNumbersFrom};
 ghost use Rattle.desk.specs.State.{IsNew};
 
 use crate::origin::Origin;
@@ -46,6 +47,7 @@ pub(crate) fn open_parts<L: Origin, J: JournalStore, R: Wait + Drop>(
     ensures telling { IfSome result (λ p. (p.telling.all ≡ core.now.primary.durable) × (p.telling.shown ≡ core.now.primary.durable)) }
     ensures roster { IfSome result (λ p. p.roster.seats ≡ []) }
     ensures free { IfSome result (λ p. (length p.free.items ≡ seats) × AllByRecursion (IsNew L.first) p.free.items) }
+    ensures numbers { IfSome result (λ p. HaveNumbersFrom 0 p.free.items) }
     ensures rest { IfSome result (λ p. (p.rest.parts ≡ 0) × (p.rest.amount ≡ 0)) }
 {
     let telling = told::<L, J, R>(alloc, rt, core, opened, seats)?;
@@ -101,6 +103,7 @@ fn manned<L: Origin, R: Wait + Drop>(
     requires seats { seats ≡ L.seats }
     requires told { telling.now.all ≡ L.first.durable }
     ensures free { IfSome result (λ free. (length free.items ≡ seats) × AllByRecursion (IsNew L.first) free.items) }
+    ensures numbers { IfSome result (λ free. HaveNumbersFrom 0 free.items) }
     ensures rest { IfSome result (λ free. (rest.new.parts ≡ 0) × (rest.new.amount ≡ 0)) }
 {
     let mut free = Vec::with_capacity(alloc, seats as usize).ok()?;

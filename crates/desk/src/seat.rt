@@ -56,6 +56,14 @@ impl<L: Origin> Seat<L> {
         self.reading.front().is_empty()
     }
 
+    /// The list that it has seen is one that a journal may be of. It does nothing: its contract is the
+    /// law.
+    pub fn keeps_legal(&self)
+        ensures { IsJournaled L.workers (shape_of L.schema) self.now.list }
+    {
+        let _ = self.reading.front();
+    }
+
     /// Begins a transaction. Its snapshot is the newest published version, or a newer one that the
     /// seat has seen. Takes no memory.
     ///

@@ -2,8 +2,10 @@
 
 ghost use Rattle.std.specs.Prelude.{◌≡◌, ◌+◌, ◌<◌, length, map, sum, IfOk, IfErr, IfSome, OnErr, MatchResult};
 ghost use mathlib.Core.List.{IsPrefix};
+ghost use Rattle.rows.specs.Shape.{shape_of};
+ghost use Rattle.journal.specs.Recovery.{IsJournaled};
 ghost use Rattle.primary.specs.Sending.{pushed, answers};
-ghost use Rattle.desk.specs.Answers.{IsCommitRefusal, IsFlushed, IsSettled, primary_of};
+ghost use Rattle.desk.specs.Answers.{IsCommitRefusal, IsFlushed, IsSettled, IsReadable, primary_of};
 ghost use Rattle.desk.specs.Keeping.{commit_count};
 ghost use Rattle.desk.specs.State.{IsNew};
 
@@ -63,7 +65,8 @@ impl<L: Origin, J: JournalStore, R: Wait + Drop> Line<L, J, R> {
     /// A seat that was not given out yet; `None` if all were. It has seen what was durable when the
     /// line was made, and has no ticket. It may wait; takes no memory.
     pub fn seat<W: Wait>(&self, rt: &W) -> Option<Seat<L>>
-        ensures { IfSome result (IsNew L.first) }
+        ensures new { IfSome result (IsNew L.first) }
+        ensures legal { IfSome result (λ seat. IsJournaled L.workers (shape_of L.schema) seat.list) }
     {
         self.desk.lock(rt).seat()
     }
@@ -91,6 +94,7 @@ impl<L: Origin, J: JournalStore, R: Wait + Drop> Line<L, J, R> {
             (λ refusal. seat.new ≡ seat.old) }
         ensures refused { IfErr result (λ refusal. (refusal.0 ≡ transaction)
             × IsCommitRefusal L.schema seat.old.list transaction refusal.1) }
+        ensures legal { IsJournaled L.workers (shape_of L.schema) seat.new.list }
     {
         self.desk.lock(rt).commit(seat, transaction, worker)
     }
@@ -101,6 +105,7 @@ impl<L: Origin, J: JournalStore, R: Wait + Drop> Line<L, J, R> {
     /// `NotYet`: the durable list is shorter than its number; `Unpublished`: the seat's list is
     /// shorter, and there was no memory to publish what is durable.
     pub fn settle<W: Wait>(&self, rt: &W, seat: &mut Seat<L>, ticket: &Ticket) -> Settled
+        ensures legal { IsJournaled L.workers (shape_of L.schema) seat.new.list }
         ensures later { IsPrefix seat.old.list seat.new.list }
         ensures seat { seat.new ≡ record seat.old { list = seat.new.list } }
         ensures answer { IsSettled seat.new.list ticket.now result }
@@ -118,7 +123,9 @@ impl<L: Origin, J: JournalStore, R: Wait + Drop> Line<L, J, R> {
         worker: u8,
         seq: u64,
     ) -> Result<Option<Packet>, AllocError>
+        ensures legal { IsJournaled L.workers (shape_of L.schema) seat.new.list }
         ensures ok { IfOk result (λ packet. packet ≡ pushed (primary_of L.schema L.workers seat.new.list) worker seq) }
+        ensures readable { IfOk result (λ _. IsReadable L.workers (shape_of L.schema) seat.new.list) }
         ensures later { IsPrefix seat.old.list seat.new.list }
         ensures seat { seat.new ≡ record seat.old { list = seat.new.list } }
     {
@@ -134,7 +141,9 @@ impl<L: Origin, J: JournalStore, R: Wait + Drop> Line<L, J, R> {
         seat: &mut Seat<L>,
         bytes: &[u8],
     ) -> Result<Vec<Out>, AllocError>
+        ensures legal { IsJournaled L.workers (shape_of L.schema) seat.new.list }
         ensures ok { IfOk result (λ outs. outs.items ≡ answers (primary_of L.schema L.workers seat.new.list) bytes.now) }
+        ensures readable { IfOk result (λ _. IsReadable L.workers (shape_of L.schema) seat.new.list) }
         ensures later { IsPrefix seat.old.list seat.new.list }
         ensures seat { seat.new ≡ record seat.old { list = seat.new.list } }
     {
@@ -179,11 +188,14 @@ impl<L: Origin, J: JournalStore + Drop, R: Wait + Drop> Line<L, J, R> {
         seat: &mut Seat<L>,
         count: usize,
     ) -> Result<Flushed, FlushFault>
+        ensures legal { IsJournaled L.workers (shape_of L.schema) seat.new.list }
         ensures flushed { IfOk result (IsFlushed seat.old.list seat.new.list) }
         ensures refused { OnErr result (seat.new ≡ seat.old) }
+        ensures not_busy { IfErr result (λ fault. ¬ (fault ≡ FlushFault.Busy)) }
         ensures later { IsPrefix seat.old.list seat.new.list }
         ensures seat { seat.new ≡ record seat.old { list = seat.new.list } }
     {
+        seat.keeps_legal();
         let desk = self.desk.lock(rt);
         let target = desk.flush_target(count);
         // One flush has the journal at a time. Most of those that wait for it find, all at once,
@@ -196,17 +208,27 @@ impl<L: Origin, J: JournalStore + Drop, R: Wait + Drop> Line<L, J, R> {
         if let Some(flushed) = desk.flushed_before(seat, target) {
             return Ok(flushed);
         }
+        // However this flush ends, those that wait for it are notified then.
+        let _ended = Ended(&self.written);
         let begun = desk.begin_flush(target, count);
         // The lock is released while the journal is written.
         drop(desk);
-        let ended = match begun {
+        match begun {
             Ok(work) => {
                 let done = work.write();
                 self.desk.lock(rt).end_flush(seat, done)
             }
             Err(fault) => Err(fault),
-        };
-        self.written.notify_all();
-        ended
+        }
+    }
+}
+
+/// Notifies all flushes that wait when it is dropped.
+struct Ended<'a>(&'a Condvar);
+
+impl Drop for Ended<'_> {
+    fn drop(self) {
+        let Ended(written) = self;
+        written.notify_all();
     }
 }

@@ -9,3 +9,5 @@ mod Drafts
 mod Jobs
 mod Working
 mod Crews
+mod Streams
+mod Sent

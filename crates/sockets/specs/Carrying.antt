@@ -42,8 +42,8 @@ abbrev pub counted : ℕ → ℕ → ℕ
 counted count zero = count
 counted count (suc faults) = counted (with_fault count) faults
 
--- what a port has done between two moments: if it is honest, it has handed out just these datagrams, and sent just those of the
--- sendings that were not lost, in order and once; and it has counted a fault for each that was lost, and so many at receives
+-- what an honest port did in between: it delivered these datagrams, sent the ones not lost, in order and once, and counted one
+-- fault for each loss and each failed receive
 pub record Carried {P : Type 0} (is_honest : Bool) (came_at : P → List (List ℕ)) (sent_at : P → List Out) (faults_at : P → ℕ)
     (old new : P) (heard : List (List ℕ)) (sendings : List Sending) (failures : ℕ) : Type 0 where
   pub takes : is_honest ≡ true → came_at new ≡ came_at old ++ heard

@@ -9,4 +9,5 @@ pub mod Answers
 pub mod Worker
 pub mod Work
 pub mod Crews
+pub mod Feeding
 pub mod Inner

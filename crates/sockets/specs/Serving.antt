@@ -24,7 +24,7 @@ heard_in hears acts = flat_map (λ act. hears act.call) acts
 abbrev pub sendings_in : {C : Type 0} → List (Act C) → List Sending
 sendings_in acts = flat_map (λ act. act.sendings) acts
 
--- the turns of a call, and those that are left: no more; if they have no end, none is used up
+-- a call never adds turns; without a limit there is still none
 abbrev pub TurnsLeft : Option ℕ → Option ℕ → Type 0
 TurnsLeft None None = Unit {0}
 TurnsLeft None (Some left) = ⊥

@@ -57,7 +57,7 @@ pub fn do_job<L: Origin, J: JournalStore + Drop, R: Wait + Drop, W: Wait, G: Gat
     let committed = line.commit(rt, seat, transaction, job.worker);
     gate.answered(job.worker, index);
     match committed {
-        Ok(ticket) => acknowledged(rt, alloc, line, seat, &ticket),
+        Ok(ticket) => acknowledged(rt, line, seat, &ticket),
         Err((_, CommitFault::Conflict(number))) => Ok(JobAnswer::Conflict(number)),
         Err((_, CommitFault::Failed)) => Err(WorkersFault::Journal),
         Err((_, CommitFault::Memory)) => Err(WorkersFault::Memory),
@@ -66,8 +66,7 @@ pub fn do_job<L: Origin, J: JournalStore + Drop, R: Wait + Drop, W: Wait, G: Gat
 }
 
 /// Makes everything pending durable, and acknowledges the ticket of a commit if the commit is settled:
-/// it is then durable, and the seat has seen it under its number. What the seat has seen must be known
-/// to be legal, as it is after `look`. It may wait.
+/// it is then durable, and the seat has seen it under its number. It may wait.
 ///
 /// Fails with `Journal` if the journal failed, or with `Memory` if memory was refused, also to publish
 /// what is durable; the commit may then be durable. `NoSeat` is never returned.
@@ -77,12 +76,10 @@ pub fn do_job<L: Origin, J: JournalStore + Drop, R: Wait + Drop, W: Wait, G: Gat
 /// reported as `Journal`.
 pub fn acknowledged<L: Origin, J: JournalStore + Drop, R: Wait + Drop, W: Wait>(
     rt: &W,
-    alloc: Global,
     line: &Line<L, J, R>,
     seat: &mut Seat<L>,
     ticket: &Ticket,
 ) -> Result<JobAnswer, WorkersFault>
-    requires { IsJournaled L.workers (shape_of L.schema) seat.old.list }
     ensures legal { IsJournaled L.workers (shape_of L.schema) seat.new.list }
     ensures later { IsPrefix seat.old.list seat.new.list }
     ensures same { seat.new ≡ record seat.old { list = seat.new.list } }
@@ -94,22 +91,10 @@ pub fn acknowledged<L: Origin, J: JournalStore + Drop, R: Wait + Drop, W: Wait>(
         Err(FlushFault::Memory) => return Err(WorkersFault::Memory),
         Err(_) => return Err(WorkersFault::Journal),
     }
-    let settled = line.settle(rt, seat, ticket);
-    look(alloc, seat);
-    match settled {
+    match line.settle(rt, seat, ticket) {
         Settled::Settled(number) => Ok(JobAnswer::Ticket(number)),
         Settled::Unpublished => Err(WorkersFault::Memory),
         Settled::Lost => Err(WorkersFault::Journal),
         Settled::NotYet => Err(WorkersFault::Journal),
     }
-}
-
-/// Lets a seat look at what is published: what it has then seen is known to be legal.
-pub fn look<L: Origin>(alloc: Global, seat: &mut Seat<L>)
-    ensures legal { IsJournaled L.workers (shape_of L.schema) seat.new.list }
-    ensures later { IsPrefix seat.old.list seat.new.list }
-    ensures same { seat.new ≡ record seat.old { list = seat.new.list } }
-{
-    // When a seat begins a transaction, its contract states that its list is legal.
-    let _ = seat.begin(alloc);
 }

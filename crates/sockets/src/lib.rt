@@ -15,7 +15,8 @@
 //! what arrived, and what was sent is exactly what the cores answered, except for lost datagrams,
 //! each of which is a fault that the port counted. A replica hands on each report once, and was
 //! offered the queries of the queue, in order; a primary pushes each frame once. So what is proved
-//! of a fed replica and of a line's seats holds for the nodes.
+//! of a fed replica and of a line's seats holds for the nodes, and what a line sends of a list keeps
+//! a replica fed that is fed from it (`laws::what_is_sent_keeps_replicas_fed`).
 //!
 //! Promised, whatever the schedule of workers: an acknowledged ticket belongs to a commit that is
 //! durable and has the ticket's number in the list that the seat has seen, with the job's worker
@@ -24,8 +25,8 @@
 //! workers run at once, or anything about a socket.
 //!
 //! It uses `shared`, `dispatcher` and `queue`, and `mio` for sockets. The definitions to review for
-//! nodes are `specs/Ports.antt`, `Carrying`, `Serving`, `Replicas` and `Primaries`, and for workers
-//! `Changes`, `Answers`, `Work` and `Crews`. If a call fails for lack of memory, its value is
+//! nodes are `specs/Ports.antt`, `Carrying`, `Serving`, `Replicas`, `Primaries` and `Feeding`, and
+//! for workers `Changes`, `Answers`, `Work` and `Crews`. If a call fails for lack of memory, its value is
 //! unchanged unless the call says otherwise.
 #![tactic(auto)]
 
@@ -38,6 +39,7 @@ mod faults;
 mod gate;
 mod job;
 mod job_answer;
+pub mod laws;
 mod mem_port;
 mod port;
 mod serving_primary;
@@ -48,7 +50,7 @@ mod worker;
 
 pub use change::Change;
 pub use crew::{run_crew, run_workers};
-pub use doing::{acknowledged, do_job, look};
+pub use doing::{acknowledged, do_job};
 pub use drafting::{Stop, TRIES_AGAIN, begun, make_change};
 pub use faults::{PortFault, ServeFault, WorkersFault};
 pub use gate::{Gate, OpenGate};

@@ -1,6 +1,6 @@
 //! A serving primary: it pushes what is durable to its replicas, and answers what arrives.
 
-ghost use Rattle.std.specs.Prelude.{◌≡◌, ◌<◌, ◌≤◌, ◌⊎◌, [], length, Some, IfOk, IfErr, IsTrue};
+ghost use Rattle.std.specs.Prelude.{◌≡◌, ◌+◌, ◌-◌, ◌*◌, ◌<◌, ◌≤◌, ◌⊎◌, [], length, Some, IfOk, IfErr, IsTrue};
 ghost use Rattle.rows.specs.Limits.{datagram_max, workers_max};
 ghost use Rattle.sockets.specs.Serving.{TurnsLeft};
 ghost use Rattle.sockets.specs.Primaries.{ServesPrimary};
@@ -123,7 +123,10 @@ fn push_row<L: Origin, J: JournalStore, H: Wait + Drop, P: Port, R: Wait>(
 
 /// How many frames of a worker may still be pushed in a turn after `pushed` of at most `most` were; none once
 /// there were fewer.
-fn left_after(left: usize, most: usize, pushed: u64) -> usize {
+fn left_after(left: usize, most: usize, pushed: u64) -> usize
+    ensures fewer { pushed < most → result ≡ 0 }
+    ensures all { most ≤ pushed → result ≡ left - most }
+{
     if pushed < most as u64 {
         0
     } else {
@@ -131,8 +134,12 @@ fn left_after(left: usize, most: usize, pushed: u64) -> usize {
     }
 }
 
-/// How many frames of each worker are pushed in a turn, at most, with this many workers.
-fn pushes_of_each(workers: usize) -> usize {
+/// How many frames of each worker are pushed in a turn, at most, with this many workers: as many as
+/// both limits allow.
+fn pushes_of_each(workers: usize) -> usize
+    ensures within { (result ≤ WORKER_PUSHES) × (result * workers ≤ TURN_PUSHES) }
+    ensures most { (result ≡ WORKER_PUSHES) ⊎ (TURN_PUSHES < (result + 1) * workers) }
+{
     if workers <= TURN_PUSHES / WORKER_PUSHES {
         WORKER_PUSHES
     } else {

@@ -4,15 +4,18 @@ ghost use Rattle.std.specs.Prelude.{◌≡◌, ◌<◌, ◌⊎◌, [], length, t
 ghost use Rattle.rows.specs.Limits.{datagram_max};
 ghost use Rattle.journal.specs.Storing.{faults_max};
 ghost use Rattle.queue.specs.Passes.{moves_of, IsPassOf};
+ghost use Rattle.wire.specs.Reading.{reading};
 ghost use Rattle.dispatcher.specs.declared.faults.AskFault.TheVariants as asks;
 ghost use Rattle.sockets.specs.Serving.{TurnsLeft};
 ghost use Rattle.sockets.specs.Replicas.{ServesReplica, failures, handed};
-ghost use Rattle.sockets.specs.Inner.Steps.{Steps, report_in, OpensOf, OpensTaken};
+ghost use Rattle.sockets.specs.Inner.Steps.{Steps, report_in, heard_as, OpensOf, OpensTaken};
 ghost use Rattle.sockets.specs.declared.faults.ServeFault.TheVariants.{Broken};
 
 use crate::faults::ServeFault;
 use crate::port::{Patience, Port};
-use crate::turns::{AWAITING_DATAGRAMS, BUFFER_LEN, ROUND_DATAGRAMS, TURN_ROUNDS, take_turn};
+use crate::turns::{
+    AWAITING_DATAGRAMS, BUFFER_LEN, ROUND_DATAGRAMS, TURN_ROUNDS, last_wanted, take_turn,
+};
 use dispatcher::{AskFault, Got, OpenFault, ReplicaCore, Run};
 use plans::Plan;
 use queue::{Pass, QueryQueue};
@@ -56,6 +59,8 @@ pub fn serve_replica<S: ApplyStore + Sync, P: Port, R: Threads + Wait + Sync>(
     ensures ended { IfOk result (λ report. report ≡ None
         → (turns.new ≡ Some 0) ⊎ (replica.new.request ≡ u64.MAX) ⊎ (P.fault_count port.new ≡ u64.MAX)) }
     ensures broken { IfErr result (λ fault. fault ≡ Broken → replica.new.broken ≡ true) }
+    ensures told { replica.old.broken ≡ true → (result ≡ Err Broken) ⊎ (turns.old ≡ Some 0) ⊎ (replica.old.request ≡ u64.MAX)
+        ⊎ (P.fault_count port.old ≡ u64.MAX) }
 {
     let mut buffer = [0u8; BUFFER_LEN];
     for _ in rt.forever() {
@@ -87,6 +92,8 @@ fn turn<S: ApplyStore + Sync, P: Port, R: Threads + Wait + Sync>(
     ensures serves { ServesReplica P.is_honest P.came P.sent P.fault_count port.old port.new replica.old replica.new
         (moves_of pass.old) (moves_of pass.new) result }
     ensures broken { IfErr result (λ fault. fault ≡ Broken → replica.new.broken ≡ true) }
+    ensures told { replica.old.broken ≡ true → replica.old.request < u64.MAX → P.fault_count port.old < u64.MAX
+        → result ≡ Err Broken }
 {
     match ask(replica, port) {
         Ok(()) => run_and_hear(rt, replica, port, buffer),
@@ -123,6 +130,8 @@ fn ask<S: ApplyStore + Sync, P: Port>(
 ) -> Result<(), AskFault>
     ensures steps { Steps P.is_honest P.came P.sent P.fault_count port.old port.new replica.old replica.new 0 [] }
     ensures broken { IfErr result (λ fault. fault ≡ asks.Broken → replica.new.broken ≡ true) }
+    ensures told { replica.old.broken ≡ true → replica.old.request < u64.MAX → P.fault_count port.old < u64.MAX
+        → result ≡ Err asks.Broken }
 {
     if replica.request() == u64::MAX || port.faults() == u64::MAX {
         return Ok(());
@@ -241,7 +250,7 @@ fn run<S: ApplyStore + Sync, P: Port, R: Threads + Sync>(
             let _ = port.send(want);
             Ok(Ran::Hears(Awaited::Frame {
                 worker,
-                seq: seq.saturating_add(ROUND_DATAGRAMS as u64 - 1),
+                seq: last_wanted(seq),
             }))
         }
         Run::NoBatch => Ok(Ran::Hears(Awaited::Nothing)),
@@ -324,7 +333,9 @@ fn hear<S: ApplyStore + Sync, P: Port>(
 }
 
 /// What these bytes, which are no Head for it, are to a replica that awaits this.
-fn taken_for(bytes: &[u8], awaited: Awaited) -> Heard {
+fn taken_for(bytes: &[u8], awaited: Awaited) -> Heard
+    ensures { result ≡ heard_as awaited (reading bytes.now) }
+{
     let Awaited::Frame {
         worker: of,
         seq: end,

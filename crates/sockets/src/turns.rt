@@ -1,6 +1,7 @@
 //! The turns of a serve call, and the work of one turn.
 
-ghost use Rattle.std.specs.Prelude.{◌≡◌, Some, false};
+ghost use Rattle.std.specs.Prelude.{◌≡◌, ◌+◌, ◌-◌, min, Some, false};
+ghost use Rattle.primary.specs.Sending.{want_frames_max};
 ghost use Rattle.sockets.specs.Serving.{TurnsLeft};
 
 use rows::limits::DATAGRAM_MAX;
@@ -12,6 +13,13 @@ pub const BUFFER_LEN: usize = DATAGRAM_MAX + 1;
 /// answer one Want.
 pub const ROUND_DATAGRAMS: usize = 16;
 
+/// The seq of the last frame that answers a Want from this one on, if the worker has so many.
+pub fn last_wanted(from: u64) -> u64
+    ensures { result ≡ min u64.MAX (from + (want_frames_max - 1)) }
+{
+    from.saturating_add(ROUND_DATAGRAMS as u64 - 1)
+}
+
 /// How many datagrams are received, at most, while the answer to an Ask or the last frame of that to a Want
 /// is awaited: pushed frames arrive before it.
 pub const AWAITING_DATAGRAMS: usize = 256;
@@ -21,7 +29,7 @@ pub const TURN_ROUNDS: usize = 4;
 
 /// Uses up one turn, if one is left; `None` is no limit.
 pub fn take_turn(turns: &mut Option<u64>) -> bool
-    ensures ended { result ≡ false → turns.new ≡ Some 0 }
+    ensures ended { result ≡ false → (turns.old ≡ Some 0) × (turns.new ≡ Some 0) }
     ensures left { TurnsLeft turns.old turns.new }
 {
     match turns {

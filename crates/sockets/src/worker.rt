@@ -7,7 +7,7 @@ ghost use Rattle.journal.specs.Recovery.{IsJournaled};
 ghost use Rattle.sockets.specs.Inner.Jobs.{HasDone, HasLeft, HasMet};
 ghost use Rattle.sockets.specs.Work.{HasWorked};
 
-use crate::doing::{do_job, look};
+use crate::doing::do_job;
 use crate::faults::WorkersFault;
 use crate::gate::Gate;
 use crate::job::Job;
@@ -85,7 +85,7 @@ impl<L: Origin> Worker<L> {
         requires { number < L.workers }
         ensures { HasWorked L.workers (shape_of L.schema) number jobs.now self.old self.new }
     {
-        self.ready(alloc);
+        self.ready();
         for (index, job) in jobs.iter().enumerate() {
             if job.worker as usize == number {
                 match self.does(rt, alloc, line, index, job, gate) {
@@ -99,13 +99,13 @@ impl<L: Origin> Worker<L> {
         }
     }
 
-    /// Forgets all answers, and lets the seat look at what is published.
-    fn ready(&mut self, alloc: Global)
+    /// Forgets all answers.
+    fn ready(&mut self)
         ensures met { HasMet L.workers (shape_of L.schema) (record self.old { answers = []; fault = None }) self.new }
     {
         self.answers.clear();
         self.fault = None;
-        look(alloc, &mut self.seat);
+        self.seat.keeps_legal();
     }
 
     /// Does one job, and keeps its answer. Room for the answer is taken first, so that no answer is

@@ -1,6 +1,9 @@
 -- What the steps of a replica's turn do: parts of what its node does.
-use Rattle.std.specs.Prelude.{◌≡◌, ℕ, List, [], ◌∷◌, Bool, Result, Ok, IfOk}
+use Rattle.std.specs.Prelude.{◌≡◌, ℕ, List, [], ◌∷◌, Bool, Result, Ok, IfOk, ◌==◌, ◌&&◌, if◌then◌else◌}
 use mathlib.Core.List.{IsPrefix}
+use Rattle.wire.specs.declared.datagram.Datagram.{Datagram}
+use Rattle.wire.specs.declared.datagram.Datagram.TheVariants as datagrams
+use Rattle.wire.specs.declared.faults.WireFault.{WireFault}
 use Rattle.wire.specs.declared.out.Out.{Out}
 use Rattle.plans.specs.declared.plan.Plan.{Plan}
 use Rattle.dispatcher.specs.State.{Replica}
@@ -8,6 +11,10 @@ use Rattle.queue.specs.declared.moves.Moves.{Moves}
 use Rattle.sockets.specs.Serving.{Act, DoesAll, Serves, heard_in, sendings_in}
 use Rattle.sockets.specs.Replicas.{Call, Makes, hears, says, reports_in, offers_in, failures, Takes}
 use Rattle.sockets.specs.declared.faults.ServeFault.{ServeFault}
+use Rattle.sockets.specs.declared.serving_replica.Awaited.{Awaited}
+use Rattle.sockets.specs.declared.serving_replica.Awaited.TheVariants.{Frame}
+use Rattle.sockets.specs.declared.serving_replica.Heard.{Heard}
+use Rattle.sockets.specs.declared.serving_replica.Heard.TheVariants as heard
 use Rattle.sockets.specs.declared.serving_replica.Ran.{Ran}
 use Rattle.sockets.specs.declared.serving_replica.Ran.TheVariants.{Answered}
 
@@ -23,6 +30,12 @@ pub record Steps {P : Type 0} (is_honest : Bool) (came_at : P → List (List ℕ
 abbrev pub report_in : Result Ran ServeFault → List (List ℕ)
 report_in (Ok (Answered report)) = report ∷ []
 report_in other = []
+
+-- what a datagram that is no Head is to a replica that awaits this: what it awaits, if it is that frame
+abbrev pub heard_as : Awaited → Result Datagram WireFault → Heard
+heard_as (Frame of end) (Ok (datagrams.Frame worker seq commit last entries)) =
+    if (worker == of) && (seq == end) then heard.Awaited else heard.Datagram
+heard_as awaited other = heard.Datagram
 
 -- queries were offered, and nothing else was done
 pub record Opens (old new : Replica) (offered : List Plan) : Type 0 where

@@ -1,5 +1,5 @@
--- What was done so far, with no report.
-use Rattle.std.proofs.Common.{Ok, None}
+-- What was done so far, with no report; nothing, if the replica was broken.
+use Rattle.std.proofs.Common.{◌≡◌, true, Ok, None}
 use Rattle.queue.specs.Passes.{moves_of, IsPassOf}
 use Rattle.sockets.specs.Replicas.{ServesReplica}
 use Rattle.sockets.specs.Serving.{TurnsLeft}
@@ -13,4 +13,5 @@ invariant-loop g l = record {
   serves : ServesReplica {P = g.row.P.Denot} g.P.Port.is_honest g.P.Port.came g.P.Port.sent g.P.Port.fault_count l.fn.port l.port
       l.fn.replica l.replica (moves_of l.fn.pass) (moves_of l.pass) (Ok None);
   turns : TurnsLeft l.fn.turns l.turns;
+  fresh : l.fn.replica.broken ≡ true → (l.replica ≡ l.fn.replica) × (l.port ≡ l.fn.port) × (l.turns ≡ l.fn.turns);
 }

@@ -25,4 +25,5 @@ invariant_of-self g c =
       inv.4,
       inv.5,
       inv.6,
+      inv.7,
     )
