@@ -1,6 +1,6 @@
 //! What the program answers.
 
-ghost use Rattle.std.specs.Prelude.{◌≡◌, ◌≤◌, ◌++◌, ◌∷◌, ℕ, List, [], OnOk, map};
+ghost use Rattle.std.specs.Prelude.{◌≡◌, ◌<◌, ◌≤◌, ◌++◌, ◌∷◌, ℕ, List, [], length, OnOk, map};
 ghost use Rattle.std.specs.Io.KnownBytes.{Appends, Keeps};
 ghost use Rattle.batchdb.specs.Words.{asked_for};
 ghost use Rattle.batchdb.specs.Status.{fault_line, fault_status, status_max, HasAnswered, HasRun, IsUnwritten};
@@ -35,7 +35,7 @@ const FAILED: u8 = 1;
 /// Words or a script that do not read.
 const NOT_READ: u8 = 2;
 
-/// What `--version` prints behind the program's name.
+/// What `--version` prints after the program's name.
 pub const VERSION: &str = "0.2.0";
 
 /// What `--help` prints.
@@ -43,30 +43,30 @@ const HELP: &str = "\
 batchdb: a replicated engine for transactions and analytics
 
 Usage:
-  batchdb sim [--echo] < SCRIPT   runs a script, and prints what each of its events answers;
-                                  with --echo each event stands before that, behind \"> \"
+  batchdb sim [--echo] < SCRIPT   runs a script, and prints the answers to its events;
+                                  with --echo each event is printed before its answers, after \"> \"
   batchdb primary SCHEMA JOURNAL LISTEN [REPLICA]... [--turns N] [--live] [--say] < JOBS
-                                  does the jobs, and prints a line for each; then serves N turns
+                                  does the jobs, prints a line for each, and then serves N turns
   batchdb replica SCHEMA NUMBER BOOT LISTEN PRIMARY [--turns N] [--live] [--say] < BATCHES
                                   prints the report of each batch of queries, and ends
   batchdb demo                    a primary and two replicas in one process
   batchdb journal SCHEMA JOURNAL [--dump | --cut BYTES [--yes]]
-                                  tells what a journal keeps, prints its commits as jobs, or cuts it
+                                  prints what a journal keeps, prints its commits as jobs, or cuts it
   batchdb --help, batchdb help    prints this
   batchdb --version               prints the version
 
   SCHEMA   a file of settings: workers N, replicas N, and a line for each table
-  JOURNAL  a file, made where there is none
+  JOURNAL  a file; a primary creates it if it does not exist
   LISTEN, REPLICA, PRIMARY
            an address: a dotted IPv4 address or localhost, a colon, a port; LISTEN may have port 0
   NUMBER   the replica's number; the n-th REPLICA of the primary, counted from 0, is replica n
-  BOOT     a number that this replica was never started with before, as \"$(date +%s)\"
-  --turns  how often a node looks for datagrams, 10 ms at the most; 1000 if not said, 0 without end.
+  BOOT     a number with which this replica has never been started before, such as \"$(date +%s)\"
+  --turns  how many turns to serve: 1000 by default, 0 for no limit. An idle turn takes 10 ms.
            A live primary counts them from the end of its input on, a live replica for each batch
-  --live   jobs or batches are taken as they come, while the node serves
-  --say    says on standard error what the node does
+  --live   takes jobs or batches as they come, while the node serves
+  --say    reports on standard error what the node does
 
-A job that is not answered may be committed, as after Ctrl-C: only a line tells.
+A job without an answer may or may not be committed, for example after Ctrl-C. Only its ticket confirms it.
 
 Examples:
   batchdb sim --echo < examples/first-commit.script
@@ -75,7 +75,7 @@ Examples:
 Exit status:
   0  all was done
   1  a file, a socket, the journal or memory failed, or the replica is broken
-  2  the words, the script, the schema or the input do not read
+  2  there is a mistake in the words, the script, the schema or the input
   3  the turns are used up, and a batch is not answered
 ";
 
@@ -101,7 +101,8 @@ pub fn run_words<
         Asked::Simulator(echo) => simulate(rt, alloc, echo, reader, writer, errors),
         Asked::Help => print(HELP, writer, errors),
         Asked::Version => print_version(alloc, writer, errors),
-        Asked::Other => answer_other(alloc, words, writer, errors),
+        Asked::Longer => answer_longer(alloc, words, writer, errors),
+        Asked::Other => refuse(alloc, words, errors),
     }
 }
 
@@ -156,7 +157,7 @@ fn texts_of(alloc: Global, words: &[String]) -> Result<Vec<&str>, AllocError> {
 /// Prints the version.
 fn print_version<W: Write, E: Write>(alloc: Global, writer: &mut W, errors: &mut E) -> u8
     ensures status { result ≤ 1 }
-    ensures done { result ≡ 0 → (text : List ℕ) × Appends (W.contents writer.old) (W.contents writer.new) text }
+    ensures done { result ≡ 0 → (text : List ℕ) × (0 < length text) × Appends (W.contents writer.old) (W.contents writer.new) text }
 {
     let Ok(text) = format!(in alloc; "batchdb {VERSION}\n") else {
         say(errors, "batchdb: out of memory");
@@ -183,17 +184,28 @@ fn print<W: Write, E: Write>(text: &str, writer: &mut W, errors: &mut E) -> u8
     }
 }
 
-/// Says what is wrong with words that the program does not know, or what longer forms of known ones
-/// ask for, as `sim --help --echo`.
-fn answer_other<W: Write, E: Write>(
+/// Prints the help or the version, if longer forms of known words ask for that, as `sim --help --echo`;
+/// else says what is wrong with them.
+fn answer_longer<W: Write, E: Write>(
     alloc: Global,
     words: &[&str],
     writer: &mut W,
     errors: &mut E,
 ) -> u8
     ensures status { result ≤ 2 }
-    ensures done { result ≡ 0 → (text : List ℕ) × Appends (W.contents writer.old) (W.contents writer.new) text }
+    ensures done { result ≡ 0 → (text : List ℕ) × (0 < length text) × Appends (W.contents writer.old) (W.contents writer.new) text }
     ensures unwritten { result ≡ 2 → Keeps (W.contents writer.old) (W.contents writer.new) }
+{
+    match parse(alloc, words) {
+        Err(Unasked::Told(answer)) => tell(alloc, words, answer, writer, errors),
+        Ok(_) | Err(Unasked::Wrong(_)) => refuse(alloc, words, errors),
+    }
+}
+
+/// Says what is wrong with words that the program does not know.
+fn refuse<E: Write>(alloc: Global, words: &[&str], errors: &mut E) -> u8
+    ensures some { 0 < result }
+    ensures most { result ≤ 2 }
 {
     match parse(alloc, words) {
         Ok(_) => {
@@ -203,7 +215,7 @@ fn answer_other<W: Write, E: Write>(
             );
             NOT_READ
         }
-        Err(Unasked::Told(answer)) => tell(alloc, words, answer, writer, errors),
+        Err(Unasked::Told(_)) => refuse_told(alloc, words, errors),
         Err(Unasked::Wrong(failure)) => failure.tell(errors).min(NOT_READ),
     }
 }
@@ -240,8 +252,8 @@ fn parse<'a>(alloc: Global, words: &'a [&'a str]) -> Result<Asking<'a>, Unasked>
     read_words(alloc, HELP, VERSION, words)
 }
 
-/// Says what the words are answered with: help and the version on the output, what is wrong with
-/// them in one line on the errors.
+/// Prints what the words ask for, the help or the version; or says what is wrong with them in one line on
+/// the errors.
 fn tell<W: Write, E: Write>(
     alloc: Global,
     words: &[&str],
@@ -250,17 +262,22 @@ fn tell<W: Write, E: Write>(
     errors: &mut E,
 ) -> u8
     ensures status { result ≤ 2 }
-    ensures done { result ≡ 0 → (text : List ℕ)
+    ensures done { result ≡ 0 → (text : List ℕ) × (0 < length text)
         × Appends (W.contents writer.old) (W.contents writer.new) text }
     ensures unwritten { result ≡ 2 → Keeps (W.contents writer.old) (W.contents writer.new) }
 {
-    if !answer.use_stderr() {
-        let Some(text) = text_of(alloc, &answer) else {
-            say(errors, "batchdb: out of memory");
-            return FAILED;
-        };
-        return print(text.as_str(), writer, errors);
+    match answer.kind() {
+        ErrorKind::DisplayHelp => print(HELP, writer, errors),
+        ErrorKind::DisplayVersion => print_version(alloc, writer, errors),
+        _ => refuse_told(alloc, words, errors),
     }
+}
+
+/// Says what is wrong with words that do not parse, in one line.
+fn refuse_told<E: Write>(alloc: Global, words: &[&str], errors: &mut E) -> u8
+    ensures some { 0 < result }
+    ensures most { result ≤ 2 }
+{
     let Some(text) = wrong_text(alloc, words) else {
         say(errors, "batchdb: out of memory");
         return FAILED;

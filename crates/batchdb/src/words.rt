@@ -1,7 +1,9 @@
 //! What the program's words ask for.
 
 ghost use Rattle.std.specs.Prelude.{◌≡◌, map};
-ghost use Rattle.batchdb.specs.Words.{asked_for, is_of_node, asked_by_one, asked_by_two, asked_by_three, asked_of_sim, is_help};
+ghost use Rattle.batchdb.specs.Words.{asked_for, asked_besides, is_of_node, asked_by_one, asked_by_two, asked_by_three, asked_of_sim};
+ghost use Rattle.std.specs.List.{list_any};
+ghost use Rattle.batchdb.specs.Words.{is_help, is_version, is_request, has_request};
 
 use world::Echo;
 
@@ -16,6 +18,8 @@ pub enum Asked {
     Version,
     /// What is a node's, whatever the other words are.
     Node,
+    /// To print the help or the version, if the words are a longer form of that.
+    Longer,
     /// Nothing that the program knows.
     Other,
 }
@@ -27,6 +31,16 @@ pub fn asked_for(words: &[&str]) -> Asked
     if is_of_node(words) {
         return Asked::Node;
     }
+    match asked_besides(words) {
+        Asked::Other if has_request(words) => Asked::Longer,
+        asked => asked,
+    }
+}
+
+/// What these words ask for, which are no node's, but for longer forms.
+fn asked_besides(words: &[&str]) -> Asked
+    ensures { result ≡ asked_besides (map (λ word. word.now) words.now) }
+{
     match words {
         [_, word] => asked_by_one(word),
         [_, word, next] => asked_by_two(word, next),
@@ -55,7 +69,7 @@ fn asked_by_one(word: &str) -> Asked
         Asked::Simulator(Echo::No)
     } else if word == "help" || is_help(word) {
         Asked::Help
-    } else if word == "--version" || word == "-V" {
+    } else if is_version(word) {
         Asked::Version
     } else {
         Asked::Other
@@ -106,4 +120,39 @@ fn is_help(word: &str) -> bool
     ensures { result ≡ is_help word.now }
 {
     word == "--help" || word == "-h"
+}
+
+/// Whether a word asks for the version.
+fn is_version(word: &str) -> bool
+    ensures { result ≡ is_version word.now }
+{
+    word == "--version" || word == "-V"
+}
+
+/// Whether a word may ask for the help or the version, wherever it stands.
+fn is_request(word: &str) -> bool
+    ensures { result ≡ is_request word.now }
+{
+    word == "help"
+        || is_help(word)
+        || is_version(word)
+        || word.as_bytes().starts_with(b"-h")
+        || word.as_bytes().starts_with(b"-V")
+}
+
+/// Whether one of the words behind the program's own name may.
+fn has_request(words: &[&str]) -> bool
+    ensures { result ≡ has_request (map (λ word. word.now) words.now) }
+{
+    match words {
+        [_, behind @ ..] => is_any_request(behind),
+        [] => false,
+    }
+}
+
+/// Whether one of these words may.
+fn is_any_request(words: &[&str]) -> bool
+    ensures { result ≡ list_any is_request (map (λ word. word.now) words.now) }
+{
+    words.iter().any(|word| is_request(word))
 }
