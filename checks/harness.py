@@ -1,13 +1,13 @@
-"""What the checks share: the program, cases, runs of a program, programs that run on, addresses, limits of time. Each takes
+"""What the checks share: the program, cases, runs of a program, programs in the background, addresses, limits of time. Each takes
 this word:
 
     [PROGRAM]      another program than crates/batchdb/out/batchdb
 
-checks/hostile and checks/faults have tallies, stories, nodes, and what a journal is to have kept besides, and take more words:
+checks/hostile and checks/faults also share tallies, stories, nodes, and the test of what a journal kept. They take more words:
 
     --only PART    one part alone
     --few          a twentieth of the inputs, for a quick look
-    --jobs N       so many processes at once; as many as there are processors if not given
+    --jobs N       how many processes at once; as many as there are processors if not given
     --shown N      how many failures of a part are shown
 """
 
@@ -32,11 +32,11 @@ import reference as own
 ROOT = os.path.dirname(os.path.dirname(os.path.abspath(__file__)))
 PARSER = argparse.ArgumentParser()
 PARSER.add_argument("program", nargs="?", default=f"{ROOT}/crates/batchdb/out/batchdb")
-# A check whose inputs are so many that it has parts.
+# These checks have so many inputs that they are divided into parts.
 if os.path.basename(sys.argv[0]) in ("hostile", "faults"):
     PARSER.add_argument("--only", metavar="PART", help="one part alone")
     PARSER.add_argument("--few", action="store_true", help="a twentieth of the inputs, for a quick look")
-    PARSER.add_argument("--jobs", type=int, default=os.cpu_count(), metavar="N", help="how many processes at once")
+    PARSER.add_argument("--jobs", type=int, default=len(os.sched_getaffinity(0)), metavar="N", help="how many processes at once")
     PARSER.add_argument("--shown", type=int, default=5, metavar="N", help="how many failures of a part are shown")
 WORDS = PARSER.parse_args()
 PROGRAM = os.path.abspath(WORDS.program)
@@ -66,7 +66,7 @@ def last_line(what):
 
 
 class Tally:
-    """How many inputs a part tried, what came of them, what was not as it is to be, and lines that are to be printed."""
+    """How many inputs a part tried, what came of them, what differed, and lines to print."""
 
     def __init__(self):
         self.inputs, self.wrong, self.outcomes, self.told = 0, [], collections.Counter(), []
@@ -100,7 +100,7 @@ def run(*words, given="", command=(PROGRAM,), **more):
 
 @contextlib.contextmanager
 def started(*words, command=(PROGRAM,), seconds=SECONDS_MAX, **more):
-    """A program that runs on; it is killed at the end, and after so many seconds."""
+    """A program that runs in the background; it is killed at the end, or after this many seconds."""
     pipes = {name: subprocess.PIPE for name in ("stdin", "stdout", "stderr")}
     process = subprocess.Popen([*command, *words], text=True, bufsize=1, **{**pipes, **more})
     watch = threading.Timer(seconds, process.kill)
@@ -158,7 +158,7 @@ def guarded(function, job):
 
 
 def spread(function, jobs):
-    """Calls a function on each job in processes of their own, and adds up their tallies."""
+    """Calls a function on each job, in several processes, and adds up the tallies."""
     tally = Tally()
     with concurrent.futures.ProcessPoolExecutor(WORDS.jobs) as pool:
         for other in pool.map(functools.partial(guarded, function), jobs):
@@ -236,7 +236,7 @@ class Lines:
             self.changed.notify_all()
 
     def has(self, count):
-        """Waits until there are so many lines, or no more come."""
+        """Waits until there are this many lines, or no more come."""
         with self.changed:
             self.changed.wait_for(lambda: self.ended or len(self.all) >= count)
             return len(self.all) >= count
@@ -257,7 +257,7 @@ class Lines:
 
 
 class Node:
-    """A program that runs on; it is killed at the end."""
+    """A program that runs in the background; it is killed at the end."""
 
     def __init__(self, *words, limit="-c 0", **more):
         # One arena: the C library sets aside 64 MB for each other one, which would hide what a number takes.
@@ -336,7 +336,7 @@ def free_address():
 
 
 def event_of(schema, entry):
-    """A change as it stands in a script or in a job, without its transaction."""
+    """A change as a script or a job has it, without its transaction."""
     name, row = schema.names[entry.table], entry.row
     if entry.operation == own.DELETE:
         return f"delete {name} {row}"
@@ -368,7 +368,7 @@ def commits_of(settings, jobs):
 
 
 def kept_in(tally, name, schema, offered, output, data, before=()):
-    """Each ticket that was printed is that job's commit in the journal, and behind the commits from before there is a beginning of
+    """Each ticket that was printed is that job's commit in the journal, and after the commits from before there is a beginning of
     each worker's jobs. Returns how many commits there are."""
     found = own.recover(schema, data)
     if not isinstance(found, own.Kept):

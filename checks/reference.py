@@ -17,7 +17,7 @@ RECORD_MIN, RECORD_MAX = 21, 2146315
 WAITING_MAX = 64
 U64_MAX = 2**64 - 1
 
-# An entry's data is that of an insert or a patch; its offset that of a patch.
+# An insert and a patch have data, and a patch has an offset.
 Entry = namedtuple("Entry", "operation table row offset data")
 Commit = namedtuple("Commit", "worker entries")
 Frame = namedtuple("Frame", "worker seq commit last entries")
@@ -54,7 +54,7 @@ class Schema:
 
 
 def value_bytes(word):
-    """The kind of a value that stands in a script, and its bytes."""
+    """The kind of a value of a script, and its bytes."""
     if word.startswith("x"):
         return len(word) // 2, bytes.fromhex(word[1:])
     return 0, int(word).to_bytes(8, "big", signed=True)
@@ -73,7 +73,7 @@ def spell_entry(entry):
 
 
 def read_entries(body, count):
-    """The entries, if the bytes are exactly so many; otherwise None."""
+    """The entries, if the bytes are exactly this many entries; otherwise None."""
     entries, at = [], 0
     for _ in range(count):
         if len(body) < at + 10:
@@ -145,7 +145,7 @@ def cut(worker, commit, seq, entries):
 
 
 def change(rows, entry):
-    """Makes a change that fits; tells whether it is defined. A row's bytes are never changed in place."""
+    """Makes a change that fits, and returns whether it is defined. A row's bytes are never changed in place."""
     here = rows[entry.table]
     if (entry.operation == INSERT) == (entry.row in here):
         return False

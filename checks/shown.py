@@ -47,7 +47,7 @@ def numbers(text):
 
 
 class Document:
-    """A document's blocks and tables, and what else stands below each heading. Parts that are generated are left out."""
+    """A document's blocks and tables, and the rest of the text below each heading. Parts that are generated are left out."""
 
     def __init__(self, path):
         self.path, self.blocks, self.prose, heading = path, [], collections.defaultdict(str), ""
