@@ -17,8 +17,8 @@ ENDS = re.compile(r"\}|(?:pub(?:\([^)]*\))? )?(?:struct|enum|const|static|type|u
 CLAUSE = re.compile(r" *(?:requires|ensures|ghost)\*?(?: \w+)? \{.*\}$")
 
 Change = collections.namedtuple("Change", "path old new")
-# Its file, its first and last line there, its path below the crate, and whether it has a body.
-Function = collections.namedtuple("Function", "file first last path has_body")
+# Its file, its first and last line there, its path below the crate, whether it has a body, and the first and last line inside of that.
+Function = collections.namedtuple("Function", "file first last path has_body inside")
 
 
 class Fault(Exception):
@@ -53,7 +53,9 @@ class Sources:
             return None
         last = end_of(lines, first)
         path = self.path_of(file, lines, first)
-        return Function(file, first + 1, last + 1, path, has_body(lines, first)) if path and number <= last else None
+        if not path or number > last:
+            return None
+        return Function(file, first + 1, last + 1, path, has_body(lines, first), (opening_of(lines, first, last) + 2, last))
 
     def path_of(self, file, lines, first):
         """The path of the function whose head is this line; None where the lines above do not show it."""
@@ -104,6 +106,13 @@ def has_body(lines, first):
     """Whether the function has a body: the head of a method that a trait leaves to its impls ends with a semicolon."""
     opens = next((it for it in lines[first:] if it.endswith(("{", "}", ";")) and not CLAUSE.match(it)), "}")
     return not opens.endswith(";")
+
+
+def opening_of(lines, first, last):
+    """The line at whose end the body of the function opens, whose head and last line these are: a line of its own after clauses."""
+    alone = f"{HEAD.match(lines[first])[1]}{{"
+    ends = range(first, last)
+    return next((it for it in ends if lines[it].rstrip() == alone), next((it for it in ends if lines[it].endswith("{")), last))
 
 
 class Edit:

@@ -7,12 +7,14 @@ import shutil
 import subprocess
 import tempfile
 
-from edits import Fault, Sources, edits_of, rounds_of
+from edits import Fault, Sources, edits_of, read, rounds_of
 
 PARTS = ("src", "specs", "proofs")
 # The files of a function's proof that a hole stands for.
 ANSWERS = ("Invariants.antt", "Answers.antt")
 HOLE = "use {statement}.{{statement}}\n\npub {name}_spec : {{M : Type 1}} → statement M\n{name}_spec = ?\n"
+# What stands for a body that nothing reads, since its proof is a hole.
+NO_BODY = "unreachable!()"
 # A hole that the prover has no use for.
 UNWANTED = re.compile(r"\./proofs/(\S+)/Proof\.antt: error(?:\[reserved-name\]|: rattle does not read this file)")
 PLACE = re.compile(r"(?:note: )?(?:\./)?((?:src|specs|proofs)/\S+?):(\d+):\d+: (.*)")
@@ -78,10 +80,9 @@ class Crate:
         return rounds_of(self.edits, self.is_in_cycle)
 
     def leave_holes(self, copy, changed):
-        """Puts a hole in the place of the proof of each function that is not changed, so that it counts by its contract alone. A function
-        of a cycle of calls keeps its proof."""
+        """Puts a hole in the place of the proof of each function that is not changed, so that it counts by its contract alone."""
         for function in self.sources.functions():
-            if function.has_body and function.path not in changed | self.keep and not self.is_in_cycle(function):
+            if self.has_hole(function, changed):
                 *above, own = function.path.split("::")
                 folder = "/".join([copy, "proofs", *above, own])
                 os.makedirs(folder, exist_ok=True)
@@ -89,6 +90,26 @@ class Crate:
                     os.remove(f"{folder}/{it}")
                 with open(f"{folder}/Proof.antt", "w", encoding="utf-8") as proof:
                     proof.write(HOLE.format(statement=".".join(["Rattle", self.name, "proofs", *above, own, "Statement"]), name=own))
+
+    def empty_bodies(self, copy, changed):
+        """Empties the bodies of the functions that have holes, so that nothing is asked of what they call. Each line stays where it is."""
+        functions = [it for it in self.sources.functions() if self.may_be_empty(it, changed)]
+        for file in {it.file for it in functions}:
+            lines = read(f"{copy}/{file}").split("\n")
+            for first, last in (it.inside for it in functions if it.file == file):
+                lines[first - 1 : last] = [NO_BODY] + [""] * (last - first)
+            with open(f"{copy}/{file}", "w", encoding="utf-8") as emptied:
+                emptied.write("\n".join(lines))
+
+    def may_be_empty(self, function, changed):
+        """Whether the function has a hole, and only its own proof reads its body: a constant may be computed by it, or a type be told."""
+        first, last = function.inside
+        head = "\n".join(self.sources.texts[function.file].split("\n")[function.first - 1 : first - 1])
+        return self.has_hole(function, changed) and first <= last and not re.search(r"\bconst fn\b|-> .*\bimpl\b", head)
+
+    def has_hole(self, function, changed):
+        """Whether a hole stands for the function's proof; one of a cycle of calls keeps its proof."""
+        return function.has_body and function.path not in changed | self.keep and not self.is_in_cycle(function)
 
     def copy_with(self, edits, room):
         copy = tempfile.mkdtemp(prefix=f"{self.name}-", dir=room)
@@ -99,21 +120,25 @@ class Crate:
             edit.apply(copy)
         return copy
 
-    def check(self, edits, functions, room):
+    def check(self, edits, functions, room, empties=True):
         """Checks a copy with these edits: these functions of it, over holes for the others; or all of it if none is named."""
         copy = self.copy_with(edits, room)
         words = [f"{self.kit}/bin/rattle", "check", *self.words, "--jobs", "1"]
         if functions:
             self.leave_holes(copy, functions)
+            if empties:
+                self.empty_bodies(copy, functions)
             words += ["--allow-holes", *(it for path in sorted(functions) for it in ("--only", path))]
         checked = run(words, copy)
         shutil.rmtree(copy)
         unwanted = {it.replace("/", "::") for line in checked.lines for it in UNWANTED.findall(line)} - self.keep
-        if unwanted:
-            # The prover says so at once, before it proves anything.
-            self.keep |= unwanted
-            return self.check(edits, functions, room)
-        return checked
+        is_read = not functions or checked.status < 0 or any(it.startswith("only=") for it in checked.lines)
+        if not unwanted and (is_read or not empties):
+            return checked
+        # The prover says so at once, before it proves anything: there is no such hole, or the text is not read, with its bodies or without.
+        self.keep |= unwanted
+        again = self.check(edits, functions, room, empties and bool(unwanted))
+        return again._replace(seconds=checked.seconds + again.seconds)
 
 
 def below(crate, named):
