@@ -340,17 +340,27 @@ def event_of(schema, entry):
     name, row = schema.names[entry.table], entry.row
     if entry.operation == own.DELETE:
         return f"delete {name} {row}"
+    if entry.operation == own.ADD_COLUMN:
+        return f"column {name} {own.value_word(entry.offset, entry.data)}"
     if entry.operation == own.INSERT:
         values = " ".join(schema.value(entry.table, column, entry.data) for column in range(len(schema.columns[entry.table])))
         return f"insert {name} {row} {values}"
     column = schema.columns[entry.table].index((entry.offset, len(entry.data)))
-    value = "x" + entry.data.hex() if schema.kinds[entry.table][column] else int.from_bytes(entry.data, "big", signed=True)
-    return f"set {name} {row} {column} {value}"
+    return f"set {name} {row} {column} {own.value_word(schema.kinds[entry.table][column], entry.data)}"
+
+
+def events_of(schema, commit):
+    """The changes of a commit on tables with these columns."""
+    events = []
+    for entry in commit.entries:
+        events.append(event_of(schema, entry))
+        schema = schema.behind(entry)
+    return events
 
 
 def job_of(schema, commit):
-    """A commit as a job."""
-    return "".join(line + "\n" for line in [f"job {commit.worker}", *(event_of(schema, entry) for entry in commit.entries), "end"])
+    """A commit on tables with these columns, as a job."""
+    return "".join(line + "\n" for line in [f"job {commit.worker}", *events_of(schema, commit), "end"])
 
 
 def inserts(rows):

@@ -6,18 +6,20 @@ import copy
 import struct
 from collections import namedtuple
 
-INSERT, PATCH, DELETE = 1, 2, 3
+INSERT, PATCH, DELETE, ADD_COLUMN = 1, 2, 3, 4
 FRAME, ASK, HEAD, WANT = 1, 2, 3, 4
+COLUMNS_MAX, ROW_MAX = 16, 512
 DATAGRAM_MAX = 1200
 FRAME_OVERHEAD = 26
 WANTED_MAX = 16
 WINDOW = 4096
 ENTRIES_MAX = 4096
-RECORD_MIN, RECORD_MAX = 21, 2146315
+RECORD_MIN, RECORD_MAX = 15, 2146315
 WAITING_MAX = 64
 U64_MAX = 2**64 - 1
 
-# An insert and a patch have data, and a patch has an offset.
+# An insert and a patch have data, and a patch has an offset. An added column has no row, its kind in place of the offset, and as data
+# its value.
 Entry = namedtuple("Entry", "operation table row offset data")
 Commit = namedtuple("Commit", "worker entries")
 Frame = namedtuple("Frame", "worker seq commit last entries")
@@ -34,7 +36,11 @@ class Schema:
         lines = [line.split(" ") for line in text.splitlines() if line and not line.startswith("#")]
         self.workers, self.replicas = int(lines[0][1]), int(lines[1][1])
         self.names = [words[1] for words in lines[2:]]
-        self.kinds = [[0 if kind == "int" else int(kind[5:]) for kind in words[2:]] for words in lines[2:]]
+        self.have([[0 if kind == "int" else int(kind[5:]) for kind in words[2:]] for words in lines[2:]])
+
+    def have(self, kinds):
+        """The tables have columns of these kinds."""
+        self.kinds = kinds
         sizes = [[kind or 8 for kind in kinds] for kinds in self.kinds]
         self.columns = [[(sum(it[:column]), it[column]) for column in range(len(it))] for it in sizes]
         self.widths = [sum(it) for it in sizes]
@@ -44,19 +50,36 @@ class Schema:
             return False
         if entry.operation == INSERT:
             return len(entry.data) == self.widths[entry.table]
+        if entry.operation == ADD_COLUMN:
+            return len(self.kinds[entry.table]) < COLUMNS_MAX and self.widths[entry.table] + len(entry.data) <= ROW_MAX
         return entry.operation == DELETE or (entry.offset, len(entry.data)) in self.columns[entry.table]
+
+    def behind(self, entry):
+        """The settings behind an entry that fits: an added column is the last of its table."""
+        if entry.operation != ADD_COLUMN:
+            return self
+        it = copy.copy(self)
+        it.have([[*kinds, entry.offset] if table == entry.table else kinds for table, kinds in enumerate(self.kinds)])
+        return it
+
+    def has_tables(self, entries):
+        return all(entry.table < len(self.names) for entry in entries)
 
     def value(self, table, column, data):
         """The value of a column, as it is printed."""
         offset, size = self.columns[table][column]
-        part = data[offset:offset + size]
-        return "x" + part.hex() if self.kinds[table][column] else str(int.from_bytes(part, "big", signed=True))
+        return value_word(self.kinds[table][column], data[offset:offset + size])
+
+
+def value_word(kind, data):
+    """A value as it is printed."""
+    return "x" + data.hex() if kind else str(int.from_bytes(data, "big", signed=True))
 
 
 def value_bytes(word):
-    """The kind of a value of a script, and its bytes."""
+    """The kind of a value of a script, which is None if it has no bytes, and its bytes."""
     if word.startswith("x"):
-        return len(word) // 2, bytes.fromhex(word[1:])
+        return len(word) // 2 or None, bytes.fromhex(word[1:])
     return 0, int(word).to_bytes(8, "big", signed=True)
 
 
@@ -64,6 +87,8 @@ def value_bytes(word):
 
 
 def spell_entry(entry):
+    if entry.operation == ADD_COLUMN:
+        return struct.pack(">BBB", entry.operation, entry.table, entry.offset) + entry.data
     head = struct.pack(">BBQ", entry.operation, entry.table, entry.row)
     if entry.operation == INSERT:
         return head + struct.pack(">H", len(entry.data)) + entry.data
@@ -76,6 +101,14 @@ def read_entries(body, count):
     """The entries, if the bytes are exactly this many entries; otherwise None."""
     entries, at = [], 0
     for _ in range(count):
+        if body[at:at + 1] == bytes([ADD_COLUMN]):
+            table, kind = [*body[at + 1:at + 3], 255, 255][:2]
+            at, size = at + 3, kind or 8
+            if table >= 16 or kind > 64 or len(body) < at + size:
+                return None
+            entries.append(Entry(ADD_COLUMN, table, None, kind, body[at:at + size]))
+            at += size
+            continue
         if len(body) < at + 10:
             return None
         operation, table, row = struct.unpack_from(">BBQ", body, at)
@@ -107,12 +140,12 @@ def spell(datagram):
         kind, body = HEAD, struct.pack(f">BQQQB{len(datagram.counts)}Q", *datagram[:4], len(datagram.counts), *datagram.counts)
     else:
         kind, body = WANT, struct.pack(">BBQ", *datagram)
-    return struct.pack(">2sBBH", b"BD", 1, kind, 6 + len(body)) + body
+    return struct.pack(">2sBBH", b"BD", 2, kind, 6 + len(body)) + body
 
 
 def read_datagram(data):
     """The datagram that the bytes are; None if they are none."""
-    if len(data) < 6 or data[:3] != b"BD\x01" or data[3] not in (FRAME, ASK, HEAD, WANT):
+    if len(data) < 6 or data[:3] != b"BD\x02" or data[3] not in (FRAME, ASK, HEAD, WANT):
         return None
     if int.from_bytes(data[4:6], "big") != len(data) or len(data) > DATAGRAM_MAX:
         return None
@@ -147,6 +180,9 @@ def cut(worker, commit, seq, entries):
 def change(rows, entry):
     """Makes a change that fits, and returns whether it is defined. A row's bytes are never changed in place."""
     here = rows[entry.table]
+    if entry.operation == ADD_COLUMN:
+        rows[entry.table] = {row: data + entry.data for row, data in here.items()}
+        return True
     if (entry.operation == INSERT) == (entry.row in here):
         return False
     if entry.operation == DELETE:
@@ -159,8 +195,17 @@ def change(rows, entry):
     return True
 
 
+def behind(schema, rows, entries):
+    """Makes changes one after another, and returns the settings behind them; None if one of them does not fit or is not defined."""
+    for entry in entries:
+        if not schema.fits(entry) or not change(rows, entry):
+            return None
+        schema = schema.behind(entry)
+    return schema
+
+
 def header(schema):
-    return b"BDJ1" + bytes([schema.workers, len(schema.kinds)]) + b"".join(bytes([len(kinds), *kinds]) for kinds in schema.kinds)
+    return b"BDJ2" + bytes([schema.workers, len(schema.kinds)]) + b"".join(bytes([len(kinds), *kinds]) for kinds in schema.kinds)
 
 
 def record(number, commit):
@@ -183,7 +228,7 @@ def recover(schema, data):
         return Kept([], 0)
     if not data.startswith(start):
         return Refused("OtherHeader", None)
-    rows, commits, at = [{} for _ in schema.kinds], [], len(start)
+    now, rows, commits, at = schema, [{} for _ in schema.kinds], [], len(start)
     while True:
         if len(data) - at < 4:
             return Kept(commits, at)
@@ -198,7 +243,8 @@ def recover(schema, data):
             return Refused("Damaged", at)
         if number != len(commits) + 1:
             return Refused("OutOfOrder", at)
-        if worker >= schema.workers or not all(schema.fits(entry) and change(rows, entry) for entry in entries):
+        now = behind(now, rows, entries) if worker < schema.workers else None
+        if now is None:
             return Refused("Illegal", at)
         commits.append(Commit(worker, entries))
         at += 4 + length
@@ -366,6 +412,22 @@ class Replica:
         return None
 
 
+class Draft:
+    """An open transaction: its snapshot with its own changes made, and these."""
+
+    def __init__(self, version, schema, rows):
+        self.version, self.schema, self.rows, self.entries = version, schema, rows, []
+
+
+def conflict(entries, others):
+    """Whether two commits touch one row, or one adds a column to a table in which the other has any entry."""
+    rows, tables = {(it.table, it.row) for it in entries}, {it.table for it in entries}
+    grown = {it.table for it in entries if it.operation == ADD_COLUMN}
+    return any(
+        (it.table, it.row) in rows or it.table in grown or it.operation == ADD_COLUMN and it.table in tables for it in others
+    )
+
+
 class World:
     """The simulator. `step` answers an event's lines and leaves what is so after it; `without_memory` leaves what may be so where
     a growth was refused in it."""
@@ -373,8 +435,8 @@ class World:
     def __init__(self, schema):
         self.schema = schema
         self.commits, self.durable, self.stopped = [], 0, False
-        # The rows after each number of commits.
-        self.tables = [[{} for _ in schema.kinds]]
+        # The rows after each number of commits, and the settings with the columns that were added by then.
+        self.tables, self.schemas = [[{} for _ in schema.kinds]], [schema]
         self.transactions = []
         self.sent, self.sent_set = [], set()
         self.replicas = [Replica(number, schema.workers, [1]) for number in range(schema.replicas)]
@@ -384,17 +446,25 @@ class World:
     def rows_after(self, version):
         while len(self.tables) <= version:
             rows = [dict(it) for it in self.tables[-1]]
-            for entry in self.commits[len(self.tables) - 1].entries:
-                change(rows, entry)
+            entries = self.commits[len(self.tables) - 1].entries
+            self.schemas.append(behind(self.schemas[-1], rows, entries))
             self.tables.append(rows)
         return self.tables[version]
+
+    def schema_at(self, version):
+        self.rows_after(version)
+        return self.schemas[version]
+
+    def table(self, name):
+        return self.schema.names.index(name)
 
     def journal(self, count):
         return journal(self.schema, self.commits[:count])
 
     def report(self, queries):
         """The lines of a replica's report at the durable version."""
-        return report(self.schema, self.durable, self.rows_after(self.durable), [read_plan(self.schema, it.split(" ")) for it in queries])
+        schema = self.schema_at(self.durable)
+        return report(schema, self.durable, self.rows_after(self.durable), [read_plan(schema, it.split(" ")) for it in queries])
 
     def frames(self, worker):
         """The worker's stream of durable frames."""
@@ -409,81 +479,90 @@ class World:
         self.sent_set.add(data)
         return f"sent {len(self.sent) - 1} {len(data)}"
 
+    def draft(self, number):
+        return self.transactions[int(number)] if int(number) < len(self.transactions) else None
+
     def changed(self, number, make):
-        """An insert, set or delete of a transaction; `make` answers an entry, or what is said instead."""
-        draft = self.transactions[number] if number < len(self.transactions) else None
+        """A change of a transaction; `make` is given the transaction, and answers an entry or what is said instead."""
+        draft = self.draft(number)
         if draft is None:
             return ["no tx"]
-        version, entries, rows = draft
-        entry = make(rows)
+        entry = make(draft)
         if isinstance(entry, str):
             return [entry]
-        if len(entries) == ENTRIES_MAX:
+        if len(draft.entries) == ENTRIES_MAX:
             return ["too many entries"]
-        change(rows, entry)
-        entries.append(entry)
+        draft.schema = behind(draft.schema, draft.rows, [entry])
+        draft.entries.append(entry)
         return ["ok"]
 
     def on_insert(self, number, name, row, *values):
-        table, typed = self.schema.names.index(name), [value_bytes(word) for word in values]
+        table, typed = self.table(name), [value_bytes(word) for word in values]
 
-        def make(rows):
-            if [kind for kind, _ in typed] != self.schema.kinds[table]:
+        def make(draft):
+            if [kind for kind, _ in typed] != draft.schema.kinds[table]:
                 return "unfit"
-            return "exists" if int(row) in rows[table] else Entry(INSERT, table, int(row), 0, b"".join(part for _, part in typed))
+            return "exists" if int(row) in draft.rows[table] else Entry(INSERT, table, int(row), 0, b"".join(part for _, part in typed))
 
-        return self.changed(int(number), make)
+        return self.changed(number, make)
 
     def on_set(self, number, name, row, column, value):
-        table, (kind, data) = self.schema.names.index(name), value_bytes(value)
+        table, (kind, data) = self.table(name), value_bytes(value)
 
-        def make(rows):
-            if int(column) >= len(self.schema.kinds[table]) or self.schema.kinds[table][int(column)] != kind:
+        def make(draft):
+            if int(column) >= len(draft.schema.kinds[table]) or draft.schema.kinds[table][int(column)] != kind:
                 return "unfit"
-            if int(row) not in rows[table]:
+            if int(row) not in draft.rows[table]:
                 return "missing"
-            return Entry(PATCH, table, int(row), self.schema.columns[table][int(column)][0], data)
+            return Entry(PATCH, table, int(row), draft.schema.columns[table][int(column)][0], data)
 
-        return self.changed(int(number), make)
+        return self.changed(number, make)
 
     def on_delete(self, number, name, row):
-        table = self.schema.names.index(name)
-        return self.changed(int(number), lambda rows: Entry(DELETE, table, int(row), 0, b"") if int(row) in rows[table] else "missing")
+        table = self.table(name)
+        return self.changed(number, lambda draft: Entry(DELETE, table, int(row), 0, b"") if int(row) in draft.rows[table] else "missing")
+
+    def on_column(self, number, name, value):
+        table, (kind, data) = self.table(name), value_bytes(value)
+
+        def make(draft):
+            entry = Entry(ADD_COLUMN, table, None, kind, data)
+            return entry if data and draft.schema.fits(entry) else "unfit"
+
+        return self.changed(number, make)
 
     def on_get(self, number, name, row, column):
-        draft = self.transactions[int(number)] if int(number) < len(self.transactions) else None
+        draft, table = self.draft(number), self.table(name)
         if draft is None:
             return ["no tx"]
-        table = self.schema.names.index(name)
-        if int(column) >= len(self.schema.kinds[table]):
+        if int(column) >= len(draft.schema.kinds[table]):
             return ["unfit"]
-        if int(row) not in draft[2][table]:
+        if int(row) not in draft.rows[table]:
             return ["missing"]
-        return ["value " + self.schema.value(table, int(column), draft[2][table][int(row)])]
+        return ["value " + draft.schema.value(table, int(column), draft.rows[table][int(row)])]
 
     def on_begin(self):
-        self.transactions.append((self.durable, [], [dict(it) for it in self.rows_after(self.durable)]))
+        rows = [dict(it) for it in self.rows_after(self.durable)]
+        self.transactions.append(Draft(self.durable, self.schema_at(self.durable), rows))
         return [f"tx {len(self.transactions) - 1} at {self.durable}"]
 
     def on_abort(self, number):
-        if int(number) >= len(self.transactions) or self.transactions[int(number)] is None:
+        if self.draft(number) is None:
             return ["no tx"]
         self.transactions[int(number)] = None
         return ["ok"]
 
     def on_commit(self, number, worker):
-        draft = self.transactions[int(number)] if int(number) < len(self.transactions) else None
+        draft = self.draft(number)
         if draft is None:
             return ["no tx"]
         self.transactions[int(number)] = None
-        version, entries, _ = draft
-        if not entries:
+        if not draft.entries:
             return ["read only"]
-        touched = {(it.table, it.row) for it in entries}
-        for other in range(len(self.commits), version, -1):
-            if any((it.table, it.row) in touched for it in self.commits[other - 1].entries):
+        for other in range(len(self.commits), draft.version, -1):
+            if conflict(draft.entries, self.commits[other - 1].entries):
                 return [f"conflict {other}"]
-        self.commits.append(Commit(int(worker), entries))
+        self.commits.append(Commit(int(worker), draft.entries))
         return [f"ticket {len(self.commits)}"]
 
     def on_flush(self, count):
@@ -494,7 +573,7 @@ class World:
         left = self.journal(len(self.commits))[:len(self.journal(self.durable)) + int(count)]
         self.commits = recover(self.schema, left).commits
         self.durable, self.stopped = len(self.commits), True
-        del self.tables[self.durable + 1:]
+        del self.tables[self.durable + 1:], self.schemas[self.durable + 1:]
         self.transactions = [None] * len(self.transactions)
         return ["stopped"]
 
@@ -524,7 +603,7 @@ class World:
         if replica.broken:
             return ["broken"]
         if isinstance(datagram, Frame):
-            if datagram.worker >= self.schema.workers or not all(map(self.schema.fits, datagram.entries)):
+            if datagram.worker >= self.schema.workers or not self.schema.has_tables(datagram.entries):
                 return ["ignored"]
             if datagram.seq in replica.known[datagram.worker]:
                 return ["repeat"]
@@ -557,7 +636,7 @@ class World:
         if replica.broken or len(replica.waiting) >= WAITING_MAX:
             return ["broken" if replica.broken else "batch full"]
         plan = read_plan(self.schema, list(words))
-        fault = plan_fault(self.schema, plan)
+        fault = plan_fault(self.schema_at(replica.version), plan)
         if fault is not None:
             return [f"bad plan {fault}"]
         replica.waiting.append(plan)
@@ -584,7 +663,7 @@ class World:
         if lacked is not None:
             return ["waiting {} {}".format(*lacked), self.send(spell(Want(replica.number, *lacked)))]
         replica.version = replica.head.version
-        lines = report(self.schema, replica.version, self.rows_after(replica.version), replica.batch)
+        lines = report(self.schema_at(replica.version), replica.version, self.rows_after(replica.version), replica.batch)
         replica.batch = replica.head = None
         return lines
 
@@ -600,11 +679,13 @@ class World:
 
     def on_dump(self, number):
         replica = self.replicas[int(number)]
-        return ["broken"] if replica.broken else table_text(self.schema, replica.version, self.rows_after(replica.version))
+        if replica.broken:
+            return ["broken"]
+        return table_text(self.schema_at(replica.version), replica.version, self.rows_after(replica.version))
 
     # -- all of it
 
-    OF_THE_PRIMARY = ("begin", "insert", "set", "delete", "get", "commit", "abort", "flush", "stop", "push")
+    OF_THE_PRIMARY = ("begin", "insert", "set", "delete", "column", "get", "commit", "abort", "flush", "stop", "push")
 
     def step(self, line):
         word, *words = line.split(" ")
@@ -613,9 +694,9 @@ class World:
         return getattr(self, "on_" + word)(*words)
 
     TAKES_MEMORY = {
-        "begin": ("tx",), "insert": ("ok",), "set": ("ok",), "delete": ("ok",), "commit": ("ticket",), "start": ("durable",),
-        "push": ("sent",), "ask": ("sent",), "deliver": ("sent", "stored"), "raw": ("sent", "stored"), "open": ("opened",),
-        "run": ("waiting", "version"), "dump": ("version",), "restart": ("boot",),
+        "begin": ("tx",), "insert": ("ok",), "set": ("ok",), "delete": ("ok",), "column": ("ok",), "commit": ("ticket",),
+        "start": ("durable",), "push": ("sent",), "ask": ("sent",), "deliver": ("sent", "stored"), "raw": ("sent", "stored"),
+        "open": ("opened",), "run": ("waiting", "version"), "dump": ("version",), "restart": ("boot",),
     }
 
     def without_memory(self, line):

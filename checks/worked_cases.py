@@ -6,9 +6,9 @@ ONE_TABLE = "workers 2\nreplicas 2\ntable acct int int\n"
 WITH_SITES = ONE_TABLE + "table site bytes2\n"
 
 # The frame of commit 1 of worker 0, which inserts row 7 with the values 5 and -1, and the same bytes changed in one way each.
-FRAME = "424401010036" "00" "0000000000000000" "0000000000000001" "01" "0001" "0100" "0000000000000007" "0010" "0000000000000005" + "ff" * 8
+FRAME = "424402010036" "00" "0000000000000000" "0000000000000001" "01" "0001" "0100" "0000000000000007" "0010" "0000000000000005" + "ff" * 8
 CUT, WITH_A_BYTE_MORE = FRAME[:-2], FRAME + "00"
-OF_OTHER_MAGIC, OF_LAST_2 = "4245" + FRAME[4:], FRAME[:46] + "02" + FRAME[48:]
+OF_OTHER_MAGIC, OF_VERSION_1, OF_LAST_2 = "4245" + FRAME[4:], "424401" + FRAME[6:], FRAME[:46] + "02" + FRAME[48:]
 
 ROW_7_PENDING = """
 begin -> tx 0 at 0
@@ -87,6 +87,44 @@ set 2 acct 8 0 0 -> ok
 commit 1 0 -> ticket 2
 commit 2 1 -> ticket 3
 """),
+    "a column is added": (ONE_TABLE, f"""
+{ROW_7}
+push 0 0 -> sent 0 54
+deliver 0 r0 -> stored
+{batch(0, 1, 1, ["query acct get count"], "query 0 rows 1 | 1")}
+begin -> tx 1 at 1
+begin -> tx 2 at 1
+column 1 acct 3 -> ok
+get 1 acct 7 2 -> value 3
+insert 1 acct 8 1 2 -> unfit
+insert 1 acct 8 1 2 4 -> ok
+column 1 acct x61 -> ok
+set 1 acct 8 3 x62 -> ok
+set 2 acct 7 0 9 -> ok
+commit 1 0 -> ticket 2
+commit 2 1 -> conflict 2
+stop 80 -> stopped
+start -> durable 1
+begin -> tx 3 at 1
+get 3 acct 7 2 -> unfit
+column 3 acct 3 -> ok
+insert 3 acct 8 1 2 4 -> ok
+column 3 acct x61 -> ok
+set 3 acct 8 3 x62 -> ok
+commit 3 0 -> ticket 2
+stop 81 -> stopped
+start -> durable 2
+begin -> tx 4 at 2
+get 4 acct 7 2 -> value 3
+get 4 acct 8 3 -> value x62
+open 0 query acct get sum 2 -> bad plan 2
+push 0 1 -> sent 3 92
+deliver 3 r0 -> stored
+{batch(0, 4, 2, ["query acct get count sum 0"], "query 0 rows 1 | 2 6")}
+{batch(0, 6, 2, ["query acct by 3 get count sum 2"], "query 0 rows 2 | x61 1 3 | x62 1 4")}
+dump 0 -> version 2 rows 2 | acct 7 5 -1 3 x61 | acct 8 1 2 4 x62
+dump 1 -> version 0 rows 0
+"""),
     "a stop before the last byte": (ONE_TABLE, f"""
 {ROW_7_PENDING}
 stop 42 -> stopped
@@ -163,6 +201,7 @@ run 0 -> version 2 queries 1 | query 0 rows 1 | 2
 raw r0 {CUT} -> ignored
 raw r0 {WITH_A_BYTE_MORE} -> ignored
 raw r0 {OF_OTHER_MAGIC} -> ignored
+raw r0 {OF_VERSION_1} -> ignored
 raw r0 {OF_LAST_2} -> ignored
 dump 0 -> version 0 rows 0
 raw r0 - -> ignored
@@ -204,8 +243,8 @@ run 0 -> no batch
 open 0 query acct get count -> opened 1
 ask 0 -> sent 0 23
 ask 0 -> sent 1 23
-show 0 -> 42440102001700 0000000000000001 0000000000000001
-show 1 -> 42440102001700 0000000000000001 0000000000000001
+show 0 -> 42440202001700 0000000000000001 0000000000000001
+show 1 -> 42440202001700 0000000000000001 0000000000000001
 deliver 0 p -> sent 2 48
 deliver 2 r0 -> head 0
 deliver 2 r0 -> ignored

@@ -17,8 +17,8 @@ import sys
 import time
 
 FRAME, ASK, HEAD, WANT = 1, 2, 3, 4
-INSERT, PATCH, DELETE = 1, 2, 3
-ENTRY_FORMS = {INSERT: ">BBQH", PATCH: ">BBQHH", DELETE: ">BBQ"}
+INSERT, PATCH, DELETE, ADD_COLUMN = 1, 2, 3, 4
+ENTRY_FORMS = {INSERT: ">BBQH", PATCH: ">BBQHH", DELETE: ">BBQ", ADD_COLUMN: ">BBB"}
 WANT_MAX = 16  # frames that answer one Want at most
 SECONDS_OF_A_TRY = 0.1
 TRIES_MAX = 100  # without what was asked for
@@ -38,7 +38,7 @@ def address(word):
 
 def datagram(kind, form, *fields):
     body = struct.pack(">" + form, *fields)
-    return struct.pack(">2sBBH", b"BD", 1, kind, 6 + len(body)) + body
+    return struct.pack(">2sBBH", b"BD", 2, kind, 6 + len(body)) + body
 
 
 def read_entries(body, count):
@@ -49,6 +49,8 @@ def read_entries(body, count):
         at += struct.calcsize(form)
         offset = sizes[0] if operation == PATCH else 0
         size = sizes[-1] if sizes else 0
+        if operation == ADD_COLUMN:  # the column's width, where 0 stands for an int, in place of a row
+            size = row or 8
         entries.append((operation, table, row, offset, body[at:at + size]))
         at += size
     if at != len(body):
@@ -70,7 +72,7 @@ class Reader:
 
     def take(self, data):
         """Takes one datagram: a Frame that is new, or the Head that is waited for. Everything else is ignored."""
-        if struct.unpack_from(">2sBxH", data) != (b"BD", 1, len(data)) or len(data) > 1200:
+        if struct.unpack_from(">2sBxH", data) != (b"BD", 2, len(data)) or len(data) > 1200:
             return
         if data[3] == FRAME:
             worker, seq, commit, _, count = struct.unpack_from(">BQQBH", data, 6)
@@ -138,6 +140,10 @@ class Reader:
             for operation, table, row, offset, data in commits[commit]:
                 if operation == DELETE:
                     del self.rows[table][row]
+                elif operation == ADD_COLUMN:
+                    self.tables[table][1].append(row)
+                    for was in self.rows[table].values():
+                        was.extend(data)
                 else:  # an insert's data, with the offset 0, is the whole row
                     self.rows[table].setdefault(row, bytearray())[offset:offset + len(data)] = data
         self.version = version

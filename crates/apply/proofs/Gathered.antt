@@ -11,11 +11,15 @@ use Rattle.rows.specs.declared.value.Value.{Value}
 use Rattle.rows.specs.Tables.{Rows, Table, Tables, shape_in, rows_of, row_at, is_present, with_row}
 use Rattle.apply.specs.Orders.{AllOver, Rising, place_in}
 use Rattle.apply.specs.Partitions.{gathered, both, tables_in}
-use Rattle.apply.proofs.Changed.{row_at-put}
 use Rattle.apply.proofs.Counted.{length-with_row}
 use Rattle.apply.proofs.Ordered.{row_at-over, rising-with_row}
 
 -- ---- two lists of rows
+
+row_at-put : (rows : Rows) (row : ℕ) (values : List Value) (other : ℕ)
+    → row_at (with_row rows row values) other ≡ cond (row == other) (Some values) (row_at rows other)
+row_at-put [] row values other = grind (arith, nat_tests)
+row_at-put (one ∷ rows) row values other = grind (arith, nat_tests, row_at-put rows row values other)
 
 -- the first that is found
 abbrev pub first_of : Option (List Value) → Option (List Value) → Option (List Value)
@@ -107,95 +111,100 @@ length-both these others =
 -- ---- the tables of all
 
 -- partitions that begin at one of a number, each with so many tables, and with no rows but its own
-pub record AreFrom (part_of : ℕ → ℕ) (base many : ℕ) (parts : List Tables) : Type 0 where
-  pub alike : (k : ℕ) (d : Tables) → k < length parts → length (get_or parts k d) ≡ many
-  pub rise : (k t : ℕ) (d : Tables) → k < length parts → Rising (rows_of (get_or parts k d) t)
-  pub home : (k t row : ℕ) (d : Tables) → k < length parts → part_of row ≢ base + k → row_at (rows_of (get_or parts k d) t) row ≡ None
+pub record AreFrom (partition_of : ℕ → ℕ) (base many : ℕ) (partitions : List Tables) : Type 0 where
+  pub alike : (k : ℕ) (d : Tables) → k < length partitions → length (get_or partitions k d) ≡ many
+  pub rise : (k t : ℕ) (d : Tables) → k < length partitions → Rising (rows_of (get_or partitions k d) t)
+  pub home : (k t row : ℕ) (d : Tables) → k < length partitions → partition_of row ≢ base + k
+      → row_at (rows_of (get_or partitions k d) t) row ≡ None
 
-module _ (part_of : ℕ → ℕ) (many : ℕ) where
-  tail : (base : ℕ) (part : Tables) (parts : List Tables) → AreFrom part_of base many (part ∷ parts)
-      → AreFrom part_of (suc base) many parts
-  tail base part parts are = record {
+module _ (partition_of : ℕ → ℕ) (many : ℕ) where
+  tail : (base : ℕ) (partition : Tables) (partitions : List Tables) → AreFrom partition_of base many (partition ∷ partitions)
+      → AreFrom partition_of (suc base) many partitions
+  tail base partition partitions are = record {
     alike = λ k d lt. are.alike (suc k) d (omega arith);
     rise = λ k t d lt. are.rise (suc k) t d (omega arith);
     home = λ k t row d lt other. are.home (suc k) t row d (omega arith) (λ e. other (omega (arith, e)));
   }
 
-  few : (base : ℕ) (parts : List Tables) → AreFrom part_of base many parts → length (tables_in parts) ≤ many
+  few : (base : ℕ) (partitions : List Tables) → AreFrom partition_of base many partitions → length (tables_in partitions) ≤ many
   few base [] are = omega arith
-  few base (part ∷ parts) are = omega (arith, length-both part (tables_in parts), are.alike 0 [] (omega arith))
+  few base (partition ∷ partitions) are = omega (arith, length-both partition (tables_in partitions), are.alike 0 [] (omega arith))
 
-  rows-first : (base : ℕ) (part : Tables) (parts : List Tables) (t : ℕ) → AreFrom part_of base many (part ∷ parts)
-      → rows_of (tables_in (part ∷ parts)) t ≡ gathered (rows_of part t) (rows_of (tables_in parts) t)
-  rows-first base part parts t are =
-      rows_of-both part (tables_in parts) t
-      (omega (arith, few (suc base) parts (tail base part parts are), are.alike 0 [] (omega arith)))
+  rows-first : (base : ℕ) (partition : Tables) (partitions : List Tables) (t : ℕ) → AreFrom partition_of base many (partition ∷ partitions)
+      → rows_of (tables_in (partition ∷ partitions)) t ≡ gathered (rows_of partition t) (rows_of (tables_in partitions) t)
+  rows-first base partition partitions t are =
+      rows_of-both partition (tables_in partitions) t
+      (omega (arith, few (suc base) partitions (tail base partition partitions are), are.alike 0 [] (omega arith)))
 
-  none-in : (base : ℕ) (parts : List Tables) (t row : ℕ) → AreFrom part_of base many parts → part_of row < base
-      → row_at (rows_of (tables_in parts) t) row ≡ None
+  none-in : (base : ℕ) (partitions : List Tables) (t row : ℕ) → AreFrom partition_of base many partitions → partition_of row < base
+      → row_at (rows_of (tables_in partitions) t) row ≡ None
   none-in base [] t row are lt = refl
-  none-in base (part ∷ parts) t row are lt =
-      ap (λ rows. row_at rows row) (rows-first base part parts t are)
-      ∙ row_at-gathered (rows_of part t) (rows_of (tables_in parts) t) row
-      ∙ ap (λ found. first_of found (row_at (rows_of (tables_in parts) t) row))
+  none-in base (partition ∷ partitions) t row are lt =
+      ap (λ rows. row_at rows row) (rows-first base partition partitions t are)
+      ∙ row_at-gathered (rows_of partition t) (rows_of (tables_in partitions) t) row
+      ∙ ap (λ found. first_of found (row_at (rows_of (tables_in partitions) t) row))
       (are.home 0 t row [] (omega arith) (λ e. absurd (omega (arith, e, lt))))
-      ∙ none-in (suc base) parts t row (tail base part parts are) (omega arith)
+      ∙ none-in (suc base) partitions t row (tail base partition partitions are) (omega arith)
 
   first-none : (found : Option (List Value)) → first_of found None ≡ found
   first-none None = refl
   first-none (Some values) = refl
 
-  pub row_at-tables : (base : ℕ) (parts : List Tables) (t row h : ℕ) (d : Tables) → AreFrom part_of base many parts
-      → part_of row ≡ base + h → h < length parts
-      → row_at (rows_of (tables_in parts) t) row ≡ row_at (rows_of (get_or parts h d) t) row
+  pub row_at-tables : (base : ℕ) (partitions : List Tables) (t row h : ℕ) (d : Tables) → AreFrom partition_of base many partitions
+      → partition_of row ≡ base + h → h < length partitions
+      → row_at (rows_of (tables_in partitions) t) row ≡ row_at (rows_of (get_or partitions h d) t) row
   row_at-tables base [] t row h d are of lt = absurd (omega arith)
-  row_at-tables base (part ∷ parts) t row zero d are of lt =
-      ap (λ rows. row_at rows row) (rows-first base part parts t are)
-      ∙ row_at-gathered (rows_of part t) (rows_of (tables_in parts) t) row
-      ∙ ap (first_of (row_at (rows_of part t) row)) (none-in (suc base) parts t row (tail base part parts are) (omega (arith, of)))
-      ∙ first-none (row_at (rows_of part t) row)
-  row_at-tables base (part ∷ parts) t row (suc h) d are of lt =
-      ap (λ rows. row_at rows row) (rows-first base part parts t are)
-      ∙ row_at-gathered (rows_of part t) (rows_of (tables_in parts) t) row
-      ∙ ap (λ found. first_of found (row_at (rows_of (tables_in parts) t) row))
+  row_at-tables base (partition ∷ partitions) t row zero d are of lt =
+      ap (λ rows. row_at rows row) (rows-first base partition partitions t are)
+      ∙ row_at-gathered (rows_of partition t) (rows_of (tables_in partitions) t) row
+      ∙ ap (first_of (row_at (rows_of partition t) row))
+      (none-in (suc base) partitions t row (tail base partition partitions are) (omega (arith, of)))
+      ∙ first-none (row_at (rows_of partition t) row)
+  row_at-tables base (partition ∷ partitions) t row (suc h) d are of lt =
+      ap (λ rows. row_at rows row) (rows-first base partition partitions t are)
+      ∙ row_at-gathered (rows_of partition t) (rows_of (tables_in partitions) t) row
+      ∙ ap (λ found. first_of found (row_at (rows_of (tables_in partitions) t) row))
       (are.home 0 t row [] (omega arith) (λ e. absurd (omega (arith, e, of))))
-      ∙ row_at-tables (suc base) parts t row h d (tail base part parts are) (omega (arith, of)) (omega arith)
+      ∙ row_at-tables (suc base) partitions t row h d (tail base partition partitions are) (omega (arith, of)) (omega arith)
 
-  apart : (base : ℕ) (part : Tables) (parts : List Tables) (t : ℕ) → AreFrom part_of base many (part ∷ parts)
-      → Apart (rows_of part t) (rows_of (tables_in parts) t)
-  apart base part parts t are row here = by (part_of row == base) refl
+  apart : (base : ℕ) (partition : Tables) (partitions : List Tables) (t : ℕ) → AreFrom partition_of base many (partition ∷ partitions)
+      → Apart (rows_of partition t) (rows_of (tables_in partitions) t)
+  apart base partition partitions t are row here = by (partition_of row == base) refl
     where
-      by : (own : Bool) → (part_of row == base) ≡ own → is_present (rows_of (tables_in parts) t) row ≡ false
+      by : (own : Bool) → (partition_of row == base) ≡ own → is_present (rows_of (tables_in partitions) t) row ≡ false
       by true e =
-          ap is_some (none-in (suc base) parts t row (tail base part parts are) (grind (arith, nat_tests, e)))
+          ap is_some (none-in (suc base) partitions t row (tail base partition partitions are) (grind (arith, nat_tests, e)))
       by false e =
           let none = are.home 0 t row [] (omega arith) (λ same. false≢true (sym e ∙ grind (arith, nat_tests, same))) in
           absurd (false≢true (ap is_some (sym none) ∙ here))
 
-  pub rising-tables : (base : ℕ) (parts : List Tables) (t : ℕ) → AreFrom part_of base many parts → Rising (rows_of (tables_in parts) t)
+  pub rising-tables : (base : ℕ) (partitions : List Tables) (t : ℕ) → AreFrom partition_of base many partitions
+      → Rising (rows_of (tables_in partitions) t)
   rising-tables base [] t are = tt
-  rising-tables base (part ∷ parts) t are =
-      subst Rising (sym (rows-first base part parts t are))
-      (rising-gathered (rows_of part t) (rows_of (tables_in parts) t) (are.rise 0 t [] (omega arith))
-      (rising-tables (suc base) parts t (tail base part parts are)) (apart base part parts t are))
+  rising-tables base (partition ∷ partitions) t are =
+      subst Rising (sym (rows-first base partition partitions t are))
+      (rising-gathered (rows_of partition t) (rows_of (tables_in partitions) t) (are.rise 0 t [] (omega arith))
+      (rising-tables (suc base) partitions t (tail base partition partitions are)) (apart base partition partitions t are))
 
-  pub length-tables : (base : ℕ) (parts : List Tables) (t : ℕ) → AreFrom part_of base many parts
-      → length (rows_of (tables_in parts) t) ≡ sum_by (λ (part : Tables). length (rows_of part t)) parts
+  pub length-tables : (base : ℕ) (partitions : List Tables) (t : ℕ) → AreFrom partition_of base many partitions
+      → length (rows_of (tables_in partitions) t) ≡ sum_by (λ (partition : Tables). length (rows_of partition t)) partitions
   length-tables base [] t are = refl
-  length-tables base (part ∷ parts) t are =
-      ap length (rows-first base part parts t are)
-      ∙ length-gathered (rows_of part t) (rows_of (tables_in parts) t) (are.rise 0 t [] (omega arith)) (apart base part parts t are)
-      ∙ ap (λ n. length (rows_of part t) + n) (length-tables (suc base) parts t (tail base part parts are))
-      ∙ sym (sum_by-cons (λ (part : Tables). length (rows_of part t)) part parts)
+  length-tables base (partition ∷ partitions) t are =
+      ap length (rows-first base partition partitions t are)
+      ∙ length-gathered (rows_of partition t) (rows_of (tables_in partitions) t) (are.rise 0 t [] (omega arith))
+      (apart base partition partitions t are)
+      ∙ ap (λ n. length (rows_of partition t) + n) (length-tables (suc base) partitions t (tail base partition partitions are))
+      ∙ sym (sum_by-cons (λ (partition : Tables). length (rows_of partition t)) partition partitions)
 
-  pub place-tables : (base : ℕ) (parts : List Tables) (t id : ℕ) → AreFrom part_of base many parts
-      → place_in (rows_of (tables_in parts) t) id ≡ sum_by (λ (part : Tables). place_in (rows_of part t) id) parts
+  pub place-tables : (base : ℕ) (partitions : List Tables) (t id : ℕ) → AreFrom partition_of base many partitions
+      → place_in (rows_of (tables_in partitions) t) id ≡ sum_by (λ (partition : Tables). place_in (rows_of partition t) id) partitions
   place-tables base [] t id are = refl
-  place-tables base (part ∷ parts) t id are =
-      ap (λ rows. place_in rows id) (rows-first base part parts t are)
-      ∙ place-gathered (rows_of part t) (rows_of (tables_in parts) t) id (are.rise 0 t [] (omega arith)) (apart base part parts t are)
-      ∙ ap (λ n. place_in (rows_of part t) id + n) (place-tables (suc base) parts t id (tail base part parts are))
-      ∙ sym (sum_by-cons (λ (part : Tables). place_in (rows_of part t) id) part parts)
+  place-tables base (partition ∷ partitions) t id are =
+      ap (λ rows. place_in rows id) (rows-first base partition partitions t are)
+      ∙ place-gathered (rows_of partition t) (rows_of (tables_in partitions) t) id (are.rise 0 t [] (omega arith))
+      (apart base partition partitions t are)
+      ∙ ap (λ n. place_in (rows_of partition t) id + n) (place-tables (suc base) partitions t id (tail base partition partitions are))
+      ∙ sym (sum_by-cons (λ (partition : Tables). place_in (rows_of partition t) id) partition partitions)
 
 -- ---- rows that rise are known by their look-ups
 

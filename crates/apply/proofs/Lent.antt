@@ -16,19 +16,19 @@ use Rattle.rows.specs.declared.value.Value.TheVariants as values
 use Rattle.rows.specs.Tables.{Rows, Table, Tables, rows_of, row_at}
 use Rattle.store.specs.Lent.{rows_in, rows_from, column_in, octets_in}
 use Rattle.apply.specs.declared.cells.Cells.{Cells}
-use Rattle.apply.specs.declared.part.Part.{Part}
+use Rattle.apply.specs.declared.partition.Partition.{Partition}
 use Rattle.apply.specs.Blocks.{beside, rows_with}
 use Rattle.apply.specs.Columns.{values_in}
 use Rattle.apply.specs.Orders.{AllOver, Rising}
 use Rattle.apply.specs.Partitions.{tables_in}
 use Rattle.apply.specs.Inner.Edits.{AllCells}
-use Rattle.apply.specs.Inner.Gathered.{AreParts}
+use Rattle.apply.specs.Inner.Gathered.{ArePartitions}
 use Rattle.apply.specs.Inner.Joins.{joined}
 use Rattle.apply.specs.Inner.Views.{views}
 use Rattle.apply.proofs.Beside.{values-length, rows-length}
 use Rattle.apply.proofs.Gathered.{same-rows}
 use Rattle.apply.proofs.Joined.{joined-at}
-use Rattle.apply.proofs.Splits.{parts-rise, parts-row}
+use Rattle.apply.proofs.Splits.{partitions-rise, partitions-row}
 use Rattle.apply.proofs.Viewed.{views-get, views-length}
 use Rattle.apply.proofs.Wide.{octets-take, octets-drop, octets-length, octets-left}
 
@@ -206,30 +206,33 @@ module _ (test : ℕ → Bool) (row : ℕ) where
       by false e rest = rest
 
 -- the rows of that remainder are the partition's own
-pub own-rows : (parts : List Tables) (k t : ℕ) (d : Tables) → AreParts parts → k < length parts
-    → rows_in (rows_of (tables_in parts) t) (length parts) k ≡ rows_of (get_or parts k d) t
-own-rows parts k t d are lt =
-    same-rows (rows_in all (length parts) k) own (rising-filter (λ row. row.0 % length parts == k) all (parts-rise parts are t))
-    (are.rise k t d lt) (λ row. by row (row % length parts == k) refl)
+pub own-rows : (partitions : List Tables) (k t : ℕ) (d : Tables) → ArePartitions partitions → k < length partitions
+    → rows_in (rows_of (tables_in partitions) t) (length partitions) k ≡ rows_of (get_or partitions k d) t
+own-rows partitions k t d are lt =
+    same-rows (rows_in all (length partitions) k) own
+    (rising-filter (λ row. row.0 % length partitions == k) all (partitions-rise partitions are t))
+    (are.rise k t d lt) (λ row. by row (row % length partitions == k) refl)
   where
     all : Rows
-    all = rows_of (tables_in parts) t
+    all = rows_of (tables_in partitions) t
 
     own : Rows
-    own = rows_of (get_or parts k d) t
+    own = rows_of (get_or partitions k d) t
 
-    by : (row : ℕ) (here : Bool) → (row % length parts == k) ≡ here → row_at (rows_in all (length parts) k) row ≡ row_at own row
+    by : (row : ℕ) (here : Bool) → (row % length partitions == k) ≡ here → row_at (rows_in all (length partitions) k) row ≡ row_at own row
     by row true e =
-        found-own (λ id. id % length parts == k) row all e ∙ parts-row parts t row k d are (eqb-true (row % length parts) k e) lt
+        found-own (λ id. id % length partitions == k) row all e
+        ∙ partitions-row partitions t row k d are (eqb-true (row % length partitions) k e) lt
     by row false e =
-        found-none (λ id. id % length parts == k) row all e
-        ∙ sym (are.home k t row d lt (λ same. false≢true (sym e ∙ eq-eqb (row % length parts) k same)))
+        found-none (λ id. id % length partitions == k) row all e
+        ∙ sym (are.home k t row d lt (λ same. false≢true (sym e ∙ eq-eqb (row % length partitions) k same)))
 
-pub lent-rows : (parts : List Part) (n k t : ℕ) (part : Part) → AreParts (views parts) → n ≡ length parts → k < n
-    → part ≡ get_or parts k part
-    → rows_of part.tables.items t ≡ rows_in (rows_of (tables_in (views parts)) t) n k
-lent-rows parts n k t part are is lt at =
-    let many = views-length parts in
-    sym (ap (λ n. rows_in (rows_of (tables_in (views parts)) t) n k) (is ∙ sym many)
-    ∙ own-rows (views parts) k t [] are (omega (arith, lt, is, many))
-    ∙ ap (λ (tables : Tables). rows_of tables t) (views-get parts k part [] (omega (arith, lt, is)) at))
+pub lent-rows : (partitions : List Partition) (n k t : ℕ) (partition : Partition) → ArePartitions (views partitions) → n ≡ length partitions
+    → k < n
+    → partition ≡ get_or partitions k partition
+    → rows_of partition.tables.items t ≡ rows_in (rows_of (tables_in (views partitions)) t) n k
+lent-rows partitions n k t partition are is lt at =
+    let many = views-length partitions in
+    sym (ap (λ n. rows_in (rows_of (tables_in (views partitions)) t) n k) (is ∙ sym many)
+    ∙ own-rows (views partitions) k t [] are (omega (arith, lt, is, many))
+    ∙ ap (λ (tables : Tables). rows_of tables t) (views-get partitions k partition [] (omega (arith, lt, is)) at))

@@ -14,3 +14,6 @@ pub mod Going
 pub mod Each
 pub mod Ended
 pub mod Lent
+pub mod Widened
+pub mod Rebuilt
+pub mod Added

@@ -1,94 +1,96 @@
 -- The tables of each partition, when one of these is read or changed, and what all have together.
-use Rattle.std.proofs.Common.{◌≡◌, ℕ, suc, zero, ◌+◌, ◌%◌, ◌<◌, ◌≤◌, true, List, [], ◌∷◌, ◌++◌, length, get_or, take, replicate, Option}
+use Rattle.std.proofs.Common.{◌≡◌, ℕ, suc, zero, ◌+◌, ◌%◌, ◌<◌, ◌≤◌, ◌==◌, true, false, List, [], ◌∷◌, length, get_or, take}
+use Rattle.std.proofs.Common.{replicate, Option}
 use Rattle.std.proofs.Common.{None, Some}
 use Rattle.std.proofs.Common.{slice_get, slice_set, refl, sym, ap, subst, ◌∙◌, inl, inr, IfSome, IfErr, OnOk, OnErr, Result}
 use Rattle.std.proofs.Common.{Ok, Err, arith}
 use Rattle.std.specs.List.{sum_by}
-use Rattle.std.specs.Option.{is_some, option_map, IsSome}
+use Rattle.std.specs.Option.{is_some, option_map, option_map_or, IsSome}
 use Rattle.std.proofs.Math.Seq.{map-set_same}
-use Rattle.std.proofs.lemmas.Bool.{false≢true, and_parts, cases_eq}
+use Rattle.std.proofs.lemmas.Bool.{false≢true, and_parts, eqb-true, eq-eqb, cases_eq}
 use Rattle.std.proofs.lemmas.Bool.Decides.{nat_tests}
-use Rattle.std.proofs.lemmas.List.{length-map, get_or-map, map-set, take_all, take_more, length-replicate, get_or-replicate, get_or_past}
+use Rattle.std.proofs.lemmas.List.{length-map, length-set, get_or-map, get_or-set_same, get_or-set_other, map-set}
+use Rattle.std.proofs.lemmas.List.{take_all, length-replicate, get_or-replicate, get_or_past}
 use Rattle.std.proofs.lemmas.List.Sums.{sum_by_more, sum_by-cons}
-use Rattle.std.proofs.lemmas.Option.{slice_get-map, slice_get_within, get_or_from_slice_get}
+use Rattle.std.proofs.lemmas.Option.{slice_get_within}
 use Rattle.rows.specs.declared.entry.Entry.{Entry}
 use Rattle.rows.specs.declared.kind.Kind.{Kind}
+use Rattle.rows.specs.declared.row_id.RowId.{RowId}
 use Rattle.rows.specs.declared.value.Value.{Value}
+use Rattle.rows.specs.Entries.{row_of}
 use Rattle.rows.specs.Shape.{Shape}
-use Rattle.rows.specs.Tables.{Rows, Table, Tables, RowsAreOfKinds, opening, shape_in, rows_of, kinds_of, row_at, is_present, apply_entry}
+use Rattle.rows.specs.Tables.{Rows, Tables, RowsAreOfKinds, opening, shape_in, rows_of, kinds_of, row_at, is_present}
+use Rattle.rows.specs.Tables.{apply_entry}
 use Rattle.rows.specs.Values.{is_of_kind, are_of_kinds}
 use Rattle.store.specs.Changes.{column_of, fault_kind}
-use Rattle.apply.specs.declared.part.Part.{Part}
+use Rattle.apply.specs.declared.partition.Partition.{Partition}
 use Rattle.apply.specs.declared.spot.Spot.{Spot}
 use Rattle.apply.specs.Partitions.{both, tables_in, values_in}
-use Rattle.apply.specs.Inner.Gathered.{AreParts, row_of}
+use Rattle.apply.specs.Inner.EntryLaws.{AreEntryLaws}
+use Rattle.apply.specs.Inner.Gathered.{ArePartitions, is_in}
 use Rattle.apply.specs.Inner.Views.{views}
 use Rattle.apply.specs.Orders.{AllUnder, Rising, place_in}
-use Rattle.apply.proofs.Changed.{Leaves-change}
 use Rattle.apply.proofs.Gathered.{length-tables, place-tables}
 use Rattle.apply.proofs.Joined.{le_or_lt}
 use Rattle.apply.proofs.Ordered.{under-higher, there-at, there-from}
-use Rattle.apply.proofs.Splits.{from-parts, parts-row, one-changes, one-leaves, refused-alike}
+use Rattle.apply.proofs.Splits.{from-partitions, partitions-row, refused-alike, new-partitions, all-changes}
 
 -- ---- one partition
 
-pub views-get : (parts : List Part) (k : ℕ) (part : Part) (d : Tables) → k < length parts → part ≡ get_or parts k part
-    → get_or (views parts) k d ≡ part.tables.items
-views-get parts k part d lt e =
-    get_or-map (λ (part : Part). part.tables.items) parts k part d lt ∙ sym (ap (λ (part : Part). part.tables.items) e)
+pub views-get : (partitions : List Partition) (k : ℕ) (partition : Partition) (d : Tables) → k < length partitions
+    → partition ≡ get_or partitions k partition
+    → get_or (views partitions) k d ≡ partition.tables.items
+views-get partitions k partition d lt e =
+    get_or-map (λ (partition : Partition). partition.tables.items) partitions k partition d lt
+    ∙ sym (ap (λ (partition : Partition). partition.tables.items) e)
 
-pub views-set : (parts : List Part) (k : ℕ) (new : Part) → views (slice_set parts k new) ≡ slice_set (views parts) k new.tables.items
-views-set parts k new = map-set (λ (part : Part). part.tables.items) parts k new
+pub views-set : (partitions : List Partition) (k : ℕ) (new : Partition)
+    → views (slice_set partitions k new) ≡ slice_set (views partitions) k new.tables.items
+views-set partitions k new = map-set (λ (partition : Partition). partition.tables.items) partitions k new
 
-pub views-length : (parts : List Part) → length (views parts) ≡ length parts
-views-length parts = length-map parts (λ (part : Part). part.tables.items)
+pub views-length : (partitions : List Partition) → length (views partitions) ≡ length partitions
+views-length partitions = length-map partitions (λ (partition : Partition). partition.tables.items)
 
 -- the sum over the partitions so far
-pub sum-more : (f : Tables → ℕ) (parts : List Part) (k : ℕ) (part : Part) → k < length parts → part ≡ get_or parts k part
-    → sum_by f (take (k + 1) (views parts)) ≡ sum_by f (take k (views parts)) + f part.tables.items
-sum-more f parts k part lt e =
-    sum_by_more f (views parts) k part.tables.items (omega (arith, lt, views-length parts))
-    ∙ ap (λ tables. sum_by f (take k (views parts)) + f tables) (views-get parts k part part.tables.items lt e)
+pub sum-more : (f : Tables → ℕ) (partitions : List Partition) (k : ℕ) (partition : Partition) → k < length partitions
+    → partition ≡ get_or partitions k partition
+    → sum_by f (take (k + 1) (views partitions)) ≡ sum_by f (take k (views partitions)) + f partition.tables.items
+sum-more f partitions k partition lt e =
+    sum_by_more f (views partitions) k partition.tables.items (omega (arith, lt, views-length partitions))
+    ∙ ap (λ tables. sum_by f (take k (views partitions)) + f tables) (views-get partitions k partition partition.tables.items lt e)
 
-pub sum-whole : (f : Tables → ℕ) (parts : List Part) (k : ℕ) → length parts ≤ k → sum_by f (take k (views parts)) ≡ sum_by f (views parts)
-sum-whole f parts k le = ap (sum_by f) (take_all k (views parts) (omega (arith, le, views-length parts)))
+pub sum-whole : (f : Tables → ℕ) (partitions : List Partition) (k : ℕ) → length partitions ≤ k
+    → sum_by f (take k (views partitions)) ≡ sum_by f (views partitions)
+sum-whole f partitions k le = ap (sum_by f) (take_all k (views partitions) (omega (arith, le, views-length partitions)))
 
 -- as many are below a bound of all as there are
 place-all : (bound : ℕ) (rows : Rows) → AllUnder bound rows → place_in rows bound ≡ length rows
 place-all bound [] under = refl
 place-all bound (row ∷ rows) under = let lt = under.0 in grind (arith, nat_tests, lt, place-all bound rows under.1)
 
-pub place-bound : (parts : List Tables) (t bound : ℕ)
-    → ((k : ℕ) (d : Tables) → k < length parts → AllUnder bound (rows_of (get_or parts k d) t))
-    → sum_by (λ (part : Tables). place_in (rows_of part t) bound) parts ≡ sum_by (λ (part : Tables). length (rows_of part t)) parts
+pub place-bound : (partitions : List Tables) (t bound : ℕ)
+    → ((k : ℕ) (d : Tables) → k < length partitions → AllUnder bound (rows_of (get_or partitions k d) t))
+    → sum_by (λ (partition : Tables). place_in (rows_of partition t) bound) partitions
+    ≡ sum_by (λ (partition : Tables). length (rows_of partition t)) partitions
 place-bound [] t bound under = refl
-place-bound (part ∷ parts) t bound under =
-    sum_by-cons (λ (part : Tables). place_in (rows_of part t) bound) part parts
-    ∙ ap (λ n. n + sum_by (λ (part : Tables). place_in (rows_of part t) bound) parts)
-    (place-all bound (rows_of part t) (under 0 [] (omega arith)))
-    ∙ ap (λ n. length (rows_of part t) + n) (place-bound parts t bound (λ k d lt. under (suc k) d (omega arith)))
-    ∙ sym (sum_by-cons (λ (part : Tables). length (rows_of part t)) part parts)
+place-bound (partition ∷ partitions) t bound under =
+    sum_by-cons (λ (partition : Tables). place_in (rows_of partition t) bound) partition partitions
+    ∙ ap (λ n. n + sum_by (λ (partition : Tables). place_in (rows_of partition t) bound) partitions)
+    (place-all bound (rows_of partition t) (under 0 [] (omega arith)))
+    ∙ ap (λ n. length (rows_of partition t) + n) (place-bound partitions t bound (λ k d lt. under (suc k) d (omega arith)))
+    ∙ sym (sum_by-cons (λ (partition : Tables). length (rows_of partition t)) partition partitions)
 
 -- all rows of a table are below a bound of those of each partition
-pub place-last : (parts : List Tables) (t bound : ℕ) → AreParts parts
-    → ((k : ℕ) (d : Tables) → k < length parts → AllUnder bound (rows_of (get_or parts k d) t))
-    → place_in (rows_of (tables_in parts) t) bound ≡ length (rows_of (tables_in parts) t)
-place-last parts t bound are under =
-    let from = from-parts parts are in
-    place-tables (λ row. row % length parts) (length (tables_in parts)) 0 parts t bound from
-    ∙ place-bound parts t bound under
-    ∙ sym (length-tables (λ row. row % length parts) (length (tables_in parts)) 0 parts t from)
+pub place-last : (partitions : List Tables) (t bound : ℕ) → ArePartitions partitions
+    → ((k : ℕ) (d : Tables) → k < length partitions → AllUnder bound (rows_of (get_or partitions k d) t))
+    → place_in (rows_of (tables_in partitions) t) bound ≡ length (rows_of (tables_in partitions) t)
+place-last partitions t bound are under =
+    let from = from-partitions partitions are in
+    place-tables (λ row. row % length partitions) (length (tables_in partitions)) 0 partitions t bound from
+    ∙ place-bound partitions t bound under
+    ∙ sym (length-tables (λ row. row % length partitions) (length (tables_in partitions)) 0 partitions t from)
 
 -- ---- partitions without rows
-
-pub opening-more : (shape : Shape) (i : ℕ) (kinds : List Kind) → Some kinds ≡ slice_get shape i
-    → take (i + 1) (opening shape) ≡ take i (opening shape) ++ record { kinds = kinds; rows = [] } ∷ []
-opening-more shape i kinds there =
-    let table : Table = record { kinds = kinds; rows = [] } in
-    let empty : List Kind → Table = λ kinds. record { kinds = kinds; rows = [] } in
-    let opened : slice_get (opening shape) i ≡ Some table = slice_get-map empty shape i ∙ ap (option_map empty) (sym there) in
-    take_more (opening shape) i table (slice_get_within (opening shape) i table opened)
-    ∙ ap (λ table. take i (opening shape) ++ table ∷ []) (get_or_from_slice_get (opening shape) i table table opened)
 
 opening-rows : (shape : Shape) (t : ℕ) → rows_of (opening shape) t ≡ []
 opening-rows [] t = refl
@@ -107,9 +109,9 @@ pub tables-opening : (shape : Shape) (n : ℕ) → tables_in (replicate (suc n) 
 tables-opening shape zero = both-none shape
 tables-opening shape (suc n) = ap (both (opening shape)) (tables-opening shape n) ∙ both-opening shape
 
-pub parts-opening : (shape : Shape) (n : ℕ) → 0 < n → AreParts (replicate n (opening shape))
-parts-opening shape zero some = absurd (omega arith)
-parts-opening shape (suc n) some =
+pub partitions-opening : (shape : Shape) (n : ℕ) → 0 < n → ArePartitions (replicate n (opening shape))
+partitions-opening shape zero some = absurd (omega arith)
+partitions-opening shape (suc n) some =
     let all = replicate (suc n) (opening shape) in
     let many = length-replicate (suc n) (opening shape) in
     record {
@@ -139,58 +141,76 @@ err-follows (Err fault) Q S h then = then fault h
 
 -- ---- the partition of an entry
 
-module _ (parts : List Part) (entry : Entry) (home : ℕ) (part new : Part) (is : part ≡ get_or parts home part)
-    (at : home ≡ row_of entry % length parts) (lt : home < length parts) (are : AreParts (views parts)) where
-  there : row_of entry % length (views parts) ≡ home
-  there = ap (λ n. row_of entry % n) (views-length parts) ∙ sym at
+-- the entry is of one row, and so of one partition
+is_in-row : (n k : ℕ) (entry : Entry) (row : RowId) → row_of entry ≡ Some row → is_in n k entry ≡ (row.0 % n == k)
+is_in-row n k entry row of = ap (λ found. option_map_or (λ (row : RowId). row.0 % n == k) found true) of
 
-  own : get_or (views parts) (row_of entry % length (views parts)) [] ≡ part.tables.items
-  own = ap (λ k. get_or (views parts) k []) there ∙ views-get parts home part [] lt is
+module _ (partitions : List Partition) (entry : Entry) (row : RowId) (of : row_of entry ≡ Some row) (home : ℕ) (was new : Partition)
+    (is : was ≡ get_or partitions home was) (at : home ≡ row.0 % length partitions) (lt : home < length partitions)
+    (are : ArePartitions (views partitions)) where
+  abbrev olds : List Tables
+  olds = views partitions
 
-  put : slice_set (views parts) (row_of entry % length (views parts)) new.tables.items ≡ views (slice_set parts home new)
-  put = ap (λ k. slice_set (views parts) k new.tables.items) there ∙ sym (views-set parts home new)
+  mine : is_in (length partitions) home entry ≡ true
+  mine = is_in-row (length partitions) home entry row of ∙ eq-eqb (row.0 % length partitions) home (sym at)
 
-  some : 0 < length (views parts)
-  some = omega (arith, lt, views-length parts)
-
-  pub own-changes : apply_entry part.tables.items entry ≡ Ok new.tables.items
-      → apply_entry (tables_in (views parts)) entry ≡ Ok (tables_in (views (slice_set parts home new)))
-  own-changes change =
-      one-changes (views parts) some are entry [] new.tables.items (ap (λ tables. apply_entry tables entry) own ∙ change)
-      ∙ ap (λ parts. Ok (tables_in parts)) put
-
-  pub own-leaves : apply_entry part.tables.items entry ≡ Ok new.tables.items → AreParts (views (slice_set parts home new))
-  own-leaves change =
-      subst AreParts put
-      (one-leaves (views parts) some are entry [] new.tables.items (ap (λ tables. apply_entry tables entry) own ∙ change))
-
-  pub own-kinds : apply_entry part.tables.items entry ≡ Ok new.tables.items
-      → shape_in (tables_in (views (slice_set parts home new))) ≡ shape_in (tables_in (views parts))
-  own-kinds change =
-      (Leaves-change (shape_in (tables_in (views parts))) (tables_in (views parts)) (tables_in (views (slice_set parts home new)))
-      entry refl
-      (own-changes change)).kinds
-
-  pub own-refused : fault_kind true (apply_entry part.tables.items entry) ≡ fault_kind true (apply_entry (tables_in (views parts)) entry)
+  pub own-refused : fault_kind true (apply_entry was.tables.items entry) ≡ fault_kind true (apply_entry (tables_in olds) entry)
   own-refused =
-      ap (λ tables. fault_kind true (apply_entry tables entry)) (sym own) ∙ refused-alike (views parts) some are entry []
+      ap (λ tables. fault_kind true (apply_entry tables entry)) (sym (views-get partitions home was [] lt is))
+      ∙ refused-alike (length partitions) olds (sym (views-length partitions)) are entry home []
+      (omega (arith, lt, views-length partitions)) mine
 
-pub views-same : (parts : List Part) (home : ℕ) (part new : Part) → part ≡ get_or parts home part → new.tables.items ≡ part.tables.items
-    → views (slice_set parts home new) ≡ views parts
-views-same parts home part new is same =
-    map-set_same (λ (part : Part). part.tables.items) parts home new part (same ∙ ap (λ (part : Part). part.tables.items) is)
+  module _ (laws : AreEntryLaws) (change : apply_entry was.tables.items entry ≡ Ok new.tables.items) where
+    abbrev news : List Tables
+    news = views (slice_set partitions home new)
+
+    many : length news ≡ length olds
+    many = ap length (views-set partitions home new) ∙ length-set olds home new.tables.items
+
+    own : (k : ℕ) (d : Tables) → k < length olds → is_in (length partitions) k entry ≡ true
+        → apply_entry (get_or olds k d) entry ≡ Ok (get_or news k d)
+    own k d few takes =
+        let here : k ≡ home =
+        sym (eqb-true (row.0 % length partitions) k (sym (is_in-row (length partitions) k entry row of) ∙ takes)) ∙ sym at in
+        ap (λ k. apply_entry (get_or olds k d) entry) here
+        ∙ ap (λ tables. apply_entry tables entry) (views-get partitions home was d lt is)
+        ∙ change
+        ∙ ap Ok (sym (ap (λ k. get_or news k d) here ∙ ap (λ tables. get_or tables home d) (views-set partitions home new)
+        ∙ get_or-set_same olds home new.tables.items d (omega (arith, lt, views-length partitions))))
+
+    kept : (k : ℕ) (d : Tables) → k < length olds → is_in (length partitions) k entry ≡ false → get_or news k d ≡ get_or olds k d
+    kept k d few away =
+        ap (λ tables. get_or tables k d) (views-set partitions home new)
+        ∙ get_or-set_other olds home k new.tables.items d
+        (λ here. false≢true (sym away ∙ ap (λ k. is_in (length partitions) k entry) here ∙ mine))
+
+    pub own-changes : (apply_entry (tables_in olds) entry ≡ Ok (tables_in news)) × ArePartitions news
+    own-changes =
+        let is = sym (views-length partitions) in
+        let some : 0 < length partitions = omega (arith, lt) in (
+          all-changes laws (length partitions) some entry olds news is many are own kept,
+          new-partitions laws (length partitions) some entry olds news is many are own kept,
+        )
+
+pub views-same : (partitions : List Partition) (home : ℕ) (partition new : Partition) → partition ≡ get_or partitions home partition
+    → new.tables.items ≡ partition.tables.items
+    → views (slice_set partitions home new) ≡ views partitions
+views-same partitions home partition new is same =
+    map-set_same (λ (partition : Partition). partition.tables.items) partitions home new partition
+    (same ∙ ap (λ (partition : Partition). partition.tables.items) is)
 
 -- a bound of the partitions so far, and of one more
-pub most-more : (parts : List Part) (t i most other new : ℕ) (part : Part) → i < length parts → part ≡ get_or parts i part → most ≤ new
+pub most-more : (partitions : List Partition) (t i most other new : ℕ) (partition : Partition) → i < length partitions
+    → partition ≡ get_or partitions i partition → most ≤ new
     → other ≤ new
-    → ((k : ℕ) (d : Tables) → k < i → AllUnder (most + 1) (rows_of (get_or (views parts) k d) t))
-    → AllUnder (other + 1) (rows_of part.tables.items t)
-    → (k : ℕ) (d : Tables) → k < i + 1 → AllUnder (new + 1) (rows_of (get_or (views parts) k d) t)
-most-more parts t i most other new part lt is le too before one k d few = elim (cases_eq k i) [
+    → ((k : ℕ) (d : Tables) → k < i → AllUnder (most + 1) (rows_of (get_or (views partitions) k d) t))
+    → AllUnder (other + 1) (rows_of partition.tables.items t)
+    → (k : ℕ) (d : Tables) → k < i + 1 → AllUnder (new + 1) (rows_of (get_or (views partitions) k d) t)
+most-more partitions t i most other new partition lt is le too before one k d few = elim (cases_eq k i) [
   | inl here ↦ subst (λ tables. AllUnder (new + 1) (rows_of tables t))
-      (sym (ap (λ k. get_or (views parts) k d) here ∙ views-get parts i part d lt is))
-      (under-higher (other + 1) (new + 1) (rows_of part.tables.items t) (omega arith) one)
-  | inr apart ↦ under-higher (most + 1) (new + 1) (rows_of (get_or (views parts) k d) t) (omega arith) (before k d (omega arith))
+      (sym (ap (λ k. get_or (views partitions) k d) here ∙ views-get partitions i partition d lt is))
+      (under-higher (other + 1) (new + 1) (rows_of partition.tables.items t) (omega arith) one)
+  | inr apart ↦ under-higher (most + 1) (new + 1) (rows_of (get_or (views partitions) k d) t) (omega arith) (before k d (omega arith))
 ]
 
 -- ---- a row's columns
@@ -215,13 +235,13 @@ column-within (Some values) kinds column h there =
 
 -- ---- a store that opens
 
-pub opens : (parts : List Tables) (shape : Shape) (n : ℕ) → 0 < n → parts ≡ replicate n (opening shape)
-    → (length parts ≡ n) × (tables_in parts ≡ opening shape) × AreParts parts
-opens parts shape zero some is = absurd (omega arith)
-opens parts shape (suc n) some is = (
+pub opens : (partitions : List Tables) (shape : Shape) (n : ℕ) → 0 < n → partitions ≡ replicate n (opening shape)
+    → (length partitions ≡ n) × (tables_in partitions ≡ opening shape) × ArePartitions partitions
+opens partitions shape zero some is = absurd (omega arith)
+opens partitions shape (suc n) some is = (
   ap length is ∙ length-replicate (suc n) (opening shape),
   ap tables_in is ∙ tables-opening shape n,
-  subst AreParts (sym is) (parts-opening shape (suc n) some),
+  subst ArePartitions (sym is) (partitions-opening shape (suc n) some),
 )
 
 -- ---- a row's place
@@ -239,50 +259,58 @@ found-values (Some at) row rows rise found place = by (row_at rows row) refl
         ap (λ at. option_map (λ found. found.1) (slice_get rows at)) place
         ∙ ap (option_map (λ (found : ℕ × List Value). found.1)) (there-at row rows values rise e) ∙ sym e
 
-module _ (parts : List Tables) (table : ℕ) (spot : Spot) (column : ℕ) where
-  none-there : slice_get (rows_of (get_or parts spot.part []) table) spot.position ≡ None
-      → IsSome (column_of (values_in parts table spot) column) → ⊥
+module _ (partitions : List Tables) (table : ℕ) (spot : Spot) (column : ℕ) where
+  none-there : slice_get (rows_of (get_or partitions spot.partition []) table) spot.position ≡ None
+      → IsSome (column_of (values_in partitions table spot) column) → ⊥
   none-there e there =
       false≢true (ap (λ found. is_some (column_of (option_map (λ (row : ℕ × List Value). row.1) found) column)) (sym e) ∙ there)
 
-  pub spot-position : IsSome (column_of (values_in parts table spot) column)
-      → spot.position < length (rows_of (get_or parts spot.part []) table)
-  spot-position there = by (slice_get (rows_of (get_or parts spot.part []) table) spot.position) refl
+  pub spot-position : IsSome (column_of (values_in partitions table spot) column)
+      → spot.position < length (rows_of (get_or partitions spot.partition []) table)
+  spot-position there = by (slice_get (rows_of (get_or partitions spot.partition []) table) spot.position) refl
     where
-      by : (found : Option (ℕ × List Value)) → slice_get (rows_of (get_or parts spot.part []) table) spot.position ≡ found
-          → spot.position < length (rows_of (get_or parts spot.part []) table)
+      by : (found : Option (ℕ × List Value)) → slice_get (rows_of (get_or partitions spot.partition []) table) spot.position ≡ found
+          → spot.position < length (rows_of (get_or partitions spot.partition []) table)
       by None e = absurd (none-there e there)
-      by (Some row) e = slice_get_within (rows_of (get_or parts spot.part []) table) spot.position row e
+      by (Some row) e = slice_get_within (rows_of (get_or partitions spot.partition []) table) spot.position row e
 
-  pub spot-part : IsSome (column_of (values_in parts table spot) column) → spot.part < length parts
-  spot-part there = elim (le_or_lt (length parts) spot.part) [
+  pub spot-partition : IsSome (column_of (values_in partitions table spot) column) → spot.partition < length partitions
+  spot-partition there = elim (le_or_lt (length partitions) spot.partition) [
     | inl past ↦
         (let few = spot-position there in
-        absurd (omega (arith, few, ap (λ (tables : Tables). length (rows_of tables table)) (get_or_past parts spot.part [] past))))
+        absurd (omega (
+          arith,
+          few,
+          ap (λ (tables : Tables). length (rows_of tables table))
+              (get_or_past partitions spot.partition [] past),
+        )))
     | inr lt ↦ lt
   ]
 
-  pub spot-columns : AreParts parts → RowsAreOfKinds (tables_in parts) → IsSome (column_of (values_in parts table spot) column)
-      → column < length (kinds_of (tables_in parts) table)
-  spot-columns are kinds there = by (slice_get (rows_of (get_or parts spot.part []) table) spot.position) refl
+  pub spot-columns : ArePartitions partitions → RowsAreOfKinds (tables_in partitions)
+      → IsSome (column_of (values_in partitions table spot) column)
+      → column < length (kinds_of (tables_in partitions) table)
+  spot-columns are kinds there = by (slice_get (rows_of (get_or partitions spot.partition []) table) spot.position) refl
     where
-      by : (found : Option (ℕ × List Value)) → slice_get (rows_of (get_or parts spot.part []) table) spot.position ≡ found
-          → column < length (kinds_of (tables_in parts) table)
+      by : (found : Option (ℕ × List Value)) → slice_get (rows_of (get_or partitions spot.partition []) table) spot.position ≡ found
+          → column < length (kinds_of (tables_in partitions) table)
       by None e = absurd (none-there e there)
       by (Some (id, values)) e =
-          let rows = rows_of (get_or parts spot.part []) table in
-          let lt = spot-part there in
-          let own = there-from id rows spot.position values (are.rise spot.part table [] lt) e in
-          let of : id % length parts ≡ spot.part = home id values own in
-          let all : row_at (rows_of (tables_in parts) table) id ≡ Some values = parts-row parts table id spot.part [] are of lt ∙ own in
-          column-within (Some values) (kinds_of (tables_in parts) table) column
-          (subst (λ found. IfSome found (λ values. are_of_kinds values (kinds_of (tables_in parts) table) ≡ true)) all (kinds table id))
+          let rows = rows_of (get_or partitions spot.partition []) table in
+          let lt = spot-partition there in
+          let own = there-from id rows spot.position values (are.rise spot.partition table [] lt) e in
+          let of : id % length partitions ≡ spot.partition = home id values own in
+          let all : row_at (rows_of (tables_in partitions) table) id
+          ≡ Some values = partitions-row partitions table id spot.partition [] are of lt ∙ own in
+          column-within (Some values) (kinds_of (tables_in partitions) table) column
+          (subst (λ found. IfSome found (λ values. are_of_kinds values (kinds_of (tables_in partitions) table) ≡ true)) all
+          (kinds table id))
           (subst (λ found. IsSome (column_of (option_map (λ (row : ℕ × List Value). row.1) found) column)) e there)
         where
-          home : (id : ℕ) (values : List Value) → row_at (rows_of (get_or parts spot.part []) table) id ≡ Some values
-              → id % length parts ≡ spot.part
-          home id values own = elim (cases_eq (id % length parts) spot.part) [
+          home : (id : ℕ) (values : List Value) → row_at (rows_of (get_or partitions spot.partition []) table) id ≡ Some values
+              → id % length partitions ≡ spot.partition
+          home id values own = elim (cases_eq (id % length partitions) spot.partition) [
             | inl same ↦ same
             | inr other ↦ absurd (false≢true
-                (ap is_some (sym (are.home spot.part table id [] (spot-part there) other)) ∙ ap is_some own))
+                (ap is_some (sym (are.home spot.partition table id [] (spot-partition there) other)) ∙ ap is_some own))
           ]

@@ -1,8 +1,8 @@
 -- Values of one width, side by side, when one is put in, taken out or replaced; and numbers alike.
 use Rattle.std.proofs.Common.{◌≡◌, ℕ, zero, suc, ◌+◌, ◌-◌, ◌*◌, ◌<◌, ◌≤◌, ℤ, List, ◌∷◌, ◌++◌, length, take, drop, map, Some, refl, sym}
 use Rattle.std.proofs.Common.{ap, subst, ◌∙◌}
-use Rattle.std.proofs.Common.{slice_get, slice_set, arith}
-use Rattle.std.specs.List.{insert, remove}
+use Rattle.std.proofs.Common.{slice_get, slice_set, replicate, arith}
+use Rattle.std.specs.List.{insert, remove, repeat}
 use Rattle.std.proofs.Math.Nat.{suc-mul, add-mul, mul-le-mul_right}
 use Rattle.std.proofs.lemmas.List.{take-append-drop, take-take, drop-take, drop-drop, take_at, drop_at, set_split, map-append, take-map}
 use Rattle.std.proofs.lemmas.List.{drop-map}
@@ -57,6 +57,12 @@ module _ (width : ℕ) where
   one-more : (rows : ℕ) (value bytes : List ℕ) → length value ≡ width
       → octets_in (suc rows) width (value ++ bytes) ≡ values.Octets value ∷ octets_in rows width bytes
   one-more rows value bytes h = rw (take_at value bytes width h, drop_at value bytes width h) refl
+
+  pub octets-repeat : (rows : ℕ) (value : List ℕ) → length value ≡ width
+      → octets_in rows width (repeat rows value) ≡ replicate rows (values.Octets value)
+  octets-repeat zero value h = refl
+  octets-repeat (suc rows) value h =
+      one-more rows value (repeat rows value) h ∙ ap (λ rest. values.Octets value ∷ rest) (octets-repeat rows value h)
 
   few : (rows at : ℕ) (bytes : List ℕ) → length bytes ≡ rows * width → at ≤ rows → at * width ≤ length bytes
   few rows at bytes h le = subst (λ n. at * width ≤ n) (sym h) (mul-le-mul_right width le)

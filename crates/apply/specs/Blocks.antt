@@ -1,8 +1,9 @@
 -- The rows that columns are, beside their identifiers.
-use Rattle.std.specs.Prelude.{ℕ, List, [], ◌∷◌, map, length, Option, None, Some, slice_get}
+use Rattle.std.specs.Prelude.{ℕ, zero, suc, ◌-◌, List, [], ◌∷◌, ◌++◌, map, take, length, Option, None, Some, slice_get}
 use Rattle.rows.specs.declared.kind.Kind.{Kind}
 use Rattle.rows.specs.declared.value.Value.{Value}
-use Rattle.rows.specs.Tables.{Rows, Table}
+use Rattle.rows.specs.Tables.{Rows, Table, with_column}
+use Rattle.rows.specs.Values.{kind_of as kind_of_value}
 use Rattle.apply.specs.declared.cells.Cells.{Cells}
 use Rattle.apply.specs.Columns.{kind_of, values_in}
 
@@ -32,3 +33,20 @@ cell_in rows at column = cell (slice_get rows at)
     cell : Option (ℕ × List Value) → Option Value
     cell None = None
     cell (Some row) = slice_get row.1 column
+
+-- a table with one column more, which has this value in each row
+abbrev pub wider : Value → Table → Table
+wider default table = record { kinds = table.kinds ++ kind_of_value default ∷ []; rows = with_column default table.rows }
+
+-- a table without its last column
+abbrev pub narrower : Table → Table
+narrower table = record {
+  kinds = take (length table.kinds - 1) table.kinds;
+  rows = map (λ row. (row.0, take (length row.1 - 1) row.1)) table.rows;
+}
+
+-- tables, of which one is without its last column
+abbrev pub dropped : List Table → ℕ → List Table
+dropped [] table = []
+dropped (first ∷ tables) zero = narrower first ∷ tables
+dropped (first ∷ tables) (suc table) = first ∷ dropped tables table

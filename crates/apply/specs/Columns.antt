@@ -1,11 +1,12 @@
 -- One column: the values that its numbers or bytes are.
-use Rattle.std.specs.Prelude.{◌≡◌, ℕ, ◌+◌, ◌*◌, ◌<◌, ◌≤◌, List, map, length, drop, true}
+use Rattle.std.specs.Prelude.{◌≡◌, ℕ, ◌+◌, ◌*◌, ◌<◌, ◌≤◌, List, map, length, drop, replicate, true}
 use Rattle.std.specs.Prelude.{vec_len, vec_capacity}
 use Rattle.rows.specs.declared.kind.Kind.{Kind}
 use Rattle.rows.specs.declared.kind.Kind.TheVariants as kinds
 use Rattle.rows.specs.declared.value.Value.{Value}
 use Rattle.rows.specs.declared.value.Value.TheVariants as values
 use Rattle.rows.specs.Shape.{is_good}
+use Rattle.rows.specs.Values.{kind_of as kind_of_value}
 use Rattle.store.specs.Lent.{octets_in}
 use Rattle.apply.specs.declared.cells.Cells.{Cells}
 use Rattle.apply.specs.declared.cells.Cells.TheVariants.{Numbers, Octets}
@@ -41,3 +42,9 @@ pub record IsTail (rows at : ℕ) (whole tail : Cells) : Type 0 where
   pub kind : kind_of tail ≡ kind_of whole
   pub cells : (cut : ℕ) → cut + at ≡ rows → AreCells cut tail
   pub values : (cut : ℕ) → cut + at ≡ rows → values_in cut tail ≡ drop at (values_in rows whole)
+
+-- a column has this value in each of so many rows
+pub record IsFilled (rows : ℕ) (value : Value) (column : Cells) : Type 0 where
+  pub kind : kind_of column ≡ kind_of_value value
+  pub cells : AreCells rows column
+  pub values : values_in rows column ≡ replicate rows value

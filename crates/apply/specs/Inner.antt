@@ -4,6 +4,7 @@ pub mod Edits
 pub mod Parts
 pub mod Joins
 pub mod Pieces
+pub mod EntryLaws
 pub mod Gathered
 pub mod Ends
 pub mod Views

@@ -19,15 +19,16 @@ both (one ∷ these) (other ∷ others) = record { kinds = one.kinds; rows = gat
 -- the tables of all partitions
 abbrev pub tables_in : List Tables → Tables
 tables_in [] = []
-tables_in (part ∷ parts) = both part (tables_in parts)
+tables_in (partition ∷ partitions) = both partition (tables_in partitions)
 
 -- the values of the row that stands at a position of a table in a partition
 abbrev pub values_in : List Tables → ℕ → Spot → Option (List Value)
-values_in parts table spot = option_map (λ row. row.1) (slice_get (rows_of (slice_index_or parts spot.part []) table) spot.position)
+values_in partitions table spot =
+    option_map (λ row. row.1) (slice_get (rows_of (slice_index_or partitions spot.partition []) table) spot.position)
 
 -- a store of columns as its callers see it: the tables of each partition, and whether it is whole
 pub record ColumnState : Type 0 where
   -- the tables of each partition
-  pub parts : List Tables
+  pub partitions : List Tables
   -- whether they stand as the store's changes made them; once it is not, it never is again
   pub whole : Bool

@@ -8,11 +8,11 @@ ghost use Rattle.std.specs.List.Sorted.{IsStrictlySortedBy};
 ghost use Rattle.std.specs.Ordering.{nat_cmp};
 ghost use Rattle.std.specs.Map.{keys_of};
 ghost use Rattle.rows.specs.Shape.{row_width, is_good};
-ghost use Rattle.rows.specs.Values.{values_of};
+ghost use Rattle.rows.specs.Values.{values_of, kind_of};
 ghost use Rattle.rows.specs.Tables.{is_present, with_row, with_patch, without_row};
 ghost use Rattle.store.specs.Lent.{rows_from, column_in, AreLent};
 ghost use Rattle.apply.specs.Orders.{Rising, place_in};
-ghost use Rattle.apply.specs.Blocks.{cell_in};
+ghost use Rattle.apply.specs.Blocks.{cell_in, wider, narrower};
 
 use crate::cells::Cells;
 use crate::edits::{empty_columns, insert_row, remove_row, reserve_row, rows_from, truncate_rows};
@@ -169,6 +169,24 @@ impl Block {
             self.columns[column].set(self.ids.len(), at, bytes);
         }
         true
+    }
+
+    /// Adds a column with this value in each row. Fails only if out of memory.
+    pub fn add_column(&mut self, alloc: Global, default: &Value) -> Result<(), AllocError>
+        requires { is_good (kind_of default.now) ≡ true }
+        ensures ok { OnOk result (self.new ≡ wider default.now self.old) }
+        ensures err { OnErr result (self.new ≡ self.old) }
+    {
+        let column = Cells::filled(alloc, self.ids.len(), default)?;
+        self.columns.push(column)?;
+        Ok(())
+    }
+
+    /// Drops the last column.
+    pub fn drop_column(&mut self)
+        ensures { self.new ≡ narrower self.old }
+    {
+        let _ = self.columns.pop();
     }
 
     /// A block of the rows from an index on, copied. Fails only if out of memory.

@@ -4,9 +4,10 @@ ghost use Rattle.std.specs.Prelude.{◌≡◌, ◌+◌, ◌<◌, ◌≤◌, [], 
 ghost use Rattle.std.specs.Prelude.{vec_len, vec_capacity};
 ghost use Rattle.std.specs.List.{insert, remove};
 ghost use Rattle.rows.specs.Shape.{width_of, is_good};
-ghost use Rattle.rows.specs.Values.{value_of};
-ghost use Rattle.store.specs.Lent.{AreLent};
-ghost use Rattle.apply.specs.Columns.{kind_of, values_in, AreCells, HasRoom, Keeps, IsTail};
+ghost use Rattle.rows.specs.Values.{value_of, kind_of as kind_of_value};
+ghost use Rattle.rows.specs.declared.value.Value.TheVariants.{Octets as OctetsOf};
+ghost use Rattle.store.specs.Lent.{octets_in, AreLent};
+ghost use Rattle.apply.specs.Columns.{kind_of, values_in, AreCells, HasRoom, Keeps, IsTail, IsFilled};
 
 use byteorder::{BigEndian, ByteOrder};
 use rows::{Kind, Octets, Value};
@@ -38,6 +39,23 @@ impl Cells {
                 width,
                 bytes: Vec::new(alloc),
             },
+        }
+    }
+
+    /// A column that has this value in each of so many rows. Fails only if out of memory.
+    pub fn filled(alloc: Global, rows: usize, value: &Value) -> Result<Cells, AllocError>
+        requires { is_good (kind_of_value value.now) ≡ true }
+        ensures { IfOk result (IsFilled rows value.now) }
+    {
+        match value {
+            Value::Int(number) => Ok(Cells::Numbers(vec![in alloc; *number; rows]?)),
+            Value::Octets(octets) => {
+                let value = octets.as_slice();
+                Ok(Cells::Octets {
+                    width: value.len() as u8,
+                    bytes: value.repeat(alloc, rows)?,
+                })
+            }
         }
     }
 

@@ -2,24 +2,24 @@
 
 ghost use Rattle.std.specs.Prelude.{◌≡◌, ◌<◌, ◌≤◌, length, true, false, Ok, IfOk, OnOk, OnErr, IfErr};
 ghost use Rattle.rows.specs.Shape.{shape_of};
-ghost use Rattle.rows.specs.Tables.{opening, shape_in};
+ghost use Rattle.rows.specs.Tables.{opening};
 ghost use Rattle.rows.specs.Commits.{apply_commits};
 ghost use Rattle.store.specs.Faults.{FailsAs, have_entries};
 ghost use Rattle.apply.specs.Limits.{partitions_max};
 ghost use Rattle.apply.specs.Partitions.{tables_in};
 
-use crate::part::Part;
+use crate::partition::Partition;
 use crate::partitions::{
-    change_parts, column_from, empty_parts, find, id_at, ids_from, len, value,
+    change_partitions, column_from, empty_partitions, find, id_at, ids_from, kinds, len, value,
 };
 use crate::spot::Spot;
 use crate::starter::Starter;
-use crate::together::apply_commits;
-use rows::{Commit, Entry, RowId, Schema, Value, laws};
+use crate::together::{apply_in_threads, are_many};
+use rows::{Commit, Entry, Kind, RowId, Schema, Value, laws};
 use std::alloc::{AllocError, Global};
 use std::marker::Model;
 use std::thread::Threads;
-use store::{ApplyFault, ApplyStore, Lent, Store, StoreFault};
+use store::{ApplyFault, ApplyStore, Lent, Store, StoreFault, run_commits};
 
 /// A store of rows in columns. A row is in the partition whose number is the remainder of its
 /// identifier, divided by the number of partitions; there its values are side by side with those of
@@ -30,7 +30,7 @@ use store::{ApplyFault, ApplyStore, Lent, Store, StoreFault};
 #[derive(Drop)]
 pub struct ColumnStore {
     alloc: Global,
-    parts: Vec<Part>,
+    partitions: Vec<Partition>,
     whole: bool,
 }
 
@@ -52,21 +52,21 @@ impl ColumnStore {
     pub fn new(alloc: Global, schema: &Schema, partitions: usize) -> Result<ColumnStore, AllocError>
         requires some { 0 < partitions }
         requires few { partitions ≤ partitions_max }
-        ensures tables { IfOk result (λ store. tables_in store.parts ≡ opening (shape_of schema.now)) }
-        ensures parts { IfOk result (λ store. length store.parts ≡ partitions) }
+        ensures tables { IfOk result (λ store. tables_in store.partitions ≡ opening (shape_of schema.now)) }
+        ensures partitions { IfOk result (λ store. length store.partitions ≡ partitions) }
         ensures whole { IfOk result (λ store. store.whole ≡ true) }
     {
         laws::rows_are_of_kinds();
         Ok(ColumnStore {
             alloc,
-            parts: empty_parts(alloc, schema, partitions)?,
+            partitions: empty_partitions(alloc, schema, partitions)?,
             whole: true,
         })
     }
 
     /// Makes all changes of these commits, in their order. If they have at least 4,096 entries,
-    /// each partition makes those of its own rows, in threads: each thread has a share of the
-    /// partitions, and goes over the entries once for each.
+    /// each partition makes its own, in threads: each thread has a share of the partitions, and goes
+    /// over the entries once for each.
     ///
     /// Fails with `Broken` if the store is not whole, with `Inconsistent` if one of the changes is
     /// refused, or with `Memory`, only if there is an entry to apply. After any failure the store
@@ -76,20 +76,26 @@ impl ColumnStore {
         rt: &R,
         commits: &[Commit],
     ) -> Result<(), ApplyFault>
-        ensures ok { OnOk result (apply_commits (tables_in self.old.parts) commits.now ≡ Ok (tables_in self.new.parts)) }
+        ensures ok { OnOk result (apply_commits (tables_in self.old.partitions) commits.now ≡ Ok (tables_in self.new.partitions)) }
         ensures only_whole { OnOk result (self.old.whole ≡ true) }
         ensures stays_whole { OnOk result (self.new.whole ≡ true) }
         ensures err { IfErr result
-            (FailsAs self.old.whole (have_entries commits.now) (apply_commits (tables_in self.old.parts) commits.now)) }
+            (FailsAs self.old.whole (have_entries commits.now) (apply_commits (tables_in self.old.partitions) commits.now)) }
         ensures broken { OnErr result (self.new.whole ≡ false) }
-        ensures kinds { shape_in (tables_in self.new.parts) ≡ shape_in (tables_in self.old.parts) }
     {
         if !self.whole {
             return Err(ApplyFault::Broken);
         }
         laws::rows_are_of_kinds();
-        let applied = apply_commits(rt, self.alloc, &mut self.parts, commits);
-        self.whole = applied.is_ok();
+        if are_many(commits) {
+            let applied = apply_in_threads(rt, self.alloc, &mut self.partitions, commits);
+            self.whole = applied.is_ok();
+            return applied;
+        }
+        let applied = run_commits(self, commits);
+        if applied.is_err() {
+            self.whole = false;
+        }
         applied
     }
 }
@@ -103,11 +109,11 @@ impl Store for ColumnStore {
 
     type Fault = StoreFault;
 
-    ghost tables = { λ s. tables_in s.parts };
+    ghost tables = { λ s. tables_in s.partitions };
 
     ghost is_whole = { λ s. s.whole };
 
-    ghost values_at = { λ s table place. values_in s.parts table place };
+    ghost values_at = { λ s table place. values_in s.partitions table place };
 
     ghost kind_of = { number_of };
 
@@ -128,12 +134,20 @@ impl Store for ColumnStore {
         if !self.whole {
             return None;
         }
-        find(self.parts.as_slice(), table, row.0)
+        find(self.partitions.as_slice(), table, row.0)
     }
 
     /// The value of one column of the row at that place, columns being counted from 0.
     fn value(&self, table: u8, place: Spot, column: usize) -> Value {
-        value(self.parts.as_slice(), table, place, column)
+        value(self.partitions.as_slice(), table, place, column)
+    }
+
+    /// The kinds of a table's columns, lent; `None` if there is no table of that number.
+    fn kinds(&self, table: u8) -> Option<&[Kind]> {
+        if !self.whole {
+            return None;
+        }
+        kinds(self.partitions.as_slice(), table)
     }
 
     /// How many rows a table has; 0 if there is no table of that number.
@@ -141,26 +155,26 @@ impl Store for ColumnStore {
         if !self.whole {
             return 0;
         }
-        len(self.parts.as_slice(), table)
+        len(self.partitions.as_slice(), table)
     }
 
     /// The identifier of the row at an index of the table's order, counted from 0.
     fn id_at(&self, table: u8, i: usize) -> RowId {
-        RowId(id_at(self.parts.as_slice(), table, i))
+        RowId(id_at(self.partitions.as_slice(), table, i))
     }
 
     /// The number of partitions: the rows of a piece are those of the partition of its number.
     fn pieces(&self) -> usize
         ensures some { 0 < result }
-        ensures parts { result ≡ length self.now.parts }
+        ensures partitions { result ≡ length self.now.partitions }
     {
-        self.parts.len()
+        self.partitions.len()
     }
 
     /// The identifiers of rows of a partition, lent: the rest of a block, from the row at an index
     /// on. `None` if `pieces` is not the number of partitions, or if there is no such piece or table.
     fn ids_from(&self, table: u8, pieces: usize, piece: usize, from: usize) -> Option<&[u64]> {
-        ids_from(self.parts.as_slice(), table, pieces, piece, from)
+        ids_from(self.partitions.as_slice(), table, pieces, piece, from)
     }
 
     /// The values of one column of this many rows of a partition, lent. `None` if they are not all
@@ -176,7 +190,7 @@ impl Store for ColumnStore {
         column: usize,
     ) -> Option<Lent<'_>> {
         column_from(
-            self.parts.as_slice(),
+            self.partitions.as_slice(),
             table,
             pieces,
             piece,
@@ -193,19 +207,12 @@ impl Store for ColumnStore {
             return Err(StoreFault::Broken);
         }
         laws::rows_are_of_kinds();
-        laws::changes_keep_kinds();
-        change_parts(self.alloc, &mut self.parts, entry)
+        change_partitions(self.alloc, &mut self.partitions, entry)
     }
 
     /// The number of a fault: 1 Exists, 2 Missing, 3 Unfit, 4 Memory, 5 Broken.
     fn kind(fault: &StoreFault) -> u8 {
-        match fault {
-            StoreFault::Exists => 1,
-            StoreFault::Missing => 2,
-            StoreFault::Unfit => 3,
-            StoreFault::Memory => 4,
-            StoreFault::Broken => 5,
-        }
+        fault.number()
     }
 }
 

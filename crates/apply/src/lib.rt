@@ -6,7 +6,7 @@
 //! block is cut in two: after its last row or before its first if rows arrive in order, otherwise
 //! in half. A `Block` has the identifiers of its rows, in rising order, and a column for each
 //! column of the table. A column is `Cells`: numbers of 64 bits side by side, or bytes of one width
-//! side by side.
+//! side by side. An entry that adds a column adds it in all partitions, or in none.
 //!
 //! Promised: a store of columns is a `store::ApplyStore`, and its answers do not depend on the
 //! number of its partitions; `apply_all` applies the commits to its tables, in threads if there are
@@ -22,20 +22,22 @@
 //! If a call fails for lack of memory, its value is unchanged unless the call says otherwise.
 #![tactic(auto)]
 
+mod adding;
 mod block;
 mod cells;
-mod changing;
 mod column_store;
 mod edits;
+mod laws;
 mod limits;
 mod own;
-mod part;
+mod partition;
 mod partitions;
 mod piece;
 mod sequence;
 mod spot;
 mod starter;
 mod together;
+mod widening;
 
 pub use block::Block;
 pub use cells::Cells;

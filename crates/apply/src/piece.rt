@@ -1,14 +1,11 @@
 //! The rows of one table in one partition.
 
-ghost use Rattle.std.specs.Prelude.{◌≡◌, ◌+◌, ◌<◌, ◌≤◌, [], length, true, false, Some, IfOk, IfSome, OnOk, OnErr, is_some, slice_get};
-ghost use Rattle.std.specs.Prelude.{not, if◌then◌else◌};
+ghost use Rattle.std.specs.Prelude.{◌≡◌, ◌+◌, ◌<◌, ◌≤◌, [], length, Some, IfSome, is_some, slice_get};
 ghost use Rattle.std.specs.Option.{option_map};
 ghost use Rattle.std.specs.Map.{keys_of};
-ghost use Rattle.rows.specs.Shape.{AreColumns, row_width};
-ghost use Rattle.rows.specs.Values.{values_of};
-ghost use Rattle.rows.specs.Tables.{row_at, is_present, with_row, with_patch, without_row};
+ghost use Rattle.rows.specs.Tables.{row_at, is_present};
 ghost use Rattle.store.specs.Lent.{rows_from, column_in, AreLent};
-ghost use Rattle.apply.specs.Blocks.{cell_in};
+ghost use Rattle.apply.specs.Blocks.{cell_in, narrower};
 ghost use Rattle.apply.specs.Limits.{rows_max};
 ghost use Rattle.apply.specs.Orders.{AllUnder, place_in};
 
@@ -17,10 +14,11 @@ use crate::sequence::{
     column_from, contains, find, greatest, ids_from, patch_row, place, put_row, remove_row,
     rows_before, value,
 };
+use crate::widening::{add_column, drop_column};
 use rows::{Kind, KindList, Value};
 use std::alloc::{AllocError, Global};
 use std::marker::Model;
-use store::Lent;
+use store::{Lent, TableRows};
 
 /// How many rows a piece has at most.
 const ROWS_MAX: usize = 1 << 57;
@@ -48,26 +46,6 @@ impl Model for Piece {
 }
 
 impl Piece {
-    /// A table with columns of these kinds, and without rows. Fails only if out of memory.
-    pub fn new(alloc: Global, kinds: &[Kind]) -> Result<Piece, AllocError>
-        requires { AreColumns kinds.now }
-        ensures { IfOk result (λ piece. piece ≡ record { kinds = kinds.now; rows = [] }) }
-    {
-        Ok(Piece {
-            kinds: KindList::from_slice(alloc, kinds)?,
-            blocks: Vec::new(alloc),
-            ends: Vec::new(alloc),
-        })
-    }
-
-    /// The kinds of its columns, lent.
-    pub fn kinds(&self) -> &[Kind]
-        ensures value { result.now ≡ self.now.kinds }
-        ensures columns { AreColumns result.now }
-    {
-        self.kinds.as_slice()
-    }
-
     /// Whether the row is there.
     pub fn contains(&self, row: u64) -> bool
         ensures { result ≡ is_present self.now.rows row }
@@ -152,17 +130,36 @@ impl Piece {
         )
     }
 
-    /// Inserts a row, given by its bytes, and answers whether it is new; if there is one of that
-    /// identifier, nothing changes. Fails only if out of memory, which it also reports for a piece
-    /// with 2^57 rows, and only for a new row; the rows are then unchanged.
-    pub fn insert(&mut self, alloc: Global, row: u64, bytes: &[u8]) -> Result<bool, AllocError>
-        requires { row_width self.old.kinds ≤ length bytes.now }
-        ensures new { IfOk result (λ new. is_present self.old.rows row ≡ not new) }
-        ensures ok { IfOk result (λ new. self.new ≡ (if new
-            then record self.old { rows = with_row self.old.rows row (values_of self.old.kinds bytes.now) } else self.old)) }
-        ensures absent { OnErr result (is_present self.old.rows row ≡ false) }
-        ensures err { OnErr result (self.new ≡ self.old) }
+    /// Drops the last of several columns. Takes no memory.
+    pub fn drop_column(&mut self)
+        requires { 1 < length self.old.kinds }
+        ensures { self.new ≡ narrower self.old }
     {
+        self.kinds.pop();
+        drop_column(self.blocks.as_mut_slice());
+    }
+}
+
+impl TableRows for Piece {
+    ghost table = { λ p. p };
+
+    /// A table with columns of these kinds, and without rows. Fails only if out of memory.
+    fn empty(alloc: Global, kinds: &[Kind]) -> Result<Piece, AllocError> {
+        Ok(Piece {
+            kinds: KindList::from_slice(alloc, kinds)?,
+            blocks: Vec::new(alloc),
+            ends: Vec::new(alloc),
+        })
+    }
+
+    /// The kinds of its columns, lent.
+    fn kinds(&self) -> &[Kind] {
+        self.kinds.as_slice()
+    }
+
+    /// Inserts a row, given by its bytes, and answers whether it is new. A piece with 2^57 rows also
+    /// reports that it is out of memory.
+    fn insert(&mut self, alloc: Global, row: u64, bytes: &[u8]) -> Result<bool, AllocError> {
         if self.len() == ROWS_MAX {
             return if self.contains(row) {
                 Ok(false)
@@ -180,13 +177,9 @@ impl Piece {
         )
     }
 
-    /// Puts bytes in place of one column's of a row, and answers whether the row is there. If it is
-    /// not, or if the bytes are not exactly one column's, nothing changes. Takes no memory.
-    pub fn patch(&mut self, row: u64, offset: u16, bytes: &[u8]) -> bool
-        ensures there { result ≡ is_present self.old.rows row }
-        ensures rows { self.new ≡ record self.old { rows = with_patch self.old.kinds self.old.rows row offset bytes.now } }
-        ensures absent { result ≡ false → self.new ≡ self.old }
-    {
+    /// Puts bytes in place of one column's of a row, and answers whether the row is there. If the
+    /// bytes are not exactly one column's, nothing changes. Takes no memory.
+    fn patch(&mut self, row: u64, offset: u16, bytes: &[u8]) -> bool {
         patch_row(
             self.blocks.as_mut_slice(),
             self.kinds.as_slice(),
@@ -196,13 +189,16 @@ impl Piece {
         )
     }
 
-    /// Deletes a row, and answers whether it was there; if it was not, nothing changes. Takes no
-    /// memory.
-    pub fn remove(&mut self, row: u64) -> bool
-        ensures there { result ≡ is_present self.old.rows row }
-        ensures rows { self.new ≡ record self.old { rows = without_row self.old.rows row } }
-        ensures absent { result ≡ false → self.new ≡ self.old }
-    {
+    /// Deletes a row, and answers whether it was there. Takes no memory.
+    fn remove(&mut self, row: u64) -> bool {
         remove_row(&mut self.blocks, &mut self.ends, self.kinds.as_slice(), row)
+    }
+
+    /// Adds a column with this value in each row, to each of its blocks.
+    fn add_column(&mut self, alloc: Global, default: Value) -> Result<(), AllocError> {
+        let kinds = self.kinds.with(alloc, default.kind())?;
+        add_column(alloc, self.blocks.as_mut_slice(), &default)?;
+        self.kinds = kinds;
+        Ok(())
     }
 }

@@ -1,9 +1,9 @@
 //! Batches of queries, line by line.
 
-use crate::failure::Failure;
+use crate::failure::{Failure, Status};
 use crate::jobs::{bad_line, unread};
 use crate::lines::{Input, Lines};
-use plans::Plan;
+use queries::{Plan, PlanFault};
 use script::{Setup, read_plan};
 use std::alloc::Global;
 use std::io::Read;
@@ -11,11 +11,18 @@ use std::io::Read;
 /// How many queries a batch has, at most.
 pub const BATCH_QUERIES_MAX: usize = 64;
 
+/// A query of a batch, with the number of its line.
+#[derive(Drop)]
+pub struct Query {
+    pub line: u64,
+    pub plan: Plan,
+}
+
 /// What came of the input.
 #[derive(Drop)]
 pub enum Batched {
     /// A batch, of 1 to 64 queries.
-    Batch(Vec<Plan>),
+    Batch(Vec<Query>),
     /// No whole batch yet.
     NotYet,
     /// The input has ended.
@@ -30,7 +37,7 @@ pub struct BatchReader {
     /// How many lines were read.
     count: u64,
     /// The queries of the batch so far.
-    plans: Vec<Plan>,
+    queries: Vec<Query>,
 }
 
 impl BatchReader {
@@ -40,7 +47,7 @@ impl BatchReader {
             alloc,
             lines: Lines::new(alloc),
             count: 0,
-            plans: Vec::new(alloc),
+            queries: Vec::new(alloc),
         }
     }
 
@@ -65,46 +72,53 @@ impl BatchReader {
 
     /// The queries so far, as a batch; the end where there are none.
     fn batch(&mut self) -> Batched {
-        if self.plans.is_empty() {
+        if self.queries.is_empty() {
             return Batched::End;
         }
         let empty = Vec::new(self.alloc);
-        Batched::Batch(std::mem::replace(&mut self.plans, empty))
+        Batched::Batch(std::mem::replace(&mut self.queries, empty))
     }
 
     /// Takes a line in; whether it ends a batch.
     fn take_line(&mut self, setup: &Setup, line: &[u8]) -> Result<bool, Failure> {
         if line.is_empty() {
-            return Ok(!self.plans.is_empty());
+            return Ok(!self.queries.is_empty());
         }
         if line.starts_with(b"#") {
             return Ok(false);
         }
         let plan = self.good_plan(setup, line)?;
-        if self.plans.len() >= BATCH_QUERIES_MAX {
+        if self.queries.len() >= BATCH_QUERIES_MAX {
             return Err(bad_line(self.alloc, self.count, "more than 64 queries"));
         }
-        if self.plans.push(plan).is_err() {
+        let query = Query {
+            line: self.count,
+            plan,
+        };
+        if self.queries.push(query).is_err() {
             return Err(Failure::Memory);
         }
         Ok(false)
     }
 
-    /// The plan of a line, which the schema takes.
+    /// The plan of a line. A column that the schema does not have may have been added meanwhile: the
+    /// replica decides.
     fn good_plan(&self, setup: &Setup, line: &[u8]) -> Result<Plan, Failure> {
         match read_plan(self.alloc, line, setup) {
             Ok(Some(plan)) => match plan.check(&setup.schema) {
-                Ok(()) => Ok(plan),
-                Err(fault) => Err(Failure::new(
-                    crate::failure::Status::NotRead,
-                    format!(in self.alloc;
-                        "batchdb: standard input: line {}: {fault}",
-                        self.count
-                    ).ok(),
-                )),
+                Ok(()) | Err(PlanFault::NoColumn) => Ok(plan),
+                Err(fault) => Err(bad_plan(self.alloc, self.count, fault)),
             },
             Ok(None) => Err(bad_line(self.alloc, self.count, "no plan")),
             Err(_) => Err(Failure::Memory),
         }
     }
+}
+
+/// What is said of a line whose plan does not fit the tables.
+pub fn bad_plan(alloc: Global, line: u64, fault: PlanFault) -> Failure {
+    Failure::new(
+        Status::NotRead,
+        format!(in alloc; "batchdb: standard input: line {line}: {fault}").ok(),
+    )
 }

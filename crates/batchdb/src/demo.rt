@@ -6,14 +6,14 @@ use crate::failure::{Failure, Status};
 use crate::files::{refused, setup_of};
 use crate::listening::listening;
 use crate::printing::print;
-use crate::replica_program::{put_all, replica_of, serve_failure};
+use crate::replica_program::{put, replica_of, serve_failure};
 use crate::serving::Server;
 use crate::watched_port::{Role, WatchedPort};
 use apply::ColumnStore;
 use dispatcher::ReplicaCore;
 use journal::{JournalStore, MemJournal};
-use plans::Plan;
 use primary::PrimaryCore;
+use queries::Plan;
 use queue::QueryQueue;
 use rows::{ByteList, Row, RowId, Value};
 use script::{Setup, read_plan};
@@ -314,7 +314,7 @@ fn answer<T: Threads + Wait + Sync>(
     let Some(mut pass) = queue.pass() else {
         return Err(Failure::Memory);
     };
-    put_all(rt, &queue, query(alloc, setup)?);
+    put(rt, &queue, query(alloc, setup)?);
     let mut turns = Some(TURNS);
     match serve_replica(rt, alloc, replica, &queue, &mut pass, port, &mut turns) {
         Ok(report) => Ok(report),
@@ -323,13 +323,9 @@ fn answer<T: Threads + Wait + Sync>(
 }
 
 /// The query.
-fn query(alloc: Global, setup: &Setup) -> Result<Vec<Plan>, Failure> {
-    let mut plans = Vec::new(alloc);
+fn query(alloc: Global, setup: &Setup) -> Result<Plan, Failure> {
     match read_plan(alloc, QUERY.as_bytes(), setup) {
-        Ok(Some(plan)) => match plans.push(plan) {
-            Ok(()) => Ok(plans),
-            Err(_) => Err(Failure::Memory),
-        },
+        Ok(Some(plan)) => Ok(plan),
         _ => Err(Failure::Memory),
     }
 }

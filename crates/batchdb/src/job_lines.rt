@@ -98,6 +98,8 @@ fn event_name(dialect: Dialect, word: &[u8]) -> Option<&'static [u8]> {
         Some(b"set")
     } else if word == b"delete".as_slice() {
         Some(b"delete")
+    } else if word == b"column".as_slice() {
+        Some(b"column")
     } else if dialect == Dialect::Jobs {
         None
     } else if word == b"expect".as_slice() {
@@ -139,6 +141,9 @@ fn meaning(word: &[u8], event: Event) -> Result<JobLine, Reason> {
         } else {
             Step::Change(Change::Delete { table, row })
         })),
+        Event::AddColumn { table, default, .. } => {
+            Ok(JobLine::Step(Step::Change(Change::AddColumn { table, default })))
+        }
         Event::Get {
             table,
             row,

@@ -8,7 +8,8 @@ use crate::files::{failed, file_bytes, len_of, refused, setup_at};
 use crate::printing::print;
 use journal::{FileFault, FileJournal, JournalFault, JournalStore, OpenFault, Recovered, recover};
 use rows::{
-    Commit, Entry, Kind, RowId, Schema, append_number, append_value, column_at, first_value,
+    Commit, Entry, Kind, KindList, RowId, Schema, append_number, append_value, column_at,
+    first_value,
 };
 use script::Setup;
 use std::alloc::{AllocError, Global};
@@ -181,7 +182,7 @@ pub fn opened<T: Files<File = File>>(
 }
 
 /// Prints the commits of a journal as jobs that a primary does again. All are of worker 0, so that they
-/// are done one after the other.
+/// are done one after the other. Values are those of the columns that a table has where the entry stands.
 fn dump<W: Write>(
     alloc: Global,
     path: &str,
@@ -192,9 +193,19 @@ fn dump<W: Write>(
     let recovered = kept_of(alloc, path, setup, bytes)?;
     // A comment to whoever reads the jobs.
     tell(alloc, "# ", &recovered, bytes.len(), writer)?;
+    let Ok(mut kinds) = opening_kinds(alloc, &setup.schema) else {
+        return Err(Failure::Memory);
+    };
     for (index, commit) in recovered.commits.iter().enumerate() {
         let mut text = Vec::new(alloc);
-        match push_job(&mut text, &setup.schema, index as u64, commit) {
+        match push_job(
+            alloc,
+            &mut text,
+            &setup.schema,
+            &mut kinds,
+            index as u64,
+            commit,
+        ) {
             Ok(()) => print(alloc, writer, text.as_slice())?,
             Err(_) => return Err(Failure::Memory),
         }
@@ -202,10 +213,32 @@ fn dump<W: Write>(
     Ok(())
 }
 
-/// Pushes the lines of the job that makes a commit, behind a comment that has its number and worker.
+/// The kinds of each table's columns before the first commit.
+fn opening_kinds(alloc: Global, schema: &Schema) -> Result<Vec<KindList>, AllocError> {
+    let mut kinds = Vec::new(alloc);
+    for table in 0..schema.len() {
+        kinds.push(KindList::from_slice(alloc, schema.kinds(table).unwrap_or(&[]))?)?;
+    }
+    Ok(kinds)
+}
+
+/// Puts the kind of the column that an entry adds behind those of its table.
+fn add_kind(alloc: Global, kinds: &mut [KindList], entry: &Entry) -> Result<(), AllocError> {
+    if let Entry::AddColumn { table, default } = entry
+        && let Some(columns) = kinds.get_mut(*table as usize)
+    {
+        *columns = columns.with(alloc, default.kind())?;
+    }
+    Ok(())
+}
+
+/// Pushes the lines of the job that makes a commit, behind a comment that has its number and worker. The
+/// kinds are those of the tables' columns before the commit, and then those after it.
 fn push_job(
+    alloc: Global,
     text: &mut Vec<u8>,
     schema: &Schema,
+    kinds: &mut [KindList],
     index: u64,
     commit: &Commit,
 ) -> Result<(), AllocError> {
@@ -215,17 +248,23 @@ fn push_job(
     append_number(text, commit.worker)?;
     text.extend_from_slice(b"\njob 0\n")?;
     for entry in commit.entries.as_slice() {
-        push_change(text, schema, entry)?;
+        push_change(text, schema, kinds, entry)?;
+        add_kind(alloc, kinds, entry)?;
     }
     text.extend_from_slice(b"end\n")
 }
 
-/// Pushes the line of the change that makes an entry.
-fn push_change(text: &mut Vec<u8>, schema: &Schema, entry: &Entry) -> Result<(), AllocError> {
+/// Pushes the line of the change that makes an entry, in tables with columns of these kinds.
+fn push_change(
+    text: &mut Vec<u8>,
+    schema: &Schema,
+    kinds: &[KindList],
+    entry: &Entry,
+) -> Result<(), AllocError> {
     match entry {
         Entry::Insert { table, row, bytes } => {
             push_front(text, schema, "insert", *table, *row)?;
-            push_values(text, kinds_of(schema, *table), bytes.as_slice())?;
+            push_values(text, kinds_of(kinds, *table), bytes.as_slice())?;
         }
         Entry::Patch {
             table,
@@ -234,14 +273,22 @@ fn push_change(text: &mut Vec<u8>, schema: &Schema, entry: &Entry) -> Result<(),
             bytes,
         } => {
             push_front(text, schema, "set", *table, *row)?;
-            let kinds = kinds_of(schema, *table);
-            if let Some((column, kind)) = column_at(kinds, *offset as usize, bytes.len()) {
+            if let Some((column, kind)) = column_at(
+                kinds_of(kinds, *table),
+                *offset as usize,
+                bytes.len(),
+            ) {
                 text.extend_from_slice(b" ")?;
                 append_number(text, column as u64)?;
                 push_values(text, &[kind], bytes.as_slice())?;
             }
         }
         Entry::Delete { table, row } => push_front(text, schema, "delete", *table, *row)?,
+        Entry::AddColumn { table, default } => {
+            push_name(text, schema, "column", *table)?;
+            text.extend_from_slice(b" ")?;
+            append_value(text, default)?;
+        }
     }
     text.extend_from_slice(b"\n")
 }
@@ -254,16 +301,29 @@ fn push_front(
     table: u8,
     row: RowId,
 ) -> Result<(), AllocError> {
-    text.extend_from_slice(change.as_bytes())?;
-    text.extend_from_slice(b" ")?;
-    text.extend_from_slice(schema.name(table as usize).unwrap_or("").as_bytes())?;
+    push_name(text, schema, change, table)?;
     text.extend_from_slice(b" ")?;
     append_number(text, row.0)
 }
 
+/// Pushes the name of a change, and its table.
+fn push_name(
+    text: &mut Vec<u8>,
+    schema: &Schema,
+    change: &str,
+    table: u8,
+) -> Result<(), AllocError> {
+    text.extend_from_slice(change.as_bytes())?;
+    text.extend_from_slice(b" ")?;
+    text.extend_from_slice(schema.name(table as usize).unwrap_or("").as_bytes())
+}
+
 /// The kinds of a table's columns.
-fn kinds_of(schema: &Schema, table: u8) -> &[Kind] {
-    schema.kinds(table as usize).unwrap_or(&[])
+fn kinds_of(kinds: &[KindList], table: u8) -> &[Kind] {
+    match kinds.get(table as usize) {
+        Some(columns) => columns.as_slice(),
+        None => &[],
+    }
 }
 
 /// Pushes the values of columns of these kinds, which these bytes are.

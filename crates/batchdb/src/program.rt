@@ -36,7 +36,7 @@ const FAILED: u8 = 1;
 const NOT_READ: u8 = 2;
 
 /// What `--version` prints after the program's name.
-pub const VERSION: &str = "0.2.0";
+pub const VERSION: &str = "0.3.0";
 
 /// What `--help` prints.
 const HELP: &str = "\
@@ -55,7 +55,8 @@ Usage:
   batchdb --help, batchdb help    prints this
   batchdb --version               prints the version
 
-  SCHEMA   a file of settings: workers N, replicas N, and a line for each table
+  SCHEMA   a file of settings: workers N, replicas N, and a line for each table as it is opened.
+           It stays the same when columns are added
   JOURNAL  a file; a primary creates it if it does not exist
   LISTEN, REPLICA, PRIMARY
            an address: a dotted IPv4 address or localhost, a colon, a port; LISTEN may have port 0
@@ -81,9 +82,10 @@ Exit status:
 
 /// Runs the program with these words, the first of which is its own name, and answers its exit
 /// status: 0, all was done; 1, a file, a socket, a read or a write failed, or it is out of memory, or the
-/// replica is broken; 2, the words, the script, the schema or the input do not read, and but for jobs
-/// that were taken live nothing was done; 3, a node's turns are used up, and a batch is not answered. But
-/// for 0 one line on `errors` says why.
+/// replica is broken; 2, the words, the script, the schema or the input do not read, and nothing was done
+/// but for jobs and batches that were taken live, and for batches before one that names a column which the
+/// schema lacks; 3, a node's turns are used up, and a batch is not answered. But for 0 one line on `errors`
+/// says why.
 pub fn run_words<
     T: Threads + Wait + Net + Files<File = File> + Clock + Sync,
     R: Read + Send,

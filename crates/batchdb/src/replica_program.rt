@@ -1,6 +1,6 @@
 //! A replica.
 
-use crate::batches::{BATCH_QUERIES_MAX, BatchReader, Batched};
+use crate::batches::{BATCH_QUERIES_MAX, BatchReader, Batched, Query, bad_plan};
 use crate::commands::{ReplicaWords, wrong};
 use crate::ending::Ending;
 use crate::failure::{Failure, Status};
@@ -10,8 +10,8 @@ use crate::listening::{listening, say_traffic, socket_failure, take_turn};
 use crate::printing::print;
 use crate::watched_port::{Role, WatchedPort};
 use apply::{ColumnStore, PARTITIONS};
-use dispatcher::ReplicaCore;
-use plans::Plan;
+use dispatcher::{OpenFault, ReplicaCore};
+use queries::{Aggregate, AggregateList, ColumnList, ConditionList, Plan, PlanFault};
 use queue::QueryQueue;
 use rows::limits::{REPLICAS_MAX, WORKERS_MAX};
 use script::Setup;
@@ -50,7 +50,7 @@ fn serve_batches<T: Threads + Wait + Net + Sync, R: Read + Send, W: Write + Send
     alloc: Global,
     words: &ReplicaWords<'_>,
     setup: &Setup,
-    batches: &Lane<Vec<Plan>>,
+    batches: &Lane<Vec<Query>>,
     reader: &mut R,
     writer: &mut W,
     errors: &mut E,
@@ -94,7 +94,7 @@ fn serve_at_socket<
     words: &ReplicaWords<'_>,
     setup: &Setup,
     replica: &mut ReplicaCore<ColumnStore>,
-    batches: &Lane<Vec<Plan>>,
+    batches: &Lane<Vec<Query>>,
     reader: &mut R,
     writer: &mut W,
     errors: &mut E,
@@ -116,6 +116,7 @@ fn serve_at_socket<
         is_live: words.is_live,
         says: words.says,
         answered: 0,
+        held: Vec::new(alloc),
     };
     let ending = Ending::new();
     if words.is_live {
@@ -143,7 +144,7 @@ fn follow_live<T: Threads + Wait + Sync, R: Read + Send, W: Write + Send, E: Wri
     setup: &Setup,
     replica: &mut ReplicaCore<ColumnStore>,
     port: &mut WatchedPort<UdpPort>,
-    batches: &Lane<Vec<Plan>>,
+    batches: &Lane<Vec<Query>>,
     ending: &Ending,
     reader: &mut R,
     writer: &mut W,
@@ -189,7 +190,7 @@ fn take_batches<T: Wait, R: Read>(
     rt: &T,
     alloc: Global,
     setup: &Setup,
-    batches: &Lane<Vec<Plan>>,
+    batches: &Lane<Vec<Query>>,
     ending: &Ending,
     reader: &mut R,
 ) -> Result<(), Failure> {
@@ -199,8 +200,8 @@ fn take_batches<T: Wait, R: Read>(
             return Ok(());
         }
         match input.next(setup, reader)? {
-            Batched::Batch(plans) => {
-                if !batches.put(rt, plans) {
+            Batched::Batch(queries) => {
+                if !batches.put(rt, queries) {
                     return Err(Failure::Memory);
                 }
             }
@@ -222,6 +223,8 @@ struct Follower {
     says: bool,
     /// How many batches it has answered.
     answered: u64,
+    /// A batch that waits until the replica has its columns; empty if none does.
+    held: Vec<Query>,
 }
 
 impl Follower {
@@ -231,7 +234,7 @@ impl Follower {
         rt: &T,
         replica: &mut ReplicaCore<ColumnStore>,
         port: &mut WatchedPort<UdpPort>,
-        batches: &Lane<Vec<Plan>>,
+        batches: &Lane<Vec<Query>>,
         ending: &Ending,
         writer: &mut W,
         errors: &mut E,
@@ -247,8 +250,8 @@ impl Follower {
             }
             if !is_asked {
                 match batches.take_waiting(rt) {
-                    Taken::Item(plans) => {
-                        put_all(rt, &queue, plans);
+                    Taken::Item(queries) => {
+                        self.begin(rt, replica, &queue, queries)?;
                         is_asked = true;
                         left = if self.is_live { self.turns } else { left };
                     }
@@ -266,6 +269,43 @@ impl Follower {
         unreachable!()
     }
 
+    /// Puts a batch into the queue. One that does not fit the replica's tables is held, and a query of
+    /// the program's own goes first: with its answer the replica has the newest columns.
+    fn begin<T: Wait>(
+        &mut self,
+        rt: &T,
+        replica: &ReplicaCore<ColumnStore>,
+        queue: &QueryQueue,
+        queries: Vec<Query>,
+    ) -> Result<(), Failure> {
+        match refused(replica, queries.as_slice()) {
+            None => put_all(rt, queue, queries),
+            Some((query, _)) => {
+                put(rt, queue, count_of(self.alloc, query.plan.table)?);
+                self.held = queries;
+            }
+        }
+        Ok(())
+    }
+
+    /// Puts the batch that was held into the queue. Fails if it does not fit the replica's tables now.
+    fn go_on<T: Wait>(
+        &mut self,
+        rt: &T,
+        replica: &ReplicaCore<ColumnStore>,
+        queue: &QueryQueue,
+    ) -> Result<(), Failure> {
+        let empty = Vec::new(self.alloc);
+        let queries = std::mem::replace(&mut self.held, empty);
+        match refused(replica, queries.as_slice()) {
+            None => {
+                put_all(rt, queue, queries);
+                Ok(())
+            }
+            Some((query, fault)) => Err(bad_plan(self.alloc, query.line, fault)),
+        }
+    }
+
     /// Serves one turn, and writes the report if a batch is answered. Whether one is.
     fn turn<T: Threads + Wait + Sync, W: Write, E: Write>(
         &mut self,
@@ -281,6 +321,10 @@ impl Follower {
         };
         let mut turns = Some(1);
         match serve_replica(rt, self.alloc, replica, queue, &mut pass, port, &mut turns) {
+            Ok(Some(_)) if !self.held.is_empty() => {
+                self.go_on(rt, replica, queue)?;
+                Ok(false)
+            }
             Ok(Some(report)) => {
                 print(self.alloc, writer, report.as_slice())?;
                 self.answered = self.answered.saturating_add(1);
@@ -316,13 +360,46 @@ impl Follower {
     }
 }
 
-/// Puts the queries of a batch into a queue that has room for them.
-pub fn put_all<T: Wait>(rt: &T, queue: &QueryQueue, plans: Vec<Plan>) {
-    for plan in plans {
-        if let Some(mut pass) = queue.pass() {
-            // It comes back only where the queue is full, which has room for a whole batch and is empty.
-            let _ = queue.put(rt, &mut pass, plan);
+/// The first of these queries that does not fit the replica's tables, and its fault.
+fn refused<'q>(
+    replica: &ReplicaCore<ColumnStore>,
+    queries: &'q [Query],
+) -> Option<(&'q Query, PlanFault)> {
+    for query in queries {
+        if let Err(OpenFault::BadPlan(fault)) = replica.may_open(&query.plan) {
+            return Some((query, fault));
         }
+    }
+    None
+}
+
+/// A query that counts the rows of a table.
+fn count_of(alloc: Global, table: u8) -> Result<Plan, Failure> {
+    let mut aggregates = Vec::new(alloc);
+    if aggregates.push(Aggregate::Count).is_err() {
+        return Err(Failure::Memory);
+    }
+    Ok(Plan {
+        table,
+        join: None,
+        conditions: ConditionList::from_vec(Vec::new(alloc)),
+        groups: ColumnList::from_vec(Vec::new(alloc)),
+        aggregates: AggregateList::from_vec(aggregates),
+    })
+}
+
+/// Puts the queries of a batch into a queue that has room for them.
+fn put_all<T: Wait>(rt: &T, queue: &QueryQueue, queries: Vec<Query>) {
+    for query in queries {
+        put(rt, queue, query.plan);
+    }
+}
+
+/// Puts a query into a queue that has room for it.
+pub fn put<T: Wait>(rt: &T, queue: &QueryQueue, plan: Plan) {
+    if let Some(mut pass) = queue.pass() {
+        // It comes back only where the queue is full, which has room for a whole batch and is empty.
+        let _ = queue.put(rt, &mut pass, plan);
     }
 }
 

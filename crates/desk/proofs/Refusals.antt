@@ -13,7 +13,7 @@ use Rattle.rows.specs.Faults.{IsFaultOf}
 use Rattle.rows.specs.Shape.{Shape, shape_of}
 use Rattle.rows.specs.Tables.{apply_entries}
 use Rattle.std.specs.Result.{is_ok}
-use Rattle.mvcc.specs.History.{defined_at}
+use Rattle.mvcc.specs.VersionList.{defined_at}
 use Rattle.mvcc.specs.Transaction.{Transaction}
 use Rattle.primary.specs.State.{Primary}
 use Rattle.primary.specs.Steps.{commit_answer, is_foreign, has_numbers, next_number}

@@ -7,17 +7,17 @@ use Rattle.rows.specs.declared.commit.Commit.{Commit}
 use Rattle.rows.specs.Shape.{Shape}
 use Rattle.journal.specs.Recovery.{IsJournaled}
 use Rattle.journal.specs.Laws.{BeginningIsJournaled}
-use Rattle.published.specs.declared.shown.Step.{Step}
+use Rattle.published.specs.declared.shown.Publication.{Publication}
 use Rattle.desk.specs.Inner.Told.{Waits}
 
 -- if all that is told is queued, none waits, and so it is of other lists
-pub none_waits : (book : Book) (queued all : List Commit) (waiting : Option Step) → Waits book queued all waiting → queued ≡ all
+pub none_waits : (book : Book) (queued all : List Commit) (waiting : Option Publication) → Waits book queued all waiting → queued ≡ all
     → (others more : List Commit) → others ≡ more → Waits book others more waiting
 none_waits book queued all None waits same others more is = is
-none_waits book queued all (Some step) waits same others more is =
+none_waits book queued all (Some publication) waits same others more is =
     let e = ap length (waits.3) in
     let s = ap length same in
-    let l = length-append queued (step.commit ∷ []) in
+    let l = length-append queued (publication.commit ∷ []) in
     absurd (omega arith)
 
 -- the commits up to the next one

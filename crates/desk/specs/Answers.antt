@@ -6,7 +6,7 @@ use Rattle.rows.specs.declared.kind.Kind.{Kind}
 use Rattle.rows.specs.Limits.{workers_max}
 use Rattle.rows.specs.Shape.{Shape}
 use Rattle.journal.specs.Recovery.{IsJournaled}
-use Rattle.mvcc.specs.History.{defined_at}
+use Rattle.mvcc.specs.VersionList.{defined_at}
 use Rattle.mvcc.specs.Transaction.{Transaction}
 use Rattle.update_log.specs.Frames.{IsSendable}
 use Rattle.update_log.specs.Streams.{stream_of}

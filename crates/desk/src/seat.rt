@@ -4,7 +4,7 @@ ghost use Rattle.std.specs.Prelude.{◌≡◌, ◌==◌, [], length, IfOk, IfErr
 ghost use mathlib.Core.List.{IsPrefix};
 ghost use Rattle.rows.specs.Shape.{shape_of};
 ghost use Rattle.journal.specs.Recovery.{IsJournaled};
-ghost use Rattle.mvcc.specs.Transactions.{get_answer, insert_answer, set_answer, delete_answer};
+ghost use Rattle.mvcc.specs.Transactions.{get_answer, insert_answer, set_answer, delete_answer, add_column_answer};
 ghost use Rattle.published.specs.declared.faults.LineFault.TheVariants.{Unread};
 ghost use Rattle.published.specs.Answers.{IsAnswer, IsChange};
 
@@ -157,6 +157,25 @@ impl<L: Origin> Seat<L> {
             transaction.old transaction.new result }
     {
         self.reading.delete(transaction, table, row)
+    }
+
+    /// Adds a column to a table in the transaction, behind the others, with this value in each row.
+    ///
+    /// Fails as `value` does, or if out of memory; the transaction is then unchanged.
+    pub fn add_column(
+        &mut self,
+        transaction: &mut Transaction,
+        table: u8,
+        default: Value,
+    ) -> Result<(), LineFault>
+        ensures legal { IsJournaled L.workers (shape_of L.schema) self.new.list }
+        ensures later { IsPrefix self.old.list self.new.list }
+        ensures same { self.new ≡ record self.old { list = self.new.list } }
+        ensures answer { IsChange (length self.new.list)
+            (add_column_answer (shape_of L.schema) self.new.list transaction.old table default)
+            transaction.old transaction.new result }
+    {
+        self.reading.add_column(transaction, table, default)
     }
 
     /// Both seats take the longer of their lists. Takes no memory.

@@ -7,7 +7,7 @@ ghost use Rattle.rows.specs.Shape.{shape_of};
 ghost use Rattle.journal.specs.Recovery.{IsJournaled};
 
 use history::{Keeper, Opened};
-use published::{Line, Publisher, Step};
+use published::{Line, Publication, Publisher};
 use rows::{Commit, Schema};
 use std::alloc::{AllocError, Global};
 use std::marker::Model;
@@ -22,7 +22,7 @@ pub(crate) struct Telling<L: Line, R: Wait + Drop> {
     told: u64,
     publisher: Publisher<L, R>,
     shown: u64,
-    waiting: Option<Step>,
+    waiting: Option<Publication>,
 }
 
 impl<L: Line, R: Wait + Drop> Model for Telling<L, R> {
@@ -141,13 +141,13 @@ impl<L: Line, R: Wait + Drop> Telling<L, R> {
         ensures same { (self.new.all ≡ self.old.all) × (self.new.shown ≡ self.old.shown) }
         ensures none { MatchBool result (self.new.queued ≡ self.new.all) (Unit {0}) }
     {
-        let Some(step) = self.waiting.take() else {
+        let Some(publication) = self.waiting.take() else {
             return true;
         };
-        match self.publisher.push(step) {
+        match self.publisher.push(publication) {
             Ok(()) => true,
-            Err(step) => {
-                self.waiting = Some(step);
+            Err(publication) => {
+                self.waiting = Some(publication);
                 false
             }
         }
@@ -164,14 +164,14 @@ impl<L: Line, R: Wait + Drop> Telling<L, R> {
     {
         self.keeper.add(&commit);
         self.told += 1;
-        let step = Step {
+        let publication = Publication {
             commit,
             seen: self.keeper.seen(),
         };
-        match self.publisher.push(step) {
+        match self.publisher.push(publication) {
             Ok(()) => true,
-            Err(step) => {
-                self.waiting = Some(step);
+            Err(publication) => {
+                self.waiting = Some(publication);
                 false
             }
         }

@@ -2,9 +2,7 @@
 use Rattle.std.proofs.Common.{◌≡◌, ℕ, Bool, true, false, cond, List, length, nat_lt, is_ok, refl, sym, ap, subst, ◌∙◌, ◌⊎◌, inl, inr}
 use Rattle.std.specs.List.{list_all, slice_set}
 use Rattle.rows.specs.declared.entry.Entry.{Entry}
-use Rattle.rows.specs.Entries.{fitting}
-use Rattle.rows.specs.Shape.{Shape}
-use Rattle.rows.specs.Tables.{shape_in}
+use Rattle.rows.specs.Entries.{table_of}
 use Rattle.update_log.specs.declared.frame.Frame.{Frame}
 use Rattle.intake.specs.declared.taken.Taken.{Taken}
 use Rattle.intake.specs.declared.taken.Taken.TheVariants.{Repeat, Ahead, Memory, Stored}
@@ -41,13 +39,13 @@ not-stored all frame apart =
     by false true apart = refl
     by false false apart = absurd (apart refl)
 
-module _ (r : Replica) (frame : Frame) (shape : Shape) (seen : shape_in r.tables ≡ shape)
+module _ (r : Replica) (frame : Frame) (tables : ℕ) (seen : length r.tables ≡ tables)
     (there : nat_lt frame.worker r.workers ≡ true) where
-  -- one whose entries do not all fit
-  pub comes-unfit : list_all (λ entry. is_ok (fitting shape entry)) frame.entries ≡ false → frame_comes r frame ≡ (got.Ignored, r)
+  -- one of which an entry's table is not there
+  pub comes-unfit : list_all (λ entry. nat_lt (table_of entry) tables) frame.entries ≡ false → frame_comes r frame ≡ (got.Ignored, r)
   comes-unfit unfit = rw (there, seen, unfit) refl
 
-  module _ (fits : list_all (λ entry. is_ok (fitting shape entry)) frame.entries ≡ true) where
+  module _ (fits : list_all (λ entry. nat_lt (table_of entry) tables) frame.entries ≡ true) where
     pub comes : frame_comes r frame ≡ (got_of (taken r.arrivals frame).0, record r { arrivals = (taken r.arrivals frame).1 })
     comes = rw (there, seen, fits) refl
 

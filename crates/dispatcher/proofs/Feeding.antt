@@ -11,7 +11,7 @@ use Rattle.std.proofs.lemmas.Option.{none-some, same_Some}
 use Rattle.rows.specs.declared.commit.Commit.{Commit}
 use Rattle.rows.specs.declared.limits.TheConstants.{WAITING_QUERIES_MAX}
 use Rattle.rows.specs.Shape.{Shape}
-use Rattle.rows.specs.Entries.{fitting}
+use Rattle.rows.specs.Entries.{table_of}
 use Rattle.rows.specs.Commits.{tables_after}
 use Rattle.rows.specs.Tables.{shape_in}
 use Rattle.update_log.specs.declared.frame.Frame.{Frame}
@@ -32,11 +32,11 @@ use Rattle.dispatcher.specs.declared.outcome.Got.TheVariants as got
 use Rattle.dispatcher.specs.declared.faults.AskFault.{AskFault}
 use Rattle.dispatcher.specs.declared.faults.AskFault.TheVariants as asks
 use Rattle.dispatcher.specs.declared.faults.OpenFault.TheVariants as opens
-use Rattle.plans.specs.declared.plan.Plan.{Plan}
-use Rattle.plans.specs.declared.faults.PlanFault.{PlanFault}
+use Rattle.queries.specs.declared.plan.Plan.{Plan}
+use Rattle.queries.specs.declared.faults.PlanFault.{PlanFault}
 use Rattle.dispatcher.specs.Feeding.{IsFetchedFrom, IsFedFrom, Tells, TruthStays, FreshIsFed, CommitsKeepFed, BytesKeepFed, TrueHeadGoesOn}
 use Rattle.dispatcher.specs.Feeding.{OpenKeepsFed, AskKeepsFed, VersionTellsTables}
-use Rattle.plans.specs.Checking.{checked}
+use Rattle.queries.specs.Checking.{checked}
 use Rattle.dispatcher.specs.State.{Replica, Batch, Fetched, Protocol, protocol_of, with_protocol}
 use Rattle.dispatcher.specs.Protocol.{opens_checked, opens_query, ask_for, with_batch, asks_by, asks_version, is_own, takes_head}
 use Rattle.dispatcher.specs.Steps.{stepped, got_of, frame_comes, goes_on, headed, own_head_comes, datagram_comes, at_fetched, broken_of}
@@ -145,7 +145,7 @@ frame-feeds : (laws : Arriving) (shape : Shape) (commits : List Commit) (r : Rep
     → slice_get (stream_of commits frame.worker) frame.seq ≡ Some frame
     → IsFedFrom shape commits (frame_comes r frame).1
 frame-feeds laws shape commits r frame fed is =
-    cond_both (not (nat_lt frame.worker r.workers) || not (list_all (λ entry. is_ok (fitting (shape_in r.tables) entry)) frame.entries))
+    cond_both (not (nat_lt frame.worker r.workers) || not (list_all (λ entry. nat_lt (table_of entry) (length r.tables)) frame.entries))
     (got.Ignored, r) (got_of (taken r.arrivals frame).0, record r { arrivals = (taken r.arrivals frame).1 })
     (λ (answer : Got × Replica). IsFedFrom shape commits answer.1)
     (λ not_taken. fed) (λ takes. taken-fed laws shape commits r frame fed is)

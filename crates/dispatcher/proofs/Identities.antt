@@ -1,9 +1,9 @@
 -- Each step of a replica leaves its identity.
-use Rattle.std.proofs.Common.{◌≡◌, ℕ, not, ◌||◌, List, Result, Ok, Err, IsOkAnd, nat_lt, refl, ap, ◌∙◌, inl, inr}
+use Rattle.std.proofs.Common.{◌≡◌, ℕ, not, ◌||◌, List, length, Result, Ok, Err, IsOkAnd, nat_lt, refl, ap, ◌∙◌, inl, inr}
 use Rattle.std.specs.List.{list_all}
 use Rattle.std.specs.Result.{is_ok}
 use Rattle.std.proofs.lemmas.Bool.{cond_both}
-use Rattle.rows.specs.Entries.{fitting}
+use Rattle.rows.specs.Entries.{table_of}
 use Rattle.rows.specs.Commits.{apply_commits}
 use Rattle.rows.specs.Tables.{Tables, Refusal, shape_in}
 use Rattle.update_log.specs.declared.frame.Frame.{Frame}
@@ -13,8 +13,8 @@ use Rattle.wire.specs.declared.datagram.Datagram.TheVariants as datagrams
 use Rattle.wire.specs.declared.faults.WireFault.{WireFault}
 use Rattle.wire.specs.declared.out.Out.{Out}
 use Rattle.wire.specs.Reading.{reading}
-use Rattle.plans.specs.declared.plan.Plan.{Plan}
-use Rattle.plans.specs.Checking.{checked}
+use Rattle.queries.specs.declared.plan.Plan.{Plan}
+use Rattle.queries.specs.Checking.{checked}
 use Rattle.dispatcher.specs.declared.outcome.Got.{Got}
 use Rattle.dispatcher.specs.declared.outcome.Got.TheVariants as got
 use Rattle.dispatcher.specs.declared.outcome.Run.{Run}
@@ -30,7 +30,7 @@ use Rattle.dispatcher.proofs.Feeding.{stepped-left}
 
 frame-keeps : (r : Replica) (frame : Frame) → identity_of (frame_comes r frame).1 ≡ identity_of r
 frame-keeps r frame =
-    cond_both (not (nat_lt frame.worker r.workers) || not (list_all (λ entry. is_ok (fitting (shape_in r.tables) entry)) frame.entries))
+    cond_both (not (nat_lt frame.worker r.workers) || not (list_all (λ entry. nat_lt (table_of entry) (length r.tables)) frame.entries))
     (got.Ignored, r) (got_of (taken r.arrivals frame).0, record r { arrivals = (taken r.arrivals frame).1 })
     (λ (answer : Got × Replica). identity_of answer.1 ≡ identity_of r) (λ not_taken. refl) (λ takes. refl)
 

@@ -3,6 +3,7 @@ pub mod Beginning
 pub mod Streams
 pub mod Versions
 pub mod Ready
+pub mod Widened
 pub mod Standing
 pub mod Coming
 pub mod Applying

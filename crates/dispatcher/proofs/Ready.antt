@@ -2,7 +2,7 @@
 use Rattle.std.proofs.Common.{◌≡◌, ℕ, Bool, true, false, cond, List, Option, Some, None, refl, ap, subst, ◌∙◌}
 use Rattle.std.proofs.lemmas.Option.{none-some, same_Some}
 use Rattle.intake.specs.Steps.{lacking}
-use Rattle.plans.specs.declared.plan.Plan.{Plan}
+use Rattle.queries.specs.declared.plan.Plan.{Plan}
 use Rattle.dispatcher.specs.State.{Replica, Batch, Fetched}
 use Rattle.dispatcher.specs.Protocol.{Readiness, Ready, readiness, fetched_in}
 use Rattle.dispatcher.specs.Steps.{readiness_of}

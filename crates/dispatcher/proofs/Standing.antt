@@ -27,10 +27,10 @@ use Rattle.dispatcher.proofs.Ready.{ready-parts}
 
 -- ---- the tables
 
--- a replica that is whole is seen with tables of the schema's kinds
-pub seen-shape : {S Place Fault : Type 0} (is_whole : S → Bool) (tables : S → Tables) (a : Inside S Place Fault)
-    → IsCore is_whole tables a → a.broken ≡ false → shape_in (replica_of tables a).tables ≡ shape_of a.schema
-seen-shape is_whole tables a is whole = ap (λ (b : Bool). shape_in (cond b [] (tables a.store))) whole ∙ is.kinds
+-- a replica that is whole is seen with as many tables as names
+pub seen-many : {S Place Fault : Type 0} (is_whole : S → Bool) (tables : S → Tables) (a : Inside S Place Fault)
+    → IsCore is_whole tables a → a.broken ≡ false → length (replica_of tables a).tables ≡ length a.schema
+seen-many is_whole tables a is whole = ap (λ (b : Bool). length (cond b [] (tables a.store))) whole ∙ is.many whole
 
 -- ---- the frames
 

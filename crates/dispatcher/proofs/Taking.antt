@@ -1,20 +1,21 @@
 -- What becomes of a frame of the list that a replica is fed from: its worker is there and each of its entries fits.
-use Rattle.std.proofs.Common.{◌≡◌, ℕ, zero, suc, ◌+◌, ◌<◌, Bool, true, false, cond, not, ◌==◌, List, [], ◌∷◌, ◌++◌, length, Some}
-use Rattle.std.proofs.Common.{Result, Ok, Err, refl, ap, subst, ◌∙◌}
+use Rattle.std.proofs.Common.{◌≡◌, ℕ, zero, suc, ◌+◌, ◌<◌, Bool, true, false, cond, not, ◌==◌, List, [], ◌∷◌, ◌++◌, length, take, nat_lt}
+use Rattle.std.proofs.Common.{Some}
+use Rattle.std.proofs.Common.{Result, Ok, Err, refl, sym, ap, subst, ◌∙◌}
 use Rattle.std.specs.List.{slice_get, list_all, AllByRecursion}
 use Rattle.std.specs.Result.{is_ok}
 use Rattle.std.proofs.lemmas.Bool.{false≢true, cond-false, cond_both, and_parts, and_from, lt-ltb}
+use Rattle.std.proofs.lemmas.List.{length-map}
 use Rattle.std.proofs.lemmas.List.Folds.{list_all-append}
 use Rattle.std.proofs.lemmas.Option.{none-some, same_Some}
 use Rattle.rows.specs.declared.commit.Commit.{Commit}
 use Rattle.rows.specs.declared.entry.Entry.{Entry}
-use Rattle.rows.specs.declared.entry.Entry.TheVariants.{Insert, Patch, Delete}
 use Rattle.rows.specs.Shape.{Shape}
-use Rattle.rows.specs.Entries.{fitting}
-use Rattle.rows.specs.Tables.{Tables, Refusal, Exists, Missing, opening, shape_in, is_row_at, inserted, patched, deleted, is_fit}
-use Rattle.rows.specs.Tables.{change_where, apply_entry, apply_entries, and_then}
-use Rattle.rows.specs.Commits.{apply_commits, IsCommit}
-use Rattle.rows.specs.Laws.{EntryKeepsKinds, EntriesKeepKinds, VersionsKeepKinds}
+use Rattle.rows.specs.Entries.{table_of}
+use Rattle.rows.specs.Tables.{Table, Tables, shape_in}
+use Rattle.rows.specs.Commits.{tables_after, IsCommit}
+use Rattle.rows.specs.Laws.{VersionsTellKinds, TablesStay}
+use Rattle.rows.specs.ListLaws.{EachHasTable}
 use Rattle.update_log.specs.declared.frame.Frame.{Frame}
 use Rattle.update_log.specs.Frames.{frames_from, frames_of}
 use Rattle.update_log.specs.Parts.{has_room, parts_from, parts_of}
@@ -28,88 +29,47 @@ use Rattle.dispatcher.specs.Feeding.{Tells, TrueFrameIsTaken}
 use Rattle.dispatcher.specs.State.{Replica}
 use Rattle.dispatcher.specs.Steps.{datagram_comes}
 use Rattle.dispatcher.proofs.Coming.{comes}
+use Rattle.dispatcher.proofs.Widened.{still-many}
 
--- what the laws say of the kinds of tables' columns
+-- what the laws say of the tables of entries, and of the kinds of tables' columns
 pub record Kinds : Type 0 where
-  pub entry : EntryKeepsKinds
-  pub entries : EntriesKeepKinds
-  pub versions : VersionsKeepKinds
+  pub have_table : EachHasTable
+  pub versions : VersionsTellKinds
+  pub stay : TablesStay
 
--- ---- the entries of a legal list fit
+-- ---- the tables of the entries of a legal list are there
 
--- whether an entry fits the shape, and whether each of these does
-abbrev fits : Shape → Entry → Bool
-fits shape entry = is_ok (fitting shape entry)
+-- whether the table of an entry is there, and whether those of these are
+abbrev fits : ℕ → Entry → Bool
+fits tables entry = nat_lt (table_of entry) tables
 
-abbrev AllFit : Shape → List Entry → Type 0
-AllFit shape entries = list_all (fits shape) entries ≡ true
+abbrev AllFit : ℕ → List Entry → Type 0
+AllFit tables entries = list_all (fits tables) entries ≡ true
 
--- a commit whose worker is there, and each of whose entries fits
-abbrev CommitFits : Shape → ℕ → Commit → Type 0
-CommitFits shape workers commit = (commit.worker < workers) × AllFit shape commit.entries
+-- a commit whose worker is there, and the tables of whose entries are
+abbrev CommitFits : ℕ → ℕ → Commit → Type 0
+CommitFits tables workers commit = (commit.worker < workers) × AllFit tables commit.entries
 
-fits-first : (first stands : Bool) (refusal : Refusal) (after : Tables) → is_ok (change_where first stands refusal after) ≡ true
-    → first ≡ true
-fits-first true stands refusal after h = refl
-fits-first false stands refusal after h = h
+entries-fit : (tables : ℕ) (entries : List Entry) → AllByRecursion (λ entry. table_of entry < tables) entries → AllFit tables entries
+entries-fit tables [] each = refl
+entries-fit tables (entry ∷ entries) each =
+    and_from (fits tables entry) (list_all (fits tables) entries) (lt-ltb (table_of entry) tables each.0)
+    (entries-fit tables entries each.1)
 
--- an entry that is defined fits
-entry-fits : (tables : Tables) (entry : Entry) → is_ok (apply_entry tables entry) ≡ true → fits (shape_in tables) entry ≡ true
-entry-fits tables (Insert table row bytes) h =
-    fits-first (is_fit tables (Insert table row bytes)) (not (is_row_at tables table row.0)) Exists (inserted tables table row.0 bytes) h
-entry-fits tables (Patch table row offset bytes) h =
-    fits-first (is_fit tables (Patch table row offset bytes)) (is_row_at tables table row.0) Missing
-    (patched tables table row.0 offset bytes) h
-entry-fits tables (Delete table row) h =
-    fits-first (is_fit tables (Delete table row)) (is_row_at tables table row.0) Missing (deleted tables table row.0) h
-
-module _ (kinds : Kinds) (shape : Shape) where
-  -- and so do entries that are defined one after the other
-  entries-fit : (tables : Tables) (entries : List Entry) → shape_in tables ≡ shape → is_ok (apply_entries tables entries) ≡ true
-      → AllFit shape entries
-  entries-fit tables [] same h = refl
-  entries-fit tables (entry ∷ entries) same h =
-      by (λ after kept defined. entries-fit after entries kept defined) (apply_entry tables entry) refl h
-    where
-      by : ((after : Tables) → shape_in after ≡ shape → is_ok (apply_entries after entries) ≡ true → AllFit shape entries)
-          → (first : Result Tables Refusal) → apply_entry tables entry ≡ first
-          → is_ok (and_then (λ after. apply_entries after entries) first) ≡ true → AllFit shape (entry ∷ entries)
-      by rest (Ok after) e h =
-          and_from (fits shape entry) (list_all (fits shape) entries)
-          (subst (λ (shape : Shape). fits shape entry ≡ true) same
-          (entry-fits tables entry (ap (λ (first : Result Tables Refusal). is_ok first) e)))
-          (rest after (kinds.entry tables after entry e ∙ same) h)
-      by rest (Err refusal) e h = absurd (false≢true h)
-
-  -- and those of commits
-  commits-fit : (workers : ℕ) (tables : Tables) (commits : List Commit) → shape_in tables ≡ shape
-      → AllByRecursion (IsCommit workers) commits → is_ok (apply_commits tables commits) ≡ true
-      → AllByRecursion (CommitFits shape workers) commits
-  commits-fit workers tables [] same each h = tt
-  commits-fit workers tables (commit ∷ commits) same each h =
-      by (λ after kept defined. commits-fit workers after commits kept each.1 defined) (apply_entries tables commit.entries) refl h
-    where
-      by : ((after : Tables) → shape_in after ≡ shape → is_ok (apply_commits after commits) ≡ true
-          → AllByRecursion (CommitFits shape workers) commits)
-          → (first : Result Tables Refusal) → apply_entries tables commit.entries ≡ first
-          → is_ok (and_then (λ after. apply_commits after commits) first) ≡ true
-          → AllByRecursion (CommitFits shape workers) (commit ∷ commits)
-      by rest (Ok after) e h = (
-        (
-          each.0.worker,
-          entries-fit tables commit.entries same (ap (λ (first : Result Tables Refusal). is_ok first) e),
-        ),
-        rest after (kinds.entries tables after commit.entries e ∙ same) h,
-      )
-      by rest (Err refusal) e h = absurd (false≢true h)
+commits-fit : (workers tables : ℕ) (commits : List Commit) → AllByRecursion (IsCommit workers) commits
+    → AllByRecursion (λ commit. AllByRecursion (λ entry. table_of entry < tables) commit.entries) commits
+    → AllByRecursion (CommitFits tables workers) commits
+commits-fit workers tables [] each there = tt
+commits-fit workers tables (commit ∷ commits) each there =
+    ((each.0.worker, entries-fit tables commit.entries there.0), commits-fit workers tables commits each.1 there.1)
 
 -- ---- and so do those of its frames
 
--- a frame whose worker is there, and each of whose entries fits
-abbrev FrameFits : Shape → ℕ → Frame → Type 0
+-- a frame whose worker is there, and the tables of whose entries are
+abbrev FrameFits : ℕ → ℕ → Frame → Type 0
 FrameFits shape workers frame = (frame.worker < workers) × AllFit shape frame.entries
 
-module _ (shape : Shape) where
+module _ (shape : ℕ) where
   parts-fit : (part entries : List Entry) → AllFit shape part → AllFit shape entries
       → AllByRecursion (AllFit shape) (parts_from part entries)
   parts-fit part [] here behind = (here, tt)
@@ -147,7 +107,7 @@ all-joined P [] back first rest = rest
 all-joined P (frame ∷ front) back first rest = (first.0, all-joined P front back first.1 rest)
 
 -- the frames of a worker
-stream-fits : (shape : Shape) (workers worker before first : ℕ) (commits : List Commit)
+stream-fits : (shape : ℕ) (workers worker before first : ℕ) (commits : List Commit)
     → AllByRecursion (CommitFits shape workers) commits
     → AllByRecursion (FrameFits shape workers) (stream_from worker before first commits)
 stream-fits shape workers worker before first [] each = tt
@@ -169,16 +129,18 @@ of-found P (first ∷ stream) (suc seq) frame each h = of-found P stream seq fra
 -- ---- so it is taken
 
 pub frame-taken : Kinds → TrueFrameIsTaken
-frame-taken kinds shape commits r bytes frame fed whole reads tells =
-    let opens : shape_in (opening shape) ≡ shape = kinds.versions shape [] 0 in
-    let kept : shape_in r.tables ≡ shape =
-    ap (λ (tables : Tables). shape_in tables) (fed.tables_are whole) ∙ kinds.versions shape commits r.version in
+frame-taken laws shape commits r bytes frame fed whole reads tells =
+    let many : length r.tables ≡ length shape =
+    sym (length-map r.tables (λ (table : Table). table.kinds))
+    ∙ ap (λ (tables : Tables). length (shape_in tables)) (fed.tables_are whole)
+    ∙ ap (λ (shape : Shape). length shape) (laws.versions shape commits r.version fed.legal.defined)
+    ∙ still-many laws.stay shape (take r.version commits) in
     let found : slice_get (stream_of commits frame.worker) frame.seq ≡ Some frame =
     subst (λ (datagram : Result Datagram WireFault). Tells r.workers commits datagram) reads tells in
-    let each = commits-fit kinds shape r.workers (opening shape) commits opens fed.legal.each fed.legal.defined in
+    let each = commits-fit r.workers (length shape) commits fed.legal.each (laws.have_table shape commits fed.legal.defined) in
     let fit =
-    of-found (FrameFits shape r.workers) (stream_of commits frame.worker) frame.seq frame
-    (stream-fits shape r.workers frame.worker 0 0 commits each) found in
+    of-found (FrameFits (length shape) r.workers) (stream_of commits frame.worker) frame.seq frame
+    (stream-fits (length shape) r.workers frame.worker 0 0 commits each) found in
     cond-false {A = Got × Replica} r.broken (got.Broken, r) (datagram_comes r (reading bytes)) whole
     ∙ ap (λ (datagram : Result Datagram WireFault). datagram_comes r datagram) reads
-    ∙ comes r frame shape kept (lt-ltb frame.worker r.workers fit.0) fit.1
+    ∙ comes r frame (length shape) many (lt-ltb frame.worker r.workers fit.0) fit.1

@@ -1,9 +1,9 @@
 -- The report of a batch.
 use Rattle.std.specs.Prelude.{ℕ, List, map}
 use Rattle.rows.specs.Tables.{Tables}
-use Rattle.plans.specs.declared.plan.Plan.{Plan}
-use Rattle.plans.specs.Answers.{plain_answer}
-use Rattle.plans.specs.Report.{report_text}
+use Rattle.queries.specs.declared.plan.Plan.{Plan}
+use Rattle.queries.specs.Answers.{plain_answer}
+use Rattle.queries.specs.Report.{report_text}
 
 -- the report of queries on the tables at this version: their plain answers, in the order in which the queries were opened
 abbrev pub report_of : Tables → ℕ → List Plan → List ℕ

@@ -2,7 +2,7 @@
 use Rattle.std.specs.Prelude.{ℕ, List, Option, Bool}
 use Rattle.rows.specs.Tables.{Tables}
 use Rattle.intake.specs.State.{Arrivals}
-use Rattle.plans.specs.declared.plan.Plan.{Plan}
+use Rattle.queries.specs.declared.plan.Plan.{Plan}
 
 -- the version that was fetched for a batch, and each worker's frame count at it
 pub record Fetched : Type 0 where

@@ -7,7 +7,7 @@ use Rattle.rows.specs.declared.commit.Commit.{Commit}
 use Rattle.rows.specs.declared.kind.Kind.{Kind}
 use Rattle.rows.specs.Shape.{shape_of}
 use Rattle.rows.specs.Commits.{apply_commits}
-use Rattle.rows.specs.Entries.{fitting}
+use Rattle.rows.specs.Entries.{table_of}
 use Rattle.rows.specs.Tables.{Tables, opening, shape_in}
 use Rattle.update_log.specs.declared.frame.Frame.{Frame}
 use Rattle.intake.specs.declared.taken.Taken.{Taken}
@@ -23,12 +23,12 @@ use Rattle.dispatcher.specs.declared.faults.AskFault.{AskFault}
 use Rattle.dispatcher.specs.declared.faults.DumpFault.{DumpFault}
 use Rattle.dispatcher.specs.declared.faults.DumpFault.TheVariants as dumps
 use Rattle.dispatcher.specs.declared.faults.OpenFault.{OpenFault}
-use Rattle.plans.specs.declared.plan.Plan.{Plan}
+use Rattle.queries.specs.declared.plan.Plan.{Plan}
 use Rattle.dispatcher.specs.declared.outcome.Got.{Got}
 use Rattle.dispatcher.specs.declared.outcome.Got.TheVariants as got
 use Rattle.dispatcher.specs.declared.outcome.Run.{Run}
 use Rattle.dispatcher.specs.declared.outcome.Run.TheVariants as runs
-use Rattle.plans.specs.Checking.{checked}
+use Rattle.queries.specs.Checking.{checked}
 use Rattle.dispatcher.specs.State.{Replica, Fetched, Protocol, protocol_of, with_protocol}
 use Rattle.dispatcher.specs.Protocol.{opens_query, asks_version, want_for, is_own, takes_head, readiness, fetched_in}
 use Rattle.dispatcher.specs.Protocol.{Readiness, Broken, NoBatch, WaitsForHead, WaitsForFrame, Ready}
@@ -72,11 +72,11 @@ got_of takens.Ahead = got.Ahead
 got_of takens.Memory = got.Memory
 got_of takens.Stored = got.Stored
 
--- a frame arrives: it goes to the intake if its worker exists and each of its entries fits the tables
+-- a frame arrives: it goes to the intake if its worker exists and the table of each of its entries does
 abbrev pub frame_comes : Replica → Frame → Got × Replica
 frame_comes r frame =
     if not (nat_lt frame.worker r.workers)
-    || not (list_all (λ entry. is_ok (fitting (shape_in r.tables) entry)) frame.entries) then (got.Ignored, r) else
+    || not (list_all (λ entry. nat_lt (table_of entry) (length r.tables)) frame.entries) then (got.Ignored, r) else
     (got_of (taken r.arrivals frame).0, record r { arrivals = (taken r.arrivals frame).1 })
 
 -- what its protocol made of a Head, and the replica after it

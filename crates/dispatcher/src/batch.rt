@@ -1,4 +1,4 @@
-use plans::Plan;
+use queries::Plan;
 use wire::Counts;
 
 /// The version that was fetched for a batch, and each worker's frame count at it.

@@ -1,4 +1,4 @@
-use plans::PlanFault;
+use queries::PlanFault;
 use thiserror::Error;
 
 /// Why a query is not taken: the first that applies, in the order `Broken`, `BatchFull`, `BadPlan`,

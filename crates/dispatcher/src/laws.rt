@@ -6,7 +6,7 @@ ghost use Rattle.dispatcher.specs.Feeding.{TruthStays, TrueHeadGoesOn, TrueFrame
 
 use intake::{arrivals_stay_of_streams, known_frames_stay_kept};
 use ordering::one_merge;
-use rows::laws::changes_keep_kinds;
+use rows::laws::{changes_tell_kinds, commits_are_defined_one_by_one};
 
 /// A replica is fed from a legal list of commits if everything that it knows belongs to that list:
 /// its frames, its tables, and the version that it fetched. A fresh replica is fed; each step keeps
@@ -36,5 +36,6 @@ pub fn fed_replicas_stay_fed()
     arrivals_stay_of_streams();
     known_frames_stay_kept();
     one_merge();
-    changes_keep_kinds();
+    changes_tell_kinds();
+    commits_are_defined_one_by_one();
 }

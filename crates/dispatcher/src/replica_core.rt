@@ -20,8 +20,10 @@ use crate::sending::{ask_out, want_out};
 use crate::table_text::table_text;
 use intake::{Intake, Taken, known_frames_stay_kept};
 use ordering::{OrderFault, one_merge, ordered};
-use plans::{Plan, answer_batch, report};
-use rows::laws::changes_keep_kinds;
+use plans::answer_batch;
+use queries::laws::plans_still_fit;
+use queries::{Plan, report};
+use rows::laws::changes_tell_kinds;
 use rows::limits::WAITING_QUERIES_MAX;
 use rows::{ByteList, Commit, Schema};
 use std::alloc::{AllocError, Global};
@@ -87,7 +89,6 @@ impl<S: ApplyStore + Sync> ReplicaCore<S> {
         requires number { number < replicas_max }
         ensures { IfOk result (λ replica. replica ≡ started_replica schema.now workers number boot) }
     {
-        changes_keep_kinds();
         Ok(ReplicaCore {
             alloc,
             store,
@@ -132,7 +133,7 @@ impl<S: ApplyStore + Sync> ReplicaCore<S> {
         if self.waiting.len() >= WAITING_QUERIES_MAX {
             return Err(OpenFault::BatchFull);
         }
-        match plan.check(&self.schema) {
+        match plan.check_on(&self.store) {
             Ok(()) => Ok(()),
             Err(fault) => Err(OpenFault::BadPlan(fault)),
         }
@@ -141,7 +142,7 @@ impl<S: ApplyStore + Sync> ReplicaCore<S> {
     /// Takes a query for the next batch, and answers how many now wait.
     ///
     /// Fails with the first of these, and changes nothing: `Broken`; `BatchFull`, 64 wait;
-    /// `BadPlan`, the plan does not fit the schema, with its first fault; `Memory`.
+    /// `BadPlan`, the plan does not fit its tables, with its first fault; `Memory`.
     pub fn open(&mut self, plan: Plan) -> Result<usize, OpenFault>
         ensures ok { IfOk result (λ count. opened self.old plan ≡ Ok (count, self.new)) }
         ensures refused { IfErr result (λ fault. (self.new ≡ self.old) × IsFaultOf (opened self.old plan) OpenFault.Memory fault) }
@@ -201,11 +202,11 @@ impl<S: ApplyStore + Sync> ReplicaCore<S> {
         Ok(ask_out(self.number, self.boot, self.request))
     }
 
-    /// Takes bytes that arrived. A frame of an existing worker, whose entries fit, is kept if it is
-    /// not known and not 4096 or more past its worker's first missing frame; otherwise it is not
-    /// copied. A Head is taken if the batch waits for one; if its replica, boot, request and number
-    /// of workers are the replica's own; and if neither its version nor a count goes back.
-    /// Everything else is ignored. `Memory` is answered only if a frame would be kept.
+    /// Takes bytes that arrived. A frame of an existing worker, the tables of whose entries exist,
+    /// is kept if it is not known and not 4096 or more past its worker's first missing frame;
+    /// otherwise it is not copied. A Head is taken if the batch waits for one; if its replica, boot,
+    /// request and number of workers are the replica's own; and if neither its version nor a count
+    /// goes back. Everything else is ignored. `Memory` is answered only if a frame would be kept.
     pub fn on_bytes(&mut self, bytes: &[u8]) -> Got
         ensures { MayTake self.old (received self.old bytes.now) result self.new }
     {
@@ -314,7 +315,7 @@ impl<S: ApplyStore + Sync> ReplicaCore<S> {
         if worker >= self.workers {
             return Got::Ignored;
         }
-        if !entries.fit(&self.schema) {
+        if !entries.have_table(self.schema.len()) {
             return Got::Ignored;
         }
         match self.intake.would_take(worker, seq) {
@@ -401,6 +402,8 @@ impl<S: ApplyStore + Sync> ReplicaCore<S> {
         ensures { Applies self.old (record { version = version; counts = counts }) commits.now result self.new }
     {
         known_frames_stay_kept();
+        changes_tell_kinds();
+        plans_still_fit();
         let applied = self.store.apply_all(rt, commits);
         self.broken = applied.is_err();
         match applied {

@@ -2,8 +2,7 @@
 
 ghost use Rattle.std.specs.Prelude.{◌≡◌, [], ◌++◌, ◌<◌, length, true, IfOk, OnOk};
 ghost use Rattle.std.specs.Option.{unwrap_or};
-ghost use Rattle.rows.specs.Shape.{shape_of, kinds_in};
-ghost use Rattle.rows.specs.Tables.{shape_in, kinds_of, rows_of};
+ghost use Rattle.rows.specs.Tables.{kinds_of, rows_of};
 ghost use Rattle.dispatcher.specs.TableText.{names_of, row_count, table_text};
 ghost use Rattle.dispatcher.specs.Inner.Walk.{columns_text, row_text_at, rows_text_at};
 
@@ -23,7 +22,7 @@ pub fn table_text<S: Store>(
     version: u64,
 ) -> Result<Vec<u8>, AllocError>
     requires whole { S.is_whole store.now ≡ true }
-    requires shape { shape_in (S.tables store.now) ≡ shape_of schema.now }
+    requires many { length (S.tables store.now) ≡ length schema.now }
     ensures { IfOk result (λ text. text.items ≡ table_text (names_of schema.now) version (S.tables store.now)) }
 {
     let tables = table_count(schema);
@@ -70,24 +69,24 @@ fn append_table<S: Store>(
     table: u8,
 ) -> Result<(), AllocError>
     requires whole { S.is_whole store.now ≡ true }
-    requires shape { shape_in (S.tables store.now) ≡ shape_of schema.now }
     ensures { OnOk result (text.new.items ≡ text.old.items ++ rows_text_at (names_of schema.now) (S.tables store.now) table) }
 {
     let Some(name) = schema.name(table as usize) else {
         return Ok(());
     };
-    let columns = column_count(schema, table as usize);
+    let columns = column_count(store, table);
     for i in 0..store.len(table) {
         append_row(text, store, table, name, columns, i)?;
     }
     Ok(())
 }
 
-/// How many columns a table of a schema has; 0 if there is no table of that number.
-fn column_count(schema: &Schema, table: usize) -> usize
-    ensures { result ≡ length (kinds_in (shape_of schema.now) table) }
+/// How many columns a table of a store has; 0 if there is no table of that number.
+fn column_count<S: Store>(store: &S, table: u8) -> usize
+    requires { S.is_whole store.now ≡ true }
+    ensures { result ≡ length (kinds_of (S.tables store.now) table) }
 {
-    match schema.kinds(table) {
+    match store.kinds(table) {
         Some(kinds) => kinds.len(),
         None => 0,
     }

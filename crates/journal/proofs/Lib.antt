@@ -1,4 +1,4 @@
-pub mod Undefined
+pub mod Presence
 pub mod Settling
 pub mod Texts
 pub mod RecordLaws

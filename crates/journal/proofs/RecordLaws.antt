@@ -5,7 +5,8 @@ use Rattle.std.proofs.Common.{length-append}
 use Rattle.std.specs.Option.{option_map}
 use Rattle.std.specs.List.{flat_map, AllByRecursion}
 use Rattle.std.proofs.Math.Nat.{mod-eq_of_lt}
-use Rattle.std.proofs.lemmas.Bool.{cases_lt, ltb-false, le-ltb, not-true, not_from_false, and_from, and_parts, or_from, or_parts, ne_eqb}
+use Rattle.std.proofs.lemmas.Bool.{cases_lt, ltb-false, le-ltb, not-true, not_from_false, and_from, and_parts, or_from}
+use Rattle.std.proofs.lemmas.Bool.{or_parts, ne_eqb}
 use Rattle.std.proofs.lemmas.Bool.Decides.{nat_tests}
 use Rattle.std.proofs.lemmas.List.{length-take, length-drop, take-append-drop, take_at, drop-drop, drop_more}
 use Rattle.std.proofs.lemmas.List.{get_or-take, get_or-drop, get_or_past}
@@ -13,10 +14,11 @@ use Rattle.byteorder.specs.Endian.{big_bytes, big_number}
 use Rattle.byteorder.specs.Numbers.{big_number-reads_back, big_from-bytes}
 use Rattle.rows.specs.declared.commit.Commit.{Commit}
 use Rattle.rows.specs.declared.entry.Entry.{Entry}
-use Rattle.rows.specs.declared.entry.Entry.TheVariants.{Insert, Patch, Delete}
+use Rattle.rows.specs.declared.entry.Entry.TheVariants.{Insert, Patch, Delete, AddColumn}
 use Rattle.rows.specs.Limits.{commit_entries_max}
 use Rattle.rows.specs.Laws.{FoundAreSpelled, SpelledAreFound, NumbersAreSpelled, NumbersAreBelow}
 use Rattle.rows.specs.Reading.{entries_filling}
+use Rattle.rows.specs.declared.value.Value.TheVariants.{Int, Octets}
 use Rattle.rows.specs.Spelling.{AreBytes, HasSpelling, entry_spelling}
 use Rattle.journal.specs.declared.numbered_commit.NumberedCommit.{NumberedCommit}
 use Rattle.journal.specs.Inner.Reading.{commit_in, record_at}
@@ -26,20 +28,30 @@ use Rattle.journal.specs.Text.{record_body, record_of}
 
 -- ---- how long records are
 
-entry_least : (entry : Entry) → entry_len_min ≤ length (entry_spelling entry)
-entry_least (Insert table row content) = omega arith
-entry_least (Patch table row offset content) = omega arith
-entry_least (Delete table row) = omega arith
+entry_least : (entry : Entry) → HasSpelling entry → entry_len_min ≤ length (entry_spelling entry)
+entry_least (Insert table row content) fits = omega arith
+entry_least (Patch table row offset content) fits = omega arith
+entry_least (Delete table row) fits = omega arith
+entry_least (AddColumn table (Int number)) fits = omega arith
+entry_least (AddColumn table (Octets bytes)) fits = omega (arith, fits.value.0)
 
 pub entry_most : (entry : Entry) → HasSpelling entry → length (entry_spelling entry) ≤ entry_len_max
 entry_most (Insert table row content) fits = omega (arith, fits.few)
 entry_most (Patch table row offset content) fits = omega (arith, fits.few)
 entry_most (Delete table row) fits = omega arith
+entry_most (AddColumn table (Int number)) fits = omega arith
+entry_most (AddColumn table (Octets bytes)) fits = omega (arith, fits.value.1)
 
-entries_least : (entries : List Entry) → entry_len_min * length entries ≤ length (flat_map entry_spelling entries)
-entries_least [] = omega arith
-entries_least (entry ∷ entries) =
-    omega (arith, entry_least entry, entries_least entries, length-append (entry_spelling entry) (flat_map entry_spelling entries))
+entries_least : (entries : List Entry) → AllByRecursion HasSpelling entries
+    → entry_len_min * length entries ≤ length (flat_map entry_spelling entries)
+entries_least [] fits = omega arith
+entries_least (entry ∷ entries) fits =
+    omega (
+      arith,
+      entry_least entry fits.0,
+      entries_least entries fits.1,
+      length-append (entry_spelling entry) (flat_map entry_spelling entries),
+    )
 
 entries_most : (entries : List Entry) → AllByRecursion HasSpelling entries
     → length (flat_map entry_spelling entries) ≤ entry_len_max * length entries
@@ -59,7 +71,7 @@ record IsLong (len : ℕ) : Type 0 where
 
 body_long : (number : ℕ) (commit : Commit) → HasRecord commit → IsLong (length (record_body number commit))
 body_long number commit held =
-    let least = entries_least commit.entries in
+    let least = entries_least commit.entries held.spelled in
     let most = entries_most commit.entries held.spelled in
     let size : length (record_body number commit) ≡ record_front_len + length (flat_map entry_spelling commit.entries) = omega arith in
     record { least = omega (arith, held.some); most = omega (arith, held.few) }

@@ -9,13 +9,13 @@ use Rattle.rows.specs.Commits.{IsCommit, IsLegal, apply_commits}
 use Rattle.rows.specs.Laws.{SpelledAreFound}
 use Rattle.rows.specs.Shape.{Shape}
 use Rattle.rows.specs.Tables.{Tables, Refusal, opening, apply_entries, and_then}
-use Rattle.store.specs.State.{StoreState}
 use Rattle.journal.specs.declared.faults.JournalFault.{JournalFault}
 use Rattle.journal.specs.declared.faults.JournalFault.TheVariants.{OtherHeader, Damaged, OutOfOrder, Illegal, Memory}
 use Rattle.journal.specs.Recovery.{IsBeginning, HasRecord, IsJournaled, IsKept, is_torn, IsRecordAt}
 use Rattle.journal.specs.Recovery.{IsDamaged, IsOutOfOrder, IsIllegal}
 use Rattle.journal.specs.Recovery.{IsRecovered, IsRefusal}
-use Rattle.journal.specs.Inner.Progress.{RecordsWereRead, IsDefinedOn, IsNextCommit, IsStop}
+use Rattle.journal.specs.Inner.Presence.{PresenceState, IsPresenceOf}
+use Rattle.journal.specs.Inner.Progress.{RecordsWereRead, HasCome, IsDefinedOn, IsNextCommit, IsStop}
 use Rattle.journal.specs.Text.{header, record_of, records_from, journal_text}
 use Rattle.journal.proofs.Nesting.{behind_header, is_nested}
 use Rattle.journal.proofs.RecordLaws.{record_of-length, record_whole, same_record}
@@ -72,14 +72,18 @@ alone (Err refusal) = refl
 
 -- ---- how far recovery has come
 
-pub has_come-first : (workers : ℕ) (shape : Shape) (bytes rest : List ℕ) → bytes ≡ header workers shape ++ rest
-    → RecordsWereRead workers shape bytes [] (record { tables = opening shape; whole = true }) rest
-has_come-first workers shape bytes rest e = record {
-  text = e ∙ ap (λ (t : List ℕ). t ++ rest) (sym (append-nil (header workers shape)));
-  each = tt;
-  records = tt;
-  defined = refl;
-  whole = refl;
+pub has_come-first : (workers : ℕ) (shape : Shape) (bytes rest : List ℕ) (present : PresenceState) → bytes ≡ header workers shape ++ rest
+    → IsPresenceOf (opening shape) present → HasCome workers shape bytes [] present rest
+has_come-first workers shape bytes rest present e rows = record {
+  tables = opening shape;
+  read =
+      record {
+        text = e ∙ ap (λ (t : List ℕ). t ++ rest) (sym (append-nil (header workers shape)));
+        each = tt;
+        records = tt;
+        defined = refl;
+      };
+  rows = rows;
 }
 
 -- the text of one commit more
@@ -98,22 +102,26 @@ text-push workers shape commits commit behind =
     sym (append_assoc (front ++ records) last behind)
     ∙ ap (λ (t : List ℕ). t ++ behind) (append_assoc front records last ∙ ap (λ (t : List ℕ). front ++ t) (sym more))
 
-pub has_come-more : (workers : ℕ) (shape : Shape) (bytes : List ℕ) (commits : List Commit) (old new : StoreState) (rest : List ℕ)
-    (commit : Commit) (behind : List ℕ) → RecordsWereRead workers shape bytes commits old rest
-    → IsNextCommit workers (length commits + 1) old new rest commit behind
-    → RecordsWereRead workers shape bytes (commits ++ commit ∷ []) new behind
+pub has_come-more : (workers : ℕ) (shape : Shape) (bytes : List ℕ) (commits : List Commit) (old new : PresenceState) (rest : List ℕ)
+    (commit : Commit) (behind : List ℕ) → (so_far : HasCome workers shape bytes commits old rest)
+    → IsNextCommit workers (length commits + 1) so_far.tables new rest commit behind
+    → HasCome workers shape bytes (commits ++ commit ∷ []) new behind
 has_come-more workers shape bytes commits old new rest commit behind so_far next = record {
-  text =
-      so_far.text ∙ ap (λ (t : List ℕ). journal_text workers shape commits ++ t) next.front
-      ∙ text-push workers shape commits commit behind;
-  each =
-      all-push (IsCommit workers) commits commit so_far.each
-      (record { worker = next.accepted.0; some = next.held.some; few = next.held.few });
-  records = all-push HasRecord commits commit so_far.records next.held;
-  defined =
-      defined-push (opening shape) old.tables commits commit so_far.defined ∙ alone (apply_entries old.tables commit.entries)
-      ∙ next.accepted.1;
-  whole = next.accepted.2;
+  tables = next.accepted.1.0;
+  read =
+      record {
+        text =
+            so_far.read.text ∙ ap (λ (t : List ℕ). journal_text workers shape commits ++ t) next.front
+            ∙ text-push workers shape commits commit behind;
+        each =
+            all-push (IsCommit workers) commits commit so_far.read.each
+            (record { worker = next.accepted.0; some = next.held.some; few = next.held.few });
+        records = all-push HasRecord commits commit so_far.read.records next.held;
+        defined =
+            defined-push (opening shape) so_far.tables commits commit so_far.read.defined
+            ∙ alone (apply_entries so_far.tables commit.entries) ∙ next.accepted.1.1;
+      };
+  rows = next.accepted.1.2;
 }
 
 -- each commit takes some bytes
@@ -127,9 +135,9 @@ records-length before (commit ∷ commits) =
       length-append (record_of (before + 1) commit) (records_from (before + 1) commits),
     )
 
-pub come-length : (workers : ℕ) (shape : Shape) (bytes : List ℕ) (commits : List Commit) (store : StoreState) (rest : List ℕ)
-    → RecordsWereRead workers shape bytes commits store rest → 6 + 4 * length commits + length rest ≤ length bytes
-come-length workers shape bytes commits store rest so_far =
+pub come-length : (workers : ℕ) (shape : Shape) (bytes : List ℕ) (commits : List Commit) (tables : Tables) (rest : List ℕ)
+    → RecordsWereRead workers shape bytes commits tables rest → 6 + 4 * length commits + length rest ≤ length bytes
+come-length workers shape bytes commits tables rest so_far =
     omega (
       arith,
       ap length so_far.text,
@@ -146,10 +154,11 @@ record GoesOn (workers : ℕ) (shape : Shape) (commits : List Commit) (rest : Li
   pub legal : IsLegal shape workers (commits ++ commit ∷ [])
   pub front : IsBeginning (record_of (length commits + 1) commit) rest
 
-goes_on : (workers : ℕ) (shape : Shape) (bytes : List ℕ) (commits : List Commit) (store : StoreState) (rest : List ℕ) (commit : Commit)
-    (others : List Commit) → RecordsWereRead workers shape bytes commits store rest → IsJournaled workers shape (commits ++ commit ∷ others)
+goes_on : (workers : ℕ) (shape : Shape) (bytes : List ℕ) (commits : List Commit) (tables : Tables) (rest : List ℕ) (commit : Commit)
+    (others : List Commit) → RecordsWereRead workers shape bytes commits tables rest
+    → IsJournaled workers shape (commits ++ commit ∷ others)
     → IsBeginning (journal_text workers shape (commits ++ commit ∷ others)) bytes → GoesOn workers shape commits rest commit
-goes_on workers shape bytes commits store rest commit others so_far journaled text =
+goes_on workers shape bytes commits tables rest commit others so_far journaled text =
     let front = header workers shape in
     let records = records_from 0 commits in
     let last = record_of (length commits + 1) commit in
@@ -179,20 +188,20 @@ goes_on workers shape bytes commits store rest commit others so_far journaled te
       front = (behind, append_cancel_left (front ++ records) rest (last ++ behind) (sym so_far.text ∙ whole));
     }
 
-pub is_legal : (workers : ℕ) (shape : Shape) (bytes : List ℕ) (commits : List Commit) (store : StoreState) (rest : List ℕ)
-    → RecordsWereRead workers shape bytes commits store rest → IsLegal shape workers commits
-is_legal workers shape bytes commits store rest so_far = record {
+pub is_legal : (workers : ℕ) (shape : Shape) (bytes : List ℕ) (commits : List Commit) (tables : Tables) (rest : List ℕ)
+    → RecordsWereRead workers shape bytes commits tables rest → IsLegal shape workers commits
+is_legal workers shape bytes commits tables rest so_far = record {
   each = so_far.each;
   defined = subst (λ (r : Result Tables Refusal). IsOk r) (sym so_far.defined) refl;
 }
 
 -- where no commit goes on, the commits so far are the kept ones
-kept-here : (law : SpelledAreFound) (workers : ℕ) (shape : Shape) (bytes : List ℕ) (commits : List Commit) (store : StoreState)
+kept-here : (law : SpelledAreFound) (workers : ℕ) (shape : Shape) (bytes : List ℕ) (commits : List Commit) (tables : Tables)
     (rest : List ℕ)
-    → RecordsWereRead workers shape bytes commits store rest → ((commit : Commit) → ¬ GoesOn workers shape commits rest commit)
+    → RecordsWereRead workers shape bytes commits tables rest → ((commit : Commit) → ¬ GoesOn workers shape commits rest commit)
     → IsKept workers shape bytes commits
-kept-here law workers shape bytes commits store rest so_far stuck = record {
-  journaled = record { legal = is_legal workers shape bytes commits store rest so_far; records = so_far.records };
+kept-here law workers shape bytes commits tables rest so_far stuck = record {
+  journaled = record { legal = is_legal workers shape bytes commits tables rest so_far; records = so_far.records };
   text = (rest, so_far.text);
   longest = λ others journaled text.
       elim (is_nested law workers shape bytes commits others so_far.records journaled.records (rest, so_far.text) text) [
@@ -205,25 +214,25 @@ kept-here law workers shape bytes commits store rest so_far stuck = record {
         → IsBeginning (journal_text workers shape others) bytes → length others ≤ length commits
     no_longer others [] e journaled text = omega (arith, ap length e, length-append {A = Commit} commits [])
     no_longer others (commit ∷ more) e journaled text =
-        absurd (stuck commit (goes_on workers shape bytes commits store rest commit more so_far
+        absurd (stuck commit (goes_on workers shape bytes commits tables rest commit more so_far
         (subst (IsJournaled workers shape) e journaled)
         (subst (λ (cs : List Commit). IsBeginning (journal_text workers shape cs) bytes) e text)))
 
 -- the offset behind the commits so far
-behind-text : (workers : ℕ) (shape : Shape) (bytes : List ℕ) (commits : List Commit) (store : StoreState) (rest : List ℕ) (offset : ℕ)
-    → RecordsWereRead workers shape bytes commits store rest → offset ≡ length bytes - length rest
+behind-text : (workers : ℕ) (shape : Shape) (bytes : List ℕ) (commits : List Commit) (tables : Tables) (rest : List ℕ) (offset : ℕ)
+    → RecordsWereRead workers shape bytes commits tables rest → offset ≡ length bytes - length rest
     → (offset ≡ length (journal_text workers shape commits)) × (drop offset bytes ≡ rest)
-behind-text workers shape bytes commits store rest offset so_far is =
+behind-text workers shape bytes commits tables rest offset so_far is =
     let text = journal_text workers shape commits in
     let size : offset ≡ length text = omega (arith, is, ap length so_far.text, length-append text rest) in
     (size, ap (drop offset) so_far.text ∙ drop_at text rest offset (sym size))
 
-pub recovered : (law : SpelledAreFound) (workers : ℕ) (shape : Shape) (bytes : List ℕ) (commits : List Commit) (store : StoreState)
-    (rest : List ℕ) (offset : ℕ) → RecordsWereRead workers shape bytes commits store rest → offset ≡ length bytes - length rest
+pub recovered : (law : SpelledAreFound) (workers : ℕ) (shape : Shape) (bytes : List ℕ) (commits : List Commit) (tables : Tables)
+    (rest : List ℕ) (offset : ℕ) → RecordsWereRead workers shape bytes commits tables rest → offset ≡ length bytes - length rest
     → is_torn rest ≡ true → IsRecovered workers shape bytes commits offset
-recovered law workers shape bytes commits store rest offset so_far is torn =
-    let behind = behind-text workers shape bytes commits store rest offset so_far is in
-    let kept = kept-here law workers shape bytes commits store rest so_far (λ commit on.
+recovered law workers shape bytes commits tables rest offset so_far is torn =
+    let behind = behind-text workers shape bytes commits tables rest offset so_far is in
+    let kept = kept-here law workers shape bytes commits tables rest so_far (λ commit on.
     let whole = ap is_torn on.front.1 ∙ record_whole (length commits + 1) commit on.front.0 on.held in
     let wrong : true ≡ false = sym torn ∙ whole in
     absurd cc) in
@@ -235,43 +244,43 @@ goes_on-there : (workers : ℕ) (shape : Shape) (commits : List Commit) (rest : 
 goes_on-there workers shape commits rest commit few on = record { numbered = few; held = on.held; front = on.front }
 
 -- a commit that is legal behind the others is defined on the tables that they make
-legal-defined : (workers : ℕ) (shape : Shape) (bytes : List ℕ) (commits : List Commit) (store : StoreState) (rest : List ℕ)
+legal-defined : (workers : ℕ) (shape : Shape) (bytes : List ℕ) (commits : List Commit) (tables : Tables) (rest : List ℕ)
     (commit : Commit)
-    → RecordsWereRead workers shape bytes commits store rest → IsLegal shape workers (commits ++ commit ∷ [])
-    → IsDefinedOn workers store.tables commit
-legal-defined workers shape bytes commits store rest commit so_far legal =
+    → RecordsWereRead workers shape bytes commits tables rest → IsLegal shape workers (commits ++ commit ∷ [])
+    → IsDefinedOn workers tables commit
+legal-defined workers shape bytes commits tables rest commit so_far legal =
     let is_commit = all-next (IsCommit workers) commits commit [] legal.each in
-    let same = defined-push (opening shape) store.tables commits commit so_far.defined
-    ∙ alone (apply_entries store.tables commit.entries) in
+    let same = defined-push (opening shape) tables commits commit so_far.defined
+    ∙ alone (apply_entries tables commit.entries) in
     (is_commit.worker, subst (λ (r : Result Tables Refusal). IsOk r) same legal.defined)
 
-pub refused : (law : SpelledAreFound) (workers : ℕ) (shape : Shape) (bytes : List ℕ) (commits : List Commit) (store : StoreState)
+pub refused : (law : SpelledAreFound) (workers : ℕ) (shape : Shape) (bytes : List ℕ) (commits : List Commit) (tables : Tables)
     (rest : List ℕ)
-    (offset : ℕ) (fault : JournalFault) → RecordsWereRead workers shape bytes commits store rest → offset ≡ length bytes - length rest
-    → length bytes < 2 ^ 64 → IsStop workers (length commits + 1) store.tables offset rest fault → IsRefusal workers shape bytes fault
-refused law workers shape bytes commits store rest offset OtherHeader so_far is few stop = absurd stop
-refused law workers shape bytes commits store rest offset (Damaged at) so_far is few stop =
-    let behind = behind-text workers shape bytes commits store rest offset so_far is in
-    let size = come-length workers shape bytes commits store rest so_far in
-    let kept = kept-here law workers shape bytes commits store rest so_far (λ commit on.
+    (offset : ℕ) (fault : JournalFault) → RecordsWereRead workers shape bytes commits tables rest → offset ≡ length bytes - length rest
+    → length bytes < 2 ^ 64 → IsStop workers (length commits + 1) tables offset rest fault → IsRefusal workers shape bytes fault
+refused law workers shape bytes commits tables rest offset OtherHeader so_far is few stop = absurd stop
+refused law workers shape bytes commits tables rest offset (Damaged at) so_far is few stop =
+    let behind = behind-text workers shape bytes commits tables rest offset so_far is in
+    let size = come-length workers shape bytes commits tables rest so_far in
+    let kept = kept-here law workers shape bytes commits tables rest so_far (λ commit on.
     stop.1.none (length commits + 1) commit (goes_on-there workers shape commits rest commit (omega arith) on)) in
     (commits, (kept, stop.0 ∙ behind.0), subst IsDamaged (sym (ap (λ (n : ℕ). drop n bytes) stop.0 ∙ behind.1)) stop.1)
-refused law workers shape bytes commits store rest offset (OutOfOrder at) so_far is few stop =
-    let behind = behind-text workers shape bytes commits store rest offset so_far is in
-    let size = come-length workers shape bytes commits store rest so_far in
-    let kept = kept-here law workers shape bytes commits store rest so_far (λ commit on.
+refused law workers shape bytes commits tables rest offset (OutOfOrder at) so_far is few stop =
+    let behind = behind-text workers shape bytes commits tables rest offset so_far is in
+    let size = come-length workers shape bytes commits tables rest so_far in
+    let kept = kept-here law workers shape bytes commits tables rest so_far (λ commit on.
     stop.1.other (same_record law rest stop.1.number (length commits + 1) stop.1.commit commit stop.1.there
     (goes_on-there workers shape commits rest commit (omega arith) on)).0) in (
       commits,
       (kept, stop.0 ∙ behind.0),
       subst (IsOutOfOrder (length commits + 1)) (sym (ap (λ (n : ℕ). drop n bytes) stop.0 ∙ behind.1)) stop.1,
     )
-refused law workers shape bytes commits store rest offset (Illegal at) so_far is few stop =
-    let behind = behind-text workers shape bytes commits store rest offset so_far is in
-    let size = come-length workers shape bytes commits store rest so_far in
+refused law workers shape bytes commits tables rest offset (Illegal at) so_far is few stop =
+    let behind = behind-text workers shape bytes commits tables rest offset so_far is in
+    let size = come-length workers shape bytes commits tables rest so_far in
     let illegal : ¬ IsLegal shape workers (commits ++ stop.1.commit ∷ []) =
-    λ legal. stop.1.undefined (legal-defined workers shape bytes commits store rest stop.1.commit so_far legal) in
-    let kept = kept-here law workers shape bytes commits store rest so_far (λ commit on.
+    λ legal. stop.1.undefined (legal-defined workers shape bytes commits tables rest stop.1.commit so_far legal) in
+    let kept = kept-here law workers shape bytes commits tables rest so_far (λ commit on.
     let same = (same_record law rest (length commits + 1) (length commits + 1) commit stop.1.commit
     (goes_on-there workers shape commits rest commit (omega arith) on) stop.1.there).1 in
     illegal (subst (λ (c : Commit). IsLegal shape workers (commits ++ c ∷ [])) same on.legal)) in (
@@ -283,5 +292,5 @@ refused law workers shape bytes commits store rest offset (Illegal at) so_far is
         illegal = illegal;
       }),
     )
-refused law workers shape bytes commits store rest offset Memory so_far is few stop =
+refused law workers shape bytes commits tables rest offset Memory so_far is few stop =
     (records_from 0 commits ++ rest, behind_header workers shape bytes (records_from 0 commits) rest so_far.text)

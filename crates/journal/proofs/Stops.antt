@@ -12,7 +12,6 @@ use Rattle.rows.specs.Commits.{IsCommit, apply_commits}
 use Rattle.rows.specs.Laws.{SpelledAreFound}
 use Rattle.rows.specs.Shape.{Shape}
 use Rattle.rows.specs.Tables.{Tables, Refusal, opening}
-use Rattle.store.specs.State.{StoreState}
 use Rattle.journal.specs.Inner.Progress.{RecordsWereRead}
 use Rattle.journal.specs.Laws.{StopsAreRecovered}
 use Rattle.journal.specs.Recovery.{HasRecord, IsJournaled, is_record_len, is_torn}
@@ -94,14 +93,14 @@ tables_of_ok (Err refusal) ok = absurd cc
 
 first_come : (workers : ℕ) (shape : Shape) (commits : List Commit) (bytes : List ℕ) (count : ℕ) (rest : List ℕ)
     → IsJournaled workers shape commits → bytes ≡ header workers shape ++ (records_from 0 (take count commits) ++ rest)
-    → (store : StoreState) × RecordsWereRead workers shape bytes (take count commits) store rest
+    → (tables : Tables) × RecordsWereRead workers shape bytes (take count commits) tables rest
 first_come workers shape commits bytes count rest journaled text =
     let joined : take count commits ++ drop count commits ≡ commits = take-append-drop count commits in
     let tables =
     tables_of_ok (apply_commits (opening shape) (take count commits))
     (defined-front (opening shape) (take count commits) (drop count commits)
     (subst (λ (cs : List Commit). IsOk (apply_commits (opening shape) cs)) (sym joined) journaled.legal.defined)) in (
-      record { tables = tables.0; whole = true },
+      tables.0,
       record {
         text = text ∙ sym (append_assoc (header workers shape) (records_from 0 (take count commits)) rest);
         each =
@@ -111,7 +110,6 @@ first_come workers shape commits bytes count rest journaled text =
             all-front HasRecord (take count commits) (drop count commits)
             (subst (AllByRecursion HasRecord) (sym joined) journaled.records);
         defined = tables.1;
-        whole = refl;
       },
     )
 

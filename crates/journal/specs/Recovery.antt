@@ -42,9 +42,9 @@ abbrev pub IsKeptUpTo : ℕ → Shape → List ℕ → List Commit → ℕ → T
 IsKeptUpTo workers shape bytes commits offset =
     IsKept workers shape bytes commits × (offset ≡ length (journal_text workers shape commits))
 
--- how many bytes an entry takes: at least a delete, which is nothing after its row, at most an insert of the widest row
+-- how many bytes an entry takes: at least an added column of one byte, at most an insert of the widest row
 abbrev pub entry_len_min : ℕ
-entry_len_min = 1 + 1 + 8
+entry_len_min = 1 + 1 + 1 + 1
 
 abbrev pub entry_len_max : ℕ
 entry_len_max = 1 + 1 + 8 + 2 + row_width_max
@@ -53,7 +53,7 @@ entry_len_max = 1 + 1 + 8 + 2 + row_width_max
 abbrev pub record_front_len : ℕ
 record_front_len = 1 + 8 + 2
 
--- how many bytes a record takes after its length: at least a delete, at most 4096 inserts of the widest rows
+-- how many bytes a record takes after its length: at least an added column of one byte, at most 4096 inserts of the widest rows
 abbrev pub record_len_min : ℕ
 record_len_min = record_front_len + entry_len_min
 

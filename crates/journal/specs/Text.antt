@@ -4,14 +4,8 @@ use Rattle.std.specs.List.{flat_map}
 use Rattle.byteorder.specs.Endian.{big_bytes}
 use Rattle.rows.specs.declared.commit.Commit.{Commit}
 use Rattle.rows.specs.declared.kind.Kind.{Kind}
-use Rattle.rows.specs.declared.kind.Kind.TheVariants.{Int, Octets}
 use Rattle.rows.specs.Shape.{Shape}
-use Rattle.rows.specs.Spelling.{entry_spelling}
-
--- the byte that stands for a kind: octets are 1 to 64 bytes, and stand by their width
-abbrev pub kind_code : Kind → ℕ
-kind_code Int = 0
-kind_code (Octets width) = width
+use Rattle.rows.specs.Spelling.{kind_code, entry_spelling}
 
 -- a table in the header: how many columns, and a byte for each
 abbrev pub table_header : List Kind → List ℕ
@@ -21,9 +15,9 @@ table_header kinds = length kinds ∷ map kind_code kinds
 abbrev pub journal_magic : List ℕ
 journal_magic = 0x42 ∷ 0x44 ∷ 0x4a ∷ []
 
--- the version of this text, in ASCII 1
+-- the version of this text, in ASCII 2
 abbrev pub journal_version : ℕ
-journal_version = 0x31
+journal_version = 0x32
 
 -- the magic, the version, the number of workers, the number of tables, and the tables
 abbrev pub header : ℕ → Shape → List ℕ

@@ -69,7 +69,7 @@ impl FileJournal<File> {
     {
         let file = open_file(files, path).map_err(OpenFault::System)?;
         lock(&file)?;
-        let len = settle(files, path, &file).map_err(OpenFault::System)?;
+        let len = sync(files, path, &file).map_err(OpenFault::System)?;
         Ok(FileJournal::on(file, len))
     }
 }
@@ -184,7 +184,7 @@ fn lock(file: &File) -> Result<(), OpenFault> {
 
 /// Syncs the file and the folder that has its name: what an earlier process wrote and did not sync
 /// must not be lost after it was read. Answers how many bytes the file has.
-fn settle<R: Files<File = File>>(files: &R, path: &str, file: &File) -> io::Result<u64> {
+fn sync<R: Files<File = File>>(files: &R, path: &str, file: &File) -> io::Result<u64> {
     file.sync_all()?;
     File::open(files, folder_of(path))?.sync_all()?;
     Ok(file.metadata()?.len())

@@ -2,7 +2,7 @@
 
 ghost use Rattle.std.specs.Prelude.{◌≡◌, ◌+◌, ◌≤◌, ◌∷◌, [], ◌++◌, length, IfOk};
 ghost use Rattle.rows.specs.Shape.{shape_of};
-ghost use Rattle.journal.specs.Text.{journal_magic, journal_version, header, table_header, kind_code};
+ghost use Rattle.journal.specs.Text.{journal_magic, journal_version, header, table_header};
 
 use arrayvec::ArrayVec;
 use rows::limits::{COLUMNS_MAX, TABLES_MAX};
@@ -13,7 +13,7 @@ use std::alloc::{AllocError, Global};
 const JOURNAL_MAGIC: [u8; 3] = *b"BDJ";
 
 /// The version of the journal's text.
-const JOURNAL_VERSION: u8 = b'1';
+const JOURNAL_VERSION: u8 = b'2';
 
 /// Bytes of a table's part in a header, at most.
 const TABLE_LEN_MAX: usize = 1 + COLUMNS_MAX;
@@ -75,16 +75,6 @@ fn push_table(bytes: &mut ArrayVec<u8, HEADER_LEN_MAX>, kinds: &[Kind])
 {
     bytes.push(kinds.len() as u8);
     for kind in kinds {
-        bytes.push(kind_code(*kind));
-    }
-}
-
-/// The byte for a kind: 0 for an `Int`, the width for octets.
-fn kind_code(kind: Kind) -> u8
-    ensures { result ≡ kind_code kind }
-{
-    match kind {
-        Kind::Int => 0,
-        Kind::Octets(width) => width,
+        bytes.push(kind.code());
     }
 }

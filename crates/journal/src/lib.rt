@@ -12,10 +12,10 @@
 //! outcome of each call. A `FileJournal` is honest if its file is, and the bytes that it accounts for
 //! were synced. That a real file is honest is not proved.
 //!
-//! It uses `rows`, whose entries it spells and reads, and `store`, on which recovery tries the
-//! commits that it reads. Its definitions are `specs/Text.antt`, `Recovery.antt` and
-//! `Storing.antt`. If a call fails for lack of memory, its value is unchanged unless the call says
-//! otherwise.
+//! Whether a commit is legal depends on no value: recovery keeps which rows are present after the
+//! commits so far, and the kinds of the columns (`PresentRows`), and reads the bytes once. The crate uses `rows`, whose entries it
+//! spells and reads. Its definitions are `specs/Text.antt`, `Recovery.antt` and `Storing.antt`. If
+//! a call fails for lack of memory, its value is unchanged unless the call says otherwise.
 #![tactic(auto)]
 
 mod disk;
@@ -26,9 +26,11 @@ mod journal_store;
 pub mod laws;
 mod mem_journal;
 mod numbered_commit;
+mod present_rows;
 mod reading;
 mod recovered;
 mod recovery;
+mod row_ids;
 mod text;
 mod worked;
 

@@ -6,13 +6,13 @@ ghost use Rattle.journal.specs.Recovery.{is_record_len, is_torn};
 ghost use Rattle.journal.specs.Inner.Reading.{commit_in, record_at};
 
 use crate::numbered_commit::NumberedCommit;
-use crate::text::{ENTRY_LEN_MAX, ENTRY_LEN_MIN, RECORD_FRONT_LEN};
+use crate::text::{ENTRY_LEN_MAX, RECORD_FRONT_LEN};
 use byteorder::{BigEndian, ByteOrder};
 use rows::limits::COMMIT_ENTRIES_MAX;
-use rows::{Commit, read_entries};
+use rows::{Commit, ENTRY_LEN_MIN, read_entries};
 use std::alloc::{AllocError, Global};
 
-/// Bytes of a record after its length, at least: those of one delete.
+/// Bytes of a record after its length, at least: those of one added column of one byte.
 const RECORD_LEN_MIN: usize = RECORD_FRONT_LEN + ENTRY_LEN_MIN;
 
 /// Bytes of a record after its length, at most: those of 4096 inserts of the widest rows.

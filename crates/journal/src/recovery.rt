@@ -3,17 +3,19 @@
 ghost use Rattle.std.specs.Prelude.{◌≡◌, ◌+◌, ◌<◌, ◌++◌, [], length, true, false, IfOk, IfErr, MatchResult};
 ghost use Rattle.std.specs.Bool.{MatchBool};
 ghost use Rattle.rows.specs.Shape.{shape_of};
+ghost use Rattle.rows.specs.Tables.{Tables};
 ghost use Rattle.journal.specs.Text.{header};
 ghost use Rattle.journal.specs.Recovery.{IsBeginning, is_torn, IsRecovered, IsRefusal};
+ghost use Rattle.journal.specs.Inner.Presence.{IsPresenceOf};
 ghost use Rattle.journal.specs.Inner.Progress.{IsNextCommit, IsStop, IsAccepted};
 
 use crate::faults::JournalFault;
 use crate::header::header_of;
+use crate::present_rows::PresentRows;
 use crate::reading::{body_len, is_torn, read_record};
 use crate::recovered::Recovered;
 use rows::{Commit, Schema};
 use std::alloc::{AllocError, Global};
-use store::{PlainStore, StoreFault, run};
 
 /// The commits that the bytes of a journal keep, for this schema and this number of workers: the
 /// longest legal list whose text begins the bytes. A torn record after it is not kept, and bytes
@@ -21,8 +23,8 @@ use store::{PlainStore, StoreFault, run};
 ///
 /// Fails with `OtherHeader` if the bytes do not begin like such a journal, and otherwise with the
 /// first of these after the kept commits, with its offset: `Damaged`; `OutOfOrder`; `Illegal`.
-/// `Memory` means that there was no memory for the commits, or for the rows that they make; the
-/// bytes then begin with the header. It goes over the bytes once.
+/// `Memory` means that there was no memory for the commits, or for the identifiers of the rows that
+/// they make; the bytes then begin with the header. It goes over the bytes once.
 pub fn recover(
     alloc: Global,
     bytes: &[u8],
@@ -69,7 +71,7 @@ fn recover_records(
         (IsRefusal workers (shape_of schema.now) bytes.now) }
 {
     rows::laws::entries_are_read_as_spelled();
-    let Ok(mut store) = PlainStore::new(alloc, schema) else {
+    let Ok(mut present) = PresentRows::new(alloc, schema) else {
         return Err(JournalFault::Memory);
     };
     let mut commits = Vec::new(alloc);
@@ -77,7 +79,7 @@ fn recover_records(
     while !is_torn(rest) {
         let offset = (bytes.len() - rest.len()) as u64;
         let number = commits.len() as u64 + 1;
-        match next_commit(alloc, &mut store, workers, number, offset, rest) {
+        match next_commit(alloc, &mut present, workers, number, offset, rest) {
             Err(fault) => return Err(fault),
             Ok((commit, behind)) => {
                 if commits.push(commit).is_err() {
@@ -94,19 +96,21 @@ fn recover_records(
 }
 
 /// The commit of that number, whose record is at the front of the rest, and the bytes after it; the
-/// store makes its changes. Otherwise why there is none, by the offset of the rest.
+/// rows that are present are then those after it. Otherwise why there is none, by the offset of the
+/// rest.
 fn next_commit<'a>(
     alloc: Global,
-    store: &mut PlainStore,
+    present: &mut PresentRows,
     workers: u8,
     number: u64,
     offset: u64,
     rest: &'a [u8],
 ) -> Result<(Commit, &'a [u8]), JournalFault>
-    requires whole { store.old.whole ≡ true }
-    requires some { is_torn rest.now ≡ false }
-    ensures ok { IfOk result (λ next. IsNextCommit workers number store.old store.new rest.now next.0 next.1.now) }
-    ensures err { IfErr result (IsStop workers number store.old.tables offset rest.now) }
+    requires { is_torn rest.now ≡ false }
+    ensures ok { IfOk result (λ next. (tables : Tables) → IsPresenceOf tables present.old
+        → IsNextCommit workers number tables present.new rest.now next.0 next.1.now) }
+    ensures err { IfErr result (λ fault. (tables : Tables) → IsPresenceOf tables present.old
+        → IsStop workers number tables offset rest.now fault) }
 {
     rows::laws::entries_are_read_as_spelled();
     rows::laws::numbers_are_read_as_spelled();
@@ -118,7 +122,7 @@ fn next_commit<'a>(
     if found.number != number {
         return Err(JournalFault::OutOfOrder(offset));
     }
-    match accepts(store, workers, &found.commit) {
+    match accepts(present, workers, &found.commit) {
         Err(_) => Err(JournalFault::Memory),
         Ok(false) => Err(JournalFault::Illegal(offset)),
         Ok(true) => {
@@ -128,24 +132,15 @@ fn next_commit<'a>(
     }
 }
 
-/// Whether a commit is legal after those that are in the store: its worker exists, and each of its
-/// entries is defined where it stands. The store then makes its changes. If the commit is not
-/// legal, or the store is out of memory, the store must not be used again.
-fn accepts(store: &mut PlainStore, workers: u8, commit: &Commit) -> Result<bool, AllocError>
-    requires { store.old.whole ≡ true }
-    ensures { IfOk result (λ accepted. IsAccepted accepted workers store.old store.new commit.now) }
+/// Whether a commit is legal after those whose rows are present: its worker exists, and each of its
+/// entries is defined where it stands. The rows that are present are then those after it. If the
+/// commit is not legal, or there is no memory, they must not be used again.
+fn accepts(present: &mut PresentRows, workers: u8, commit: &Commit) -> Result<bool, AllocError>
+    ensures { IfOk result (λ accepted. (tables : Tables) → IsPresenceOf tables present.old
+        → IsAccepted accepted workers tables present.new commit.now) }
 {
     if commit.worker >= workers {
         return Ok(false);
     }
-    match run(store, commit.entries.as_slice()) {
-        Ok(()) => Ok(true),
-        Err((_, fault)) => {
-            if fault == StoreFault::Memory {
-                Err(AllocError)
-            } else {
-                Ok(false)
-            }
-        }
-    }
+    present.apply(commit.entries.as_slice())
 }

@@ -15,9 +15,6 @@ use std::alloc::{AllocError, Global};
 /// Bytes of a record between its length and its entries: worker, number, how many entries.
 pub const RECORD_FRONT_LEN: usize = 1 + 8 + 2;
 
-/// Bytes of an entry, at least: those of a delete.
-pub const ENTRY_LEN_MIN: usize = 1 + 1 + 8;
-
 /// Bytes of an entry, at most: those of an insert of the widest row.
 pub const ENTRY_LEN_MAX: usize = 1 + 1 + 8 + 2 + ROW_WIDTH_MAX;
 

@@ -1,12 +1,9 @@
 -- One column of a row after entries: what they make of the row, and what they make of the column.
-use Rattle.std.proofs.Common.{◌≡◌, ◌≢◌, ℕ, zero, suc, ◌+◌, ◌<◌, get_or, drop, Bool, true, false, cond, ◌==◌, List, [], ◌∷◌, length, Option}
-use Rattle.std.proofs.Common.{None, Some, slice_get, refl, ap, ◌∙◌, inl, inr}
-use Rattle.std.specs.List.{slice_set}
-use Rattle.std.specs.Option.{option_map}
-use Rattle.std.proofs.lemmas.Bool.{cases_eq, eq-eqb, ne_eqb}
+use Rattle.std.proofs.Common.{◌≡◌, ℕ, ◌+◌, ◌<◌, get_or, drop, Bool, true, false, cond, ◌==◌, List, [], ◌∷◌, length, Option}
+use Rattle.std.proofs.Common.{None, Some, slice_get, refl, ap, ◌∙◌}
 use Rattle.std.proofs.lemmas.List.{drop_more}
 use Rattle.rows.specs.declared.entry.Entry.{Entry}
-use Rattle.rows.specs.declared.entry.Entry.TheVariants.{Insert, Patch, Delete}
+use Rattle.rows.specs.declared.entry.Entry.TheVariants.{Insert, Patch, Delete, AddColumn}
 use Rattle.rows.specs.declared.kind.Kind.{Kind}
 use Rattle.rows.specs.declared.value.Value.{Value}
 use Rattle.rows.specs.Shape.{Shape, row_width, column_at}
@@ -16,28 +13,10 @@ use Rattle.rows.specs.Commits.{is_of}
 use Rattle.rows.specs.RowAfter.{row_after_fit, inserted_row}
 use Rattle.mvcc.specs.Inner.Cells.{cell_of, inserted_cell, patched_cell, cell_after_one, cell_after_entry, cell_after}
 use Rattle.mvcc.specs.Inner.OwnRows.{picked}
-use Rattle.mvcc.proofs.Effects.{effect, step, step-is}
+use Rattle.mvcc.specs.Inner.Keys.{adds_column, AreOfRows}
+use Rattle.mvcc.proofs.Effects.{effect, step, step-is, first-step}
 use Rattle.mvcc.proofs.OwnRows.{before, picked-cons}
-
--- an index of a list where one was replaced
-slice_get-set_same : {X : Type 0} (xs : List X) (i : ℕ) (x : X) → slice_get (slice_set xs i x) i ≡ option_map (λ was. x) (slice_get xs i)
-slice_get-set_same [] i x = refl
-slice_get-set_same (first ∷ xs) zero x = refl
-slice_get-set_same (first ∷ xs) (suc i) x = slice_get-set_same xs i x
-
-slice_get-set_other : {X : Type 0} (xs : List X) (i j : ℕ) (x : X) → i ≢ j → slice_get (slice_set xs i x) j ≡ slice_get xs j
-slice_get-set_other [] i j x h = refl
-slice_get-set_other (first ∷ xs) zero zero x h = absurd (h refl)
-slice_get-set_other (first ∷ xs) zero (suc j) x h = refl
-slice_get-set_other (first ∷ xs) (suc i) zero x h = refl
-slice_get-set_other (first ∷ xs) (suc i) (suc j) x h = slice_get-set_other xs i j x (λ e. h (ap suc e))
-
-slice_get-set : {X : Type 0} (xs : List X) (i j : ℕ) (x : X)
-    → slice_get (slice_set xs i x) j ≡ cond (i == j) (option_map (λ was. x) (slice_get xs j)) (slice_get xs j)
-slice_get-set xs i j x = elim (cases_eq i j) [
-  | inl same ↦ rw (eq-eqb i j same, same) (slice_get-set_same xs j x)
-  | inr apart ↦ rw (ne_eqb i j apart) (slice_get-set_other xs i j x apart)
-]
+use Rattle.mvcc.proofs.Places.{slice_get-set}
 
 patched : (kinds : List Kind) (offset : ℕ) (bytes : List ℕ) (column : ℕ) (values : List Value)
     → slice_get (patched_row kinds offset bytes values) column ≡ patched_cell kinds offset bytes column (slice_get values column)
@@ -48,9 +27,9 @@ patched kinds offset bytes column values = by (column_at kinds offset (length by
     by None e = rw e refl
     by (Some found) e = rw e (slice_get-set values found.0 column (value_of found.1 bytes))
 
-effect-cell : (kinds : List Kind) (column : ℕ) (entry : Entry) (was : Option (List Value))
+pub effect-cell : (kinds : List Kind) (column : ℕ) (entry : Entry) (was : Option (List Value)) → adds_column entry ≡ false
     → cell_of column (effect (Some kinds) entry was) ≡ cell_after_one kinds column entry (cell_of column was)
-effect-cell kinds column (Insert table row bytes) was = by (length bytes == row_width kinds) was
+effect-cell kinds column (Insert table row bytes) was of = by (length bytes == row_width kinds) was
   where
     by : (wide : Bool) (was : Option (List Value))
         → cell_of column (cond wide (inserted_row kinds bytes was) was) ≡ cond wide (inserted_cell kinds bytes column (cell_of column was))
@@ -58,24 +37,26 @@ effect-cell kinds column (Insert table row bytes) was = by (length bytes == row_
     by false was = refl
     by true None = refl
     by true (Some values) = refl
-effect-cell kinds column (Patch table row offset bytes) None = refl
-effect-cell kinds column (Patch table row offset bytes) (Some values) = ap Some (patched kinds offset bytes column values)
-effect-cell kinds column (Delete table row) was = refl
+effect-cell kinds column (Patch table row offset bytes) None of = refl
+effect-cell kinds column (Patch table row offset bytes) (Some values) of = ap Some (patched kinds offset bytes column values)
+effect-cell kinds column (Delete table row) was of = refl
+effect-cell kinds column (AddColumn table default) was of = absurd cc
 
 -- what entries make of a column is that column of what they make of the row
 pub cell-row : (shape : Shape) (kinds : List Kind) (table row column : ℕ) (entries : List Entry) (was : Option (List Value))
-    → slice_get shape table ≡ Some kinds
+    → AreOfRows entries → slice_get shape table ≡ Some kinds
     → cell_of column (row_after_fit shape table row entries was) ≡ cell_after kinds table row column entries (cell_of column was)
-cell-row shape kinds table row column [] was h = refl
-cell-row shape kinds table row column (entry ∷ entries) was h =
-    cell-row shape kinds table row column entries (step shape table row entry was) h
+cell-row shape kinds table row column [] was of h = refl
+cell-row shape kinds table row column (entry ∷ entries) was of h =
+    ap (cell_of column) (first-step shape table row entry entries was of.0)
+    ∙ cell-row shape kinds table row column entries (step shape table row entry was) of.1 h
     ∙ ap (cell_after kinds table row column entries)
     (ap (cell_of column) (step-is shape table row entry was ∙ ap (λ found. cond (is_of table row entry) (effect found entry was) was) h)
     ∙ by (is_of table row entry))
   where
     by : (here : Bool) → cell_of column (cond here (effect (Some kinds) entry was) was) ≡ cond here
         (cell_after_one kinds column entry (cell_of column was)) (cell_of column was)
-    by true = effect-cell kinds column entry was
+    by true = effect-cell kinds column entry was of.0
     by false = refl
 
 -- what the entries at indices make of a column, one on: where there is an entry, and where there is none

@@ -8,19 +8,21 @@ use Rattle.std.proofs.lemmas.Bool.{and_parts, eqb-true, cases_eq}
 use Rattle.std.proofs.lemmas.List.{set-set, set_comm}
 use Rattle.std.proofs.lemmas.Option.{same_Some}
 use Rattle.rows.specs.declared.entry.Entry.{Entry}
-use Rattle.rows.specs.declared.entry.Entry.TheVariants.{Insert, Patch, Delete}
+use Rattle.rows.specs.declared.entry.Entry.TheVariants.{Insert, Patch, Delete, AddColumn}
 use Rattle.rows.specs.declared.faults.EntryFault.{EntryFault}
+use Rattle.rows.specs.declared.faults.EntryFault.TheVariants.{WrongSize}
 use Rattle.rows.specs.declared.kind.Kind.{Kind}
 use Rattle.rows.specs.declared.row_id.RowId.{RowId}
 use Rattle.rows.specs.declared.value.Value.{Value}
 use Rattle.rows.specs.Shape.{kinds_in, Shape, row_width, column_at}
-use Rattle.rows.specs.Values.{value_of}
-use Rattle.rows.specs.Entries.{table_of, fitting}
+use Rattle.rows.specs.Values.{value_of, kind_of}
+use Rattle.rows.specs.Entries.{table_of, has_room, fitting, shape_after_one, shape_after}
 use Rattle.rows.specs.Tables.{patched_row}
 use Rattle.rows.specs.Commits.{is_of}
 use Rattle.rows.specs.RowAfter.{inserted_row, row_after_one, row_after_entry, row_after_fit}
 use Rattle.mvcc.specs.Inner.OwnRows.{supersedes}
-use Rattle.mvcc.proofs.Keys.{of-parts}
+use Rattle.mvcc.specs.Inner.Keys.{adds_column, AreOfRows}
+use Rattle.mvcc.proofs.Keys.{of-table}
 
 -- what an entry of a row makes of it, in a table with columns of these kinds, or in none
 abbrev pub effect : Option (List Kind) → Entry → Option (List Value) → Option (List Value)
@@ -28,6 +30,8 @@ effect None entry was = was
 effect (Some kinds) (Insert table row bytes) was = cond (length bytes == row_width kinds) (inserted_row kinds bytes was) was
 effect (Some kinds) (Patch table row offset bytes) was = option_map (patched_row kinds offset bytes) was
 effect (Some kinds) (Delete table row) was = None
+effect (Some kinds) (AddColumn table default) was =
+    cond (has_room kinds (kind_of default)) (option_map (λ values. values ++ default ∷ []) was) was
 
 -- what an entry makes of a row of tables of that shape
 abbrev pub step : Shape → ℕ → ℕ → Entry → Option (List Value) → Option (List Value)
@@ -75,12 +79,15 @@ fits-effect shape entry was = by (slice_get shape (table_of entry)) refl
     of_kinds kinds (Insert table row bytes) e = rw e (tested (length bytes == row_width kinds) _ (inserted_row kinds bytes was) was)
     of_kinds kinds (Patch table row offset bytes) e = rw e (fits-patch kinds offset bytes _ was)
     of_kinds kinds (Delete table row) e = rw e refl
+    of_kinds kinds (AddColumn table default) e =
+        rw e (tested (has_room kinds (kind_of default)) WrongSize (option_map (λ values. values ++ default ∷ []) was) was)
 
     of_none : (entry : Entry) → slice_get shape (table_of entry) ≡ None
         → cond (is_ok (fitting shape entry)) (row_after_one (kinds_in shape (table_of entry)) entry was) was ≡ was
     of_none (Insert table row bytes) e = rw e refl
     of_none (Patch table row offset bytes) e = rw e refl
     of_none (Delete table row) e = rw e refl
+    of_none (AddColumn table default) e = rw e refl
 
     by : (found : Option (List Kind)) → slice_get shape (table_of entry) ≡ found
         → cond (is_ok (fitting shape entry)) (row_after_one (kinds_in shape (table_of entry)) entry was) was ≡ effect
@@ -97,21 +104,29 @@ step-is shape table row entry was = by (is_of table row entry) refl
         → step shape table row entry was ≡ cond (is_of table row entry) (effect (slice_get shape table) entry was) was
     by false e = rw e (alike (is_ok (fitting shape entry)) was)
     by true e =
-        let same : table_of entry ≡ table = (of-parts table row entry e).0 in
+        let same : table_of entry ≡ table = of-table table row entry e in
         let here =
         subst (λ table. cond (is_ok (fitting shape entry)) (row_after_one (kinds_in shape table) entry was) was ≡ effect
         (slice_get shape table) entry was) same (fits-effect shape entry was) in
         rw e here
 
--- in a table that is not there no row changes
-pub unlisted : (shape : Shape) (table row : ℕ) (entries : List Entry) (was : Option (List Value)) → slice_get shape table ≡ None
-    → row_after_fit shape table row entries was ≡ was
-unlisted shape table row [] was h = refl
-unlisted shape table row (entry ∷ entries) was h =
-    let none : step shape table row entry was ≡ was =
-    step-is shape table row entry was ∙ ap (λ found. cond (is_of table row entry) (effect found entry was) was) h
-    ∙ alike (is_of table row entry) was in
-    ap (row_after_fit shape table row entries) none ∙ unlisted shape table row entries was h
+-- entries of rows leave the kinds
+kept-one : (shape : Shape) (entry : Entry) → adds_column entry ≡ false → shape_after_one shape entry ≡ shape
+kept-one shape (Insert table row bytes) h = refl
+kept-one shape (Patch table row offset bytes) h = refl
+kept-one shape (Delete table row) h = refl
+kept-one shape (AddColumn table default) h = absurd cc
+
+pub kept : (shape : Shape) (entries : List Entry) → AreOfRows entries → shape_after shape entries ≡ shape
+kept shape [] h = refl
+kept shape (entry ∷ entries) h = kept (shape_after_one shape entry) entries h.1 ∙ kept-one shape entry h.0
+
+-- so the first of them is a step
+pub first-step : (shape : Shape) (table row : ℕ) (entry : Entry) (entries : List Entry) (was : Option (List Value))
+    → adds_column entry ≡ false
+    → row_after_fit shape table row (entry ∷ entries) was ≡ row_after_fit shape table row entries (step shape table row entry was)
+first-step shape table row entry entries was h =
+    ap (λ s. row_after_fit s table row entries (step shape table row entry was)) (kept-one shape entry h)
 
 -- bytes at a column of a row
 abbrev put_at : Option (ℕ × Kind) → List ℕ → List Value → List Value
@@ -167,17 +182,19 @@ absorbs (Some kinds) (Patch table row offset bytes) (Patch table' row' offset' b
     ∙ put_at-twice (column_at kinds offset (length bytes)) bytes bytes' values
     ∙ sym (patched-is kinds offset bytes values))
 absorbs (Some kinds) (Patch table row offset bytes) (Delete table' row') was h = cc
+absorbs (Some kinds) (Patch table row offset bytes) (AddColumn table' default) was h = cc
 absorbs (Some kinds) (Delete table row) earlier was h = refl
+absorbs (Some kinds) (AddColumn table default) earlier was h = cc
 
--- where two rows are the same once an entry comes, they are so too with any other entry before it
+-- where two rows are the same once an entry comes, they are so too with any other entry of a row before it
 abbrev pub Keeps : Option (List Kind) → Entry → Type 0
 Keeps found entry =
-    (between : Entry) (was was' : Option (List Value)) → effect found entry was ≡ effect found entry was'
+    (between : Entry) (was was' : Option (List Value)) → adds_column between ≡ false → effect found entry was ≡ effect found entry was'
     → effect found entry (effect found between was) ≡ effect found entry (effect found between was')
 
 patch-keeps : (kinds : List Kind) (table : ℕ) (row : RowId) (offset : ℕ) (bytes : List ℕ)
     → Keeps (Some kinds) (Patch table row offset bytes)
-patch-keeps kinds table row offset bytes (Insert table' row' bytes') was was' h = by (length bytes' == row_width kinds) was was' h
+patch-keeps kinds table row offset bytes (Insert table' row' bytes') was was' of h = by (length bytes' == row_width kinds) was was' h
   where
     by : (wide : Bool) (was was' : Option (List Value))
         → option_map (patched_row kinds offset bytes) was ≡ option_map (patched_row kinds offset bytes) was'
@@ -188,10 +205,10 @@ patch-keeps kinds table row offset bytes (Insert table' row' bytes') was was' h 
     by true None (Some values) h = cc
     by true (Some values) None h = cc
     by true (Some values) (Some values') h = h
-patch-keeps kinds table row offset bytes (Patch table' row' offset' bytes') None None h = refl
-patch-keeps kinds table row offset bytes (Patch table' row' offset' bytes') None (Some values) h = cc
-patch-keeps kinds table row offset bytes (Patch table' row' offset' bytes') (Some values) None h = cc
-patch-keeps kinds table row offset bytes (Patch table' row' offset' bytes') (Some values) (Some values') h =
+patch-keeps kinds table row offset bytes (Patch table' row' offset' bytes') None None of h = refl
+patch-keeps kinds table row offset bytes (Patch table' row' offset' bytes') None (Some values) of h = cc
+patch-keeps kinds table row offset bytes (Patch table' row' offset' bytes') (Some values) None of h = cc
+patch-keeps kinds table row offset bytes (Patch table' row' offset' bytes') (Some values) (Some values') of h =
     let column = column_at kinds offset (length bytes) in
     let other = column_at kinds offset' (length bytes') in
     let same = sym (patched-is kinds offset bytes values) ∙ same_Some _ _ h ∙ patched-is kinds offset bytes values' in
@@ -199,24 +216,26 @@ patch-keeps kinds table row offset bytes (Patch table' row' offset' bytes') (Som
     λ (vs : List Value). patched-is kinds offset bytes (patched_row kinds offset' bytes' vs)
     ∙ ap (put_at column bytes) (patched-is kinds offset' bytes' vs) in
     ap Some (as_put values ∙ put_at-keeps column other bytes bytes' values values' same ∙ sym (as_put values'))
-patch-keeps kinds table row offset bytes (Delete table' row') was was' h = refl
+patch-keeps kinds table row offset bytes (Delete table' row') was was' of h = refl
+patch-keeps kinds table row offset bytes (AddColumn table' default) was was' of h = absurd cc
 
 none-keeps : (entry : Entry) → Keeps None entry
-none-keeps entry between was was' h = h
+none-keeps entry between was was' of h = h
 
 delete-keeps : (kinds : List Kind) (table : ℕ) (row : RowId) → Keeps (Some kinds) (Delete table row)
-delete-keeps kinds table row between was was' h = refl
+delete-keeps kinds table row between was was' of h = refl
 
 -- a row after entries and then one more of it, and after those entries without the ones of which that leaves nothing
 still : (shape : Shape) (table row : ℕ) (entry : Entry) → Keeps (slice_get shape table) entry
-    → (entries : List Entry) (was was' : Option (List Value))
+    → (entries : List Entry) (was was' : Option (List Value)) → AreOfRows entries
     → effect (slice_get shape table) entry was ≡ effect (slice_get shape table) entry was'
     → effect (slice_get shape table) entry
     (row_after_fit shape table row (filter (λ earlier. not (supersedes entry earlier)) entries) was) ≡ effect
     (slice_get shape table) entry (row_after_fit shape table row entries was')
-still shape table row entry keeps [] was was' h = h
-still shape table row entry keeps (first ∷ entries) was was' h =
-    by (still shape table row entry keeps entries) (supersedes entry first) refl
+still shape table row entry keeps [] was was' of h = h
+still shape table row entry keeps (first ∷ entries) was was' of h =
+    by (λ was was' h. still shape table row entry keeps entries was was' of.1 h) (supersedes entry first) refl
+    ∙ ap (effect (slice_get shape table) entry) (sym (first-step shape table row first entries was' of.0))
   where
     gone : (here : Bool) → is_of table row first ≡ here → supersedes entry first ≡ true
         → effect (slice_get shape table) entry was ≡ effect (slice_get shape table) entry (step shape table row first was')
@@ -233,13 +252,13 @@ still shape table row entry keeps (first ∷ entries) was was' h =
     stepped here values e =
         step-is shape table row first values ∙ ap (λ here. cond here (effect (slice_get shape table) first values) values) e
 
-    kept : (here : Bool) → is_of table row first ≡ here
+    both : (here : Bool) → is_of table row first ≡ here
         → effect (slice_get shape table) entry (step shape table row first was) ≡ effect (slice_get shape table) entry
         (step shape table row first was')
-    kept true e =
-        ap (effect (slice_get shape table) entry) (stepped true was e) ∙ keeps first was was' h
+    both true e =
+        ap (effect (slice_get shape table) entry) (stepped true was e) ∙ keeps first was was' of.0 h
         ∙ ap (effect (slice_get shape table) entry) (sym (stepped true was' e))
-    kept false e =
+    both false e =
         ap (effect (slice_get shape table) entry) (stepped false was e) ∙ h
         ∙ ap (effect (slice_get shape table) entry) (sym (stepped false was' e))
 
@@ -249,29 +268,36 @@ still shape table row entry keeps (first ∷ entries) was was' h =
         (slice_get shape table) entry (row_after_fit shape table row entries was'))
         → (over : Bool) → supersedes entry first ≡ over
         → effect (slice_get shape table) entry
-        (row_after_fit shape table row (filter (λ earlier. not (supersedes entry earlier)) (first ∷ entries)) was) ≡ effect
-        (slice_get shape table) entry (row_after_fit shape table row (first ∷ entries) was')
-    by others true e = rw e (others was (step shape table row first was') (gone (is_of table row first) refl e))
-    by others false e = rw e (others (step shape table row first was) (step shape table row first was') (kept (is_of table row first) refl))
+        (row_after_fit shape table row (cond (not over)
+        (first ∷ filter (λ earlier. not (supersedes entry earlier)) entries)
+        (filter (λ earlier. not (supersedes entry earlier)) entries)) was) ≡ effect
+        (slice_get shape table) entry (row_after_fit shape table row entries (step shape table row first was'))
+    by others true e = others was (step shape table row first was') (gone (is_of table row first) refl e)
+    by others false e =
+        ap (effect (slice_get shape table) entry)
+        (first-step shape table row first (filter (λ earlier. not (supersedes entry earlier)) entries) was of.0)
+        ∙ others (step shape table row first was) (step shape table row first was') (both (is_of table row first) refl)
 
 all-kept : (entries : List Entry) → filter (λ earlier. not false) entries ≡ entries
 all-kept [] = refl
 all-kept (entry ∷ entries) = ap (λ others. entry ∷ others) (all-kept entries)
 
-still-after : (shape : Shape) (table row : ℕ) (entry : Entry) (entries : List Entry) (was : Option (List Value))
+still-after : (shape : Shape) (table row : ℕ) (entry : Entry) (entries : List Entry) (was : Option (List Value)) → AreOfRows entries
     → effect (slice_get shape table) entry
     (row_after_fit shape table row (filter (λ earlier. not (supersedes entry earlier)) entries) was) ≡ effect
     (slice_get shape table) entry (row_after_fit shape table row entries was)
-still-after shape table row (Insert table' row' bytes) entries was =
+still-after shape table row (Insert table' row' bytes) entries was of =
     ap (λ entries. effect (slice_get shape table) (Insert table' row' bytes) (row_after_fit shape table row entries was)) (all-kept entries)
-still-after shape table row (Patch table' row' offset bytes) entries was =
-    still shape table row (Patch table' row' offset bytes) (by (slice_get shape table)) entries was was refl
+still-after shape table row (Patch table' row' offset bytes) entries was of =
+    still shape table row (Patch table' row' offset bytes) (by (slice_get shape table)) entries was was of refl
   where
     by : (found : Option (List Kind)) → Keeps found (Patch table' row' offset bytes)
     by None = none-keeps (Patch table' row' offset bytes)
     by (Some kinds) = patch-keeps kinds table' row' offset bytes
-still-after shape table row (Delete table' row') entries was =
-    still shape table row (Delete table' row') (by (slice_get shape table)) entries was was refl
+still-after shape table row (AddColumn table' default) entries was of =
+    ap (λ entries. effect (slice_get shape table) (AddColumn table' default) (row_after_fit shape table row entries was)) (all-kept entries)
+still-after shape table row (Delete table' row') entries was of =
+    still shape table row (Delete table' row') (by (slice_get shape table)) entries was was of refl
   where
     by : (found : Option (List Kind)) → Keeps found (Delete table' row')
     by None = none-keeps (Delete table' row')
@@ -279,25 +305,37 @@ still-after shape table row (Delete table' row') entries was =
 
 -- one more entry at the end
 pub row_after_fit-push : (shape : Shape) (table row : ℕ) (entries : List Entry) (entry : Entry) (was : Option (List Value))
+    → AreOfRows entries
     → row_after_fit shape table row (entries ++ entry ∷ []) was ≡ step shape table row entry (row_after_fit shape table row entries was)
-row_after_fit-push shape table row [] entry was = refl
-row_after_fit-push shape table row (first ∷ entries) entry was =
-    row_after_fit-push shape table row entries entry (step shape table row first was)
+row_after_fit-push shape table row [] entry was of = refl
+row_after_fit-push shape table row (first ∷ entries) entry was of =
+    first-step shape table row first (entries ++ entry ∷ []) was of.0
+    ∙ row_after_fit-push shape table row entries entry (step shape table row first was) of.1
+    ∙ ap (step shape table row entry) (sym (first-step shape table row first entries was of.0))
+
+-- entries of rows that are kept are of rows
+pub of-filter : (test : Entry → Bool) (entries : List Entry) → AreOfRows entries → AreOfRows (filter test entries)
+of-filter test [] of = tt
+of-filter test (entry ∷ entries) of = by (of-filter test entries of.1) (test entry)
+  where
+    by : AreOfRows (filter test entries) → (here : Bool) → AreOfRows (cond here (entry ∷ filter test entries) (filter test entries))
+    by others true = (of.0, others)
+    by others false = others
 
 -- the entries of which one more of this row leaves nothing may be left out before it
 pub superseded : (shape : Shape) (table row : ℕ) (entry : Entry) (entries : List Entry) (was : Option (List Value))
-    → is_of table row entry ≡ true
+    → AreOfRows entries → is_of table row entry ≡ true
     → row_after_fit shape table row
     (filter (λ earlier. not (supersedes entry earlier)) entries ++ entry ∷ []) was ≡ step shape table row entry
     (row_after_fit shape table row entries was)
-superseded shape table row entry entries was here =
-    let kept = filter (λ earlier. not (supersedes entry earlier)) entries in
+superseded shape table row entry entries was of here =
+    let others = filter (λ earlier. not (supersedes entry earlier)) entries in
     let made =
     λ (row' : Option (List Value)). step-is shape table row entry row'
     ∙ ap (λ here. cond here (effect (slice_get shape table) entry row') row') here in
-    row_after_fit-push shape table row kept entry was
-    ∙ made (row_after_fit shape table row kept was)
-    ∙ still-after shape table row entry entries was
+    row_after_fit-push shape table row others entry was (of-filter (λ earlier. not (supersedes entry earlier)) entries of)
+    ∙ made (row_after_fit shape table row others was)
+    ∙ still-after shape table row entry entries was of
     ∙ sym (made (row_after_fit shape table row entries was))
 
 -- an entry of another row leaves this one

@@ -1,5 +1,5 @@
 -- Of which row an entry is; what a map of rows finds, and what it finds once one row's entry was replaced.
-use Rattle.std.proofs.Common.{◌≡◌, ℕ, Bool, true, false, cond, ◌&&◌, ◌==◌, List, [], ◌∷◌, Some, refl, sym, ap, ◌∙◌, arith}
+use Rattle.std.proofs.Common.{◌≡◌, ℕ, Bool, true, false, cond, ◌&&◌, ◌==◌, List, [], ◌∷◌, None, Some, refl, sym, ap, ◌∙◌, arith}
 use Rattle.std.specs.Map.{lookup, set_value}
 use Rattle.std.specs.BTreeMap.{is_at}
 use Rattle.std.specs.Ordering.{nat_cmp, ordering_then}
@@ -7,31 +7,76 @@ use Rattle.std.specs.declared.cmp.Ordering.{Ordering}
 use Rattle.std.proofs.lemmas.Bool.{and_from, and_parts, eq-eqb, eqb-true}
 use Rattle.std.proofs.lemmas.Bool.Decides.{nat_tests}
 use Rattle.rows.specs.declared.entry.Entry.{Entry}
-use Rattle.rows.specs.declared.entry.Entry.TheVariants.{Insert, Patch, Delete}
-use Rattle.rows.specs.Entries.{table_of}
-use Rattle.rows.specs.Commits.{is_of, overlaps}
-use Rattle.mvcc.specs.Inner.Keys.{is_key_of, row_of}
+use Rattle.rows.specs.declared.entry.Entry.TheVariants.{Insert, Patch, Delete, AddColumn}
+use Rattle.rows.specs.declared.row_id.RowId.{RowId}
+use Rattle.std.proofs.lemmas.Option.{same_Some}
+use Rattle.rows.specs.Entries.{table_of, row_of}
+use Rattle.rows.specs.Commits.{is_of}
+use Rattle.mvcc.specs.Inner.Keys.{is_key_of, names, adds_column}
 
--- the row that an entry is of
-pub is_of-is : (t r : ℕ) (entry : Entry) → is_of t r entry ≡ ((table_of entry == t) && (row_of entry == r))
-is_of-is t r (Insert table row bytes) = refl
-is_of-is t r (Patch table row offset bytes) = refl
-is_of-is t r (Delete table row) = refl
+-- an entry of a row is of that row of its table, and of no other
+pub of-is : (t r : ℕ) (entry : Entry) (id : RowId) → row_of entry ≡ Some id
+    → is_of t r entry ≡ ((table_of entry == t) && (id.0 == r))
+of-is t r (Insert table row bytes) id e = ap (λ (n : RowId). (table == t) && (n.0 == r)) (same_Some row id e)
+of-is t r (Patch table row offset bytes) id e = ap (λ (n : RowId). (table == t) && (n.0 == r)) (same_Some row id e)
+of-is t r (Delete table row) id e = ap (λ (n : RowId). (table == t) && (n.0 == r)) (same_Some row id e)
+of-is t r (AddColumn table default) id e = absurd cc
 
-pub of-parts : (t r : ℕ) (entry : Entry) → is_of t r entry ≡ true → (table_of entry ≡ t) × (row_of entry ≡ r)
-of-parts t r entry e =
-    let parts = and_parts (table_of entry == t) (row_of entry == r) (sym (is_of-is t r entry) ∙ e) in
-    (eqb-true (table_of entry) t parts.0, eqb-true (row_of entry) r parts.1)
+pub names-is : (t r : ℕ) (entry : Entry) (id : RowId) → row_of entry ≡ Some id
+    → names t r entry ≡ ((table_of entry == t) && (id.0 == r))
+names-is t r (Insert table row bytes) id e = ap (λ (n : RowId). (table == t) && (n.0 == r)) (same_Some row id e)
+names-is t r (Patch table row offset bytes) id e = ap (λ (n : RowId). (table == t) && (n.0 == r)) (same_Some row id e)
+names-is t r (Delete table row) id e = ap (λ (n : RowId). (table == t) && (n.0 == r)) (same_Some row id e)
+names-is t r (AddColumn table default) id e = absurd cc
 
-pub of-own : (entry : Entry) → is_of (table_of entry) (row_of entry) entry ≡ true
-of-own entry =
-    is_of-is (table_of entry) (row_of entry) entry
-    ∙ and_from _ _ (eq-eqb (table_of entry) (table_of entry) refl) (eq-eqb (row_of entry) (row_of entry) refl)
+pub names-none : (t r : ℕ) (entry : Entry) → row_of entry ≡ None → names t r entry ≡ false
+names-none t r (Insert table row bytes) e = absurd cc
+names-none t r (Patch table row offset bytes) e = absurd cc
+names-none t r (Delete table row) e = absurd cc
+names-none t r (AddColumn table default) e = refl
 
-pub overlaps-is : (entry other : Entry) → overlaps entry other ≡ is_of (table_of entry) (row_of entry) other
-overlaps-is (Insert table row bytes) other = refl
-overlaps-is (Patch table row offset bytes) other = refl
-overlaps-is (Delete table row) other = refl
+pub of-own : (entry : Entry) (id : RowId) → row_of entry ≡ Some id → is_of (table_of entry) id.0 entry ≡ true
+of-own entry id e =
+    of-is (table_of entry) id.0 entry id e
+    ∙ and_from _ _ (eq-eqb (table_of entry) (table_of entry) refl) (eq-eqb id.0 id.0 refl)
+
+-- one that is of no row alone is of every row of its table
+pub of-any : (r : ℕ) (entry : Entry) → row_of entry ≡ None → is_of (table_of entry) r entry ≡ true
+of-any r (Insert table row bytes) e = absurd cc
+of-any r (Patch table row offset bytes) e = absurd cc
+of-any r (Delete table row) e = absurd cc
+of-any r (AddColumn table default) e = eq-eqb table table refl
+
+-- an entry that names a row is of it
+pub named : (t r : ℕ) (entry : Entry) → names t r entry ≡ true
+    → (id : RowId) × (row_of entry ≡ Some id) × (table_of entry ≡ t) × (id.0 ≡ r)
+named t r (Insert table row bytes) e =
+    let parts = and_parts (table == t) (row.0 == r) e in (row, refl, eqb-true table t parts.0, eqb-true row.0 r parts.1)
+named t r (Patch table row offset bytes) e =
+    let parts = and_parts (table == t) (row.0 == r) e in (row, refl, eqb-true table t parts.0, eqb-true row.0 r parts.1)
+named t r (Delete table row) e =
+    let parts = and_parts (table == t) (row.0 == r) e in (row, refl, eqb-true table t parts.0, eqb-true row.0 r parts.1)
+named t r (AddColumn table default) e = absurd cc
+
+-- an entry is of rows of its own table
+pub of-table : (t r : ℕ) (entry : Entry) → is_of t r entry ≡ true → table_of entry ≡ t
+of-table t r (Insert table row bytes) e = eqb-true table t (and_parts (table == t) (row.0 == r) e).0
+of-table t r (Patch table row offset bytes) e = eqb-true table t (and_parts (table == t) (row.0 == r) e).0
+of-table t r (Delete table row) e = eqb-true table t (and_parts (table == t) (row.0 == r) e).0
+of-table t r (AddColumn table default) e = eqb-true table t e
+
+pub of-parts : (t r : ℕ) (entry : Entry) (id : RowId) → row_of entry ≡ Some id → is_of t r entry ≡ true
+    → (table_of entry ≡ t) × (id.0 ≡ r)
+of-parts t r entry id own e =
+    let parts = and_parts (table_of entry == t) (id.0 == r) (sym (of-is t r entry id own) ∙ e) in
+    (eqb-true (table_of entry) t parts.0, eqb-true id.0 r parts.1)
+
+-- an entry of a row adds no column
+pub adds-none : (entry : Entry) (id : RowId) → row_of entry ≡ Some id → adds_column entry ≡ false
+adds-none (Insert table row bytes) id e = refl
+adds-none (Patch table row offset bytes) id e = refl
+adds-none (Delete table row) id e = refl
+adds-none (AddColumn table default) id e = absurd cc
 
 -- how a map compares its keys
 abbrev pub key_cmp : ℕ × ℕ → ℕ × ℕ → Ordering

@@ -6,10 +6,11 @@ use Rattle.std.specs.List.Sorted.{IsPartitionPoint}
 use Rattle.std.specs.Map.{lookup, set_value}
 use Rattle.std.specs.BTreeMap.{is_at}
 use Rattle.rows.specs.declared.entry.Entry.{Entry}
-use Rattle.rows.specs.Entries.{table_of}
-use Rattle.rows.specs.Commits.{is_of}
-use Rattle.mvcc.specs.Inner.Keys.{is_key_of, row_of}
-use Rattle.mvcc.proofs.Keys.{is_of-is, of-parts, key_cmp, lookup-key, lookup-set, lookup-put}
+use Rattle.rows.specs.declared.row_id.RowId.{RowId}
+use Rattle.rows.specs.Entries.{table_of, row_of}
+use Rattle.std.proofs.lemmas.Bool.{and_parts, eqb-true}
+use Rattle.mvcc.specs.Inner.Keys.{is_key_of, names}
+use Rattle.mvcc.proofs.Keys.{names-is, names-none, key_cmp, lookup-key, lookup-set, lookup-put}
 use Rattle.mvcc.specs.declared.link.Link.{Link}
 use Rattle.mvcc.specs.Inner.Chains.{Chains, newest_from, latest_from, bytes_from, taken_back_at, links_found, links_at, Turns}
 
@@ -65,66 +66,72 @@ latest-before links (suc end) link was some h e =
     let same : suc end - 1 ≡ end = omega arith in
     latest-take links end link was (omega arith) ∙ ap (λ (l : Link). l.bytes) (sym (e ∙ ap (λ i. get_or links i link) same))
 
--- the chains once one row's was replaced by what a change makes of it
-links-put : (before after : Chains) (entry : Entry) (change : List Link → List Link) (links : List Link)
-    → links ≡ change (links_at before (table_of entry) (row_of entry))
-    → ((t r : ℕ) → lookup (is_key_of t r) after ≡ cond (is_of t r entry) (Some links) (lookup (is_key_of t r) before))
+-- the chains once the chain of one row, which an entry is of, was replaced by what a change makes of it
+links-put : (before after : Chains) (entry : Entry) (id : RowId) (change : List Link → List Link) (links : List Link)
+    → row_of entry ≡ Some id
+    → links ≡ change (links_at before (table_of entry) id.0)
+    → ((t r : ℕ) → lookup (is_key_of t r) after ≡ cond ((table_of entry == t) && (id.0 == r)) (Some links) (lookup (is_key_of t r) before))
     → Turns entry change before after
-links-put before after entry change links made put t r = ap links_found (put t r) ∙ by (is_of t r entry) refl
+links-put before after entry id change links own made put t r =
+    ap links_found (put t r) ∙ by ((table_of entry == t) && (id.0 == r)) refl
+    ∙ ap (λ here. cond here (change (links_at before t r)) (links_at before t r)) (sym (names-is t r entry id own))
   where
-    by : (here : Bool) → is_of t r entry ≡ here
+    by : (here : Bool) → ((table_of entry == t) && (id.0 == r)) ≡ here
         → links_found (cond here (Some links) (lookup (is_key_of t r) before)) ≡ cond here (change (links_at before t r))
         (links_at before t r)
     by false e = refl
     by true e =
-        let at = of-parts t r entry e in
-        made ∙ ap (λ t. change (links_at before t (row_of entry))) at.0 ∙ ap (λ r. change (links_at before t r)) at.1
+        let parts = and_parts (table_of entry == t) (id.0 == r) e in
+        made ∙ ap (λ t. change (links_at before t id.0)) (eqb-true (table_of entry) t parts.0)
+        ∙ ap (λ r. change (links_at before t r)) (eqb-true id.0 r parts.1)
 
--- the chain that the map found of an entry's row
-found-at : (chains : Chains) (entry : Entry) (table row : ℕ) (found : Option (List Link)) → table ≡ table_of entry → row ≡ row_of entry
-    → lookup (is_at (key_cmp (table, row))) chains ≡ found → links_found found ≡ links_at chains (table_of entry) (row_of entry)
-found-at chains entry table row found of_table of_row e =
-    ap links_found (sym e ∙ lookup-key chains table row)
-    ∙ ap (λ t. links_at chains t row) of_table ∙ ap (links_at chains (table_of entry)) of_row
+-- the chain that the map found of a row
+found-at : (chains : Chains) (entry : Entry) (table row : ℕ) (found : Option (List Link)) → table ≡ table_of entry
+    → lookup (is_at (key_cmp (table, row))) chains ≡ found → links_found found ≡ links_at chains (table_of entry) row
+found-at chains entry table row found of_table e =
+    ap links_found (sym e ∙ lookup-key chains table row) ∙ ap (λ t. links_at chains t row) of_table
 
 -- once a chain that is there was changed, and once a new one was put in
-pub links-set : (before : Chains) (entry : Entry) (change : List Link → List Link) (table row : ℕ) (was links : List Link)
-    → table ≡ table_of entry → row ≡ row_of entry → lookup (is_at (key_cmp (table, row))) before ≡ Some was → links ≡ change was
-    → Turns entry change before (set_value (is_at (key_cmp (table, row))) before links)
-links-set before entry change table row was links of_table of_row e made =
-    links-put before (set_value (is_at (key_cmp (table, row))) before links) entry change links
-    (made ∙ ap change (found-at before entry table row (Some was) of_table of_row e))
-    (λ t r. lookup-set before table row links was e t r
-    ∙ ap (λ n. cond ((n == t) && (row == r)) (Some links) (lookup (is_key_of t r) before)) of_table
-    ∙ ap (λ n. cond ((table_of entry == t) && (n == r)) (Some links) (lookup (is_key_of t r) before)) of_row
-    ∙ ap (λ here. cond here (Some links) (lookup (is_key_of t r) before)) (sym (is_of-is t r entry)))
+pub links-set : (before : Chains) (entry : Entry) (change : List Link → List Link) (table : ℕ) (id : RowId) (was links : List Link)
+    → table ≡ table_of entry → row_of entry ≡ Some id → lookup (is_at (key_cmp (table, id.0))) before ≡ Some was → links ≡ change was
+    → Turns entry change before (set_value (is_at (key_cmp (table, id.0))) before links)
+links-set before entry change table id was links of_table own e made =
+    links-put before (set_value (is_at (key_cmp (table, id.0))) before links) entry id change links own
+    (made ∙ ap change (found-at before entry table id.0 (Some was) of_table e))
+    (λ t r. lookup-set before table id.0 links was e t r
+    ∙ ap (λ n. cond ((n == t) && (id.0 == r)) (Some links) (lookup (is_key_of t r) before)) of_table)
 
-pub links-new : (before after : Chains) (entry : Entry) (change : List Link → List Link) (table row : ℕ) (links : List Link)
-    → table ≡ table_of entry → row ≡ row_of entry → lookup (is_at (key_cmp (table, row))) before ≡ None → links ≡ change []
-    → ((key : ℕ × ℕ) → lookup (is_at (key_cmp key)) after ≡ cond (is_at (key_cmp (table, row)) key) (Some links)
+pub links-new : (before after : Chains) (entry : Entry) (change : List Link → List Link) (table : ℕ) (id : RowId) (links : List Link)
+    → table ≡ table_of entry → row_of entry ≡ Some id → lookup (is_at (key_cmp (table, id.0))) before ≡ None → links ≡ change []
+    → ((key : ℕ × ℕ) → lookup (is_at (key_cmp key)) after ≡ cond (is_at (key_cmp (table, id.0)) key) (Some links)
     (lookup (is_at (key_cmp key)) before))
     → Turns entry change before after
-links-new before after entry change table row links of_table of_row e made updates =
-    links-put before after entry change links
-    (made ∙ ap change (found-at before entry table row None of_table of_row e))
-    (λ t r. lookup-put before after table row links updates t r
-    ∙ ap (λ n. cond ((n == t) && (row == r)) (Some links) (lookup (is_key_of t r) before)) of_table
-    ∙ ap (λ n. cond ((table_of entry == t) && (n == r)) (Some links) (lookup (is_key_of t r) before)) of_row
-    ∙ ap (λ here. cond here (Some links) (lookup (is_key_of t r) before)) (sym (is_of-is t r entry)))
+links-new before after entry change table id links of_table own e made updates =
+    links-put before after entry id change links own
+    (made ∙ ap change (found-at before entry table id.0 None of_table e))
+    (λ t r. lookup-put before after table id.0 links updates t r
+    ∙ ap (λ n. cond ((n == t) && (id.0 == r)) (Some links) (lookup (is_key_of t r) before)) of_table)
 
 -- where there is no chain, and a change makes nothing of none, no chain has changed
-pub links-left : (chains : Chains) (entry : Entry) (change : List Link → List Link) (table row : ℕ) → table ≡ table_of entry
-    → row ≡ row_of entry → lookup (is_at (key_cmp (table, row))) chains ≡ None → change [] ≡ [] → Turns entry change chains chains
-links-left chains entry change table row of_table of_row e nothing t r = by (is_of t r entry) refl
+pub links-left : (chains : Chains) (entry : Entry) (change : List Link → List Link) (table : ℕ) (id : RowId) → table ≡ table_of entry
+    → row_of entry ≡ Some id → lookup (is_at (key_cmp (table, id.0))) chains ≡ None → change [] ≡ [] → Turns entry change chains chains
+links-left chains entry change table id of_table own e nothing t r = by (names t r entry) refl
   where
-    by : (here : Bool) → is_of t r entry ≡ here → links_at chains t r ≡ cond here (change (links_at chains t r)) (links_at chains t r)
+    by : (here : Bool) → names t r entry ≡ here → links_at chains t r ≡ cond here (change (links_at chains t r)) (links_at chains t r)
     by false e = refl
     by true f =
-        let at = of-parts t r entry f in
+        let parts = and_parts (table_of entry == t) (id.0 == r) (sym (names-is t r entry id own) ∙ f) in
         let here : links_at chains t r ≡ [] =
-        ap (λ t. links_at chains t r) (sym at.0) ∙ ap (links_at chains (table_of entry)) (sym at.1)
-        ∙ sym (found-at chains entry table row None of_table of_row e) in
+        ap (λ t. links_at chains t r) (sym (eqb-true (table_of entry) t parts.0))
+        ∙ ap (links_at chains (table_of entry)) (sym (eqb-true id.0 r parts.1))
+        ∙ sym (found-at chains entry table id.0 None of_table e) in
         here ∙ sym (ap change here ∙ nothing)
+
+-- an entry that is of no row alone changes no chain
+pub links-unnamed : (chains : Chains) (entry : Entry) (change : List Link → List Link) → row_of entry ≡ None
+    → Turns entry change chains chains
+links-unnamed chains entry change none t r =
+    ap (λ here. cond here (change (links_at chains t r)) (links_at chains t r)) (sym (names-none t r entry none))
 
 pub taken_back-none : (number : ℕ) → taken_back_at number [] ≡ []
 taken_back-none number = by (0 == number)

@@ -7,12 +7,14 @@ use Rattle.std.proofs.lemmas.List.{length_push}
 use Rattle.rows.specs.declared.entry.Entry.{Entry}
 use Rattle.rows.specs.declared.value.Value.{Value}
 use Rattle.rows.specs.Shape.{Shape}
-use Rattle.rows.specs.Entries.{table_of}
+use Rattle.rows.specs.declared.row_id.RowId.{RowId}
+use Rattle.rows.specs.Entries.{table_of, row_of}
 use Rattle.rows.specs.Commits.{is_of}
-use Rattle.mvcc.specs.Inner.Keys.{is_key_of, row_of}
+use Rattle.mvcc.specs.Inner.Keys.{is_key_of, adds_column, AreOfRows}
 use Rattle.mvcc.proofs.Keys.{of-parts}
 use Rattle.rows.specs.RowAfter.{row_after_fit}
 use Rattle.mvcc.specs.Inner.OwnRows.{RowIndices, indices_at, picked, supersedes, is_superseded, kept_indices, IsIndexOf}
+use Rattle.std.proofs.lemmas.Option.{same_Some}
 use Rattle.mvcc.proofs.Effects.{step, superseded, other_row, row_after_fit-push}
 
 abbrev or_none : Option (List ℕ) → List ℕ
@@ -135,6 +137,27 @@ picked-kept entries entry (index ∷ indices) = by (picked-kept entries entry in
         ∙ sym (ap (filter (λ earlier. not (supersedes entry earlier)))
         (picked-cons entries index indices ∙ ap (λ found. before found (picked entries indices)) e))
 
+-- entries that are picked from entries of rows are of rows
+of-get : (entries : List Entry) (index : ℕ) (entry : Entry) → AreOfRows entries → slice_get entries index ≡ Some entry
+    → adds_column entry ≡ false
+of-get [] index entry of h = absurd cc
+of-get (first ∷ entries) zero entry of h = ap adds_column (sym (same_Some first entry h)) ∙ of.0
+of-get (first ∷ entries) (suc index) entry of h = of-get entries index entry of.1 h
+
+pub of-picked : (entries : List Entry) (indices : List ℕ) → AreOfRows entries → AreOfRows (picked entries indices)
+of-picked entries [] of = tt
+of-picked entries (index ∷ indices) of =
+    rw (picked-cons entries index indices) (by (of-picked entries indices of) (slice_get entries index) refl)
+  where
+    by : AreOfRows (picked entries indices) → (found : Option Entry) → slice_get entries index ≡ found
+        → AreOfRows (before found (picked entries indices))
+    by others None e = others
+    by others (Some entry) e = (of-get entries index entry of e, others)
+
+pub of-push : (entries : List Entry) (entry : Entry) → AreOfRows entries → adds_column entry ≡ false → AreOfRows (entries ++ entry ∷ [])
+of-push [] entry of h = (h, tt)
+of-push (first ∷ entries) entry of h = (of.0, of-push entries entry of.1 h)
+
 -- indices that are kept are within the list, and within a longer one
 within-kept : (P : ℕ → Type 0) (test : ℕ → Bool) (indices : List ℕ) → AllByRecursion P indices → AllByRecursion P (filter test indices)
 within-kept P test [] h = tt
@@ -156,46 +179,47 @@ within-push count [] h = (omega arith, tt)
 within-push count (index ∷ indices) h = (omega (arith, h.0), within-push count indices h.1)
 
 -- an index of the entries so far is one of those with one more behind them, once that entry's row has its new indices
-pub IsIndexOf-push : (entries : List Entry) (rows after : RowIndices) (entry : Entry) → IsIndexOf entries rows
+pub IsIndexOf-push : (entries : List Entry) (rows after : RowIndices) (entry : Entry) (id : RowId) → row_of entry ≡ Some id
+    → AreOfRows entries → IsIndexOf entries rows
     → ((table row : ℕ) → indices_at after table row ≡ cond (is_of table row entry)
-    (kept_indices entries entry (indices_at rows (table_of entry) (row_of entry)) ++ length entries ∷ []) (indices_at rows table row))
+    (kept_indices entries entry (indices_at rows (table_of entry) id.0) ++ length entries ∷ []) (indices_at rows table row))
     → IsIndexOf (entries ++ entry ∷ []) after
-IsIndexOf-push entries rows after entry is put = record {
+IsIndexOf-push entries rows after entry id own of is put = record {
   within = λ table row. rw (length_push entries entry, put table row) (within table row (is_of table row entry) refl);
   told = λ table row shape was. rw (put table row) (told table row shape was (is_of table row entry) refl);
 }
   where
     within : (table row : ℕ) (here : Bool) → is_of table row entry ≡ here
         → AllByRecursion (λ index. index < length entries + 1)
-        (cond here (kept_indices entries entry (indices_at rows (table_of entry) (row_of entry)) ++ length entries ∷ [])
+        (cond here (kept_indices entries entry (indices_at rows (table_of entry) id.0) ++ length entries ∷ [])
         (indices_at rows table row))
     within table row true e =
-        within-push (length entries) _ (within-kept _ _ (indices_at rows (table_of entry) (row_of entry))
-        (is.within (table_of entry) (row_of entry)))
+        within-push (length entries) _ (within-kept _ _ (indices_at rows (table_of entry) id.0)
+        (is.within (table_of entry) id.0))
     within table row false e = within-longer (length entries) (indices_at rows table row) (is.within table row)
 
     told : (table row : ℕ) (shape : Shape) (was : Option (List Value)) (here : Bool) → is_of table row entry ≡ here
         → row_after_fit shape table row
         (picked (entries ++ entry ∷ [])
-        (cond here (kept_indices entries entry (indices_at rows (table_of entry) (row_of entry)) ++ length entries ∷ [])
+        (cond here (kept_indices entries entry (indices_at rows (table_of entry) id.0) ++ length entries ∷ [])
         (indices_at rows table row))) was ≡ row_after_fit shape table row (entries ++ entry ∷ []) was
     told table row shape was true e =
-        let old = indices_at rows (table_of entry) (row_of entry) in
+        let old = indices_at rows (table_of entry) id.0 in
         let kept = kept_indices entries entry old in
-        let at : (table ≡ table_of entry) × (row ≡ row_of entry) =
-        (sym (of-parts table row entry e).0, sym (of-parts table row entry e).1) in
+        let at : (table ≡ table_of entry) × (row ≡ id.0) =
+        (sym (of-parts table row entry id own e).0, sym (of-parts table row entry id own e).1) in
         let before_it : row_after_fit shape table row (picked entries old) was ≡ row_after_fit shape table row entries was =
-        rw (at.0, at.1) (is.told (table_of entry) (row_of entry) shape was) in
+        rw (at.0, at.1) (is.told (table_of entry) id.0 shape was) in
         ap (λ entries. row_after_fit shape table row entries was)
         (picked-push entries entry kept
-        (within-kept (λ index. index < length entries) _ old (is.within (table_of entry) (row_of entry)))
+        (within-kept (λ index. index < length entries) _ old (is.within (table_of entry) id.0))
         ∙ ap (λ entries. entries ++ entry ∷ []) (picked-kept entries entry old))
-        ∙ superseded shape table row entry (picked entries old) was e
+        ∙ superseded shape table row entry (picked entries old) was (of-picked entries old of) e
         ∙ ap (step shape table row entry) before_it
-        ∙ sym (row_after_fit-push shape table row entries entry was)
+        ∙ sym (row_after_fit-push shape table row entries entry was of)
     told table row shape was false e =
         ap (λ entries. row_after_fit shape table row entries was)
         (picked-longer entries entry (indices_at rows table row) (is.within table row))
         ∙ is.told table row shape was
         ∙ sym (other_row shape table row entry (row_after_fit shape table row entries was) e)
-        ∙ sym (row_after_fit-push shape table row entries entry was)
+        ∙ sym (row_after_fit-push shape table row entries entry was of)

@@ -1,13 +1,17 @@
--- A transaction sees tables of the kinds that they were opened with.
+-- While a transaction has added no column, it sees tables of the kinds that they have at its snapshot.
 use Rattle.std.proofs.Common.{◌≡◌, List, ◌∙◌}
 use Rattle.rows.specs.declared.commit.Commit.{Commit}
 use Rattle.rows.specs.Shape.{Shape}
+use Rattle.rows.specs.Tables.{shape_in}
 use Rattle.rows.specs.Commits.{tables_after}
-use Rattle.rows.specs.Laws.{AppliedKeepKinds, VersionsKeepKinds}
+use Rattle.rows.specs.Laws.{AppliedTellKinds}
 use Rattle.mvcc.specs.Transaction.{Transaction}
 use Rattle.mvcc.specs.Transactions.{seen_shape}
+use Rattle.mvcc.specs.Inner.Keys.{AreOfRows}
+use Rattle.mvcc.proofs.Effects.{kept}
 
-pub seen-shape : (applied : AppliedKeepKinds) (versions : VersionsKeepKinds) (shape : Shape) (commits : List Commit) (draft : Transaction)
-    → seen_shape shape commits draft ≡ shape
-seen-shape applied versions shape commits draft =
-    applied (tables_after shape commits draft.snapshot) draft.entries ∙ versions shape commits draft.snapshot
+pub seen-shape : (applied : AppliedTellKinds) (shape : Shape) (commits : List Commit) (draft : Transaction) → AreOfRows draft.entries
+    → seen_shape shape commits draft ≡ shape_in (tables_after shape commits draft.snapshot)
+seen-shape applied shape commits draft of =
+    applied (tables_after shape commits draft.snapshot) draft.entries
+    ∙ kept (shape_in (tables_after shape commits draft.snapshot)) draft.entries of

@@ -1,4 +1,4 @@
-pub mod History
+pub mod VersionList
 pub mod Values
 pub mod Newest
 pub mod Transaction

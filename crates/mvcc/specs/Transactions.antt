@@ -1,12 +1,13 @@
 -- A transaction: what it sees, and what a change of it answers.
 use Rattle.std.specs.Prelude.{ℕ, List, [], ◌∷◌, ◌++◌, length, take, Bool, false, Option, None, Some, Result, Ok, Err, not}
-use Rattle.std.specs.Prelude.{nat_lt, if◌then◌else◌, slice_get, is_some}
+use Rattle.std.specs.Prelude.{nat_lt, if◌then◌else◌, slice_get, is_some, is_ok}
 use Rattle.std.specs.Option.{ok_or}
 use Rattle.rows.specs.declared.entry.Entry.{Entry}
-use Rattle.rows.specs.declared.entry.Entry.TheVariants.{Insert, Patch, Delete}
+use Rattle.rows.specs.declared.entry.Entry.TheVariants.{Insert, Patch, Delete, AddColumn}
 use Rattle.rows.specs.declared.commit.Commit.{Commit}
 use Rattle.rows.specs.declared.kind.Kind.{Kind}
 use Rattle.rows.specs.declared.value.Value.{Value}
+use Rattle.rows.specs.Entries.{addable}
 use Rattle.rows.specs.Limits.{commit_entries_max}
 use Rattle.rows.specs.Shape.{Shape, kinds_in, row_width}
 use Rattle.rows.specs.Values.{value_bytes, bytes_of, is_of_kind, are_of_kinds}
@@ -75,6 +76,12 @@ delete_answer shape commits draft table row =
     if not (is_some (slice_get (seen_shape shape commits draft) table)) then Err Unfit else
     if not (sees shape commits draft table row) then Err Missing else
     transaction_with draft (Delete table (record { 0 = row }))
+
+-- what an added column answers
+abbrev pub add_column_answer : Shape → List Commit → Transaction → ℕ → Value → Result Transaction TxFault
+add_column_answer shape commits draft table default =
+    if not (is_ok (addable (slice_get (seen_shape shape commits draft) table) default)) then Err Unfit else
+    transaction_with draft (AddColumn table default)
 
 -- what a look at one column answers: its value as the transaction sees it, or the first refusal
 abbrev pub get_answer : Shape → List Commit → Transaction → ℕ → ℕ → ℕ → Result Value TxFault

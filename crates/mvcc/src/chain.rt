@@ -3,7 +3,7 @@
 ghost use Rattle.std.specs.Prelude.{◌≡◌, ◌+◌, ◌≤◌, [], length, take, OnOk, OnErr, vec_len, vec_capacity};
 ghost use Rattle.std.specs.List.Sorted.{IsNonDecreasingBy};
 ghost use Rattle.std.specs.Option.{option_map};
-ghost use Rattle.mvcc.specs.Inner.Chains.{newest_in, latest_in, bytes_at, taken_back_at, linked};
+ghost use Rattle.mvcc.specs.Inner.Chains.{newest_link, latest_in, bytes_at, taken_back_at, linked};
 
 use crate::bytes_after::bytes_after_one;
 use crate::kept_bytes::KeptBytes;
@@ -39,7 +39,7 @@ impl Chain {
 
     /// The version of the last link; 0 if there is none.
     pub fn newest(&self) -> u64
-        ensures { result ≡ newest_in self.now }
+        ensures { result ≡ newest_link self.now }
     {
         newest_of(self.links.as_slice())
     }
@@ -74,12 +74,19 @@ impl Chain {
         take_back_links(&mut self.links, number);
     }
 
-    /// Adds a link for an entry of the commit of this number. Fails only if out of memory.
-    pub fn link(&mut self, alloc: Global, number: u64, entry: &Entry) -> Result<(), AllocError>
-        ensures ok { OnOk result (self.new ≡ linked number entry.now self.old) }
+    /// Adds a link for an entry of the commit of this number, whose table has this blank row. Fails
+    /// only if out of memory.
+    pub fn link(
+        &mut self,
+        alloc: Global,
+        number: u64,
+        blank: &[u8],
+        entry: &Entry,
+    ) -> Result<(), AllocError>
+        ensures ok { OnOk result (self.new ≡ linked number blank.now entry.now self.old) }
         ensures err { OnErr result (self.new ≡ self.old) }
     {
-        let bytes = bytes_after_one(alloc, entry, self.latest())?;
+        let bytes = bytes_after_one(alloc, blank, entry, self.latest())?;
         reserve_link(&mut self.links)?;
         take_back_links(&mut self.links, number);
         self.links.push_reserved(Link {
@@ -92,7 +99,7 @@ impl Chain {
 
 /// The version of the last of these links; 0 if there is none.
 fn newest_of(links: &[Link]) -> u64
-    ensures { result ≡ newest_in links.now }
+    ensures { result ≡ newest_link links.now }
 {
     match links.last() {
         None => 0,

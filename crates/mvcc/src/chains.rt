@@ -1,13 +1,18 @@
 //! The chains of all tables' rows.
 
-ghost use Rattle.std.specs.Prelude.{◌≡◌, ℕ, [], OnOk, OnErr};
+ghost use Rattle.std.specs.Prelude.{◌≡◌, ℕ, ◌+◌, [], false, length, OnOk, OnErr};
+ghost use Rattle.std.specs.List.{list_any, AllByRecursion};
 ghost use Rattle.std.specs.List.Sorted.{IsNonDecreasingBy};
 ghost use Rattle.std.specs.Option.{option_map};
-ghost use Rattle.mvcc.specs.Inner.Chains.{newest_in, bytes_at, linked, taken_back_at, links_at, all_taken_back, and_entries, Turns};
-ghost use Rattle.mvcc.specs.Inner.Chains.{AreChains, AreChainsTakenBack};
+ghost use Rattle.mvcc.specs.Inner.Chains.{newest_link, bytes_at, linked, taken_back_at, links_at, all_taken_back, and_entries, Turns};
+ghost use Rattle.mvcc.specs.Inner.Chains.{AreChains, AreChainsTakenBack, AreLinkable};
+ghost use Rattle.mvcc.specs.Inner.Columns.{columns_after};
+ghost use Rattle.mvcc.specs.Inner.Keys.{adds_column};
+ghost use Rattle.mvcc.specs.Inner.RowBytes.{HasValue};
+ghost use Rattle.rows.specs.Shape.{Shape};
 
 use crate::chain::Chain;
-use crate::row_ids::row_of;
+use crate::columns::Columns;
 use rows::{Commit, Entry, RowId};
 use std::alloc::{AllocError, Global};
 use std::collections::BTreeMap;
@@ -39,7 +44,7 @@ impl Chains {
 
     /// The last version that wrote a row; 0 if there is none.
     pub fn newest(&self, table: u8, row: RowId) -> u64
-        ensures { result ≡ newest_in (links_at self.now table row.0) }
+        ensures { result ≡ newest_link (links_at self.now table row.0) }
     {
         match self.chains.get(&(table, row.0)) {
             None => 0,
@@ -58,55 +63,78 @@ impl Chains {
         }
     }
 
-    /// Adds links for the entries of the next commit, all of them or none. Fails only if out of
-    /// memory, and then the chains are those of the commits before it.
+    /// Adds links for the entries of the next commit, all of them or none, and the columns that they
+    /// add to those of the tables. Fails only if out of memory. The chains are then those of the
+    /// commits before it; of the columns nothing is known, unless none is added.
     pub fn link_commit(
         &mut self,
         alloc: Global,
+        columns: &mut Columns,
         commits: &[Commit],
         entries: &[Entry],
     ) -> Result<(), AllocError>
-        requires { AreChains commits.now self.old }
-        ensures ok { OnOk result (AreChains (and_entries commits.now entries.now) self.new) }
-        ensures err { OnErr result (AreChains commits.now self.new) }
+        ensures linked { OnOk result ((shape : Shape) → AreLinkable shape commits.now entries.now columns.old self.old
+            → AreChains shape (and_entries commits.now entries.now) self.new) }
+        ensures columns { OnOk result (columns.new ≡ columns_after (length commits.now + 1) entries.now columns.old) }
+        ensures valued { OnOk result (AllByRecursion HasValue entries.now) }
+        ensures err { OnErr result ((shape : Shape) → AreLinkable shape commits.now entries.now columns.old self.old
+            → AreChains shape commits.now self.new) }
+        ensures stay { OnErr result (list_any adds_column entries.now ≡ false → columns.new ≡ columns.old) }
     {
-        let linked = self.link_entries(alloc, commits, entries);
+        let linked = self.link_entries(alloc, columns, commits, entries);
         if linked.is_err() {
             self.take_back_entries(commits.len() as u64 + 1, entries);
         }
         linked
     }
 
-    /// Adds links for the entries of the next commit in order, up to the first for which there is
-    /// no memory; once its links are removed again, the chains are those of the commits before it.
+    /// Adds links for the entries of the next commit, and their columns, in order, up to the first
+    /// for which there is no memory; once its links are removed again, the chains are those of the
+    /// commits before it.
     fn link_entries(
         &mut self,
         alloc: Global,
+        columns: &mut Columns,
         commits: &[Commit],
         entries: &[Entry],
     ) -> Result<(), AllocError>
-        requires { AreChains commits.now self.old }
-        ensures ok { OnOk result (AreChains (and_entries commits.now entries.now) self.new) }
-        ensures err { OnErr result (AreChainsTakenBack commits.now entries.now self.new) }
+        ensures linked { OnOk result ((shape : Shape) → AreLinkable shape commits.now entries.now columns.old self.old
+            → AreChains shape (and_entries commits.now entries.now) self.new) }
+        ensures columns { OnOk result (columns.new ≡ columns_after (length commits.now + 1) entries.now columns.old) }
+        ensures valued { OnOk result (AllByRecursion HasValue entries.now) }
+        ensures err { OnErr result ((shape : Shape) → AreLinkable shape commits.now entries.now columns.old self.old
+            → AreChainsTakenBack shape commits.now entries.now self.new) }
+        ensures stay { OnErr result (list_any adds_column entries.now ≡ false → columns.new ≡ columns.old) }
     {
         let number = commits.len() as u64 + 1;
         for entry in entries {
-            self.link(alloc, number, entry)?;
+            self.link(alloc, number, columns.blank(entry.table()), entry)?;
+            columns.add_of(alloc, number, entry)?;
         }
         Ok(())
     }
 
-    /// Adds a link for an entry of the commit of this number. Fails only if out of memory.
-    fn link(&mut self, alloc: Global, number: u64, entry: &Entry) -> Result<(), AllocError>
-        ensures ok { OnOk result (Turns entry.now (linked number entry.now) self.old self.new) }
+    /// Adds a link for an entry of the commit of this number, whose table has this blank row, if it
+    /// is of one row. Fails only if out of memory.
+    fn link(
+        &mut self,
+        alloc: Global,
+        number: u64,
+        blank: &[u8],
+        entry: &Entry,
+    ) -> Result<(), AllocError>
+        ensures ok { OnOk result (Turns entry.now (linked number blank.now entry.now) self.old self.new) }
         ensures err { OnErr result (self.new ≡ self.old) }
     {
-        let key = (entry.table(), row_of(entry).0);
+        let Some(row) = entry.row() else {
+            return Ok(());
+        };
+        let key = (entry.table(), row.0);
         if let Some(chain) = self.chains.get_mut(&key) {
-            return chain.link(alloc, number, entry);
+            return chain.link(alloc, number, blank, entry);
         }
         let mut chain = Chain::new(alloc);
-        chain.link(alloc, number, entry)?;
+        chain.link(alloc, number, blank, entry)?;
         self.chains.insert(key, chain)?;
         Ok(())
     }
@@ -121,11 +149,15 @@ impl Chains {
         }
     }
 
-    /// Removes the link of the commit of this number from the chain of the entry's row.
+    /// Removes the link of the commit of this number from the chain of the entry's row, if it is of
+    /// one row.
     fn take_back(&mut self, number: u64, entry: &Entry)
         ensures { Turns entry.now (taken_back_at number) self.old self.new }
     {
-        let key = (entry.table(), row_of(entry).0);
+        let Some(row) = entry.row() else {
+            return;
+        };
+        let key = (entry.table(), row.0);
         let Some(chain) = self.chains.get_mut(&key) else {
             return;
         };

@@ -10,7 +10,8 @@ pub enum TxFault {
     /// The row is not there, as the transaction sees it.
     #[error("no such row")]
     Missing,
-    /// The table or the column is not there, or a value is not of its column's kind.
+    /// The table or the column is not there, or a value is not of its column's kind; or there is no
+    /// room in the table for a column more.
     #[error("the values do not fit the table")]
     Unfit,
     /// The transaction has as many entries as one may have.

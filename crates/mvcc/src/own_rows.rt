@@ -114,7 +114,7 @@ fn supersedes(entry: &Entry, earlier: &Entry) -> bool
     ensures { result ≡ supersedes entry.now earlier.now }
 {
     match entry {
-        Entry::Insert { .. } => false,
+        Entry::Insert { .. } | Entry::AddColumn { .. } => false,
         Entry::Patch { offset, bytes, .. } => is_patch_of(earlier, *offset, bytes.len()),
         Entry::Delete { .. } => true,
     }
@@ -126,6 +126,6 @@ fn is_patch_of(entry: &Entry, start: u16, size: usize) -> bool
 {
     match entry {
         Entry::Patch { offset, bytes, .. } => start == *offset && size == bytes.len(),
-        Entry::Insert { .. } | Entry::Delete { .. } => false,
+        Entry::Insert { .. } | Entry::Delete { .. } | Entry::AddColumn { .. } => false,
     }
 }

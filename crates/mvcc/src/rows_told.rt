@@ -1,9 +1,11 @@
 //! Which rows are there after entries.
 
-ghost use Rattle.std.specs.Prelude.{◌≡◌, ℕ, [], ◌==◌, ◌&&◌, Some, OnOk, if◌then◌else◌};
+ghost use Rattle.std.specs.Prelude.{◌≡◌, ℕ, [], Some, OnOk, if◌then◌else◌};
+ghost use Rattle.rows.specs.Presence.{left_by};
+ghost use Rattle.mvcc.specs.Inner.Keys.{names};
 ghost use Rattle.mvcc.specs.Inner.RowsTold.{told_of};
 
-use rows::RowId;
+use rows::{Entry, RowId};
 use std::alloc::{AllocError, Global};
 use std::collections::BTreeMap;
 use std::marker::Model;
@@ -40,13 +42,18 @@ impl RowsTold {
         self.rows.get(&(table, row.0)).copied()
     }
 
-    /// Records whether the row is there. Fails only if out of memory; nothing is then known of the
-    /// record.
-    pub fn tell(&mut self, table: u8, row: RowId, there: bool) -> Result<(), AllocError>
+    /// Records whether the row of the entry is there after it, given whether it was there before; an
+    /// entry that is of no row alone changes nothing. Fails only if out of memory; nothing is then
+    /// known of the record.
+    pub fn tell(&mut self, entry: &Entry, there: bool) -> Result<(), AllocError>
         ensures { OnOk result ((t r : ℕ)
-            → told_of self.new t r ≡ (if (table == t) && (row.0 == r) then Some there else told_of self.old t r)) }
+            → told_of self.new t r ≡ (if names t r entry.now then Some (left_by entry.now there) else told_of self.old t r)) }
     {
-        self.rows.insert((table, row.0), there)?;
+        let Some(row) = entry.row() else {
+            return Ok(());
+        };
+        self.rows
+            .insert((entry.table(), row.0), entry.leaves_row(there))?;
         Ok(())
     }
 }

@@ -1,25 +1,32 @@
 //! Every version of the database: the list of its commits.
 
-ghost use Rattle.std.specs.Prelude.{◌≡◌, ◌≤◌, ◌-◌, ◌∷◌, [], ◌++◌, ℕ, length, true, IfOk, IfErr, OnOk, OnErr, slice_get, take, None, IsOk};
+ghost use Rattle.std.specs.Prelude.{◌≡◌, ◌<◌, ◌≤◌, ◌-◌, ◌∷◌, [], ◌++◌, ℕ, length, true, IfOk, IfErr, OnOk, OnErr, slice_get, take, None};
+ghost use Rattle.std.specs.Prelude.{IsOk, IfSome};
 ghost use Rattle.std.specs.Prelude.{if◌then◌else◌, ◌==◌};
 ghost use Rattle.std.specs.Bool.{OnTrue};
 ghost use Rattle.std.specs.List.{AllByRecursion};
 ghost use Rattle.std.specs.Option.{option_map};
-ghost use Rattle.rows.specs.Shape.{shape_of};
-ghost use Rattle.rows.specs.Tables.{opening, is_row_at};
+ghost use Rattle.rows.specs.Shape.{shape_of, AreColumns};
+ghost use Rattle.rows.specs.Tables.{opening, shape_in, is_row_at};
 ghost use Rattle.rows.specs.Commits.{apply_commits, last_touching};
 ghost use Rattle.rows.specs.Spelling.{HasSpelling};
-ghost use Rattle.mvcc.specs.History.{absorbed, defined_at, tables_at};
-ghost use Rattle.mvcc.specs.Newest.{newest_of};
+ghost use Rattle.mvcc.specs.VersionList.{absorbed, defined_at, tables_at};
+ghost use Rattle.mvcc.specs.Newest.{newest_of, newest_in, newest_added};
+ghost use Rattle.mvcc.specs.Inner.Newest.{newest_for};
 ghost use Rattle.mvcc.specs.Values.{value_in};
 
-use crate::cells::value_in_row;
+use crate::cells::value_in_wide;
 use crate::chains::Chains;
+use crate::columns::Columns;
 use crate::defining::are_defined;
+use crate::last_commits::LastCommits;
 use crate::laws::rows_have_their_bytes;
-use crate::row_ids::row_of;
-use rows::laws::{commits_are_defined_one_by_one, entries_are_defined_one_by_one};
-use rows::{Commit, Entry, EntryList, RowId, Schema, Value};
+use rows::laws::{
+    changes_tell_kinds, columns_are_of_their_width, commits_are_defined_one_by_one,
+    entries_are_defined_one_by_one,
+};
+use rows::limits::TABLES_MAX;
+use rows::{Commit, Entry, EntryList, Kind, RowId, Schema, Value};
 use std::alloc::{AllocError, Global};
 use std::marker::Model;
 
@@ -33,18 +40,20 @@ pub struct Versions {
     schema: Schema,
     commits: Vec<Commit>,
     chains: Chains,
+    columns: Columns,
+    last: LastCommits,
 }
 
 impl Model for Versions {
     ghost use Rattle.rows.specs.Shape.{shape_of};
-    ghost use Rattle.mvcc.specs.History.{History};
+    ghost use Rattle.mvcc.specs.VersionList.{VersionList};
     ghost use Rattle.mvcc.specs.Inner.Chains.{AreVersions};
 
-    ghost Value = { History };
+    ghost Value = { VersionList };
 
     ghost view = { λ v. record { schema = v.schema; commits = v.commits.items } };
 
-    ghost invariant = { λ v. AreVersions (shape_of v.schema) v.commits.items v.chains };
+    ghost invariant = { λ v. AreVersions (shape_of v.schema) v.commits.items v.chains v.columns v.last };
 }
 
 impl Versions {
@@ -52,11 +61,16 @@ impl Versions {
     pub fn new(alloc: Global, schema: &Schema) -> Result<Versions, AllocError>
         ensures { IfOk result (λ versions. versions ≡ record { schema = schema.now; commits = [] }) }
     {
+        let schema = schema.clone()?;
+        let columns = Columns::new(alloc, &schema)?;
+        let last = LastCommits::new(alloc, schema.len())?;
         Ok(Versions {
             alloc,
-            schema: schema.clone()?,
+            schema,
             commits: Vec::new(alloc),
             chains: Chains::new(alloc),
+            columns,
+            last,
         })
     }
 
@@ -86,7 +100,7 @@ impl Versions {
         self.commits.is_empty()
     }
 
-    /// The schema of the tables.
+    /// The names of the tables, with the kinds of the columns that they were opened with.
     pub fn schema(&self) -> &Schema
         ensures { result.now ≡ self.now.schema }
     {
@@ -165,9 +179,18 @@ impl Versions {
         };
         let commits = self.commits.as_slice();
         let entries = commit.entries.as_slice();
-        let Ok(()) = self.chains.link_commit(self.alloc, commits, entries) else {
+        let number = commits.len() as u64 + 1;
+        let Ok(before) = self.columns.copy_for(entries) else {
             return Err(commit);
         };
+        let Ok(()) = self
+            .chains
+            .link_commit(self.alloc, &mut self.columns, commits, entries)
+        else {
+            self.columns.replace_by(before);
+            return Err(commit);
+        };
+        self.last.note(number, entries);
         self.commits.push_reserved(commit);
         Ok(())
     }
@@ -182,6 +205,19 @@ impl Versions {
         ensures spelled { OnTrue result (AllByRecursion HasSpelling entries.now) }
     {
         are_defined(self.alloc, self, version, entries)
+    }
+
+    /// The kinds of a table's columns at that version; `None` if there is no table of that number.
+    /// Takes no memory.
+    pub fn kinds_at(&self, version: u64, table: u8) -> Option<&[Kind]>
+        ensures value { option_map (λ k. k.now) result ≡ slice_get (shape_in (tables_at self.now version)) table }
+        ensures bounds { IfSome result (λ k. (table < TABLES_MAX) × AreColumns k.now) }
+    {
+        commits_are_defined_one_by_one();
+        changes_tell_kinds();
+        self.schema.keeps_limits();
+        let columns = self.columns.of(table)?;
+        Some(columns.kinds_at(version))
     }
 
     /// Whether the row is there at that version.
@@ -200,21 +236,45 @@ impl Versions {
         ensures { result ≡ value_in (tables_at self.now version) table row.0 column }
     {
         rows_have_their_bytes();
-        let kinds = self.schema.kinds(table as usize)?;
+        commits_are_defined_one_by_one();
+        changes_tell_kinds();
+        columns_are_of_their_width();
+        self.schema.keeps_limits();
         let bytes = self.chains.bytes_at(version, table, row)?;
-        value_in_row(kinds, bytes, column)
+        let kinds = self.kinds_at(version, table)?;
+        value_in_wide(kinds, self.columns.blank(table), bytes, column)
     }
 
-    /// The number of the last commit with an entry of that row; 0 if there is none.
+    /// The number of the last commit with an entry of that row; 0 if there is none. A commit that
+    /// adds a column has an entry of every row of the table, whether the row is there or not.
     pub fn newest(&self, table: u8, row: RowId) -> u64
         ensures { result ≡ newest_of table row.0 self.now.commits }
     {
-        self.chains.newest(table, row)
+        self.chains.newest(table, row).max(self.newest_added(table))
     }
 
-    /// The number of the last commit that touches a row of these entries; 0 if none does. Entries
-    /// that are defined at the version of that number, or at a later one, are also defined at the
-    /// newest.
+    /// The number of the last commit with an entry of that table, whether of a row or of an added
+    /// column; 0 if there is none, or no table of that number.
+    pub fn newest_in(&self, table: u8) -> u64
+        ensures { result ≡ newest_in table self.now.commits }
+    {
+        commits_are_defined_one_by_one();
+        self.last.of(table)
+    }
+
+    /// The number of the last commit that adds a column to that table; 0 if there is none, or no
+    /// table of that number.
+    pub fn newest_added(&self, table: u8) -> u64
+        ensures { result ≡ newest_added table self.now.commits }
+    {
+        commits_are_defined_one_by_one();
+        self.columns.last_added(table)
+    }
+
+    /// The number of the last commit that touches these entries: that has an entry of a row of
+    /// theirs, adds a column to a table of theirs, or has an entry of a table to which one of them
+    /// adds a column; 0 if none does. Entries that are defined at the version of that number, or at
+    /// a later one, are also defined at the newest.
     pub fn last_touching(&self, entries: &[Entry]) -> u64
         ensures last { result ≡ last_touching entries.now 0 self.now.commits }
         ensures stay_defined { (version : ℕ) → result ≤ version → defined_at self.now version entries.now ≡ true
@@ -225,11 +285,21 @@ impl Versions {
         let _ = &self.chains;
         let mut last = 0;
         for entry in entries {
-            let newest = self.newest(entry.table(), row_of(entry));
+            let newest = self.newest_for(entry);
             if last < newest {
                 last = newest;
             }
         }
         last
+    }
+
+    /// The number of the last commit that touches the entry; 0 if none does.
+    fn newest_for(&self, entry: &Entry) -> u64
+        ensures { result ≡ newest_for entry.now self.now.commits }
+    {
+        match entry.row() {
+            Some(row) => self.newest(entry.table(), row),
+            None => self.newest_in(entry.table()),
+        }
     }
 }

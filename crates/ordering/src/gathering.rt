@@ -73,10 +73,16 @@ pub fn kept_frame(intake: &Intake, worker: u8, seq: u64) -> &Frame
     }
 }
 
-/// Adds copies of more entries. Fails only if out of memory; nothing is then known of the list.
+/// Adds copies of more entries. The first get room for exactly them, since most commits are one
+/// frame's; with those of further frames the list grows by doubling. Fails only if out of memory;
+/// nothing is then known of the list.
 fn append(entries: &mut EntryList, more: &[Entry]) -> Result<(), AllocError>
     ensures { OnOk result (entries.new ≡ entries.old ++ more.now) }
 {
+    let are_first = entries.is_empty();
+    if are_first {
+        entries.reserve_exact(more.len())?;
+    }
     for entry in more {
         entries.push(copy_of(entry)?)?;
     }

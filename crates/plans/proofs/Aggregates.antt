@@ -14,13 +14,13 @@ use Rattle.std.proofs.lemmas.List.Elements.{All-weaker}
 use Rattle.std.proofs.lemmas.Option.{slice_get_within, get_or_from_slice_get}
 use Rattle.std.proofs.lemmas.Bool.{cond-true, cond-false}
 use Rattle.rows.specs.declared.value.Value.{Value}
-use Rattle.plans.specs.declared.aggregate.Aggregate.{Aggregate}
-use Rattle.plans.specs.declared.aggregate.Aggregate.TheVariants.{Count, Sum, Min, Max}
-use Rattle.plans.specs.declared.field.Field.{Field}
-use Rattle.plans.specs.declared.field.Field.TheVariants.{Stored, Number, Absent}
-use Rattle.plans.specs.declared.column.Column.{Column}
-use Rattle.plans.specs.Answers.{JoinedRow, joined_value, values_in, integer_of, total, lesser, greater, beside, best, field_of}
-use Rattle.plans.specs.Answers.{aggregate_of}
+use Rattle.queries.specs.declared.aggregate.Aggregate.{Aggregate}
+use Rattle.queries.specs.declared.aggregate.Aggregate.TheVariants.{Count, Sum, Min, Max}
+use Rattle.queries.specs.declared.field.Field.{Field}
+use Rattle.queries.specs.declared.field.Field.TheVariants.{Stored, Number, Absent}
+use Rattle.queries.specs.declared.column.Column.{Column}
+use Rattle.queries.specs.Answers.{JoinedRow, joined_value, values_in, integer_of, total, lesser, greater, beside, best, field_of}
+use Rattle.queries.specs.Answers.{aggregate_of}
 use Rattle.plans.specs.Inner.Kept.{grown, grown_all, extreme, input_of, HasInput, IsWithin}
 use Rattle.plans.specs.Inner.TotalOrder.{value_cmp_total}
 

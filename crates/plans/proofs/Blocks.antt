@@ -11,8 +11,8 @@ use Rattle.rows.specs.Values.{are_of_kinds}
 use Rattle.store.specs.Changes.{column_of}
 use Rattle.store.specs.Lent.{rows_in, rows_from, column_in, octets_in}
 use Rattle.plans.specs.declared.block.Block.{Block}
-use Rattle.plans.specs.declared.column.Column.TheVariants.{Own}
-use Rattle.plans.specs.Answers.{joined_value, values_in}
+use Rattle.queries.specs.declared.column.Column.TheVariants.{Own}
+use Rattle.queries.specs.Answers.{joined_value, values_in}
 use Rattle.plans.specs.Inner.BlockRows.{values_by, rows_of_block, IsBlock, alone, own_rows}
 use Rattle.plans.proofs.Columns.{value-there}
 

@@ -8,10 +8,10 @@ use Rattle.std.proofs.lemmas.List.Elements.{All-head, All-tail}
 use Rattle.rows.specs.declared.value.Value.{Value}
 use Rattle.rows.specs.declared.value.Value.TheVariants.{Int, Octets}
 use Rattle.plans.specs.declared.cells.Cells.{Cells}
-use Rattle.plans.specs.declared.column.Column.{Column}
-use Rattle.plans.specs.declared.condition.Condition.{Condition}
-use Rattle.plans.specs.Answers.{JoinedRow, joined_value, values_in, group_of, integer_of, passes}
-use Rattle.plans.specs.Order.{value_cmp}
+use Rattle.queries.specs.declared.column.Column.{Column}
+use Rattle.queries.specs.declared.condition.Condition.{Condition}
+use Rattle.queries.specs.Answers.{JoinedRow, joined_value, values_in, group_of, integer_of, passes}
+use Rattle.queries.specs.Order.{value_cmp}
 use Rattle.plans.specs.Inner.Numbered.{AreNumbers}
 use Rattle.plans.specs.Inner.Selected.{number_at}
 use Rattle.plans.specs.Inner.Cells.{values_of, value_at, values_at, does_pass, key_at, AreColumnsOf, AreKeyed}

@@ -5,10 +5,10 @@ use Rattle.std.specs.List.{AllByRecursion}
 use Rattle.std.proofs.lemmas.Bool.{cases_lt}
 use Rattle.std.proofs.lemmas.List.{get_or-map, get_or_default, length-map, length_push}
 use Rattle.rows.specs.Tables.{Tables, shape_in}
-use Rattle.plans.specs.declared.field.Field.{Field}
-use Rattle.plans.specs.declared.plan.Plan.{Plan}
-use Rattle.plans.specs.Answers.{plain_answer}
-use Rattle.plans.specs.Checking.{checked}
+use Rattle.queries.specs.declared.field.Field.{Field}
+use Rattle.queries.specs.declared.plan.Plan.{Plan}
+use Rattle.queries.specs.Answers.{plain_answer}
+use Rattle.queries.specs.Checking.{checked}
 use Rattle.plans.specs.Inner.Equals.{IsAt, IsPlaced, ArePlaced, AreAt}
 use Rattle.plans.proofs.Fitting.{all-at}
 use Rattle.plans.proofs.Ranged.{get_or-last}

@@ -8,9 +8,9 @@ use Rattle.std.proofs.lemmas.List.{get_or_append_left}
 use Rattle.std.proofs.lemmas.List.Elements.{All-push}
 use Rattle.rows.specs.declared.value.Value.{Value}
 use Rattle.plans.specs.declared.cells.Cells.{Cells}
-use Rattle.plans.specs.declared.column.Column.{Column}
+use Rattle.queries.specs.declared.column.Column.{Column}
 use Rattle.plans.specs.declared.filled.Filled.{Filled}
-use Rattle.plans.specs.Answers.{JoinedRow, joined_value, values_in}
+use Rattle.queries.specs.Answers.{JoinedRow, joined_value, values_in}
 use Rattle.plans.specs.Inner.Cells.{values_of, values_at, HaveColumns, AreColumnsOf}
 use Rattle.plans.specs.Inner.Partnered.{AreFilled, Grows, IsColumnAt}
 use Rattle.plans.proofs.Numbers.{get-last}

@@ -17,17 +17,17 @@ use Rattle.std.proofs.lemmas.List.{get_or-append_right, get_or-replicate}
 use Rattle.std.proofs.lemmas.Option.{same_Some, slice_get_within}
 use Rattle.plans.specs.Inner.Picked.{IsWithin as SumIsWithin}
 use Rattle.rows.specs.declared.value.Value.{Value}
-use Rattle.plans.specs.declared.aggregate.Aggregate.{Aggregate}
-use Rattle.plans.specs.declared.aggregate.Aggregate.TheVariants.{Count, Sum, Min, Max}
-use Rattle.plans.specs.declared.column.Column.{Column}
-use Rattle.plans.specs.declared.field.Field.{Field}
-use Rattle.plans.specs.declared.field.Field.TheVariants.{Number, Absent}
-use Rattle.plans.specs.declared.plan.Plan.{Plan}
+use Rattle.queries.specs.declared.aggregate.Aggregate.{Aggregate}
+use Rattle.queries.specs.declared.aggregate.Aggregate.TheVariants.{Count, Sum, Min, Max}
+use Rattle.queries.specs.declared.column.Column.{Column}
+use Rattle.queries.specs.declared.field.Field.{Field}
+use Rattle.queries.specs.declared.field.Field.TheVariants.{Number, Absent}
+use Rattle.queries.specs.declared.plan.Plan.{Plan}
 use Rattle.plans.specs.declared.tallies.Tally.{Tally}
 use Rattle.plans.specs.declared.tallies.Tally.TheVariants as kept
 use Rattle.plans.specs.declared.tallies.Tallies.{Tallies}
-use Rattle.plans.specs.Order.{group_cmp}
-use Rattle.plans.specs.Answers.{JoinedRow, group_of, rows_in, aggregate_of, field_of, best, lesser, greater, values_in}
+use Rattle.queries.specs.Order.{group_cmp}
+use Rattle.queries.specs.Answers.{JoinedRow, group_of, rows_in, aggregate_of, field_of, best, lesser, greater, values_in}
 use Rattle.plans.proofs.Orders.{same_group, flips}
 use Rattle.plans.proofs.Keeping.{is_group, absent-rows}
 use Rattle.plans.specs.Inner.Kept.{GroupList, IsWithin, AreWithin, kept_at, GroupsAreKept}

@@ -10,8 +10,6 @@ pub mod Tallied
 pub mod Grouped
 pub mod Columns
 pub mod Taking
-pub mod Texts
-pub mod Widening
 pub mod Numbers
 pub mod Picking
 pub mod ColumnValues

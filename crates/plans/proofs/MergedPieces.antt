@@ -8,8 +8,8 @@ use Rattle.std.specs.declared.alloc.AllocError.{AllocError}
 use Rattle.rows.specs.Tables.{Rows, Tables, rows_of}
 use Rattle.store.specs.Lent.{rows_in}
 use Rattle.plans.specs.declared.piecewise.PieceGroups.{PieceGroups}
-use Rattle.plans.specs.declared.plan.Plan.{Plan}
-use Rattle.plans.specs.Answers.{rows_among}
+use Rattle.queries.specs.declared.plan.Plan.{Plan}
+use Rattle.queries.specs.Answers.{rows_among}
 use Rattle.plans.specs.Partials.{rows_between}
 use Rattle.plans.specs.Inner.Kept.{GroupList, GroupsAreKept, AreKept, AreWithin, opening_groups}
 use Rattle.plans.specs.Inner.Pieces.{rows_of_pieces, PiecesAreScanned}

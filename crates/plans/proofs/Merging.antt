@@ -12,15 +12,15 @@ use Rattle.std.proofs.lemmas.List.{append-nil, map-append}
 use Rattle.std.proofs.lemmas.List.Elements.{filter-append}
 use Rattle.rows.specs.declared.value.Value.{Value}
 use Rattle.rows.specs.Tables.{Tables}
-use Rattle.plans.specs.declared.aggregate.Aggregate.{Aggregate}
-use Rattle.plans.specs.declared.aggregate.Aggregate.TheVariants.{Count, Sum, Min, Max}
-use Rattle.plans.specs.declared.field.Field.{Field}
-use Rattle.plans.specs.declared.field.Field.TheVariants.{Number}
-use Rattle.plans.specs.declared.column.Column.{Column}
-use Rattle.plans.specs.declared.plan.Plan.{Plan}
-use Rattle.plans.specs.Order.{group_cmp}
-use Rattle.plans.specs.Answers.{JoinedRow, joined_value, values_in, integer_of, total, lesser, greater, best, field_of, aggregate_of}
-use Rattle.plans.specs.Answers.{group_of, rows_in, rows_among}
+use Rattle.queries.specs.declared.aggregate.Aggregate.{Aggregate}
+use Rattle.queries.specs.declared.aggregate.Aggregate.TheVariants.{Count, Sum, Min, Max}
+use Rattle.queries.specs.declared.field.Field.{Field}
+use Rattle.queries.specs.declared.field.Field.TheVariants.{Number}
+use Rattle.queries.specs.declared.column.Column.{Column}
+use Rattle.queries.specs.declared.plan.Plan.{Plan}
+use Rattle.queries.specs.Order.{group_cmp}
+use Rattle.queries.specs.Answers.{JoinedRow, joined_value, values_in, integer_of, total, lesser, greater, best, field_of, aggregate_of}
+use Rattle.queries.specs.Answers.{group_of, rows_in, rows_among}
 use Rattle.plans.specs.Inner.TotalOrder.{value_cmp_total}
 use Rattle.plans.specs.Inner.Merged.{better_of, merged, merged_all, merged_at, AggregatesMerge, GroupsMerge, RowsSplit}
 use Rattle.plans.proofs.Orders.{value_cmp-exact}

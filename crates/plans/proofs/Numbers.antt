@@ -12,7 +12,7 @@ use Rattle.std.proofs.lemmas.Option.{same_Some}
 use Rattle.std.proofs.lemmas.Map.Lookups.{exact_signed}
 use Rattle.rows.specs.declared.value.Value.{Value}
 use Rattle.rows.specs.declared.value.Value.TheVariants.{Int, Octets}
-use Rattle.plans.specs.Order.{group_cmp}
+use Rattle.queries.specs.Order.{group_cmp}
 use Rattle.plans.specs.Inner.Blocks.{number_kept, IsOther}
 use Rattle.plans.proofs.Orders.{same_group, is_itself}
 

@@ -15,7 +15,7 @@ use Rattle.std.proofs.lemmas.Map.Keys.{sorted_tail, IsDistinct-from_sorted}
 use Rattle.std.proofs.lemmas.Map.Lookups.{CmpEqualImpliesEq, exact_signed, exact_bytes}
 use Rattle.rows.specs.declared.value.Value.{Value}
 use Rattle.rows.specs.declared.value.Value.TheVariants.{Int, Octets}
-use Rattle.plans.specs.Order.{value_cmp, group_cmp}
+use Rattle.queries.specs.Order.{value_cmp, group_cmp}
 use Rattle.plans.specs.Inner.TotalOrder.{group_cmp_total}
 
 pub value_cmp-exact : (x y : Value) → value_cmp x y ≡ Equal → x ≡ y

@@ -11,11 +11,11 @@ use Rattle.rows.specs.Tables.{Rows, Tables, rows_of, row_at, kinds_of, RowsAreOf
 use Rattle.rows.specs.Values.{are_of_kinds}
 use Rattle.store.specs.Changes.{column_of}
 use Rattle.plans.specs.declared.block.Block.{Block}
-use Rattle.plans.specs.declared.column.Column.{Column}
-use Rattle.plans.specs.declared.column.Column.TheVariants.{Own, Joined}
+use Rattle.queries.specs.declared.column.Column.{Column}
+use Rattle.queries.specs.declared.column.Column.TheVariants.{Own, Joined}
 use Rattle.plans.specs.declared.partners.Partners.{Partners}
-use Rattle.plans.specs.declared.plan.Join.{Join}
-use Rattle.plans.specs.Answers.{JoinedRow, values_in, id_of, joined_with}
+use Rattle.queries.specs.declared.plan.Join.{Join}
+use Rattle.queries.specs.Answers.{JoinedRow, values_in, id_of, joined_with}
 use Rattle.plans.specs.Inner.BlockRows.{values_by, rows_of_block, IsBlock, alone, own_rows}
 use Rattle.plans.specs.Inner.Cells.{value_at}
 use Rattle.plans.specs.Inner.Picked.{ArePlaces}

@@ -15,12 +15,12 @@ use Rattle.std.proofs.lemmas.Map.Entries.{none_past_head}
 use Rattle.std.proofs.lemmas.Map.Keys.{sorted_tail, IsDistinct-from_sorted}
 use Rattle.std.proofs.lemmas.Option.{IfSome_then, slice_get_within, get_or_from_slice_get}
 use Rattle.rows.specs.declared.value.Value.{Value}
-use Rattle.plans.specs.declared.aggregate.Aggregate.{Aggregate}
-use Rattle.plans.specs.declared.field.Field.{Field}
-use Rattle.plans.specs.declared.field.Field.TheVariants.{Stored, Number, Absent}
-use Rattle.plans.specs.declared.plan.Plan.{Plan}
-use Rattle.plans.specs.Order.{group_cmp}
-use Rattle.plans.specs.Answers.{JoinedRow}
+use Rattle.queries.specs.declared.aggregate.Aggregate.{Aggregate}
+use Rattle.queries.specs.declared.field.Field.{Field}
+use Rattle.queries.specs.declared.field.Field.TheVariants.{Stored, Number, Absent}
+use Rattle.queries.specs.declared.plan.Plan.{Plan}
+use Rattle.queries.specs.Order.{group_cmp}
+use Rattle.queries.specs.Answers.{JoinedRow}
 use Rattle.plans.specs.Inner.Merged.{merged, merged_all, merged_at}
 use Rattle.plans.specs.Inner.Kept.{GroupList, IsWithin, AreWithin, GroupsAreKept}
 use Rattle.plans.specs.Inner.TotalOrder.{group_cmp_total}

@@ -19,8 +19,8 @@ use Rattle.rows.specs.Tables.{Rows, Tables, rows_of, row_at}
 use Rattle.store.specs.Changes.{id_in, IsAboveAllBefore}
 use Rattle.store.specs.Laws.{IndexedRowIsFound}
 use Rattle.store.specs.Lent.{rows_in, rows_from}
-use Rattle.plans.specs.declared.plan.Plan.{Plan}
-use Rattle.plans.specs.Answers.{rows_among}
+use Rattle.queries.specs.declared.plan.Plan.{Plan}
+use Rattle.queries.specs.Answers.{rows_among}
 use Rattle.plans.specs.Inner.Merged.{merged_at}
 use Rattle.plans.specs.Inner.Kept.{GroupList, kept_at, AreKept}
 use Rattle.plans.specs.Inner.Pieces.{rows_of_pieces, AreAtMost, PiecesAreScanned}

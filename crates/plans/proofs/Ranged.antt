@@ -14,10 +14,10 @@ use Rattle.std.proofs.lemmas.List.Elements.{All-nil, All-cons, All-head, All-tai
 use Rattle.std.proofs.lemmas.Option.{slice_get_within, slice_get-get_or, get_or_from_slice_get}
 use Rattle.rows.specs.declared.value.Value.{Value}
 use Rattle.rows.specs.Tables.{Rows, Tables, rows_of, row_at}
-use Rattle.plans.specs.declared.aggregate.Aggregate.{Aggregate}
-use Rattle.plans.specs.declared.plan.Plan.{Plan}
-use Rattle.plans.specs.Order.{group_cmp}
-use Rattle.plans.specs.Answers.{rows_among, answer_lines, plain_answer}
+use Rattle.queries.specs.declared.aggregate.Aggregate.{Aggregate}
+use Rattle.queries.specs.declared.plan.Plan.{Plan}
+use Rattle.queries.specs.Order.{group_cmp}
+use Rattle.queries.specs.Answers.{rows_among, answer_lines, plain_answer}
 use Rattle.plans.specs.Partials.{Parts, range, rows_between, groups_between, answer_between, IsPartial}
 use Rattle.plans.specs.Inner.Kept.{GroupList, AreWithin, GroupsAreKept, opening_groups, row_among}
 use Rattle.plans.specs.Inner.Merged.{merged_at}

@@ -11,7 +11,7 @@ use Rattle.std.specs.Map.{keys_of, lookup}
 use Rattle.std.specs.Ordering.{is_eq, match_ordering, ordering_reverse}
 use Rattle.std.specs.declared.cmp.Ordering.{Ordering}
 use Rattle.rows.specs.declared.value.Value.{Value}
-use Rattle.plans.specs.Order.{group_cmp, rising}
+use Rattle.queries.specs.Order.{group_cmp, rising}
 use Rattle.plans.specs.Inner.TotalOrder.{group_cmp_total}
 use Rattle.plans.specs.Laws.{GroupsRise, GroupsStay}
 use Rattle.plans.proofs.Orders.{group_cmp-exact, same_group, is_itself}

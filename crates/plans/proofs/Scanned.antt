@@ -9,13 +9,13 @@ use Rattle.std.proofs.lemmas.Option.{same_Some}
 use Rattle.rows.specs.declared.value.Value.{Value}
 use Rattle.rows.specs.Tables.{Rows, Tables}
 use Rattle.plans.specs.declared.block.Block.{Block}
-use Rattle.plans.specs.declared.column.Column.{Column}
+use Rattle.queries.specs.declared.column.Column.{Column}
 use Rattle.plans.specs.declared.numbering.Numbering.{Numbering}
-use Rattle.plans.specs.declared.plan.Join.{Join}
-use Rattle.plans.specs.declared.plan.Plan.{Plan}
+use Rattle.queries.specs.declared.plan.Join.{Join}
+use Rattle.queries.specs.declared.plan.Plan.{Plan}
 use Rattle.plans.specs.declared.shared_rows.SharedRows.{SharedRows}
 use Rattle.plans.specs.declared.tallies.Tallies.{Tallies}
-use Rattle.plans.specs.Answers.{joined_with}
+use Rattle.queries.specs.Answers.{joined_with}
 use Rattle.plans.specs.Inner.BlockRows.{rows_of_block}
 use Rattle.plans.specs.Inner.Blocks.{IsNumbering, Extends, StaysIfKnown}
 use Rattle.plans.specs.Inner.Numbered.{AreNumbers}

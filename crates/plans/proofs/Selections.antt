@@ -12,18 +12,18 @@ use Rattle.std.proofs.lemmas.List.FromFn.{length-range_with_len, get_or-range_wi
 use Rattle.std.proofs.lemmas.Option.{slice_get-get_or}
 use Rattle.rows.specs.declared.value.Value.{Value}
 use Rattle.rows.specs.declared.value.Value.TheVariants.{Int}
-use Rattle.plans.specs.declared.aggregate.Aggregate.{Aggregate}
-use Rattle.plans.specs.declared.aggregate.Aggregate.TheVariants.{Count, Sum, Min, Max}
-use Rattle.plans.specs.declared.column.Column.{Column}
+use Rattle.queries.specs.declared.aggregate.Aggregate.{Aggregate}
+use Rattle.queries.specs.declared.aggregate.Aggregate.TheVariants.{Count, Sum, Min, Max}
+use Rattle.queries.specs.declared.column.Column.{Column}
 use Rattle.plans.specs.declared.input.Input.{Input}
 use Rattle.plans.specs.declared.input.Input.TheVariants as inputs
 use Rattle.plans.specs.declared.tallies.Tally.{Tally}
 use Rattle.plans.specs.declared.tallies.Tally.TheVariants as tallies
 use Rattle.plans.specs.declared.tallies.Tallies.{Tallies}
-use Rattle.plans.specs.declared.condition.Condition.{Condition}
+use Rattle.queries.specs.declared.condition.Condition.{Condition}
 use Rattle.plans.specs.declared.cells.Cells.{Cells}
-use Rattle.plans.specs.Order.{value_cmp}
-use Rattle.plans.specs.Answers.{JoinedRow, joined_value, integer_of, passes, meets, values_in, group_of}
+use Rattle.queries.specs.Order.{value_cmp}
+use Rattle.queries.specs.Answers.{JoinedRow, joined_value, integer_of, passes, meets, values_in, group_of}
 use Rattle.plans.specs.Inner.Picked.{ArePlaces}
 use Rattle.plans.specs.Inner.Cells.{values_of, value_at, values_at, does_pass, AreColumnsOf}
 use Rattle.plans.specs.Inner.Held.{IsTaken}

@@ -6,12 +6,12 @@ use Rattle.std.proofs.lemmas.List.{length-map, get_or-map}
 use Rattle.std.proofs.lemmas.Option.{same_Some, slice_get_within}
 use Rattle.rows.specs.declared.value.Value.{Value}
 use Rattle.rows.specs.Tables.{Rows}
-use Rattle.plans.specs.declared.aggregate.Aggregate.{Aggregate}
-use Rattle.plans.specs.declared.aggregate.Aggregate.TheVariants.{Count, Sum, Min, Max}
+use Rattle.queries.specs.declared.aggregate.Aggregate.{Aggregate}
+use Rattle.queries.specs.declared.aggregate.Aggregate.TheVariants.{Count, Sum, Min, Max}
 use Rattle.plans.specs.declared.cells.Cells.{Cells}
-use Rattle.plans.specs.declared.column.Column.{Column}
+use Rattle.queries.specs.declared.column.Column.{Column}
 use Rattle.plans.specs.declared.numbering.Numbering.{Numbering}
-use Rattle.plans.specs.Answers.{JoinedRow, values_in, group_of}
+use Rattle.queries.specs.Answers.{JoinedRow, values_in, group_of}
 use Rattle.plans.specs.Inner.Blocks.{IsNumbering, number_kept}
 use Rattle.plans.specs.Inner.Cells.{values_at, AreColumnsOf}
 use Rattle.plans.specs.Inner.Numbered.{AreNumbers, AreDistinct}

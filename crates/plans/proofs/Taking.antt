@@ -6,12 +6,13 @@ use Rattle.rows.specs.declared.kind.Kind.{Kind}
 use Rattle.rows.specs.declared.value.Value.{Value}
 use Rattle.rows.specs.Values.{are_of_kinds}
 use Rattle.rows.specs.Tables.{Tables, Rows, shape_in, rows_of, row_at, RowsAreOfKinds}
-use Rattle.plans.specs.declared.plan.Join.{Join}
-use Rattle.plans.specs.declared.plan.Plan.{Plan}
-use Rattle.plans.specs.Answers.{JoinedRow, id_of, joined_with}
-use Rattle.plans.specs.Checking.{joined_kinds, checked}
+use Rattle.queries.specs.declared.plan.Join.{Join}
+use Rattle.queries.specs.declared.plan.Plan.{Plan}
+use Rattle.queries.specs.Answers.{JoinedRow, id_of, joined_with}
+use Rattle.queries.specs.Checking.{joined_kinds}
+use Rattle.queries.specs.Laws.{Fits}
 use Rattle.plans.specs.Inner.Kept.{HasJoin, HasColumns}
-use Rattle.plans.proofs.Columns.{Fits, fits, NoFault, no-fault, join-there, has-columns, row-of-kinds}
+use Rattle.plans.proofs.Columns.{join-there, has-columns, row-of-kinds}
 
 -- a row with another one
 abbrev both : List Value → List Value → JoinedRow
@@ -57,26 +58,20 @@ joined-values tables (Some join) own joined row are kinds e =
           ∙ row-of-kinds tables join.table found.id joined found.other are kinds found.there;
     }
 
-module _ (tables : Tables) (plan : Plan) (id : ℕ) (own : List Value) (checks : checked (shape_in tables) plan ≡ Ok tt)
+module _ (tables : Tables) (plan : Plan) (id : ℕ) (own : List Value) (fit : Fits (shape_in tables) plan)
     (are : RowsAreOfKinds tables) (there : row_at (rows_of tables plan.table) id ≡ Some own) where
-  fit : Fits (shape_in tables) plan
-  fit = fits (shape_in tables) plan checks
-
-  none : NoFault fit.own fit.joined plan
-  none = no-fault fit.own fit.joined plan fit.columns
-
   of_own : are_of_kinds own fit.own ≡ true
-  of_own = row-of-kinds tables plan.table id fit.own own are fit.table there
+  of_own = row-of-kinds tables plan.table id fit.own own are fit.own_there there
 
   -- the column by which it is joined is there
   pub row-has-join : HasJoin plan.join own
-  row-has-join = join-there fit.own own plan.join of_own none.join
+  row-has-join = join-there fit.own own plan.join of_own fit.join
 
   -- and so are all columns of the joined row
   pub row-has-columns : (row : JoinedRow) → joined_with tables plan.join own ≡ Some row → HasColumns plan row
   row-has-columns row e =
-      let values = joined-values tables plan.join own fit.joined row are fit.join e in
-      has-columns fit.own fit.joined plan row none
+      let values = joined-values tables plan.join own fit.joined row are fit.joined_there e in
+      has-columns (shape_in tables) plan row fit
       (record {
         own_values = ap (λ own. are_of_kinds own fit.own) values.own_values ∙ of_own;
         joined_values = values.joined_values;

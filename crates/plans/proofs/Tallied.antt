@@ -13,17 +13,17 @@ use Rattle.plans.specs.Inner.Picked.{picked, folded}
 use Rattle.plans.specs.Inner.Picked.{total as number_total}
 use Rattle.rows.specs.declared.value.Value.{Value}
 use Rattle.rows.specs.declared.value.Value.TheVariants.{Int}
-use Rattle.plans.specs.declared.aggregate.Aggregate.{Aggregate}
-use Rattle.plans.specs.declared.aggregate.Aggregate.TheVariants.{Count, Sum, Min, Max}
-use Rattle.plans.specs.declared.column.Column.{Column}
-use Rattle.plans.specs.declared.field.Field.{Field}
+use Rattle.queries.specs.declared.aggregate.Aggregate.{Aggregate}
+use Rattle.queries.specs.declared.aggregate.Aggregate.TheVariants.{Count, Sum, Min, Max}
+use Rattle.queries.specs.declared.column.Column.{Column}
+use Rattle.queries.specs.declared.field.Field.{Field}
 use Rattle.plans.specs.declared.input.Input.{Input}
 use Rattle.plans.specs.declared.input.Input.TheVariants as inputs
 use Rattle.plans.specs.declared.tallies.Tally.{Tally}
 use Rattle.plans.specs.declared.tallies.Tally.TheVariants as tallies
 use Rattle.plans.specs.declared.tallies.Tallies.{Tallies}
-use Rattle.plans.specs.Order.{group_cmp}
-use Rattle.plans.specs.Answers.{JoinedRow, joined_value, integer_of, total, values_in, group_of, rows_in, aggregate_of}
+use Rattle.queries.specs.Order.{group_cmp}
+use Rattle.queries.specs.Answers.{JoinedRow, joined_value, integer_of, total, values_in, group_of, rows_in, aggregate_of}
 use Rattle.plans.specs.Inner.Kept.{grown, input_of}
 use Rattle.plans.specs.Inner.Numbered.{AreNumbers, AreDistinct, integers_in, IsInput, AreInputs}
 use Rattle.plans.specs.Inner.Numbered.{sum_of, by_keys, IsTold, IsTallied, IsGrown}

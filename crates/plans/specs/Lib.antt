@@ -1,9 +1,3 @@
-pub mod Limits
-pub mod Checking
-pub mod Order
-pub mod Answers
-pub mod Report
 pub mod Partials
 pub mod Laws
-pub mod Worked
 pub mod Inner

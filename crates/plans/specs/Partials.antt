@@ -2,11 +2,11 @@
 use Rattle.std.specs.Prelude.{◌≡◌, ℕ, ◌-◌, List, map, take, drop}
 use Rattle.rows.specs.declared.value.Value.{Value}
 use Rattle.rows.specs.Tables.{Rows, Tables, rows_of}
-use Rattle.plans.specs.declared.aggregate.Aggregate.{Aggregate}
-use Rattle.plans.specs.declared.field.Field.{Field}
-use Rattle.plans.specs.declared.plan.Plan.{Plan}
-use Rattle.plans.specs.Order.{rising}
-use Rattle.plans.specs.Answers.{JoinedRow, rows_among, rows_in, groups_of, aggregate_of, answer_lines}
+use Rattle.queries.specs.declared.aggregate.Aggregate.{Aggregate}
+use Rattle.queries.specs.declared.field.Field.{Field}
+use Rattle.queries.specs.declared.plan.Plan.{Plan}
+use Rattle.queries.specs.Order.{rising}
+use Rattle.queries.specs.Answers.{JoinedRow, rows_among, rows_in, groups_of, aggregate_of, answer_lines}
 
 -- what is computed of plans: of how many positions at most, and for each plan its aggregates, and its groups with these
 pub record Parts : Type 0 where

@@ -3,9 +3,9 @@
 ghost use Rattle.std.specs.Prelude.{◌≡◌, ℕ, ◌+◌, ◌^◌, ◌<◌, ◌++◌, List, length, map, IfOk, OnOk};
 ghost use Rattle.std.specs.List.{filter, list_all};
 ghost use Rattle.rows.specs.declared.value.Value.{Value as ColumnValue};
-ghost use Rattle.plans.specs.declared.aggregate.Aggregate.{Aggregate as AnyAggregate};
-ghost use Rattle.plans.specs.declared.column.Column.{Column as AnyColumn};
-ghost use Rattle.plans.specs.Answers.{JoinedRow, meets};
+ghost use Rattle.queries.specs.declared.aggregate.Aggregate.{Aggregate as AnyAggregate};
+ghost use Rattle.queries.specs.declared.column.Column.{Column as AnyColumn};
+ghost use Rattle.queries.specs.Answers.{JoinedRow, meets};
 ghost use Rattle.plans.specs.Inner.Picked.{ArePlaces};
 ghost use Rattle.plans.specs.Inner.Cells.{value_at, values_at, HaveColumns, AreColumnsOf};
 ghost use Rattle.plans.specs.Inner.Numbered.{AreNumbers, IsShaped, IsTallied};
@@ -13,14 +13,13 @@ ghost use Rattle.plans.specs.Inner.Selections.{columns_of, ValuesBy, AreHeldBy, 
 ghost use Rattle.plans.specs.Inner.Selections.{AreHeld, AreValuesOf, values_by};
 ghost use Rattle.plans.specs.Inner.Held.{IsHeld};
 
-use crate::aggregate::Aggregate;
 use crate::cells::Cells;
 use crate::held_input::HeldInput;
 use crate::input::Input;
-use crate::plan::Plan;
 use crate::selecting::gather_numbers;
 use crate::selection::select_rows;
 use crate::tallies::Tallies;
+use queries::{Aggregate, Plan};
 use std::alloc::{AllocError, Global};
 
 /// The places, among the columns of a block's rows, of the columns that a plan names: one for each

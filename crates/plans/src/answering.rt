@@ -4,20 +4,19 @@ ghost use Rattle.std.specs.Prelude.{◌≡◌, ◌+◌, ◌≤◌, ◌++◌, Lis
 ghost use Rattle.std.specs.List.{All, AllByRecursion, list_all};
 ghost use Rattle.std.specs.Option.{option_map, unwrap_or};
 ghost use Rattle.rows.specs.Tables.{shape_in, rows_of, row_at};
-ghost use Rattle.plans.specs.Checking.{checked};
-ghost use Rattle.plans.specs.Answers.{JoinedRow, column_in, id_of, joined_with, meets, plain_answer};
+ghost use Rattle.queries.specs.Checking.{checked};
+ghost use Rattle.queries.specs.Answers.{JoinedRow, column_in, id_of, joined_with, meets, plain_answer};
 ghost use Rattle.plans.specs.Inner.Kept.{GroupsAreKept, row_among, AreWithin, HasJoin};
 ghost use Rattle.plans.specs.Inner.Places.{row_at_place};
 
-use crate::answer::Answer;
 use crate::comparing::{compare, passes};
-use crate::condition::Condition;
 use crate::distinct::{answers_at, distinct_of};
 use crate::groups::Groups;
-use crate::plan::Plan;
 use crate::ranging::partial;
 use crate::row_place::{RowPlace, joined_value};
 use crate::together::lent_partial;
+use queries::laws::each_part_fits;
+use queries::{Answer, Condition, Plan};
 use rows::{RowId, Value};
 use std::alloc::{AllocError, Global};
 use std::marker::Sync;
@@ -99,6 +98,7 @@ pub fn take_row<S: Store>(
     ensures { OnOk result ((rows : List JoinedRow) → GroupsAreKept plan.now rows count groups.old
         → GroupsAreKept plan.now (rows ++ row_among (S.tables store.now) plan.now id.0) (count + 1) groups.new) }
 {
+    each_part_fits();
     store.keeps_kinds();
     let Some(place) = store.find(plan.table, id) else {
         unreachable!();

@@ -5,8 +5,8 @@ ghost use Rattle.rows.specs.declared.value.Value.{Value as ColumnValue};
 ghost use Rattle.rows.specs.Tables.{kinds_of, rows_of, row_at};
 ghost use Rattle.store.specs.Changes.{column_of};
 ghost use Rattle.store.specs.Lent.{octets_in, AreLent};
-ghost use Rattle.plans.specs.declared.column.Column.TheVariants.{Own};
-ghost use Rattle.plans.specs.Answers.{values_in};
+ghost use Rattle.queries.specs.declared.column.Column.TheVariants.{Own};
+ghost use Rattle.queries.specs.Answers.{values_in};
 ghost use Rattle.plans.specs.Inner.Cells.{values_of};
 ghost use Rattle.plans.specs.Inner.BlockRows.{IsBlock, own_rows};
 

@@ -4,8 +4,7 @@
 ghost use Rattle.std.specs.Prelude.{◌≡◌, ◌<◌, true, length, IfOk, slice_index_or};
 ghost use Rattle.plans.specs.Inner.Scans.{AreAlike, AreClasses};
 
-use crate::column::Column;
-use crate::plan::{Join, Plan};
+use queries::{Column, Join, Plan};
 use std::alloc::{AllocError, Global};
 
 /// For each plan the number of the first one that is alike. Fails only if out of memory.

@@ -3,10 +3,10 @@
 ghost use Rattle.std.specs.Prelude.{◌≡◌};
 ghost use Rattle.std.specs.Ordering.{nat_cmp};
 ghost use Rattle.std.specs.Cmp.Lexicographic.{slice_cmp};
-ghost use Rattle.plans.specs.Order.{value_cmp, group_cmp};
-ghost use Rattle.plans.specs.Answers.{passes, lesser, greater};
+ghost use Rattle.queries.specs.Order.{value_cmp, group_cmp};
+ghost use Rattle.queries.specs.Answers.{passes, lesser, greater};
 
-use crate::condition::Comparison;
+use queries::Comparison;
 use rows::Value;
 use std::cmp::Ordering;
 

@@ -3,16 +3,12 @@
 ghost use Rattle.std.specs.Prelude.{◌≡◌, ℕ, ◌<◌, true, length, IfOk, IfSome, slice_index_or};
 ghost use Rattle.plans.specs.Inner.Equals.{ArePlaced, AreAt, IsAt, IsPlaced};
 
-use crate::aggregate::Aggregate;
-use crate::aggregate_list::AggregateList;
-use crate::answer::Answer;
 use crate::classes::{are_alike, is_same_column};
-use crate::column_list::ColumnList;
 use crate::comparing::compare;
-use crate::condition::{Comparison, Condition};
-use crate::condition_list::ConditionList;
-use crate::field_list::FieldList;
-use crate::plan::Plan;
+use queries::{
+    Aggregate, AggregateList, Answer, ColumnList, Comparison, Condition, ConditionList, FieldList,
+    Plan,
+};
 use std::alloc::{AllocError, Global};
 
 /// The plans of a batch without those that are equal to one before, and for each plan of the batch

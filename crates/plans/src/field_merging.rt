@@ -3,14 +3,12 @@
 ghost use Rattle.std.specs.Prelude.{◌≡◌, ℕ, ◌+◌, ◌^◌, ◌<◌, Some, IfSome};
 ghost use Rattle.std.specs.List.{All};
 ghost use Rattle.std.specs.Option.{option_copied};
-ghost use Rattle.plans.specs.Answers.{lesser, greater};
+ghost use Rattle.queries.specs.Answers.{lesser, greater};
 ghost use Rattle.plans.specs.Inner.Kept.{IsWithin};
 ghost use Rattle.plans.specs.Inner.Merged.{added, better_of, merged, merged_all, merged_at};
 
-use crate::aggregate::Aggregate;
 use crate::comparing::{greater, lesser};
-use crate::field::Field;
-use crate::field_list::FieldList;
+use queries::{Aggregate, Field, FieldList};
 
 /// The aggregates of a group that has those of at most so many others, and may have those of at most so
 /// many rows before them.

@@ -1,17 +1,17 @@
 //! The columns of a block's rows that were filled so far.
 
 ghost use Rattle.std.specs.Prelude.{◌≡◌, ◌<◌, List, true, length, OnOk, IfOk, IfSome, slice_index_or};
-ghost use Rattle.plans.specs.declared.column.Column.{Column as AnyColumn};
-ghost use Rattle.plans.specs.Answers.{JoinedRow, values_in};
+ghost use Rattle.queries.specs.declared.column.Column.{Column as AnyColumn};
+ghost use Rattle.queries.specs.Answers.{JoinedRow, values_in};
 ghost use Rattle.plans.specs.Inner.Cells.{HaveColumns, AreColumnsOf};
 ghost use Rattle.plans.specs.Inner.BlockRows.{IsBlock};
 ghost use Rattle.plans.specs.Inner.Partnered.{AreSound, HasKind, HaveKinds, joined_rows, joined_table, AreFilled, Grows, IsColumnAt};
 
 use crate::block::Block;
 use crate::cells::Cells;
-use crate::column::Column;
 use crate::joined_cells::column_cells;
 use crate::partners::Partners;
+use queries::Column;
 use std::alloc::{AllocError, Global};
 use store::Store;
 

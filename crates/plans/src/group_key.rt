@@ -3,7 +3,7 @@
 ghost use Rattle.std.specs.Prelude.{◌≡◌, refl, [], ◌∷◌, ◌++◌, OnOk, OnErr};
 ghost use Rattle.std.specs.Cmp.{partial_equiv_from_equiv, eq_by_cmp_equiv, po};
 ghost use Rattle.std.specs.Ordering.{eq_by_cmp, as_partial_cmp};
-ghost use Rattle.plans.specs.Order.{group_cmp};
+ghost use Rattle.queries.specs.Order.{group_cmp};
 ghost use Rattle.plans.specs.Inner.TotalOrder.{group_cmp_total};
 
 use crate::comparing::compare_groups;

@@ -2,15 +2,13 @@
 
 ghost use Rattle.std.specs.Prelude.{◌≡◌, ◌+◌, true};
 ghost use Rattle.std.specs.List.{All, AllByRecursion};
-ghost use Rattle.plans.specs.Answers.{integer_of};
+ghost use Rattle.queries.specs.Answers.{integer_of};
 ghost use Rattle.plans.specs.Inner.Kept.{grown, grown_all, summed, extreme, input_of, HasInput, IsWithin};
 ghost use Rattle.plans.specs.Inner.Places.{row_at_place};
 
-use crate::aggregate::Aggregate;
 use crate::comparing::{greater, lesser};
-use crate::field::Field;
-use crate::field_list::FieldList;
 use crate::row_place::{RowPlace, joined_value};
+use queries::{Aggregate, Field, FieldList};
 use rows::Value;
 use store::Store;
 

@@ -2,15 +2,15 @@
 
 ghost use Rattle.std.specs.Prelude.{◌≡◌, List, length, map, IfOk};
 ghost use Rattle.rows.specs.declared.value.Value.{Value as ColumnValue};
-ghost use Rattle.plans.specs.declared.aggregate.Aggregate.{Aggregate as AnyAggregate};
-ghost use Rattle.plans.specs.Answers.{integer_of};
+ghost use Rattle.queries.specs.declared.aggregate.Aggregate.{Aggregate as AnyAggregate};
+ghost use Rattle.queries.specs.Answers.{integer_of};
 ghost use Rattle.plans.specs.Inner.Cells.{values_of, value_at};
 ghost use Rattle.plans.specs.Inner.Picked.{ArePlaces};
 ghost use Rattle.plans.specs.Inner.Held.{IsHeld, IsTaken, AreIntegers, AreValues};
 
-use crate::aggregate::Aggregate;
 use crate::cells::Cells;
 use crate::input::Input;
+use queries::Aggregate;
 use rows::Value;
 use std::alloc::{AllocError, Global};
 

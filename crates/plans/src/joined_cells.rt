@@ -1,15 +1,15 @@
 //! The values of the columns of joined rows.
 
 ghost use Rattle.std.specs.Prelude.{◌≡◌, true, IfOk};
-ghost use Rattle.plans.specs.Answers.{values_in};
+ghost use Rattle.queries.specs.Answers.{values_in};
 ghost use Rattle.plans.specs.Inner.Cells.{values_of};
 ghost use Rattle.plans.specs.Inner.BlockRows.{IsBlock};
 ghost use Rattle.plans.specs.Inner.Partnered.{AreSound, HasKind, HaveColumn, joined_rows, joined_table, column_at};
 
 use crate::block::{Block, own_cells};
 use crate::cells::{Cells, cells_of};
-use crate::column::Column;
 use crate::partners::Partners;
+use queries::Column;
 use rows::Value;
 use std::alloc::{AllocError, Global};
 use store::Store;

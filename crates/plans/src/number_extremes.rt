@@ -3,15 +3,14 @@
 
 ghost use Rattle.std.specs.Prelude.{◌≡◌, ℕ, ◌<◌, length, map, if◌then◌else◌, slice_index_or};
 ghost use Rattle.rows.specs.declared.value.Value.TheVariants.{Int};
-ghost use Rattle.plans.specs.declared.field.Field.{Field as AnyField};
-ghost use Rattle.plans.specs.declared.field.Field.TheVariants.{Stored};
-ghost use Rattle.plans.specs.Answers.{lesser, greater};
+ghost use Rattle.queries.specs.declared.field.Field.{Field as AnyField};
+ghost use Rattle.queries.specs.declared.field.Field.TheVariants.{Stored};
+ghost use Rattle.queries.specs.Answers.{lesser, greater};
 ghost use Rattle.plans.specs.Inner.Kept.{extreme};
 ghost use Rattle.plans.specs.Inner.Picked.{ArePlaces, picked, folded};
 ghost use Rattle.plans.specs.Inner.Numbered.{with_extreme};
 
-use crate::aggregate::Aggregate;
-use crate::field::Field;
+use queries::{Aggregate, Field};
 use rows::Value;
 
 /// Puts the least or the greatest number of the rows of its group in place of each value that it is

@@ -5,16 +5,15 @@ ghost use Rattle.std.specs.List.{All};
 ghost use Rattle.std.specs.List.Sorted.{IsStrictlySortedBy};
 ghost use Rattle.std.specs.Map.{keys_of};
 ghost use Rattle.rows.specs.Tables.{Tables as AnyTables};
-ghost use Rattle.plans.specs.declared.aggregate.Aggregate.{Aggregate as AnyAggregate};
-ghost use Rattle.plans.specs.declared.plan.Plan.{Plan as AnyPlan};
-ghost use Rattle.plans.specs.Order.{group_cmp};
+ghost use Rattle.queries.specs.declared.aggregate.Aggregate.{Aggregate as AnyAggregate};
+ghost use Rattle.queries.specs.declared.plan.Plan.{Plan as AnyPlan};
+ghost use Rattle.queries.specs.Order.{group_cmp};
 ghost use Rattle.plans.specs.Partials.{IsPartial, answer_between};
 ghost use Rattle.plans.specs.Inner.Kept.{GroupList, AreWithin};
 ghost use Rattle.plans.specs.Inner.Ranges.{AreMerged, lines_of};
 
-use crate::aggregate_list::AggregateList;
-use crate::answer::Answer;
 use crate::groups::Groups;
+use queries::{AggregateList, Answer};
 use std::alloc::{AllocError, Global};
 use std::marker::Model;
 

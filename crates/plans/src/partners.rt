@@ -4,8 +4,8 @@ ghost use Rattle.std.specs.Prelude.{◌≡◌, ◌^◌, ◌<◌, length, true, N
 ghost use Rattle.std.specs.List.{filter_map};
 ghost use Rattle.std.specs.Option.{option_map};
 ghost use Rattle.rows.specs.Tables.{kinds_of};
-ghost use Rattle.plans.specs.declared.column.Column.TheVariants.{Own};
-ghost use Rattle.plans.specs.Answers.{joined_with, values_in};
+ghost use Rattle.queries.specs.declared.column.Column.TheVariants.{Own};
+ghost use Rattle.queries.specs.Answers.{joined_with, values_in};
 ghost use Rattle.plans.specs.Inner.BlockRows.{IsBlock, rows_of_block, own_rows};
 ghost use Rattle.plans.specs.Inner.Cells.{values_of};
 ghost use Rattle.plans.specs.Inner.Partnered.{IsJoining, AreJoined, AreSound, HasLink, joined_rows, joined_table, row_named};
@@ -13,7 +13,7 @@ ghost use Rattle.plans.specs.Inner.Partnered.{IsJoining, AreJoined, AreSound, Ha
 use crate::answering::id_of;
 use crate::block::{Block, own_cells};
 use crate::cells::Cells;
-use crate::plan::Join;
+use queries::Join;
 use rows::Value;
 use std::alloc::{AllocError, Global};
 use store::Store;

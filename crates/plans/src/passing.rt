@@ -4,16 +4,16 @@ ghost use Rattle.std.specs.Prelude.{◌≡◌, ℤ, pos, length, map, IfOk, Fits
 ghost use Rattle.std.specs.Int.{w64};
 ghost use Rattle.std.specs.List.{filter, range_with_len};
 ghost use Rattle.rows.specs.declared.value.Value.TheVariants.{Int};
-ghost use Rattle.plans.specs.Answers.{passes};
-ghost use Rattle.plans.specs.Order.{value_cmp};
+ghost use Rattle.queries.specs.Answers.{passes};
+ghost use Rattle.queries.specs.Order.{value_cmp};
 ghost use Rattle.plans.specs.Inner.Picked.{ArePlaces};
 ghost use Rattle.plans.specs.Inner.Selected.{is_selected};
 ghost use Rattle.plans.specs.Inner.Cells.{values_of, value_at, does_pass};
 
 use crate::cells::Cells;
 use crate::comparing::{compare, passes};
-use crate::condition::{Comparison, Condition};
 use crate::selecting::{all_positions, select, select_all};
+use queries::{Comparison, Condition};
 use rows::Value;
 use std::alloc::{AllocError, Global};
 

@@ -3,14 +3,14 @@
 ghost use Rattle.std.specs.Prelude.{◌≡◌, ◌<◌, true, Ok, length, IfOk, IfSome};
 ghost use Rattle.std.specs.List.{AllByRecursion};
 ghost use Rattle.rows.specs.Tables.{shape_in};
-ghost use Rattle.plans.specs.Checking.{checked};
+ghost use Rattle.queries.specs.Checking.{checked};
 ghost use Rattle.plans.specs.Inner.Scans.{AreClasses};
 ghost use Rattle.plans.specs.Inner.Together.{IsOfPiece};
 
 use crate::groups::Groups;
 use crate::lending::lent_block;
-use crate::plan::Plan;
 use crate::scan::Scan;
+use queries::Plan;
 use std::alloc::{AllocError, Global};
 use store::Store;
 

@@ -3,17 +3,16 @@
 ghost use Rattle.std.specs.Prelude.{◌≡◌, ℕ, ◌-◌, ◌<◌, ◌≤◌, true, length, map, slice_index_or, Ok, IsSome, IfOk, OnOk};
 ghost use Rattle.std.specs.List.{AllByRecursion};
 ghost use Rattle.rows.specs.Tables.{shape_in, rows_of, row_at};
-ghost use Rattle.plans.specs.declared.plan.Plan.{Plan as AnyPlan};
-ghost use Rattle.plans.specs.Checking.{checked};
+ghost use Rattle.queries.specs.declared.plan.Plan.{Plan as AnyPlan};
+ghost use Rattle.queries.specs.Checking.{checked};
 ghost use Rattle.plans.specs.Partials.{IsPartial, rows_between};
 ghost use Rattle.plans.specs.Inner.Kept.{GroupList, GroupsAreKept, AreWithin, opening_groups};
 ghost use Rattle.plans.specs.Inner.Ranges.{TakesRow, LooksAt};
 
-use crate::aggregate_list::AggregateList;
 use crate::answering::take_row;
 use crate::groups::Groups;
 use crate::partials::Partial;
-use crate::plan::Plan;
+use queries::{AggregateList, Plan};
 use rows::RowId;
 use std::alloc::{AllocError, Global};
 use store::{Store, rows_stand_in_order};

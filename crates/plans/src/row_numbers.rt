@@ -2,8 +2,8 @@
 
 ghost use Rattle.std.specs.Prelude.{◌≡◌, ◌<◌, List, [], ◌∷◌, length, map, IfOk, OnOk};
 ghost use Rattle.rows.specs.declared.value.Value.TheVariants.{Int};
-ghost use Rattle.plans.specs.declared.column.Column.{Column as AnyColumn};
-ghost use Rattle.plans.specs.Answers.{JoinedRow};
+ghost use Rattle.queries.specs.declared.column.Column.{Column as AnyColumn};
+ghost use Rattle.queries.specs.Answers.{JoinedRow};
 ghost use Rattle.plans.specs.Inner.Blocks.{IsNumbering, Extends, StaysIfKnown};
 ghost use Rattle.plans.specs.Inner.Cells.{value_at, key_at, HaveColumns, AreColumnsOf, AreKeyed};
 ghost use Rattle.plans.specs.Inner.Numbered.{AreNumbers};

@@ -1,10 +1,10 @@
 //! The places of a plan's rows in a store, and the values of their columns.
 
 ghost use Rattle.std.specs.Prelude.{◌≡◌, true, IsSome};
-ghost use Rattle.plans.specs.Answers.{column_in, joined_value};
+ghost use Rattle.queries.specs.Answers.{column_in, joined_value};
 ghost use Rattle.plans.specs.Inner.Places.{row_at_place};
 
-use crate::column::Column;
+use queries::Column;
 use rows::Value;
 use store::Store;
 

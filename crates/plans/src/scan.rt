@@ -3,9 +3,9 @@
 ghost use Rattle.std.specs.Prelude.{◌≡◌, ◌+◌, ◌^◌, ◌<◌, ◌≤◌, ◌++◌, ℕ, [], ◌∷◌, true, Ok, length, IfOk, IfSome, OnOk, List, slice_index_or};
 ghost use Rattle.std.specs.List.{AllByRecursion};
 ghost use Rattle.rows.specs.Tables.{Rows, Tables, shape_in};
-ghost use Rattle.plans.specs.declared.plan.Plan.{Plan as AnyPlan};
+ghost use Rattle.queries.specs.declared.plan.Plan.{Plan as AnyPlan};
 ghost use Rattle.plans.specs.declared.tallies.Tallies.{Tallies as AnyTallies};
-ghost use Rattle.plans.specs.Checking.{checked};
+ghost use Rattle.queries.specs.Checking.{checked};
 ghost use Rattle.plans.specs.Inner.BlockRows.{IsBlock, rows_of_block};
 ghost use Rattle.plans.specs.Inner.Blocks.{IsNumbering, Extends, StaysIfKnown};
 ghost use Rattle.plans.specs.Inner.Kept.{AreKept};
@@ -18,9 +18,9 @@ use crate::block::Block;
 use crate::group_key::GroupKey;
 use crate::groups::Groups;
 use crate::numbering::Numbering;
-use crate::plan::Plan;
 use crate::shared_rows::{SharedRows, add_shared, share_rows};
 use crate::tallies::Tallies;
+use queries::Plan;
 use std::alloc::{AllocError, Global};
 use store::Store;
 

@@ -2,15 +2,15 @@
 
 ghost use Rattle.std.specs.Prelude.{◌≡◌, ◌≤◌, List, length, map, IfOk};
 ghost use Rattle.std.specs.List.{filter, list_all};
-ghost use Rattle.plans.specs.Answers.{JoinedRow, meets};
+ghost use Rattle.queries.specs.Answers.{JoinedRow, meets};
 ghost use Rattle.plans.specs.Inner.Picked.{ArePlaces};
 ghost use Rattle.plans.specs.Inner.Cells.{HaveColumns, AreColumnsOf};
 ghost use Rattle.plans.specs.Inner.Selections.{joined_at, columns_of};
 
 use crate::cells::Cells;
-use crate::condition::Condition;
 use crate::passing::{select_cells, select_first};
 use crate::selecting::all_positions;
+use queries::Condition;
 use std::alloc::{AllocError, Global};
 
 /// The positions of the rows that meet all conditions, of so many rows; the columns at these places

@@ -3,7 +3,7 @@
 
 ghost use Rattle.std.specs.Prelude.{◌≡◌, ◌+◌, ◌^◌, ◌<◌, ◌++◌, [], true, Ok, length, IfOk, OnOk};
 ghost use Rattle.rows.specs.Tables.{Rows, shape_in};
-ghost use Rattle.plans.specs.Checking.{checked};
+ghost use Rattle.queries.specs.Checking.{checked};
 ghost use Rattle.plans.specs.Inner.BlockRows.{IsBlock, rows_of_block};
 ghost use Rattle.plans.specs.Inner.Blocks.{IsNumbering, Extends, StaysIfKnown};
 ghost use Rattle.plans.specs.Inner.Partnered.{AreSound, HaveKinds, AreFilled, Grows, joined_rows, joined_table};
@@ -13,16 +13,14 @@ ghost use Rattle.plans.specs.Inner.Selections.{HaveInputs, AreValuesOf, columns_
 ghost use Rattle.plans.specs.Inner.Shared.{HasInputKind, HaveInputKinds, IsInputOfRows};
 
 use crate::adding::{Places, add_rows};
-use crate::aggregate::Aggregate;
 use crate::block::Block;
-use crate::column::Column;
-use crate::condition::Condition;
 use crate::filled::Filled;
 use crate::numbering::Numbering;
 use crate::partners::{Partners, partners_if_joined};
-use crate::plan::Plan;
 use crate::row_numbers::number_rows;
 use crate::tallies::Tallies;
+use queries::laws::each_part_fits;
+use queries::{Aggregate, Column, Condition, Plan};
 use std::alloc::{AllocError, Global};
 use store::Store;
 
@@ -56,6 +54,7 @@ pub fn share_rows<'s, S: Store>(
     ensures stays { OnOk result (plan.now.groups ≡ [] → StaysIfKnown [] numbering.old.keys.items numbering.new.keys.items) }
     ensures shared { IfOk result (IsShared (S.tables store.now) (S.values_at store.now) block.now plan.now numbering.new.keys.items) }
 {
+    each_part_fits();
     let partners = partners_if_joined(alloc, store, block, plan.join)?;
     let mut filled = Filled::new(alloc);
     let places = filled.places(alloc, store, block, &partners, plan.groups.as_slice())?;
@@ -107,6 +106,7 @@ pub fn add_shared<'s, S: Store>(
         → IsScanned (S.tables store.now) plan.now numbering.now.keys.items (scanned ++ rows_of_block (S.tables store.now) block.now)
         (rows + length block.now.ids.now) tallies.new) }
 {
+    each_part_fits();
     tallies.grow(numbering.keys().len())?;
     let named = named_columns(alloc, plan.conditions.as_slice())?;
     let conditions = shared

@@ -11,28 +11,24 @@ ghost use Rattle.std.specs.Prelude.{true, false, Some, if◌then◌else◌, ◌�
 ghost use Rattle.std.specs.Prelude.{◌≤◌, ◌++◌, [], ◌∷◌, length, map, List, IfOk, OnOk, slice_index_or};
 ghost use Rattle.plans.specs.Inner.Picked.{ArePlaces, picked, folded};
 ghost use Rattle.rows.specs.declared.value.Value.{Value as ColumnValue};
-ghost use Rattle.plans.specs.declared.column.Column.{Column as AnyColumn};
-ghost use Rattle.plans.specs.declared.field.Field.{Field as AnyField};
+ghost use Rattle.queries.specs.declared.column.Column.{Column as AnyColumn};
+ghost use Rattle.queries.specs.declared.field.Field.{Field as AnyField};
 ghost use Rattle.plans.specs.declared.tallies.Tally.{Tally as AnyTally};
-ghost use Rattle.plans.specs.declared.aggregate.Aggregate.{Aggregate as AnyAggregate};
+ghost use Rattle.queries.specs.declared.aggregate.Aggregate.{Aggregate as AnyAggregate};
 ghost use Rattle.plans.specs.declared.input.Input.{Input as AnyInput};
-ghost use Rattle.plans.specs.Order.{group_cmp};
-ghost use Rattle.plans.specs.Answers.{JoinedRow};
+ghost use Rattle.queries.specs.Order.{group_cmp};
+ghost use Rattle.queries.specs.Answers.{JoinedRow};
 ghost use Rattle.plans.specs.Inner.Kept.{GroupsAreKept};
 ghost use Rattle.plans.specs.Inner.Numbered.{AreNumbers, AreDistinct, AreInputs, AreInputsOf, IsTallied, IsShaped, IsColumn, IsInputOf};
 ghost use Rattle.plans.specs.Inner.Numbered.{IsGrown, IsResized, IsTold, with_extreme, field_at, is_told};
 
-use crate::aggregate::Aggregate;
-use crate::column::Column;
 use crate::comparing::{greater, lesser};
-use crate::field::Field;
-use crate::field_list::FieldList;
 use crate::group_key::GroupKey;
 use crate::groups::Groups;
 use crate::input::Input;
 use crate::number_extremes::add_number_extremes;
-use crate::plan::Plan;
 use crate::tallying::{add_counts, add_sums};
+use queries::{Aggregate, Column, Field, FieldList, Plan};
 use rows::Value;
 use std::alloc::{AllocError, Global};
 

@@ -7,7 +7,7 @@ use Rattle.rows.specs.declared.entry.Entry.{Entry}
 use Rattle.rows.specs.Commits.{IsCommit}
 use Rattle.rows.specs.Limits.{commit_entries_max}
 use Rattle.rows.specs.Spelling.{HasSpelling}
-use Rattle.mvcc.specs.History.{History}
+use Rattle.mvcc.specs.VersionList.{VersionList}
 use Rattle.update_log.specs.declared.span.Span.{Span}
 use Rattle.update_log.specs.Parts.{parts_of}
 use Rattle.update_log.specs.Streams.{AreStreamsOf, stream_at}
@@ -16,7 +16,7 @@ use Rattle.journal.specs.Recovery.{HasRecord}
 use Rattle.primary.specs.Inner.Invariant.{AreLists}
 use Rattle.primary.proofs.Streams.{numbered-push}
 
-pub lists-push : (versions now : History) (streams new : List (List Span)) (durable workers worker : ℕ) (entries : List Entry)
+pub lists-push : (versions now : VersionList) (streams new : List (List Span)) (durable workers worker : ℕ) (entries : List Entry)
     → AreLists versions streams durable workers → worker < workers → 0 < length entries → length entries ≤ commit_entries_max
     → AllByRecursion HasSpelling entries → length versions.commits + 1 < 2 ^ 64
     → length (stream_at streams worker) + length (parts_of entries) < 2 ^ 64
@@ -24,7 +24,7 @@ pub lists-push : (versions now : History) (streams new : List (List Span)) (dura
     → AreStreamsOf new now.commits → AreLists now new durable workers
 lists-push versions now streams new durable workers worker entries kept there some few spelled numbered frames is framed =
     let commit : Commit = record { worker = worker; entries = entries } in
-    let commits : now.commits ≡ versions.commits ++ commit ∷ [] = ap (λ (h : History). h.commits) is in
+    let commits : now.commits ≡ versions.commits ++ commit ∷ [] = ap (λ (h : VersionList). h.commits) is in
     let one : IsCommit workers commit = record { worker = there; some = some; few = few } in
     let held : HasRecord commit = record { some = some; few = few; spelled = spelled } in
     record {
@@ -41,7 +41,7 @@ lists-push versions now streams new durable workers worker entries kept there so
     }
 
 -- lists that are as they were
-pub lists-stay : (versions now : History) (streams new : List (List Span)) (durable workers : ℕ)
+pub lists-stay : (versions now : VersionList) (streams new : List (List Span)) (durable workers : ℕ)
     → AreLists versions streams durable workers
     → now ≡ versions → AreStreamsOf new now.commits → AreLists now new durable workers
 lists-stay versions now streams new durable workers kept is framed = record {

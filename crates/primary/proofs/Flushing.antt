@@ -4,7 +4,7 @@ use Rattle.std.proofs.Math.Seq.{take-add}
 use Rattle.std.proofs.lemmas.List.{append_assoc, take_min, drop_min, drop-drop, take-append-drop}
 use Rattle.rows.specs.declared.commit.Commit.{Commit}
 use Rattle.rows.specs.Shape.{Shape}
-use Rattle.mvcc.specs.History.{History}
+use Rattle.mvcc.specs.VersionList.{VersionList}
 use Rattle.journal.specs.Recovery.{IsBeginning}
 use Rattle.journal.specs.Text.{header, record_of, records_from, journal_text}
 use Rattle.primary.specs.Journaling.{offered}
@@ -45,7 +45,7 @@ moved_many commits durable count moved h =
     )
 
 -- the primary after the move
-pub flushed_is : (versions : History) (durable count moved workers : ℕ) (failed : Bool)
+pub flushed_is : (versions : VersionList) (durable count moved workers : ℕ) (failed : Bool)
     → moved ≡ min count (length (drop durable versions.commits))
     → primary_of versions (durable + moved) workers failed ≡ flushed (primary_of versions durable workers failed) count
 flushed_is versions durable count moved workers failed h =

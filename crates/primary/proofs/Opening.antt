@@ -1,4 +1,4 @@
--- What a journal keeps once it was settled, or partly.
+-- What a journal keeps once it was repaired, or partly.
 use Rattle.std.proofs.Common.{◌≡◌, ◌+◌, ◌^◌, ◌<◌, ◌≤◌, ℕ, Bool, true, false, List, [], ◌∷◌, ◌++◌, length, take, drop, nat_lt, cond}
 use Rattle.std.proofs.Common.{◌||◌, ◌&&◌}
 use Rattle.std.proofs.Common.{refl, sym, ap, subst, ◌∙◌, inl, inr, arith, append_assoc, append-nil, length-append}
@@ -17,7 +17,7 @@ use Rattle.journal.specs.Recovery.{IsBeginning, IsKept, IsRecovered, IsRefusal, 
 use Rattle.journal.specs.Text.{header, record_of, records_from, journal_text}
 use Rattle.primary.specs.declared.faults.StartFault.{StartFault}
 use Rattle.primary.specs.declared.faults.StartFault.TheVariants as starts
-use Rattle.primary.specs.Inner.Opening.{settled, IsPartlySettled}
+use Rattle.primary.specs.Inner.Opening.{repaired, IsPartlyRepaired}
 use Rattle.primary.specs.Journaling.{IsStartRefusal, TellsFault, KeepsSame, AreNumbered}
 use Rattle.primary.proofs.Streams.{numbered-short}
 
@@ -228,12 +228,12 @@ missing bytes head begins =
     ∙ ap (λ more. bytes ++ more) (drop-append_seam bytes begins.0)
     ∙ sym begins.1
 
--- what was settled is the text of what is kept
-pub settled-is_text : (workers : ℕ) (shape : Shape) (bytes head new : List ℕ) (commits : List Commit) (bytes_kept : ℕ)
-    → IsRecovered workers shape bytes commits bytes_kept → head ≡ header workers shape → new ≡ settled head bytes bytes_kept
+-- what was repaired is the text of what is kept
+pub repaired-is_text : (workers : ℕ) (shape : Shape) (bytes head new : List ℕ) (commits : List Commit) (bytes_kept : ℕ)
+    → IsRecovered workers shape bytes commits bytes_kept → head ≡ header workers shape → new ≡ repaired head bytes bytes_kept
     → new ≡ journal_text workers shape commits
-settled-is_text workers shape bytes head new commits bytes_kept recovered is done =
-    done ∙ ap (λ h. settled h bytes bytes_kept) is ∙ elim (cases_lt (length bytes) (length (header workers shape))) [
+repaired-is_text workers shape bytes head new commits bytes_kept recovered is done =
+    done ∙ ap (λ h. repaired h bytes bytes_kept) is ∙ elim (cases_lt (length bytes) (length (header workers shape))) [
       | inl short ↦
           let ends = ends-in-header workers shape bytes commits bytes_kept recovered short in
           ap (λ b. cond b (bytes ++ drop (length bytes) (header workers shape)) (take bytes_kept bytes)) (lt-ltb _ _ short)
@@ -248,10 +248,10 @@ settled-is_text workers shape bytes head new commits bytes_kept recovered is don
           ∙ take_at (journal_text workers shape commits) begins.0.0 (length (journal_text workers shape commits)) refl
     ]
 
--- what was settled in part keeps the same
+-- what was repaired in part keeps the same
 pub partly-keeps_same : (workers : ℕ) (shape : Shape) (bytes head new : List ℕ) (commits : List Commit) (bytes_kept : ℕ)
     → IsRecoveredOnce → IsNotRefused → IsRecovered workers shape bytes commits bytes_kept → head ≡ header workers shape
-    → IsPartlySettled head bytes bytes_kept new → KeepsSame workers shape bytes new
+    → IsPartlyRepaired head bytes bytes_kept new → KeepsSame workers shape bytes new
 partly-keeps_same workers shape bytes head new commits bytes_kept once law recovered is partly = elim partly [
   | inl added ↦
       let short : length bytes < length (header workers shape) = subst (λ h. length bytes < length h) is added.0 in

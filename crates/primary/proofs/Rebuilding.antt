@@ -11,7 +11,7 @@ use Rattle.rows.specs.Limits.{commit_entries_max, workers_max}
 use Rattle.rows.specs.Shape.{Shape, shape_of}
 use Rattle.rows.specs.Tables.{opening, apply_entries}
 use Rattle.rows.specs.ListLaws.{EachIsDefined}
-use Rattle.mvcc.specs.History.{History, defined_at}
+use Rattle.mvcc.specs.VersionList.{VersionList, defined_at}
 use Rattle.update_log.specs.declared.span.Span.{Span}
 use Rattle.update_log.specs.Frames.{IsCuttable}
 use Rattle.update_log.specs.Streams.{AreStreamsOf, stream_at}
@@ -23,8 +23,9 @@ use Rattle.primary.specs.Inner.Parts.{primary_of}
 use Rattle.primary.proofs.Streams.{next-below}
 
 -- the next commit is defined where it stands
-pub defined-next : (each : EachIsDefined) (versions : History) (schema : List (List ℕ × List Kind)) (workers : ℕ) (commits : List Commit)
-    (i : ℕ) (commit : Commit) → i < length commits → commit ≡ get_or commits i commit → IsJournaled workers (shape_of schema) commits
+pub defined-next : (each : EachIsDefined) (versions : VersionList) (schema : List (List ℕ × List Kind)) (workers : ℕ)
+    (commits : List Commit) (i : ℕ) (commit : Commit) → i < length commits → commit ≡ get_or commits i commit
+    → IsJournaled workers (shape_of schema) commits
     → versions.schema ≡ schema → versions.commits ≡ take i commits
     → defined_at versions (length versions.commits) commit.entries ≡ true
 defined-next each versions schema workers commits i commit h e journaled same taken =
@@ -56,7 +57,7 @@ cuttable-next workers shape commits i commit streams number h e few journaled nu
     )
 
 -- the primary of versions that are all durable
-pub started-is : (versions : History) (schema : List (List ℕ × List Kind)) (durable workers : ℕ) (commits : List Commit)
+pub started-is : (versions : VersionList) (schema : List (List ℕ × List Kind)) (durable workers : ℕ) (commits : List Commit)
     → versions.schema ≡ schema → versions.commits ≡ commits → durable ≡ length commits
     → primary_of versions durable workers false ≡ started_primary schema workers commits
 started-is versions schema durable workers commits same are counted =

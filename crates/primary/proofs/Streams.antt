@@ -6,7 +6,7 @@ use Rattle.std.proofs.lemmas.Bool.{eq-eqb, cases_eq, ne_eqb}
 use Rattle.std.proofs.lemmas.List.{take-append-drop, take_all, length_push, take_more}
 use Rattle.rows.specs.declared.commit.Commit.{Commit}
 use Rattle.rows.specs.declared.entry.Entry.{Entry}
-use Rattle.rows.specs.declared.entry.Entry.TheVariants.{Insert, Patch, Delete}
+use Rattle.rows.specs.declared.entry.Entry.TheVariants.{Insert, Patch, Delete, AddColumn}
 use Rattle.rows.specs.Commits.{IsCommit}
 use Rattle.rows.specs.Limits.{workers_max}
 use Rattle.rows.specs.Spelling.{entry_spelling}
@@ -177,6 +177,7 @@ some-bytes : (entry : Entry) → 0 < length (entry_spelling entry)
 some-bytes (Insert table row bytes) = omega arith
 some-bytes (Patch table row offset bytes) = omega arith
 some-bytes (Delete table row) = omega arith
+some-bytes (AddColumn table default) = omega arith
 
 entries-short : (entries : List Entry) → length entries ≤ length (flat_map entry_spelling entries)
 entries-short [] = omega arith

@@ -1,4 +1,4 @@
--- Only for proofs: what a primary is of its parts and keeps of them, and how a journal is settled at a start. No public clause
+-- Only for proofs: what a primary is of its parts and keeps of them, and how a journal is repaired at a start. No public clause
 -- rests on these.
 pub mod Opening
 pub mod Parts

@@ -9,7 +9,7 @@ use Rattle.rows.specs.Commits.{last_touching}
 use Rattle.primary.specs.declared.faults.CommitFault.{CommitFault}
 use Rattle.primary.specs.declared.faults.CommitFault.TheVariants.{Conflict, ReadOnly, Failed, NumbersUsedUp, Foreign}
 use Rattle.mvcc.specs.Transaction.{Transaction}
-use Rattle.mvcc.specs.History.{History, defined_at}
+use Rattle.mvcc.specs.VersionList.{VersionList, defined_at}
 use Rattle.update_log.specs.Parts.{parts_of}
 use Rattle.update_log.specs.Streams.{stream_of}
 use Rattle.primary.specs.State.{Primary}
@@ -19,7 +19,7 @@ abbrev pub started_primary : List (List ℕ × List Kind) → ℕ → List Commi
 started_primary schema workers commits = record { schema = schema; workers = workers; durable = commits; pending = []; failed = false }
 
 -- the versions that a transaction may begin on: those of the durable list
-abbrev pub durable_versions : Primary → History
+abbrev pub durable_versions : Primary → VersionList
 durable_versions p = record { schema = p.schema; commits = p.durable }
 
 -- whether a transaction is not of this primary: its snapshot is above what is durable, or an entry is not defined where
@@ -39,8 +39,8 @@ has_numbers p worker entries =
     nat_lt (next_number p) (2 ^ 64)
     && nat_lt (length (stream_of (p.durable ++ p.pending) worker) + length (parts_of entries)) (2 ^ 64)
 
--- what a commit of a worker answers: its number, or the first refusal. The first committer wins: a commit is refused if a row
--- that it writes was written after its snapshot. Being out of memory aside.
+-- what a commit of a worker answers: its number, or the first refusal. The first committer wins: a commit is refused if one after its
+-- snapshot touches its entries. Being out of memory aside.
 abbrev pub commit_answer : Primary → ℕ → Transaction → Result ℕ CommitFault
 commit_answer p worker draft =
     if p.failed then Err Failed else

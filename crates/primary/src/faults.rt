@@ -5,8 +5,9 @@ use thiserror::Error;
 /// `Foreign`, `Conflict`, `NumbersUsedUp`, `Memory`.
 #[derive(Clone, Copy, Debug, PartialEq, Eq, Error)]
 pub enum CommitFault {
-    /// A commit after the transaction's snapshot, durable or pending, touches one of its rows;
-    /// the number is that of the last such commit.
+    /// A commit after the transaction's snapshot, durable or pending, touches one of its rows, or
+    /// one of the two adds a column to a table in which the other has an entry; the number is that
+    /// of the last such commit.
     #[error("in conflict with commit {0}")]
     Conflict(u64),
     /// It has no entries.

@@ -4,7 +4,7 @@ ghost use Rattle.std.specs.Prelude.{◌≡◌, ◌+◌, ◌^◌, ◌<◌, ◌≤
 ghost use Rattle.std.specs.List.{AllByRecursion};
 ghost use Rattle.rows.specs.Commits.{last_touching};
 ghost use Rattle.rows.specs.Spelling.{HasSpelling};
-ghost use Rattle.mvcc.specs.History.{defined_at};
+ghost use Rattle.mvcc.specs.VersionList.{defined_at};
 ghost use Rattle.update_log.specs.Parts.{parts_of};
 ghost use Rattle.update_log.specs.Streams.{AreStreamsOf, stream_at};
 ghost use Rattle.primary.specs.Steps.{commit_answer};
@@ -68,8 +68,9 @@ fn next_number(versions: &Versions, streams: &Streams, worker: u8, entries: &[En
     Some(number)
 }
 
-/// The last commit, durable or pending, that writes a row of the entries, if it is after that
-/// snapshot.
+/// The last commit, durable or pending, that touches the entries, if it is after that snapshot: one
+/// that writes one of their rows, or adds a column to one of their tables, or has an entry of a
+/// table to which one of them adds a column.
 fn conflict(versions: &Versions, snapshot: u64, entries: &[Entry]) -> Option<u64>
     ensures last { result ≡ (if nat_lt snapshot (last_touching entries.now 0 versions.now.commits)
         then Some (last_touching entries.now 0 versions.now.commits) else None) }

@@ -5,7 +5,7 @@ ghost use Rattle.std.specs.List.{AllByRecursion};
 ghost use Rattle.rows.specs.Limits.{commit_entries_max, workers_max};
 ghost use Rattle.rows.specs.Shape.{shape_of};
 ghost use Rattle.rows.specs.Spelling.{HasSpelling};
-ghost use Rattle.mvcc.specs.History.{defined_at};
+ghost use Rattle.mvcc.specs.VersionList.{defined_at};
 ghost use Rattle.update_log.specs.Parts.{parts_of};
 ghost use Rattle.update_log.specs.Streams.{AreStreamsOf, stream_at};
 ghost use Rattle.journal.specs.Recovery.{IsJournaled};

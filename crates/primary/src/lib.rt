@@ -2,14 +2,14 @@
 //! commits.
 //!
 //! Its state is a durable list of commits, a pending list, and whether its journal has failed. A
-//! commit is checked against the newest commit of each row that it writes, durable or pending, and
-//! is added to the end of the pending list. A flush writes the records of pending commits to the
-//! journal in one append, and moves them to the durable list; only durable commits are shown,
-//! pushed or counted. A start makes the commits durable that the journal keeps, in whatever state a
-//! crash left it. Apart from a start, no call goes over a whole list of commits; a flush goes over
-//! those that it moves. `specs/` defines what a commit and a flush answer and leave (`Steps.antt`),
-//! what the journal contains after each of them and after a start (`Journaling.antt`), and what is
-//! sent (`Sending.antt`). `specs/Inner` only helps proofs.
+//! commit is checked against the newest commit, durable or pending, of each row that it writes, and
+//! of each table to which it or that commit adds a column; and is added to the end of the pending
+//! list. A flush writes the records of pending commits to the journal in one append, and moves them
+//! to the durable list; only durable commits are shown, pushed or counted. A start makes the commits
+//! durable that the journal keeps, in whatever state a crash left it. Apart from a start, no call
+//! goes over a whole list of commits; a flush goes over those that it moves. `specs/` defines what
+//! a commit and a flush answer and leave (`Steps.antt`), what the journal contains then and after a
+//! start (`Journaling.antt`), and what is sent (`Sending.antt`). `specs/Inner` only helps proofs.
 //!
 //! It uses `rows`, `mvcc` for versions and transactions, `update_log` for streams, `journal` and
 //! `wire`. If a call fails for lack of memory, its value is unchanged unless the call says

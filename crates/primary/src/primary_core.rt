@@ -194,8 +194,9 @@ impl<J: JournalStore> PrimaryCore<J> {
     /// was: `Failed`; `ReadOnly`, no entries; `Foreign`, its snapshot is above what is durable or
     /// an entry is not defined where it stands on the rows at the snapshot; `Conflict` with the
     /// number of the last commit after its snapshot, durable or pending, that touches one of its
-    /// rows; `NumbersUsedUp`, the commit's number or a seq or count of its frames would pass 64
-    /// bits; `Memory`.
+    /// rows, or where one of the two adds a column to a table in which the other has an entry;
+    /// `NumbersUsedUp`, the commit's number or a seq or count of its frames would pass 64 bits;
+    /// `Memory`.
     pub fn commit(
         &mut self,
         transaction: Transaction,

@@ -6,7 +6,7 @@ ghost use Rattle.rows.specs.Shape.{shape_of};
 ghost use Rattle.journal.specs.Recovery.{IsRecovered};
 ghost use Rattle.journal.specs.Storing.{IsPartlyAppended, faults_max};
 ghost use Rattle.journal.specs.Text.{journal_text};
-ghost use Rattle.primary.specs.Inner.Opening.{IsOfStore, settled, IsPartlySettled};
+ghost use Rattle.primary.specs.Inner.Opening.{IsOfStore, repaired, IsPartlyRepaired};
 ghost use Rattle.primary.specs.Journaling.{IsKeptOf, KeepsSame, IsStartRefusal, LeavesBytes, CountsStartFault, AreNumbered};
 ghost use Rattle.primary.specs.Steps.{started_primary};
 
@@ -53,7 +53,7 @@ pub fn open<J: JournalStore>(
     let Ok(header) = header_bytes(alloc, workers, schema) else {
         return Err(StartFault::Memory);
     };
-    settle(journal, &bytes, &header, recovered.bytes_kept)?;
+    repair(journal, &bytes, &header, recovered.bytes_kept)?;
     Ok(lists)
 }
 
@@ -103,7 +103,7 @@ fn kept<F>(
 
 /// Makes a journal of these bytes contain the text of the commits that it keeps: completes a header
 /// that is cut short, or else truncates what is torn after the kept ones.
-fn settle<J: JournalStore>(
+fn repair<J: JournalStore>(
     journal: &mut J,
     bytes: &[u8],
     header: &[u8],
@@ -112,9 +112,9 @@ fn settle<J: JournalStore>(
     requires standing { J.is_honest journal.old ≡ true → bytes.now ≡ J.standing journal.old }
     requires within { bytes_kept ≤ length bytes.now }
     requires countable { J.fault_count journal.old < faults_max }
-    ensures ok { J.is_honest journal.old ≡ true → OnOk result (J.standing journal.new ≡ settled header.now bytes.now bytes_kept) }
+    ensures ok { J.is_honest journal.old ≡ true → OnOk result (J.standing journal.new ≡ repaired header.now bytes.now bytes_kept) }
     ensures partly { J.is_honest journal.old ≡ true
-        → OnErr result (IsPartlySettled header.now bytes.now bytes_kept (J.standing journal.new)) }
+        → OnErr result (IsPartlyRepaired header.now bytes.now bytes_kept (J.standing journal.new)) }
     ensures leaves { J.is_honest journal.old ≡ true
         → IfErr result (λ fault. LeavesBytes fault (J.standing journal.old) (J.standing journal.new)) }
     ensures err { IfErr result IsOfStore }

@@ -3,7 +3,7 @@
 
 ghost use Rattle.std.specs.Prelude.{◌≡◌, ◌≤◌, length, IfErr};
 ghost use Rattle.rows.specs.Shape.{shape_of};
-ghost use Rattle.mvcc.specs.Transactions.{get_answer, insert_answer, set_answer, delete_answer};
+ghost use Rattle.mvcc.specs.Transactions.{get_answer, insert_answer, set_answer, delete_answer, add_column_answer};
 ghost use Rattle.published.specs.Answers.{IsAnswer, IsChange};
 
 use crate::faults::LineFault;
@@ -90,5 +90,25 @@ pub fn delete_from(
     }
     transaction
         .delete(versions, table, row)
+        .map_err(LineFault::Tx)
+}
+
+/// Adds a column to a table, with this value in each of its rows.
+pub fn add_column_to(
+    versions: &Versions,
+    transaction: &mut Transaction,
+    table: u8,
+    default: Value,
+) -> Result<(), LineFault>
+    ensures answer { IsChange (length versions.now.commits)
+        (add_column_answer (shape_of versions.now.schema) versions.now.commits transaction.old table default)
+        transaction.old transaction.new result }
+    ensures read { IfErr result (λ fault. ¬ (fault ≡ LineFault.Unread)) }
+{
+    if transaction.snapshot() > versions.len() {
+        return Err(LineFault::Ahead);
+    }
+    transaction
+        .add_column(versions, table, default)
         .map_err(LineFault::Tx)
 }

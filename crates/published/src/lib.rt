@@ -32,4 +32,4 @@ pub use faults::LineFault;
 pub use line::{Line, Published, Sees};
 pub use publisher::Publisher;
 pub use seat::Seat;
-pub use shown::{Shown, Step};
+pub use shown::{Publication, Shown};

@@ -5,10 +5,10 @@ ghost use Rattle.rows.specs.Shape.{shape_of};
 ghost use Rattle.journal.specs.Recovery.{IsJournaled};
 ghost use Rattle.history.specs.Told.{told};
 ghost use Rattle.published.specs.Publishing.{IsOfLine};
-ghost use Rattle.published.specs.Inner.Queue.{IsShown, with_steps};
+ghost use Rattle.published.specs.Inner.Queue.{IsShown, with_publications};
 
 use crate::line::{Line, Published, Sees};
-use crate::shown::{Shown, Step};
+use crate::shown::{Publication, Shown};
 use core::mem::replace_with;
 use history::SeenHistory;
 use left_right::reader::Reader;
@@ -24,24 +24,24 @@ use std::sync::Wait;
 ///
 /// Contracts see the published list, and the list that the next `publish` will publish.
 pub struct Publisher<L: Line, R: Wait + Drop> {
-    writer: Writer<Shown, Step, (), Published<L>>,
+    writer: Writer<Shown, Publication, (), Published<L>>,
     rt: R,
 }
 
 impl<L: Line, R: Wait + Drop> Model for Publisher<L, R> {
     ghost use Rattle.std.specs.Prelude.{drop};
     ghost use Rattle.published.specs.Publishing.{IsOfLine, Lists};
-    ghost use Rattle.published.specs.Inner.Queue.{with_steps};
+    ghost use Rattle.published.specs.Inner.Queue.{with_publications};
 
     ghost Value = { Lists };
 
     ghost view = { λ p. record {
       shown = p.writer.desk.shown.value.versions.commits;
-      queued = (with_steps p.writer.desk.shown.value (drop p.writer.behind p.writer.log.items)).versions.commits;
+      queued = (with_publications p.writer.desk.shown.value (drop p.writer.behind p.writer.log.items)).versions.commits;
     } };
 
     ghost invariant = { λ p. IsOfLine L.book L.schema L.workers p.writer.desk.shown.value
-        × IsOfLine L.book L.schema L.workers (with_steps p.writer.desk.shown.value (drop p.writer.behind p.writer.log.items)) };
+        × IsOfLine L.book L.schema L.workers (with_publications p.writer.desk.shown.value (drop p.writer.behind p.writer.log.items)) };
 }
 
 impl<L: Line, R: Wait + Drop> Drop for Publisher<L, R> {
@@ -88,18 +88,18 @@ impl<L: Line, R: Wait + Drop> Publisher<L, R> {
         self.writer.factory().reader()
     }
 
-    /// Adds the next commit to what will be published. If out of memory, it hands the step back.
-    pub fn push(&mut self, step: Step) -> Result<(), Step>
-        requires book { step.seen.book ≡ L.book }
-        requires history { told step.seen.log ≡ self.old.queued ++ step.commit ∷ [] }
-        requires some { 0 < length step.seen.log }
-        requires legal { IsJournaled L.workers (shape_of L.schema) (self.old.queued ++ step.commit ∷ []) }
+    /// Adds the next commit to what will be published. If out of memory, it hands the publication back.
+    pub fn push(&mut self, publication: Publication) -> Result<(), Publication>
+        requires book { publication.seen.book ≡ L.book }
+        requires history { told publication.seen.log ≡ self.old.queued ++ publication.commit ∷ [] }
+        requires some { 0 < length publication.seen.log }
+        requires legal { IsJournaled L.workers (shape_of L.schema) (self.old.queued ++ publication.commit ∷ []) }
         ensures shown { self.new.shown ≡ self.old.shown }
-        ensures queued { MatchResult result (λ _. self.new.queued ≡ self.old.queued ++ step.commit ∷ [])
-            (λ back. (back ≡ step) × (self.new.queued ≡ self.old.queued)) }
+        ensures queued { MatchResult result (λ _. self.new.queued ≡ self.old.queued ++ publication.commit ∷ [])
+            (λ back. (back ≡ publication) × (self.new.queued ≡ self.old.queued)) }
     {
         rows::laws::commits_are_defined_one_by_one();
-        self.writer.append(step)
+        self.writer.append(publication)
     }
 
     /// Publishes everything that was added, and answers whether there was memory for it. It waits
@@ -111,14 +111,14 @@ impl<L: Line, R: Wait + Drop> Publisher<L, R> {
         replace_with(
             &mut self.writer,
             &self.rt,
-            |writer: Writer<Shown, Step, (), Published<L>>, rt: &R| -> (
-                Writer<Shown, Step, (), Published<L>>,
+            |writer: Writer<Shown, Publication, (), Published<L>>, rt: &R| -> (
+                Writer<Shown, Publication, (), Published<L>>,
                 bool,
             )
                 requires { IsOfLine L.book L.schema L.workers
-                    (with_steps writer.desk.shown.value (drop writer.behind writer.log.items)) }
-                ensures { IsShown (with_steps writer.desk.shown.value (drop writer.behind writer.log.items)) writer.desk.shown.value
-                    (with_steps result.0.desk.shown.value (drop result.0.behind result.0.log.items))
+                    (with_publications writer.desk.shown.value (drop writer.behind writer.log.items)) }
+                ensures { IsShown (with_publications writer.desk.shown.value (drop writer.behind writer.log.items)) writer.desk.shown.value
+                    (with_publications result.0.desk.shown.value (drop result.0.behind result.0.log.items))
                     result.0.desk.shown.value result.1 }
             { show::<L, R>(rt, writer) },
         )
@@ -128,11 +128,11 @@ impl<L: Line, R: Wait + Drop> Publisher<L, R> {
 /// Publishes everything that was added, and answers whether there was memory for it.
 fn show<L: Line, R: Wait + Drop>(
     rt: &R,
-    writer: Writer<Shown, Step, (), Published<L>>,
-) -> (Writer<Shown, Step, (), Published<L>>, bool)
-    requires { IsOfLine L.book L.schema L.workers (with_steps writer.desk.shown.value (drop writer.behind writer.log.items)) }
-    ensures { IsShown (with_steps writer.desk.shown.value (drop writer.behind writer.log.items)) writer.desk.shown.value
-        (with_steps result.0.desk.shown.value (drop result.0.behind result.0.log.items)) result.0.desk.shown.value result.1 }
+    writer: Writer<Shown, Publication, (), Published<L>>,
+) -> (Writer<Shown, Publication, (), Published<L>>, bool)
+    requires { IsOfLine L.book L.schema L.workers (with_publications writer.desk.shown.value (drop writer.behind writer.log.items)) }
+    ensures { IsShown (with_publications writer.desk.shown.value (drop writer.behind writer.log.items)) writer.desk.shown.value
+        (with_publications result.0.desk.shown.value (drop result.0.behind result.0.log.items)) result.0.desk.shown.value result.1 }
 {
     match writer.publish_as::<Sees<L>, R>(rt) {
         (writer, Ok(())) => (writer, true),

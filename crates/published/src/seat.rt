@@ -4,12 +4,12 @@ ghost use Rattle.std.specs.Prelude.{◌≡◌, [], length, true, is_some, IfOk, 
 ghost use mathlib.Core.List.{IsPrefix};
 ghost use Rattle.journal.specs.Recovery.{IsJournaled};
 ghost use Rattle.rows.specs.Shape.{shape_of};
-ghost use Rattle.mvcc.specs.Transactions.{get_answer, insert_answer, set_answer, delete_answer};
+ghost use Rattle.mvcc.specs.Transactions.{get_answer, insert_answer, set_answer, delete_answer, add_column_answer};
 ghost use Rattle.published.specs.declared.faults.LineFault.TheVariants.{Unread};
 ghost use Rattle.published.specs.Answers.{IsAnswer, IsChange};
 ghost use Rattle.published.specs.Publishing.{IsOfLine};
 
-use crate::answering::{delete_from, insert_into, set_in, value_of};
+use crate::answering::{add_column_to, delete_from, insert_into, set_in, value_of};
 use crate::faults::LineFault;
 use crate::line::{Line, Published, Sees};
 use crate::shown::Shown;
@@ -194,6 +194,30 @@ impl<L: Line> Seat<L> {
             return Err(LineFault::Unread);
         };
         let answer = delete_from(&reading.get().versions, transaction, table, row);
+        *reader = Some(reading.leave());
+        answer
+    }
+
+    /// Adds a column to a table in the transaction, behind the others, with this value in each row.
+    ///
+    /// Fails as `value` does, or if out of memory; the transaction is then unchanged.
+    pub fn add_column(
+        &mut self,
+        transaction: &mut Transaction,
+        table: u8,
+        default: Value,
+    ) -> Result<(), LineFault>
+        ensures legal { IsJournaled L.workers (shape_of L.schema) self.new }
+        ensures later { IsPrefix self.old self.new }
+        ensures answer { IsChange (length self.new)
+            (add_column_answer (shape_of L.schema) self.new transaction.old table default)
+            transaction.old transaction.new result }
+    {
+        let Seat { reader, front } = self;
+        let Some(reading) = read(reader, front) else {
+            return Err(LineFault::Unread);
+        };
+        let answer = add_column_to(&reading.get().versions, transaction, table, default);
         *reader = Some(reading.leave());
         answer
     }

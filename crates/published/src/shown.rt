@@ -18,36 +18,44 @@ pub struct Shown {
 
 /// The next commit, and a token of the history up to it.
 #[derive(Drop)]
-pub struct Step {
+pub struct Publication {
     pub commit: Commit,
     pub seen: SeenHistory,
 }
 
-impl Absorb<Step> for Shown {
-    ghost use Rattle.published.specs.Publishing.{with_step};
+impl Absorb<Publication> for Shown {
+    ghost use Rattle.published.specs.Publishing.{with_publication};
 
     type State = Shown;
 
     ghost state = { λ shown. shown };
 
-    ghost applied = { with_step };
+    ghost applied = { with_publication };
 
     /// The first copy keeps a copy of the commit.
-    fn absorb_first(&mut self, step: &Step, _other: &Shown) -> Result<(), AllocError> {
-        self.versions.apply(&step.commit)?;
-        self.seen = step.seen.again();
+    fn absorb_first(
+        &mut self,
+        publication: &Publication,
+        _other: &Shown,
+    ) -> Result<(), AllocError> {
+        self.versions.apply(&publication.commit)?;
+        self.seen = publication.seen.again();
         Ok(())
     }
 
     /// The second copy takes the commit over.
-    fn absorb_second(&mut self, step: Step, _other: &Shown) -> Result<(), Step> {
-        let Step { commit, seen } = step;
+    fn absorb_second(
+        &mut self,
+        publication: Publication,
+        _other: &Shown,
+    ) -> Result<(), Publication> {
+        let Publication { commit, seen } = publication;
         match self.versions.apply_owned(commit) {
             Ok(_) => {
                 self.seen = seen;
                 Ok(())
             }
-            Err(commit) => Err(Step { commit, seen }),
+            Err(commit) => Err(Publication { commit, seen }),
         }
     }
 }

@@ -2,7 +2,7 @@
 use Rattle.std.proofs.Common.{◌≡◌, ◌==◌, ◌≤◌, if◌then◌else◌, ℕ, zero, suc, Bool, true, false, refl, ap, ◌∙◌, arith, eqb-true}
 use Rattle.std.proofs.Common.{List, [], ◌∷◌, drop, Some, slice_get}
 use Rattle.std.specs.List.{AllByRecursion}
-use Rattle.plans.specs.declared.plan.Plan.{Plan}
+use Rattle.queries.specs.declared.plan.Plan.{Plan}
 use Rattle.queue.specs.declared.moves.Queued.{Queued}
 use Rattle.queue.specs.Rule.{owned, queued}
 use Rattle.queue.specs.Laws.{AreRisingFrom, StandsAt, MovesRise, PutIsListed, TakenOnce}

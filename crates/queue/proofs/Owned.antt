@@ -1,7 +1,7 @@
 -- What one more plan, or one more owner, adds to the plans that a pass owns.
 use Rattle.std.proofs.Common.{◌≡◌, ◌≢◌, ◌==◌, ◌+◌, ◌≤◌, if◌then◌else◌, ℕ, zero, suc, Bool, true, false, refl, sym, ap, ◌∙◌, arith}
 use Rattle.std.proofs.Common.{List, [], ◌∷◌, ◌++◌, length, drop, append-nil, drop_at, eq-eqb, ne_eqb}
-use Rattle.plans.specs.declared.plan.Plan.{Plan}
+use Rattle.queries.specs.declared.plan.Plan.{Plan}
 use Rattle.queue.specs.declared.moves.Moves.{Moves}
 use Rattle.queue.specs.declared.moves.Queued.{Queued}
 use Rattle.queue.specs.Rule.{Moment, IsMoment, queued, owned, moves_until, after_put, after_take}

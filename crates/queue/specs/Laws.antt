@@ -1,7 +1,7 @@
 -- What follows of the definitions of a moment.
 use Rattle.std.specs.Prelude.{◌≡◌, ◌≤◌, ℕ, suc, List, [], ◌∷◌, Some, slice_get}
 use Rattle.std.specs.List.{AllByRecursion}
-use Rattle.plans.specs.declared.plan.Plan.{Plan}
+use Rattle.queries.specs.declared.plan.Plan.{Plan}
 use Rattle.queue.specs.declared.moves.Queued.{Queued}
 use Rattle.queue.specs.Rule.{Moment, moves_until}
 

@@ -2,7 +2,7 @@
 use Rattle.std.specs.Prelude.{◌≡◌, ◌==◌, ◌<◌, ◌≤◌, if◌then◌else◌, ℕ, suc, List, [], ◌∷◌, ◌++◌, length, drop, map}
 use mathlib.Core.Option.{some}
 use lib.ListN.{get_elem?}
-use Rattle.plans.specs.declared.plan.Plan.{Plan}
+use Rattle.queries.specs.declared.plan.Plan.{Plan}
 use Rattle.queue.specs.declared.moves.Queued.{Queued}
 use Rattle.queue.specs.declared.moves.Moves.{Moves}
 

@@ -2,7 +2,7 @@
 
 use crate::moves::Moves;
 use crossbeam_queue::protocol::{Join, Lesson, Outcome, Protocol, Split};
-use plans::Plan;
+use queries::Plan;
 use std::collections::LinkedList;
 
 /// What a seat of the ring holds: the moves of one pass, but for the time in which two are compared.

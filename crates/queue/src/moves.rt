@@ -1,7 +1,7 @@
 //! What a pass has done with the queue. No value of these types is made: they are for contracts
 //! alone.
 
-use plans::Plan;
+use queries::Plan;
 use std::collections::LinkedList;
 
 /// A plan in the list of all that were ever put, and its position there, from 0.

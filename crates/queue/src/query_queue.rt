@@ -3,7 +3,7 @@
 use crate::limits::BATCH_PLANS_MAX;
 use crate::pass::Pass;
 use crate::ring::{Ring, compare, pop, push};
-use plans::Plan;
+use queries::Plan;
 use std::alloc::{AllocError, Global};
 use std::mem;
 use std::sync::Wait;

@@ -7,7 +7,7 @@ ghost use Rattle.queue.specs.Rule.{first_of, AreMovesOfMoment, Puts, Takes};
 
 use crate::in_order::{Held, InOrder, Meet, Put, Take};
 use crossbeam_queue::{Pass, RuledArrayQueue};
-use plans::Plan;
+use queries::Plan;
 use std::sync::Wait;
 
 pub(crate) type Ring = RuledArrayQueue<Plan, Held, InOrder>;

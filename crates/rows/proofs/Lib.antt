@@ -1,6 +1,7 @@
 pub mod Schemas
 pub mod Spelling
 pub mod Rows
+pub mod Widening
 pub mod Presence
 pub mod TableLaws
 pub mod RowLaws

@@ -11,7 +11,7 @@ use Rattle.std.proofs.lemmas.Bool.Decides.{nat_tests}
 use Rattle.std.proofs.lemmas.Map.Keys.{sorted_head, sorted_tail}
 use Rattle.rows.specs.declared.kind.Kind.{Kind}
 use Rattle.rows.specs.declared.value.Value.{Value}
-use Rattle.rows.specs.Tables.{Rows, row_at, is_present, with_row, with_patch, without_row, patched_row}
+use Rattle.rows.specs.Tables.{Rows, row_at, is_present, with_row, with_patch, without_row, with_column, patched_row}
 
 -- a look-up after an insert: the new key is found, and any other as before
 is_some-insert_entry : {X : Type 0} (q k : ℕ) (v : X) (es : List (ℕ × X))
@@ -50,6 +50,12 @@ is_present-with_patch kinds rows row offset bytes other = by (row_at rows row) r
 pub is_present-without_row : (rows : Rows) (row other : ℕ)
     → is_present (without_row rows row) other ≡ cond (row == other) false (is_present rows other)
 is_present-without_row rows row other = is_some-filter other row rows
+
+-- once a column was added, the same rows are there
+pub is_present-with_column : (default : Value) (rows : Rows) (other : ℕ)
+    → is_present (with_column default rows) other ≡ is_present rows other
+is_present-with_column default [] other = refl
+is_present-with_column default (first ∷ rows) other = grind (arith, nat_tests, is_present-with_column default rows other)
 
 -- where all rows come behind that row, none is taken out
 without_row-above : (rows : Rows) (row : ℕ) → AllByRecursion (λ other. nat_cmp row other ≡ Less) (keys_of rows)

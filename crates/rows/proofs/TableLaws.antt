@@ -1,27 +1,31 @@
 -- Which entries and commits are defined, one after the other, and which rows are there where they are.
 pub use Rattle.rows.proofs.Presence.{is_there_after-push, is_there_after_commits-push, is_there_after_fit-push, is_there_after-more}
 pub use Rattle.rows.proofs.Presence.{is_there_after_commits-more, is_there_after_fit-more, named, written, unnamed, unwritten}
-use Rattle.std.proofs.Common.{◌≡◌, ℕ, suc, zero, ◌+◌, ◌<◌, ◌≤◌, Bool, true, false, cond, ◌&&◌, ◌==◌, List, [], ◌∷◌, ◌++◌, length, get_or}
-use Rattle.std.proofs.Common.{take, drop, Result, Ok, Err, refl, sym, ap, add-zero, ◌∙◌, ◌⊎◌, inl, inr, arith}
+use Rattle.std.proofs.Common.{◌≡◌, ◌≢◌, ℕ, suc, zero, ◌+◌, ◌<◌, ◌≤◌, Bool, true, false, cond, not, slice_get, ◌&&◌, ◌==◌, List, [], ◌∷◌}
+use Rattle.std.proofs.Common.{◌++◌, length, get_or}
+use Rattle.std.proofs.Common.{take, drop, Result, Ok, Err, refl, sym, ap, subst, add-zero, ◌∙◌, ◌⊎◌, inl, inr, arith}
 use Rattle.std.specs.List.{list_any, AllByRecursion}
 use Rattle.std.specs.Result.{is_ok}
-use Rattle.std.proofs.lemmas.Bool.{or_from, and_from, or_parts}
+use Rattle.std.proofs.lemmas.Bool.{or_from, and_from, or_parts, and_parts, false≢true, eqb-true, eq-eqb}
 use Rattle.std.proofs.lemmas.List.{take_all, take_more, length-take-le, take-append-drop}
 use Rattle.std.proofs.lemmas.Bool.Decides.{nat_tests}
 use Rattle.rows.specs.declared.commit.Commit.{Commit}
 use Rattle.rows.specs.declared.entry.Entry.{Entry}
 use Rattle.rows.specs.Shape.{Shape}
-use Rattle.rows.specs.Entries.{table_of, fitting}
-use Rattle.rows.specs.Tables.{Tables, Refusal, opening, shape_in, is_row_at, is_fit, change_where, apply_entry, apply_entries}
-use Rattle.rows.specs.Tables.{and_then}
-use Rattle.rows.specs.Commits.{apply_commits, tables_after, overlaps, touches, last_where}
-use Rattle.rows.specs.Laws.{EntryKeepsKinds, EntriesKeepKinds, AppliedKeepKinds, CommitsKeepKinds, VersionsKeepKinds, IsSymmetric}
-use Rattle.rows.specs.ListLaws.{BeginningsAreDefined, EachIsDefined, EachFits, OneMoreIsDefined, UndefinedStayUndefined}
+use Rattle.rows.specs.declared.entry.Entry.TheVariants.{Insert, Patch, Delete, AddColumn}
+use Rattle.rows.specs.Entries.{table_of, fitting, fitting_in, shape_after_one, shape_after}
+use Rattle.rows.specs.Tables.{Tables, Refusal, opening, shape_in, is_row_at, is_fit, stands, refusal_of, made, change_where, apply_entry}
+use Rattle.rows.specs.Tables.{apply_entries, and_then}
+use Rattle.rows.specs.Commits.{apply_commits, tables_after, shape_after_commits, is_of, overlaps, touches, last_where}
+use Rattle.rows.specs.Laws.{EntryTellsKinds, EntriesTellKinds, AppliedTellKinds, CommitsTellKinds, VersionsTellKinds, IsSymmetric}
+use Rattle.rows.specs.ListLaws.{BeginningsAreDefined, EachIsDefined, FitInTurn, CommitsFitInTurn, EachFits, EachHasTable, OneMoreIsDefined}
+use Rattle.rows.specs.ListLaws.{UndefinedStayUndefined}
 use Rattle.rows.specs.ListLaws.{OneMoreEntryIsDefined, UntouchedStayDefined, PresenceIsTold}
 use Rattle.rows.specs.Presence.{stands_for, is_there_after_one, is_there_after}
 use Rattle.rows.specs.Inner.Presence.{is_there_after_commits, is_there_after_fit}
-use Rattle.rows.proofs.Presence.{there, shape_in-opening, Turns, made, refusal_of, row_of, is_of-is, of-parts, overlaps-is}
-use Rattle.rows.proofs.Presence.{stands, apply_entry-is, apply_entry-parts, Turns-change}
+use Rattle.rows.proofs.Presence.{there, shape_in-opening, Turns, is_of_row, is_of-is, fitting-within}
+use Rattle.rows.proofs.Widening.{is_own, added-alike, added-elsewhere, length-shape_after_one, length-shape_after}
+use Rattle.rows.proofs.Presence.{stands-at, apply_entry-parts, Turns-change}
 use Rattle.rows.proofs.Presence.{Turns-changes, Turns-commits, Turns-applied, and_then-parts}
 
 -- two changes in a row, the second of them two again
@@ -62,32 +66,31 @@ apply_commits-split shape commits version after h =
     rw parts.1 (refl, parts.2)
 
 -- the tables at a version have the kinds that they were opened with
-pub shape-at : VersionsKeepKinds
-shape-at shape commits version = kept (apply_commits (opening shape) (take version commits)) refl
-  where
-    kept : (after : Result Tables Refusal) → apply_commits (opening shape) (take version commits) ≡ after
-        → shape_in (tables_after shape commits version) ≡ shape
-    kept (Ok after) e = rw e ((Turns-commits (opening shape) after (take version commits) e).kinds ∙ shape_in-opening shape)
-    kept (Err refusal) e = rw e (shape_in-opening shape)
+pub shape-at : VersionsTellKinds
+shape-at shape commits version h =
+    let all = from_is_ok _ h in
+    let split = apply_commits-split shape commits version all.0 all.1 in
+    (Turns-commits (opening shape) (tables_after shape commits version) (take version commits) split.0).kinds
+    ∙ ap (λ shape. shape_after_commits shape (take version commits)) (shape_in-opening shape)
 
 -- entries that are defined fit, so what those that fit leave is what all leave
-pub is_there_after_fit-defined : (shape : Shape) (tables : Tables) (entries : List Entry) (table row : ℕ) (was : Bool)
-    → shape_in tables ≡ shape → is_ok (apply_entries tables entries) ≡ true
-    → is_there_after_fit shape table row entries was ≡ is_there_after table row entries was
-is_there_after_fit-defined shape tables [] table row was same h = refl
-is_there_after_fit-defined shape tables (entry ∷ entries) table row was same h =
+pub is_there_after_fit-defined : (tables : Tables) (entries : List Entry) (table row : ℕ) (was : Bool)
+    → is_ok (apply_entries tables entries) ≡ true
+    → is_there_after_fit (shape_in tables) table row entries was ≡ is_there_after table row entries was
+is_there_after_fit-defined tables [] table row was h = refl
+is_there_after_fit-defined tables (entry ∷ entries) table row was h =
     let all = from_is_ok _ h in
     let parts = and_then-parts _ (apply_entry tables entry) all.0 all.1 in
     let first = apply_entry-parts tables parts.0 entry parts.1 in
-    let fits : is_ok (fitting shape entry) ≡ true = ap (λ shape. is_ok (fitting shape entry)) (sym same) ∙ first.0 in
     let turns = Turns-change tables parts.0 entry parts.1 in
-    ap (λ fits. is_there_after_fit shape table row entries (cond fits (is_there_after_one table row entry was) was)) fits
-    ∙ is_there_after_fit-defined shape parts.0 entries table row (is_there_after_one table row entry was) (turns.kinds ∙ same)
-    (ap is_ok parts.2)
+    ap (λ fits. is_there_after_fit (shape_after_one (shape_in tables) entry) table row entries
+    (cond fits (is_there_after_one table row entry was) was)) first.0
+    ∙ ap (λ shape. is_there_after_fit shape table row entries (is_there_after_one table row entry was)) (sym turns.kinds)
+    ∙ is_there_after_fit-defined parts.0 entries table row (is_there_after_one table row entry was) (ap is_ok parts.2)
 
 -- an entry is defined where it fits and its row stands as it needs it
 defined-change : (tables : Tables) (entry : Entry) → is_ok (apply_entry tables entry) ≡ (is_fit tables entry && stands tables entry)
-defined-change tables entry = ap is_ok (apply_entry-is tables entry) ∙ tested (is_fit tables entry) (stands tables entry)
+defined-change tables entry = tested (is_fit tables entry) (stands tables entry)
   where
     tested : (fits right : Bool) → is_ok (change_where fits right (refusal_of entry) (made tables entry)) ≡ (fits && right)
     tested true true = refl
@@ -95,20 +98,21 @@ defined-change tables entry = ap is_ok (apply_entry-is tables entry) ∙ tested 
     tested false right = refl
 
 -- an entry behind others that are defined is defined where it fits, and its row stands as it needs it after those
-defined-push : (shape : Shape) (tables : Tables) (before : List Entry) (entry : Entry) → shape_in tables ≡ shape
+defined-push : (tables : Tables) (before : List Entry) (entry : Entry) (table row : ℕ) → is_of table row entry ≡ true
     → is_ok (apply_entries tables before) ≡ true
     → is_ok (apply_entries tables (before ++ entry ∷ []))
-    ≡ (is_ok (fitting shape entry) && stands_for entry
-    (is_there_after (table_of entry) (row_of entry) before (there tables (table_of entry) (row_of entry))))
-defined-push shape tables before entry same h =
+    ≡ (is_ok (fitting (shape_after (shape_in tables) before) entry) && stands_for entry
+    (is_there_after table row before (there tables table row)))
+defined-push tables before entry table row of h =
     let middle = from_is_ok _ h in
     let turns = Turns-changes tables middle.0 before middle.1 in
     ap is_ok (apply_entries-append tables before (entry ∷ []))
     ∙ ap (λ first. is_ok (and_then (λ after. apply_entries after (entry ∷ [])) first)) middle.1
     ∙ alone (apply_entry middle.0 entry)
     ∙ defined-change middle.0 entry
-    ∙ ap (λ shape. is_ok (fitting shape entry) && stands middle.0 entry) (turns.kinds ∙ same)
-    ∙ ap (λ b. is_ok (fitting shape entry) && stands_for entry b) (turns.rows (table_of entry) (row_of entry))
+    ∙ ap (λ b. is_fit middle.0 entry && b) (stands-at middle.0 entry table row of)
+    ∙ ap (λ shape. is_ok (fitting shape entry) && stands_for entry (there middle.0 table row)) turns.kinds
+    ∙ ap (λ b. is_ok (fitting (shape_after (shape_in tables) before) entry) && stands_for entry b) (turns.rows table row)
   where
     alone : (first : Result Tables Refusal) → is_ok (and_then (λ after. Ok after) first) ≡ is_ok first
     alone (Ok after) = refl
@@ -117,12 +121,7 @@ defined-push shape tables before entry same h =
 -- the same on the rows at a version
 pub defined_behind : OneMoreEntryIsDefined
 defined_behind shape commits version before entry table row of h =
-    let at = of-parts table row entry of in
-    let tables = tables_after shape commits version in
-    defined-push shape tables before entry (shape-at shape commits version) h
-    ∙ ap (λ t. is_ok (fitting shape entry) && stands_for entry (is_there_after t (row_of entry) before
-    (is_row_at tables t (row_of entry)))) at.0
-    ∙ ap (λ r. is_ok (fitting shape entry) && stands_for entry (is_there_after table r before (is_row_at tables table r))) at.1
+    defined-push (tables_after shape commits version) before entry table row of h
 
 -- the first of entries that are defined are defined too
 pub defined_before : UndefinedStayUndefined
@@ -132,37 +131,60 @@ defined_before tables before entries h = ap is_ok (apply_entries-append tables b
     refused (Ok after) h = cc
     refused (Err refusal) h = refl
 
--- two databases that have the same of the rows of these entries
+-- whether two shapes have the same kinds in a table, once an entry has made of them what it makes
+shape-one : (shape other : Shape) (entry : Entry) (t : ℕ) → slice_get other t ≡ slice_get shape t
+    → slice_get (shape_after_one other entry) t ≡ slice_get (shape_after_one shape entry) t
+shape-one shape other (Insert table row bytes) t e = e
+shape-one shape other (Patch table row offset bytes) t e = e
+shape-one shape other (Delete table row) t e = e
+shape-one shape other (AddColumn table default) t e = added-alike shape other table default t e
+
+-- two databases that have the same of the tables and rows of these entries
+record HasSame (tables others : Tables) (entry : Entry) : Type 0 where
+  kinds : slice_get (shape_in others) (table_of entry) ≡ slice_get (shape_in tables) (table_of entry)
+  rows : (t r : ℕ) → is_of t r entry ≡ true → there others t r ≡ there tables t r
+
 abbrev SameRows : Tables → Tables → List Entry → Type 0
 SameRows tables others [] = Unit {0}
-SameRows tables others (entry ∷ entries) =
-    (there others (table_of entry) (row_of entry) ≡ there tables (table_of entry) (row_of entry)) × SameRows tables others entries
+SameRows tables others (entry ∷ entries) = HasSame tables others entry × SameRows tables others entries
 
-SameRows-turns : (tables others tables' others' : Tables) (turned : ℕ → ℕ → Bool → Bool) (entries : List Entry)
-    → Turns tables tables' turned → Turns others others' turned → SameRows tables others entries → SameRows tables' others' entries
-SameRows-turns tables others tables' others' turned [] x y same = tt
-SameRows-turns tables others tables' others' turned (entry ∷ entries) x y same =
-    let table = table_of entry in
-    let row = row_of entry in (
-      y.rows table row ∙ ap (turned table row) same.0 ∙ sym (x.rows table row),
-      SameRows-turns tables others tables' others' turned entries x y same.1,
-    )
+SameRows-turns : (tables others tables' others' : Tables) (by : Entry) (turned : ℕ → ℕ → Bool → Bool) (entries : List Entry)
+    → Turns tables tables' (λ shape. shape_after_one shape by) turned → Turns others others' (λ shape. shape_after_one shape by) turned
+    → SameRows tables others entries → SameRows tables' others' entries
+SameRows-turns tables others tables' others' by turned [] x y same = tt
+SameRows-turns tables others tables' others' by turned (entry ∷ entries) x y same = (
+  record {
+    kinds =
+        ap (λ shape. slice_get shape (table_of entry)) y.kinds
+        ∙ shape-one (shape_in tables) (shape_in others) by (table_of entry) same.0.kinds
+        ∙ ap (λ shape. slice_get shape (table_of entry)) (sym x.kinds);
+    rows = λ t r of. y.rows t r ∙ ap (turned t r) (same.0.rows t r of) ∙ sym (x.rows t r);
+  },
+  SameRows-turns tables others tables' others' by turned entries x y same.1,
+)
+
+-- whether the row of an entry stands as the entry needs it is the same in both
+stands-same : (tables others : Tables) (entry : Entry) → HasSame tables others entry → stands others entry ≡ stands tables entry
+stands-same tables others (Insert table row bytes) same = ap not (same.rows table row.0 (is_own table row.0))
+stands-same tables others (Patch table row offset bytes) same = same.rows table row.0 (is_own table row.0)
+stands-same tables others (Delete table row) same = same.rows table row.0 (is_own table row.0)
+stands-same tables others (AddColumn table default) same = refl
 
 -- entries that are defined on one are defined on the other
-defined-elsewhere : (tables others after : Tables) (entries : List Entry) → shape_in others ≡ shape_in tables
+defined-elsewhere : (tables others after : Tables) (entries : List Entry)
     → SameRows tables others entries → apply_entries tables entries ≡ Ok after → is_ok (apply_entries others entries) ≡ true
-defined-elsewhere tables others after [] alike same h = refl
-defined-elsewhere tables others after (entry ∷ entries) alike same h =
+defined-elsewhere tables others after [] same h = refl
+defined-elsewhere tables others after (entry ∷ entries) same h =
     let parts = and_then-parts _ (apply_entry tables entry) after h in
     let first = apply_entry-parts tables parts.0 entry parts.1 in
-    let fits : is_fit others entry ≡ true = ap (λ shape. is_ok (fitting shape entry)) alike ∙ first.0 in
+    let fits : is_fit others entry ≡ true = ap (λ kinds. is_ok (fitting_in kinds entry)) same.0.kinds ∙ first.0 in
     let other =
     from_is_ok (apply_entry others entry)
-    (defined-change others entry ∙ and_from _ _ fits (ap (stands_for entry) same.0 ∙ first.1)) in
+    (defined-change others entry ∙ and_from _ _ fits (stands-same tables others entry same.0 ∙ first.1)) in
     let turns = Turns-change tables parts.0 entry parts.1 in
     let turns' = Turns-change others other.0 entry other.1 in
-    rw other.1 (defined-elsewhere parts.0 other.0 after entries (turns'.kinds ∙ alike ∙ sym turns.kinds)
-    (SameRows-turns tables others parts.0 other.0 _ entries turns turns' same.1) parts.2)
+    rw other.1 (defined-elsewhere parts.0 other.0 after entries
+    (SameRows-turns tables others parts.0 other.0 entry _ entries turns turns' same.1) parts.2)
 
 -- the later of two numbers of commits, each 0 where there is none
 abbrev later_of : ℕ → ℕ → ℕ
@@ -237,30 +259,90 @@ module _ (holds : Commit → Bool) where
       later-le (cond (holds commit) (before + 1) 0) (last_where holds (before + 1) commits) (before + suc count) h in
       last_where-behind (before + 1) count commits (omega arith)
 
--- entries that conflict with an entry are those of its row
-any-overlaps : (entry : Entry) (entries : List Entry) → list_any (overlaps entry) entries ≡ named entries (table_of entry) (row_of entry)
-any-overlaps entry [] = refl
-any-overlaps entry (other ∷ entries) = rw (overlaps-is entry other, any-overlaps entry entries) refl
+-- an entry that does not conflict with one of a row is not of that row
+overlaps-not : (entry other : Entry) (t r : ℕ) → overlaps entry other ≡ false → is_of t r entry ≡ true → is_of t r other ≡ false
+overlaps-not (Insert table row bytes) other t r h of =
+    let at = and_parts (table == t) (row.0 == r) of in
+    ap (λ t. is_of t r other) (sym (eqb-true table t at.0)) ∙ ap (λ r. is_of table r other) (sym (eqb-true row.0 r at.1)) ∙ h
+overlaps-not (Patch table row offset bytes) other t r h of =
+    let at = and_parts (table == t) (row.0 == r) of in
+    ap (λ t. is_of t r other) (sym (eqb-true table t at.0)) ∙ ap (λ r. is_of table r other) (sym (eqb-true row.0 r at.1)) ∙ h
+overlaps-not (Delete table row) other t r h of =
+    let at = and_parts (table == t) (row.0 == r) of in
+    ap (λ t. is_of t r other) (sym (eqb-true table t at.0)) ∙ ap (λ r. is_of table r other) (sym (eqb-true row.0 r at.1)) ∙ h
+overlaps-not (AddColumn table default) other t r h of =
+    is_of-is t r other
+    ∙ ap (λ b. b && is_of_row r other) (ap (λ t. table_of other == t) (sym (eqb-true table t of)) ∙ h)
 
--- commits that touch none of these entries' rows write none of them
+-- an entry that does not conflict with another leaves the kinds of the other's table
+overlaps-kinds : (entry other : Entry) (shape : Shape) → overlaps entry other ≡ false
+    → slice_get (shape_after_one shape other) (table_of entry) ≡ slice_get shape (table_of entry)
+overlaps-kinds entry (Insert table row bytes) shape h = refl
+overlaps-kinds entry (Patch table row offset bytes) shape h = refl
+overlaps-kinds entry (Delete table row) shape h = refl
+overlaps-kinds entry (AddColumn table default) shape h = added-elsewhere shape table default (table_of entry) (apart entry h)
+  where
+    apart : (entry : Entry) → overlaps entry (AddColumn table default) ≡ false → table_of entry ≢ table
+    apart (Insert t row bytes) h e = absurd (false≢true (sym h ∙ eq-eqb table t (sym e)))
+    apart (Patch t row offset bytes) h e = absurd (false≢true (sym h ∙ eq-eqb table t (sym e)))
+    apart (Delete t row) h e = absurd (false≢true (sym h ∙ eq-eqb table t (sym e)))
+    apart (AddColumn t default) h e = absurd (false≢true (sym h ∙ eq-eqb table t (sym e)))
+
+-- entries, and commits, that do not conflict with an entry of a row
+none-of : (entry : Entry) (entries : List Entry) (t r : ℕ) → list_any (overlaps entry) entries ≡ false → is_of t r entry ≡ true
+    → named entries t r ≡ false
+none-of entry [] t r h of = refl
+none-of entry (other ∷ entries) t r h of =
+    let parts = or_parts (overlaps entry other) _ h in
+    or_from _ _ (overlaps-not entry other t r parts.0 of) (none-of entry entries t r parts.1 of)
+
+same-kinds : (entry : Entry) (entries : List Entry) (shape : Shape) → list_any (overlaps entry) entries ≡ false
+    → slice_get (shape_after shape entries) (table_of entry) ≡ slice_get shape (table_of entry)
+same-kinds entry [] shape h = refl
+same-kinds entry (other ∷ entries) shape h =
+    let parts = or_parts (overlaps entry other) _ h in
+    same-kinds entry entries (shape_after_one shape other) parts.1 ∙ overlaps-kinds entry other shape parts.0
+
+abbrev clear_of : Entry → List Commit → Bool
+clear_of entry commits = list_any (λ commit. list_any (overlaps entry) commit.entries) commits
+
+none-written : (entry : Entry) (commits : List Commit) (t r : ℕ) → clear_of entry commits ≡ false → is_of t r entry ≡ true
+    → written commits t r ≡ false
+none-written entry [] t r h of = refl
+none-written entry (commit ∷ commits) t r h of =
+    let parts = or_parts (list_any (overlaps entry) commit.entries) _ h in
+    or_from _ _ (none-of entry commit.entries t r parts.0 of) (none-written entry commits t r parts.1 of)
+
+same-kinds-commits : (entry : Entry) (commits : List Commit) (shape : Shape) → clear_of entry commits ≡ false
+    → slice_get (shape_after_commits shape commits) (table_of entry) ≡ slice_get shape (table_of entry)
+same-kinds-commits entry [] shape h = refl
+same-kinds-commits entry (commit ∷ commits) shape h =
+    let parts = or_parts (list_any (overlaps entry) commit.entries) _ h in
+    same-kinds-commits entry commits (shape_after shape commit.entries) parts.1 ∙ same-kinds entry commit.entries shape parts.0
+
+-- commits that touch none of these entries conflict with none of them
 touches-split : (entry : Entry) (entries : List Entry) (commits : List Commit) → list_any (touches (entry ∷ entries)) commits ≡ false
-    → (written commits (table_of entry) (row_of entry) ≡ false) × (list_any (touches entries) commits ≡ false)
+    → (clear_of entry commits ≡ false) × (list_any (touches entries) commits ≡ false)
 touches-split entry entries [] h = (refl, refl)
 touches-split entry entries (commit ∷ commits) h =
     let parts = or_parts (touches (entry ∷ entries) commit) _ h in
     let here = or_parts (list_any (overlaps entry) commit.entries) (touches entries commit) parts.0 in
     let others = touches-split entry entries commits parts.1 in
-    (or_from _ _ (sym (any-overlaps entry commit.entries) ∙ here.0) others.0, or_from _ _ here.1 others.1)
+    (or_from _ _ here.0 others.0, or_from _ _ here.1 others.1)
 
 SameRows-untouched : (tables others : Tables) (entries : List Entry) (commits : List Commit)
-    → Turns tables others (λ t r. is_there_after_commits t r commits) → list_any (touches entries) commits ≡ false
+    → Turns tables others (λ shape. shape_after_commits shape commits) (λ t r. is_there_after_commits t r commits)
+    → list_any (touches entries) commits ≡ false
     → SameRows tables others entries
 SameRows-untouched tables others [] commits turns h = tt
 SameRows-untouched tables others (entry ∷ entries) commits turns h =
-    let parts = touches-split entry entries commits h in
-    let table = table_of entry in
-    let row = row_of entry in (
-      turns.rows table row ∙ unwritten table row commits (there tables table row) parts.0,
+    let parts = touches-split entry entries commits h in (
+      record {
+        kinds =
+            ap (λ shape. slice_get shape (table_of entry)) turns.kinds
+            ∙ same-kinds-commits entry commits (shape_in tables) parts.0;
+        rows = λ t r of. turns.rows t r ∙ unwritten t r commits (there tables t r) (none-written entry commits t r parts.0 of);
+      },
       SameRows-untouched tables others entries commits turns parts.1,
     )
 
@@ -280,7 +362,7 @@ still_defined shape commits version entries legal last defined =
     (last_where-behind (touches entries) 0 version commits (omega arith)) in
     let made = from_is_ok _ defined in
     rw (newest shape commits all.0 all.1)
-    (defined-elsewhere (tables_after shape commits version) all.0 made.0 entries turns.kinds rows made.1)
+    (defined-elsewhere (tables_after shape commits version) all.0 made.0 entries rows made.1)
 
 -- a commit that is defined at the newest version goes behind the others
 pub apply_commits-push : OneMoreIsDefined
@@ -304,56 +386,98 @@ each-defined shape before commit behind h =
     let here = and_then-parts (λ after. apply_commits after behind) (apply_entries parts.0 commit.entries) all.0 parts.2 in
     rw (newest shape before parts.0 parts.1) (ap is_ok here.1)
 
--- entries that are defined fit, and so do those of commits
-entries-fit : (shape : Shape) (tables after : Tables) (entries : List Entry) → shape_in tables ≡ shape
-    → apply_entries tables entries ≡ Ok after → AllByRecursion (λ entry. is_ok (fitting shape entry) ≡ true) entries
-entries-fit shape tables after [] same h = tt
-entries-fit shape tables after (entry ∷ entries) same h =
+-- entries that are defined fit where they stand, and so do those of commits
+entries-fit : (tables after : Tables) (entries : List Entry) → apply_entries tables entries ≡ Ok after → FitInTurn (shape_in tables) entries
+entries-fit tables after [] h = tt
+entries-fit tables after (entry ∷ entries) h =
     let parts = and_then-parts _ (apply_entry tables entry) after h in
-    let first = apply_entry-parts tables parts.0 entry parts.1 in (
-      ap (λ shape. is_ok (fitting shape entry)) (sym same) ∙ first.0,
-      entries-fit shape parts.0 after entries ((Turns-change tables parts.0 entry parts.1).kinds ∙ same) parts.2,
-    )
+    let first = apply_entry-parts tables parts.0 entry parts.1 in
+    let turns = Turns-change tables parts.0 entry parts.1 in
+    (first.0, subst (λ shape. FitInTurn shape entries) turns.kinds (entries-fit parts.0 after entries parts.2))
 
-commits-fit : (shape : Shape) (tables after : Tables) (commits : List Commit) → shape_in tables ≡ shape
-    → apply_commits tables commits ≡ Ok after
-    → AllByRecursion (λ commit. AllByRecursion (λ entry. is_ok (fitting shape entry) ≡ true) commit.entries) commits
-commits-fit shape tables after [] same h = tt
-commits-fit shape tables after (commit ∷ commits) same h =
-    let parts = and_then-parts _ (apply_entries tables commit.entries) after h in (
-      entries-fit shape tables parts.0 commit.entries same parts.1,
-      commits-fit shape parts.0 after commits ((Turns-changes tables parts.0 commit.entries parts.1).kinds ∙ same) parts.2,
+commits-fit : (tables after : Tables) (commits : List Commit) → apply_commits tables commits ≡ Ok after
+    → CommitsFitInTurn (shape_in tables) commits
+commits-fit tables after [] h = tt
+commits-fit tables after (commit ∷ commits) h =
+    let parts = and_then-parts _ (apply_entries tables commit.entries) after h in
+    let turns = Turns-changes tables parts.0 commit.entries parts.1 in (
+      entries-fit tables parts.0 commit.entries parts.1,
+      subst (λ shape. CommitsFitInTurn shape commits) turns.kinds (commits-fit parts.0 after commits parts.2),
     )
 
 pub each-fits : EachFits
 each-fits shape commits h =
     let all = from_is_ok _ h in
-    commits-fit shape (opening shape) all.0 commits (shape_in-opening shape) all.1
+    subst (λ shape. CommitsFitInTurn shape commits) (shape_in-opening shape) (commits-fit (opening shape) all.0 commits all.1)
+
+-- the tables of entries that are defined are there, and so are those of commits
+entries-have-table : (tables after : Tables) (entries : List Entry) (count : ℕ) → length (shape_in tables) ≡ count
+    → apply_entries tables entries ≡ Ok after → AllByRecursion (λ entry. table_of entry < count) entries
+entries-have-table tables after [] count same h = tt
+entries-have-table tables after (entry ∷ entries) count same h =
+    let parts = and_then-parts _ (apply_entry tables entry) after h in
+    let first = apply_entry-parts tables parts.0 entry parts.1 in
+    let turns = Turns-change tables parts.0 entry parts.1 in (
+      omega (arith, fitting-within (shape_in tables) entry first.0, same),
+      entries-have-table parts.0 after entries count
+          (ap length turns.kinds ∙ length-shape_after_one (shape_in tables) entry ∙ same) parts.2,
+    )
+
+commits-have-table : (tables after : Tables) (commits : List Commit) (count : ℕ) → length (shape_in tables) ≡ count
+    → apply_commits tables commits ≡ Ok after
+    → AllByRecursion (λ commit. AllByRecursion (λ entry. table_of entry < count) commit.entries) commits
+commits-have-table tables after [] count same h = tt
+commits-have-table tables after (commit ∷ commits) count same h =
+    let parts = and_then-parts _ (apply_entries tables commit.entries) after h in
+    let turns = Turns-changes tables parts.0 commit.entries parts.1 in (
+      entries-have-table tables parts.0 commit.entries count same parts.1,
+      commits-have-table parts.0 after commits count
+          (ap length turns.kinds ∙ length-shape_after (shape_in tables) commit.entries ∙ same) parts.2,
+    )
+
+pub each-has-table : EachHasTable
+each-has-table shape commits h =
+    let all = from_is_ok _ h in
+    commits-have-table (opening shape) all.0 commits (length shape) (ap length (shape_in-opening shape)) all.1
 
 -- which rows are there after entries that are defined
 pub presence-told : PresenceIsTold
 presence-told tables entries table row h =
-    (Turns-applied (shape_in tables) tables entries refl).rows table row
-    ∙ is_there_after_fit-defined (shape_in tables) tables entries table row (is_row_at tables table row) refl h
+    (Turns-applied tables entries).rows table row
+    ∙ is_there_after_fit-defined tables entries table row (is_row_at tables table row) h
 
--- entries and commits leave the kinds of each table's columns
-pub entry-kinds : EntryKeepsKinds
+-- the kinds after entries and commits
+pub entry-kinds : EntryTellsKinds
 entry-kinds tables after entry h = (Turns-change tables after entry h).kinds
 
-pub entries-kinds : EntriesKeepKinds
+pub entries-kinds : EntriesTellKinds
 entries-kinds tables after entries h = (Turns-changes tables after entries h).kinds
 
-pub applied-kinds : AppliedKeepKinds
-applied-kinds tables entries = (Turns-applied (shape_in tables) tables entries refl).kinds
+pub applied-kinds : AppliedTellKinds
+applied-kinds tables entries = (Turns-applied tables entries).kinds
 
-pub commits-kinds : CommitsKeepKinds
+pub commits-kinds : CommitsTellKinds
 commits-kinds tables after commits h = (Turns-commits tables after commits h).kinds
 
--- two entries are of one row in either order
+-- two entries conflict in either order
+overlaps-of : (entry : Entry) (table row : ℕ) → ((table_of entry == table) && is_of_row row entry)
+    ≡ ((table == table_of entry) && is_of_row row entry)
+overlaps-of entry table row = grind (arith, nat_tests)
+
 pub overlaps-symmetric : IsSymmetric
-overlaps-symmetric entry other =
-    overlaps-is entry other ∙ is_of-is (table_of entry) (row_of entry) other ∙ turned (table_of entry) (row_of entry)
-    ∙ sym (is_of-is (table_of other) (row_of other) entry) ∙ sym (overlaps-is other entry)
-  where
-    turned : (t r : ℕ) → ((table_of other == t) && (row_of other == r)) ≡ ((t == table_of other) && (r == row_of other))
-    turned t r = grind (arith, nat_tests)
+overlaps-symmetric (Insert t r b) (Insert t' r' b') = grind (arith, nat_tests)
+overlaps-symmetric (Insert t r b) (Patch t' r' o' b') = grind (arith, nat_tests)
+overlaps-symmetric (Insert t r b) (Delete t' r') = grind (arith, nat_tests)
+overlaps-symmetric (Insert t r b) (AddColumn t' d') = grind (arith, nat_tests)
+overlaps-symmetric (Patch t r o b) (Insert t' r' b') = grind (arith, nat_tests)
+overlaps-symmetric (Patch t r o b) (Patch t' r' o' b') = grind (arith, nat_tests)
+overlaps-symmetric (Patch t r o b) (Delete t' r') = grind (arith, nat_tests)
+overlaps-symmetric (Patch t r o b) (AddColumn t' d') = grind (arith, nat_tests)
+overlaps-symmetric (Delete t r) (Insert t' r' b') = grind (arith, nat_tests)
+overlaps-symmetric (Delete t r) (Patch t' r' o' b') = grind (arith, nat_tests)
+overlaps-symmetric (Delete t r) (Delete t' r') = grind (arith, nat_tests)
+overlaps-symmetric (Delete t r) (AddColumn t' d') = grind (arith, nat_tests)
+overlaps-symmetric (AddColumn t d) (Insert t' r' b') = grind (arith, nat_tests)
+overlaps-symmetric (AddColumn t d) (Patch t' r' o' b') = grind (arith, nat_tests)
+overlaps-symmetric (AddColumn t d) (Delete t' r') = grind (arith, nat_tests)
+overlaps-symmetric (AddColumn t d) (AddColumn t' d') = grind (arith, nat_tests)

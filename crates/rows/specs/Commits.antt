@@ -3,9 +3,10 @@ use Rattle.std.specs.Prelude.{ℕ, ◌+◌, ◌<◌, ◌≤◌, List, [], ◌∷
 use Rattle.std.specs.List.{list_any, AllByRecursion}
 use Rattle.rows.specs.declared.commit.Commit.{Commit}
 use Rattle.rows.specs.declared.entry.Entry.{Entry}
-use Rattle.rows.specs.declared.entry.Entry.TheVariants.{Insert, Patch, Delete}
+use Rattle.rows.specs.declared.entry.Entry.TheVariants.{Insert, Patch, Delete, AddColumn}
 use Rattle.rows.specs.Limits.{commit_entries_max}
 use Rattle.rows.specs.Shape.{Shape}
+use Rattle.rows.specs.Entries.{table_of, shape_after}
 use Rattle.rows.specs.Tables.{Tables, Refusal, opening, apply_entries, and_then}
 
 -- the tables after all entries of these commits, in order, or the first refusal
@@ -24,6 +25,11 @@ pub record IsLegal (shape : Shape) (workers : ℕ) (commits : List Commit) : Typ
   pub each : AllByRecursion (IsCommit workers) commits
   pub defined : IsOk (apply_commits (opening shape) commits)
 
+-- the kinds of the tables' columns after commits
+abbrev pub shape_after_commits : Shape → List Commit → Shape
+shape_after_commits shape [] = shape
+shape_after_commits shape (commit ∷ commits) = shape_after_commits (shape_after shape commit.entries) commits
+
 -- the tables after the first `version` commits of a legal list
 abbrev pub tables_after : Shape → List Commit → ℕ → Tables
 tables_after shape commits version = or_opening (apply_commits (opening shape) (take version commits))
@@ -33,17 +39,19 @@ tables_after shape commits version = or_opening (apply_commits (opening shape) (
     or_opening (Ok tables) = tables
     or_opening (Err refusal) = opening shape
 
--- whether an entry is of that row of that table
+-- whether an entry is of that row of that table; one that adds a column is of every row of its table
 abbrev pub is_of : ℕ → ℕ → Entry → Bool
 is_of table row (Insert at id bytes) = (at == table) && (id.0 == row)
 is_of table row (Patch at id offset bytes) = (at == table) && (id.0 == row)
 is_of table row (Delete at id) = (at == table) && (id.0 == row)
+is_of table row (AddColumn at default) = at == table
 
--- whether two entries conflict: they are of the same row of the same table
+-- whether two entries conflict: they are of the same row of the same table, or one adds a column to the table of the other
 abbrev pub overlaps : Entry → Entry → Bool
 overlaps (Insert table row bytes) other = is_of table row.0 other
 overlaps (Patch table row offset bytes) other = is_of table row.0 other
 overlaps (Delete table row) other = is_of table row.0 other
+overlaps (AddColumn table default) other = table_of other == table
 
 -- whether some entry of the commit overlaps with one of these
 abbrev pub touches : List Entry → Commit → Bool
@@ -59,6 +67,6 @@ last_where holds before (commit ∷ commits) =
     later : ℕ → ℕ
     later last = if last == 0 then (if holds commit then before + 1 else 0) else last
 
--- the greatest number of a commit that touches a row of these entries, counted so
+-- the greatest number of a commit that touches these entries, counted so
 abbrev pub last_touching : List Entry → ℕ → List Commit → ℕ
 last_touching entries before commits = last_where (touches entries) before commits

@@ -1,6 +1,6 @@
--- Laws of the definitions: what changes leave as it is, how numbers and entries are read, which column bytes are of,
--- which entries conflict, and what is equal.
-use Rattle.std.specs.Prelude.{◌≡◌, ℕ, ◌+◌, ◌^◌, ◌<◌, ◌≤◌, List, ◌++◌, length, take, drop, nat_eq, true, Ok, Some}
+-- Laws of the definitions: what changes make of the kinds and leave of the rows, how numbers and entries are read, which column bytes
+-- are of, which entries conflict, and what is equal.
+use Rattle.std.specs.Prelude.{◌≡◌, ℕ, ◌+◌, ◌^◌, ◌<◌, ◌≤◌, List, [], ◌∷◌, ◌++◌, length, take, drop, nat_eq, is_ok, true, Ok, Some}
 use Rattle.std.specs.Bool.{Decides}
 use Rattle.std.specs.List.{flat_map, list_all, AllByRecursion}
 use Rattle.std.specs.Cmp.Lexicographic.{pointwise}
@@ -8,34 +8,57 @@ use Rattle.byteorder.specs.Endian.{big_bytes, big_number}
 use Rattle.rows.specs.declared.commit.Commit.{Commit}
 use Rattle.rows.specs.declared.entry.Entry.{Entry}
 use Rattle.rows.specs.declared.kind.Kind.{Kind}
-use Rattle.rows.specs.Shape.{Shape, width_of, is_good, column_at}
+use Rattle.rows.specs.Shape.{Shape, width_of, is_good, column_at, kinds_in, AreColumns, AreTables}
+use Rattle.rows.specs.Entries.{has_room, shape_after_one, shape_after}
 use Rattle.rows.specs.Values.{value_of}
-use Rattle.rows.specs.Tables.{Tables, shape_in, RowsAreOfKinds, apply_entry, apply_entries, applied}
-use Rattle.rows.specs.Commits.{apply_commits, tables_after, overlaps}
+use Rattle.rows.specs.Tables.{Tables, opening, shape_in, RowsAreOfKinds, apply_entry, apply_entries, applied}
+use Rattle.rows.specs.Commits.{apply_commits, tables_after, shape_after_commits, overlaps}
 use Rattle.rows.specs.Equality.{is_same_entry, is_same_commit}
 use Rattle.rows.specs.Spelling.{AreBytes, HasSpelling, entry_spelling}
 use Rattle.rows.specs.Reading.{entries_filling}
 
--- an entry leaves the kinds of each table's columns
-abbrev pub EntryKeepsKinds : Type 0
-EntryKeepsKinds = (tables after : Tables) (entry : Entry) → apply_entry tables entry ≡ Ok after → shape_in after ≡ shape_in tables
+-- the kinds of the tables' columns after an entry are those that the entry makes of them
+abbrev pub EntryTellsKinds : Type 0
+EntryTellsKinds =
+    (tables after : Tables) (entry : Entry) → apply_entry tables entry ≡ Ok after → shape_in after ≡ shape_after_one (shape_in tables) entry
 
 -- and so do entries, whether each must be defined or one that is refused changes nothing
-abbrev pub EntriesKeepKinds : Type 0
-EntriesKeepKinds =
-    (tables after : Tables) (entries : List Entry) → apply_entries tables entries ≡ Ok after → shape_in after ≡ shape_in tables
+abbrev pub EntriesTellKinds : Type 0
+EntriesTellKinds =
+    (tables after : Tables) (entries : List Entry) → apply_entries tables entries ≡ Ok after
+    → shape_in after ≡ shape_after (shape_in tables) entries
 
-abbrev pub AppliedKeepKinds : Type 0
-AppliedKeepKinds = (tables : Tables) (entries : List Entry) → shape_in (applied tables entries) ≡ shape_in tables
+abbrev pub AppliedTellKinds : Type 0
+AppliedTellKinds = (tables : Tables) (entries : List Entry) → shape_in (applied tables entries) ≡ shape_after (shape_in tables) entries
 
 -- and so do commits
-abbrev pub CommitsKeepKinds : Type 0
-CommitsKeepKinds =
-    (tables after : Tables) (commits : List Commit) → apply_commits tables commits ≡ Ok after → shape_in after ≡ shape_in tables
+abbrev pub CommitsTellKinds : Type 0
+CommitsTellKinds =
+    (tables after : Tables) (commits : List Commit) → apply_commits tables commits ≡ Ok after
+    → shape_in after ≡ shape_after_commits (shape_in tables) commits
 
--- the tables at each version have the kinds that they were opened with
-abbrev pub VersionsKeepKinds : Type 0
-VersionsKeepKinds = (shape : Shape) (commits : List Commit) (version : ℕ) → shape_in (tables_after shape commits version) ≡ shape
+-- the tables at each version have the kinds that the commits up to it make of those that they were opened with
+abbrev pub VersionsTellKinds : Type 0
+VersionsTellKinds =
+    (shape : Shape) (commits : List Commit) (version : ℕ) → is_ok (apply_commits (opening shape) commits) ≡ true
+    → shape_in (tables_after shape commits version) ≡ shape_after_commits shape (take version commits)
+
+-- entries change neither how many tables there are, nor the columns that a table has: they add columns behind them
+abbrev pub TablesStay : Type 0
+TablesStay = (shape : Shape) (entries : List Entry) → length (shape_after shape entries) ≡ length shape
+
+abbrev pub ColumnsStay : Type 0
+ColumnsStay =
+    (shape : Shape) (entries : List Entry) (table : ℕ)
+    → take (length (kinds_in shape table)) (kinds_in (shape_after shape entries) table) ≡ kinds_in shape table
+
+-- columns of a table with one more for which there is room are columns of a table
+abbrev pub RoomKeepsLimits : Type 0
+RoomKeepsLimits = (kinds : List Kind) (kind : Kind) → AreColumns kinds → has_room kinds kind ≡ true → AreColumns (kinds ++ kind ∷ [])
+
+-- and tables that a schema may have are such tables after entries
+abbrev pub LimitsStay : Type 0
+LimitsStay = (shape : Shape) (entries : List Entry) → AreTables shape → AreTables (shape_after shape entries)
 
 -- if each row has values of its columns' kinds, it still has after an entry
 abbrev pub EntryKeepsRows : Type 0

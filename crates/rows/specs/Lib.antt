@@ -8,6 +8,7 @@ pub mod Equality
 pub mod Tables
 pub mod Commits
 pub mod Laws
+pub mod EntryLaws
 pub mod ListLaws
 pub mod Presence
 pub mod RowAfter

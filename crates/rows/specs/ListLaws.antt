@@ -1,11 +1,11 @@
 -- Laws of lists of commits and of entries: when one is defined, which parts of it are, and what of a row it leaves.
-use Rattle.std.specs.Prelude.{◌≡◌, ℕ, ◌≤◌, List, [], ◌∷◌, ◌++◌, length, take, None, Ok, ◌&&◌, true, false, is_ok}
+use Rattle.std.specs.Prelude.{◌≡◌, ℕ, ◌<◌, ◌≤◌, List, [], ◌∷◌, ◌++◌, length, take, None, Ok, ◌&&◌, true, false, is_ok}
 use Rattle.std.specs.List.{AllByRecursion}
 use Rattle.rows.specs.declared.commit.Commit.{Commit}
 use Rattle.rows.specs.declared.entry.Entry.{Entry}
 use Rattle.rows.specs.Shape.{Shape}
-use Rattle.rows.specs.Entries.{fitting}
-use Rattle.rows.specs.Tables.{Tables, opening, rows_of, row_at, is_row_at, apply_entries, applied}
+use Rattle.rows.specs.Entries.{fitting, table_of, shape_after_one, shape_after}
+use Rattle.rows.specs.Tables.{Tables, opening, shape_in, rows_of, row_at, is_row_at, apply_entries, applied}
 use Rattle.rows.specs.Commits.{apply_commits, tables_after, is_of, last_touching}
 use Rattle.rows.specs.Presence.{stands_for, is_there_after}
 use Rattle.rows.specs.RowAfter.{row_after_commits, row_after_fit}
@@ -23,11 +23,24 @@ EachIsDefined =
     → is_ok (apply_commits (opening shape) (before ++ commit ∷ behind)) ≡ true
     → is_ok (apply_entries (tables_after shape before (length before)) commit.entries) ≡ true
 
--- and each entry of each of them fits
+-- and each entry of each of them fits where it stands
+abbrev pub FitInTurn : Shape → List Entry → Type 0
+FitInTurn shape [] = Unit {0}
+FitInTurn shape (entry ∷ entries) = (is_ok (fitting shape entry) ≡ true) × FitInTurn (shape_after_one shape entry) entries
+
+abbrev pub CommitsFitInTurn : Shape → List Commit → Type 0
+CommitsFitInTurn shape [] = Unit {0}
+CommitsFitInTurn shape (commit ∷ commits) = FitInTurn shape commit.entries × CommitsFitInTurn (shape_after shape commit.entries) commits
+
 abbrev pub EachFits : Type 0
 EachFits =
+    (shape : Shape) (commits : List Commit) → is_ok (apply_commits (opening shape) commits) ≡ true → CommitsFitInTurn shape commits
+
+-- and the table of each entry of each of them is there
+abbrev pub EachHasTable : Type 0
+EachHasTable =
     (shape : Shape) (commits : List Commit) → is_ok (apply_commits (opening shape) commits) ≡ true
-    → AllByRecursion (λ commit. AllByRecursion (λ entry. is_ok (fitting shape entry) ≡ true) commit.entries) commits
+    → AllByRecursion (λ commit. AllByRecursion (λ entry. table_of entry < length shape) commit.entries) commits
 
 -- with one more after them that is defined there, they are defined
 abbrev pub OneMoreIsDefined : Type 0
@@ -42,16 +55,16 @@ UndefinedStayUndefined =
     (tables : Tables) (before entries : List Entry) → is_ok (apply_entries tables before) ≡ false
     → is_ok (apply_entries tables (before ++ entries)) ≡ false
 
--- one more entry is defined if it fits and its row stands as it needs it
+-- one more entry is defined if it fits the tables after the others and its row stands as it needs it
 abbrev pub OneMoreEntryIsDefined : Type 0
 OneMoreEntryIsDefined =
     (shape : Shape) (commits : List Commit) (version : ℕ) (before : List Entry) (entry : Entry) (table row : ℕ)
     → is_of table row entry ≡ true → is_ok (apply_entries (tables_after shape commits version) before) ≡ true
     → is_ok (apply_entries (tables_after shape commits version) (before ++ entry ∷ []))
-    ≡ (is_ok (fitting shape entry)
+    ≡ (is_ok (fitting (shape_after (shape_in (tables_after shape commits version)) before) entry)
     && stands_for entry (is_there_after table row before (is_row_at (tables_after shape commits version) table row)))
 
--- entries that are defined at a version, and of rows that no later commit touches, are defined at the newest
+-- entries that are defined at a version, and that no later commit touches, are defined at the newest
 abbrev pub UntouchedStayDefined : Type 0
 UntouchedStayDefined =
     (shape : Shape) (commits : List Commit) (version : ℕ) (entries : List Entry)
@@ -76,4 +89,5 @@ abbrev pub RowsAreSeen : Type 0
 RowsAreSeen =
     (shape : Shape) (commits : List Commit) (version : ℕ) (entries : List Entry) (table row : ℕ)
     → row_at (rows_of (applied (tables_after shape commits version) entries) table) row
-    ≡ row_after_fit shape table row entries (row_at (rows_of (tables_after shape commits version) table) row)
+    ≡ row_after_fit (shape_in (tables_after shape commits version)) table row entries
+    (row_at (rows_of (tables_after shape commits version) table) row)

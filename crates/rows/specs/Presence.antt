@@ -1,20 +1,22 @@
 -- Whether a row is there after entries, derived from the entries alone.
 use Rattle.std.specs.Prelude.{ℕ, List, [], ◌∷◌, Bool, true, false, not, if◌then◌else◌}
 use Rattle.rows.specs.declared.entry.Entry.{Entry}
-use Rattle.rows.specs.declared.entry.Entry.TheVariants.{Insert, Patch, Delete}
+use Rattle.rows.specs.declared.entry.Entry.TheVariants.{Insert, Patch, Delete, AddColumn}
 use Rattle.rows.specs.Commits.{is_of}
 
--- whether the row of an entry is as the entry needs it, by whether it is there
+-- whether a row of an entry is as the entry needs it, by whether it is there; a column is added whether it is there or not
 abbrev pub stands_for : Entry → Bool → Bool
 stands_for (Insert table row bytes) there = not there
 stands_for (Patch table row offset bytes) there = there
 stands_for (Delete table row) there = there
+stands_for (AddColumn table default) there = true
 
--- whether the row of an entry is there after it, by whether it was there
+-- whether a row of an entry is there after it, by whether it was there
 abbrev pub left_by : Entry → Bool → Bool
 left_by (Insert table row bytes) there = true
 left_by (Patch table row offset bytes) there = there
 left_by (Delete table row) there = false
+left_by (AddColumn table default) there = there
 
 -- whether a row is there after an entry, by whether it was there
 abbrev pub is_there_after_one : ℕ → ℕ → Entry → Bool → Bool

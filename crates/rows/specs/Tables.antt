@@ -2,8 +2,9 @@
 --
 -- A table has the kinds of its columns, and the list of its rows in rising identifier, each with
 -- its values: tables of the same kinds and rows are equal. An entry that fits and finds what it
--- needs changes one row, and any other is refused.
-use Rattle.std.specs.Prelude.{ℕ, List, [], ◌∷◌, map, length, Bool, Option, None, Some, Result, Ok, Err, ◌==◌, not, if◌then◌else◌, slice_get}
+-- needs changes one row, or adds a column to every row of a table, and any other is refused.
+use Rattle.std.specs.Prelude.{ℕ, List, [], ◌∷◌, ◌++◌, map, length, Bool, Option, None, Some, Result, Ok, Err, ◌==◌, not, if◌then◌else◌}
+use Rattle.std.specs.Prelude.{slice_get}
 use Rattle.std.specs.Prelude.{◌≡◌, true, slice_set, is_some, is_ok, IfSome}
 use Rattle.std.specs.List.{filter}
 use Rattle.std.specs.Option.{option_map_or}
@@ -12,11 +13,11 @@ use Rattle.std.specs.Ordering.{nat_cmp}
 use Rattle.std.specs.Map.{lookup, set_value}
 use Rattle.std.specs.BTreeMap.{is_at, insert_entry}
 use Rattle.rows.specs.declared.entry.Entry.{Entry}
-use Rattle.rows.specs.declared.entry.Entry.TheVariants.{Insert, Patch, Delete}
+use Rattle.rows.specs.declared.entry.Entry.TheVariants.{Insert, Patch, Delete, AddColumn}
 use Rattle.rows.specs.declared.kind.Kind.{Kind}
 use Rattle.rows.specs.declared.value.Value.{Value}
 use Rattle.rows.specs.Shape.{Shape, kinds_in, column_at}
-use Rattle.rows.specs.Values.{value_of, values_of, are_of_kinds}
+use Rattle.rows.specs.Values.{value_of, values_of, are_of_kinds, kind_of}
 use Rattle.rows.specs.Entries.{fitting}
 
 -- a table's rows in rising identifier, each with its values
@@ -89,9 +90,13 @@ with_patch kinds rows row offset bytes = put (row_at rows row)
 abbrev pub without_row : Rows → ℕ → Rows
 without_row rows row = filter (λ entry. not (entry.0 == row)) rows
 
+-- these rows, each with this value behind those that it has
+abbrev pub with_column : Value → Rows → Rows
+with_column default rows = map (λ row. (row.0, row.1 ++ default ∷ [])) rows
+
 -- why a change is refused
 pub data Refusal : Type 0 where
-  -- the entry does not fit the schema
+  -- the entry does not fit the tables
   Unfit : Refusal
   -- it inserts a row that is there
   Exists : Refusal
@@ -115,7 +120,15 @@ patched tables table row offset bytes =
 abbrev pub deleted : Tables → ℕ → ℕ → Tables
 deleted tables table row = with_rows tables table (without_row (rows_of tables table) row)
 
--- whether an entry fits where it stands: its table is there, and its data are bytes of that table's columns
+-- the tables with one more column in one of them, which has this value in each row
+abbrev pub widened : Tables → ℕ → Value → Tables
+widened tables table default =
+    slice_set tables table (record {
+      kinds = kinds_of tables table ++ kind_of default ∷ [];
+      rows = with_column default (rows_of tables table);
+    })
+
+-- whether an entry fits where it stands, by the kinds that the tables' columns have there
 abbrev pub is_fit : Tables → Entry → Bool
 is_fit tables entry = is_ok (fitting (shape_in tables) entry)
 
@@ -123,15 +136,30 @@ is_fit tables entry = is_ok (fitting (shape_in tables) entry)
 abbrev pub change_where : Bool → Bool → Refusal → Tables → Result Tables Refusal
 change_where fits stands refusal after = if fits then (if stands then Ok after else Err refusal) else Err Unfit
 
+-- whether an entry's row stands as the entry needs it: absent for an insert, there for a patch and a delete. An added column needs none
+abbrev pub stands : Tables → Entry → Bool
+stands tables (Insert table row bytes) = not (is_row_at tables table row.0)
+stands tables (Patch table row offset bytes) = is_row_at tables table row.0
+stands tables (Delete table row) = is_row_at tables table row.0
+stands tables (AddColumn table default) = true
+
+-- why an entry is refused whose row does not stand as it needs it
+abbrev pub refusal_of : Entry → Refusal
+refusal_of (Insert table row bytes) = Exists
+refusal_of (Patch table row offset bytes) = Missing
+refusal_of (Delete table row) = Missing
+refusal_of (AddColumn table default) = Missing
+
+-- the tables that an entry makes
+abbrev pub made : Tables → Entry → Tables
+made tables (Insert table row bytes) = inserted tables table row.0 bytes
+made tables (Patch table row offset bytes) = patched tables table row.0 offset bytes
+made tables (Delete table row) = deleted tables table row.0
+made tables (AddColumn table default) = widened tables table default
+
 -- the tables after one entry, or why it is refused
 abbrev pub apply_entry : Tables → Entry → Result Tables Refusal
-apply_entry tables (Insert table row bytes) =
-    change_where (is_fit tables (Insert table row bytes)) (not (is_row_at tables table row.0)) Exists (inserted tables table row.0 bytes)
-apply_entry tables (Patch table row offset bytes) =
-    change_where (is_fit tables (Patch table row offset bytes)) (is_row_at tables table row.0) Missing
-    (patched tables table row.0 offset bytes)
-apply_entry tables (Delete table row) =
-    change_where (is_fit tables (Delete table row)) (is_row_at tables table row.0) Missing (deleted tables table row.0)
+apply_entry tables entry = change_where (is_fit tables entry) (stands tables entry) (refusal_of entry) (made tables entry)
 
 -- what comes after a change, if it is not refused
 abbrev pub and_then : (Tables → Result Tables Refusal) → Result Tables Refusal → Result Tables Refusal

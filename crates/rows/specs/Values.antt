@@ -35,6 +35,11 @@ is_of_kind (Int number) (kinds.Octets width) = false
 is_of_kind (Octets bytes) kinds.Int = false
 is_of_kind (Octets bytes) (kinds.Octets width) = length bytes == width
 
+-- the kind of a column that has this value
+abbrev pub kind_of : Value → Kind
+kind_of (Int number) = kinds.Int
+kind_of (Octets bytes) = kinds.Octets (length bytes)
+
 -- whether these are the values of columns of these kinds, one each
 abbrev pub are_of_kinds : List Value → List Kind → Bool
 are_of_kinds [] [] = true

@@ -8,3 +8,6 @@ pub const PATCH_CODE: u8 = 2;
 
 /// A delete.
 pub const DELETE_CODE: u8 = 3;
+
+/// An added column.
+pub const ADD_COLUMN_CODE: u8 = 4;

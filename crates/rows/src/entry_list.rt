@@ -65,6 +65,15 @@ impl EntryList {
         self.items
     }
 
+    /// Makes room for exactly this many more entries, if there is less; contracts do not see room.
+    /// Fails only if out of memory.
+    pub fn reserve_exact(&mut self, more: usize) -> Result<(), AllocError>
+        ensures { self.new ≡ self.old }
+    {
+        self.items.reserve_exact(more)?;
+        Ok(())
+    }
+
     /// Adds an entry at the end. Fails only if out of memory.
     pub fn push(&mut self, entry: Entry) -> Result<(), AllocError>
         ensures ok { OnOk result (self.new ≡ self.old ++ entry ∷ []) }

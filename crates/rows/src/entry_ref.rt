@@ -1,4 +1,5 @@
 use crate::row_id::RowId;
+use crate::value::Value;
 
 /// An entry whose data is lent by the bytes from which it was read.
 #[derive(Clone, Copy)]
@@ -20,5 +21,10 @@ pub enum EntryRef<'a> {
     Delete {
         table: u8,
         row: RowId,
+    },
+    /// Adds a column behind those of a table.
+    AddColumn {
+        table: u8,
+        default: Value,
     },
 }

@@ -29,7 +29,8 @@ pub enum EntryFault {
     /// The schema has no table of that number.
     #[error("no such table")]
     NoTable,
-    /// An insert's data does not have the width of the table's rows.
+    /// An insert's data does not have the width of the table's rows; or there is no room for an added
+    /// column, since it has no bytes, the table has 16, or a row would take more than 512 bytes.
     #[error("the data has not the row's width")]
     WrongSize,
     /// A patch's offset and size are not exactly those of one column's bytes.

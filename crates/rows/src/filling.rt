@@ -1,20 +1,20 @@
 //! Entries that fill bytes, one after the other.
 
-ghost use Rattle.std.specs.Prelude.{◌≡◌, [], IfOk, is_ok, is_some, true};
+ghost use Rattle.std.specs.Prelude.{◌≡◌, [], IfOk, is_some, true, nat_lt};
 ghost use Rattle.std.specs.List.{list_all};
 ghost use Rattle.std.specs.Option.{unwrap_or};
-ghost use Rattle.rows.specs.Entries.{fitting};
+ghost use Rattle.rows.specs.Entries.{table_of};
 ghost use Rattle.rows.specs.Reading.{entries_filling, entry_of};
-ghost use Rattle.rows.specs.Shape.{shape_of};
 
 use crate::byte_list::ByteList;
 use crate::entry::Entry;
 use crate::entry_list::EntryList;
 use crate::entry_ref::EntryRef;
-use crate::fitting::fits_lent;
 use crate::reading::read_entry;
-use crate::schema::Schema;
 use std::alloc::{AllocError, Global};
+
+/// Bytes of the shortest spelling of an entry: an added column of one byte.
+pub const ENTRY_LEN_MIN: usize = 1 + 1 + 1 + 1;
 
 /// Whether exactly `count` entries fill the bytes. Takes no memory.
 pub fn entries_fill(count: u16, bytes: &[u8]) -> bool
@@ -30,17 +30,17 @@ pub fn entries_fill(count: u16, bytes: &[u8]) -> bool
     rest.is_empty()
 }
 
-/// Whether every entry that fills the bytes fits the schema. Takes no memory.
-pub fn entries_fit(schema: &Schema, count: u16, bytes: &[u8]) -> bool
+/// Whether the table of every entry that fills the bytes is one of this many. Takes no memory.
+pub fn entries_have_table(tables: usize, count: u16, bytes: &[u8]) -> bool
     requires { is_some (entries_filling count bytes.now) ≡ true }
-    ensures { result ≡ list_all (λ entry. is_ok (fitting (shape_of schema.now) entry)) (unwrap_or (entries_filling count bytes.now) []) }
+    ensures { result ≡ list_all (λ entry. nat_lt (table_of entry) tables) (unwrap_or (entries_filling count bytes.now) []) }
 {
     let mut rest = bytes;
     for _ in 0..count {
         match read_entry(rest) {
             None => unreachable!(),
             Some((entry, len)) => {
-                if fits_lent(schema, entry).is_err() {
+                if table_of(&entry) as usize >= tables {
                     return false;
                 }
                 rest = rest.split_at(len).1;
@@ -50,8 +50,20 @@ pub fn entries_fit(schema: &Schema, count: u16, bytes: &[u8]) -> bool
     true
 }
 
-/// The entries that the bytes spell, `count` of them in all of the bytes, owned; `None` if the
-/// bytes do not spell them. Fails only if out of memory.
+/// The table of a lent entry.
+fn table_of(lent: &EntryRef<'_>) -> u8
+    ensures { result ≡ table_of (entry_of lent.now) }
+{
+    match lent {
+        EntryRef::Insert { table, .. }
+        | EntryRef::Patch { table, .. }
+        | EntryRef::Delete { table, .. }
+        | EntryRef::AddColumn { table, .. } => *table,
+    }
+}
+
+/// The entries that the bytes spell, `count` of them in all of the bytes, owned, in a list with room
+/// for exactly them; `None` if the bytes do not spell them. Fails only if out of memory.
 pub fn read_entries(
     alloc: Global,
     count: u16,
@@ -60,12 +72,14 @@ pub fn read_entries(
     ensures { IfOk result (λ found. found ≡ entries_filling count bytes.now) }
 {
     let mut entries = EntryList::new(alloc);
+    // A wrong count takes no more room than the bytes could need.
+    entries.reserve_exact((count as usize).min(bytes.len() / ENTRY_LEN_MIN))?;
     let mut rest = bytes;
     for _ in 0..count {
         match read_entry(rest) {
             None => return Ok(None),
             Some((entry, len)) => {
-                entries.push(owned(alloc, entry)?)?;
+                entries.push(owned(alloc, &entry)?)?;
                 rest = rest.split_at(len).1;
             }
         }
@@ -78,13 +92,17 @@ pub fn read_entries(
 }
 
 /// The entry, owned.
-fn owned(alloc: Global, lent: EntryRef<'_>) -> Result<Entry, AllocError>
-    ensures { IfOk result (λ owned. owned ≡ entry_of lent.entry) }
+fn owned(alloc: Global, lent: &EntryRef<'_>) -> Result<Entry, AllocError>
+    ensures { IfOk result (λ owned. owned ≡ entry_of lent.now) }
 {
     match lent {
         EntryRef::Insert { table, row, bytes } => {
             let bytes = ByteList::from_vec(Vec::from_slice(alloc, bytes)?);
-            Ok(Entry::Insert { table, row, bytes })
+            Ok(Entry::Insert {
+                table: *table,
+                row: *row,
+                bytes,
+            })
         }
         EntryRef::Patch {
             table,
@@ -94,12 +112,19 @@ fn owned(alloc: Global, lent: EntryRef<'_>) -> Result<Entry, AllocError>
         } => {
             let bytes = ByteList::from_vec(Vec::from_slice(alloc, bytes)?);
             Ok(Entry::Patch {
-                table,
-                row,
-                offset,
+                table: *table,
+                row: *row,
+                offset: *offset,
                 bytes,
             })
         }
-        EntryRef::Delete { table, row } => Ok(Entry::Delete { table, row }),
+        EntryRef::Delete { table, row } => Ok(Entry::Delete {
+            table: *table,
+            row: *row,
+        }),
+        EntryRef::AddColumn { table, default } => Ok(Entry::AddColumn {
+            table: *table,
+            default: *default,
+        }),
     }
 }

@@ -12,6 +12,7 @@ pub enum Kind {
 impl Kind {
     ghost use Rattle.std.specs.Prelude.{◌≡◌, ◌<◌};
     ghost use Rattle.rows.specs.Shape.{width_of, is_good};
+    ghost use Rattle.rows.specs.Spelling.{kind_code};
 
     /// How many bytes a value of this kind takes in a row.
     pub fn width(self) -> usize
@@ -21,6 +22,16 @@ impl Kind {
         match self {
             Kind::Int => 8,
             Kind::Octets(width) => width as usize,
+        }
+    }
+
+    /// The byte that stands for the kind: octets by their width.
+    pub fn code(self) -> u8
+        ensures { result ≡ kind_code self }
+    {
+        match self {
+            Kind::Int => 0,
+            Kind::Octets(width) => width,
         }
     }
 

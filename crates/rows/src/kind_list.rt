@@ -1,6 +1,6 @@
 //! The kinds of a table's columns, which contracts see as a list.
 
-ghost use Rattle.std.specs.Prelude.{◌≡◌, IfOk};
+ghost use Rattle.std.specs.Prelude.{◌≡◌, ◌-◌, ◌++◌, ◌∷◌, [], length, take, IfOk};
 
 use crate::kind::Kind;
 use std::alloc::{AllocError, Global};
@@ -29,6 +29,23 @@ impl KindList {
         Ok(KindList {
             items: Vec::from_slice(alloc, kinds)?,
         })
+    }
+
+    /// These kinds, with one more behind them. Fails only if out of memory.
+    pub fn with(&self, alloc: Global, kind: Kind) -> Result<KindList, AllocError>
+        ensures { IfOk result (λ list. list ≡ self.now ++ kind ∷ []) }
+    {
+        let mut items = Vec::with_capacity(alloc, self.items.len() + 1)?;
+        items.extend_from_slice(self.items.as_slice())?;
+        items.push(kind)?;
+        Ok(KindList { items })
+    }
+
+    /// Takes the last kind away; if there is none, nothing changes.
+    pub fn pop(&mut self)
+        ensures { self.new ≡ take (length self.old - 1) self.old }
+    {
+        let _ = self.items.pop();
     }
 
     /// The kinds, lent.

@@ -1,21 +1,38 @@
 //! Laws of the definitions.
 
-ghost use Rattle.rows.specs.Laws.{EntryKeepsKinds, EntriesKeepKinds, AppliedKeepKinds, CommitsKeepKinds, VersionsKeepKinds};
-ghost use Rattle.rows.specs.Laws.{EntryKeepsRows, CommitsKeepRows, VersionsAreOfKinds, FoundAreSpelled, SpelledAreFound, IsSymmetric};
+ghost use Rattle.rows.specs.Laws.{EntryTellsKinds, EntriesTellKinds, AppliedTellKinds, CommitsTellKinds, VersionsTellKinds};
+ghost use Rattle.rows.specs.Laws.{TablesStay, ColumnsStay, RoomKeepsLimits, LimitsStay, EntryKeepsRows, CommitsKeepRows};
+ghost use Rattle.rows.specs.Laws.{VersionsAreOfKinds, FoundAreSpelled, SpelledAreFound, IsSymmetric};
 ghost use Rattle.rows.specs.Laws.{BytesEqual, EntryEquals, EntriesEqual, CommitEquals};
 ghost use Rattle.rows.specs.Laws.{NumbersAreSpelled, NumbersAreBelow, FoundColumnsFit, WidthTellsValue};
-ghost use Rattle.rows.specs.ListLaws.{BeginningsAreDefined, EachIsDefined, EachFits, OneMoreIsDefined};
+ghost use Rattle.rows.specs.ListLaws.{BeginningsAreDefined, EachIsDefined, EachFits, EachHasTable, OneMoreIsDefined};
 ghost use Rattle.rows.specs.ListLaws.{UndefinedStayUndefined, OneMoreEntryIsDefined, UntouchedStayDefined, PresenceIsTold};
 ghost use Rattle.rows.specs.ListLaws.{RowsAreLeft, RowsAreSeen};
+ghost use Rattle.rows.specs.EntryLaws.{EntryIsMade, FitsWithin, EntryLeavesRows, RowIsPut, ReplacedTable, OtherTables};
 
-/// Entries and commits do not change the kinds of any table's columns. It does nothing: its
-/// contract is the law.
-pub fn changes_keep_kinds()
-    ensures entry { EntryKeepsKinds }
-    ensures entries { EntriesKeepKinds }
-    ensures applied { AppliedKeepKinds }
-    ensures commits { CommitsKeepKinds }
-    ensures versions { VersionsKeepKinds }
+/// The kinds of the tables' columns after entries and commits follow from these alone; entries add
+/// columns behind those that are there, within the limits. It does nothing: its contract is the law.
+pub fn changes_tell_kinds()
+    ensures entry { EntryTellsKinds }
+    ensures entries { EntriesTellKinds }
+    ensures applied { AppliedTellKinds }
+    ensures commits { CommitsTellKinds }
+    ensures versions { VersionsTellKinds }
+    ensures tables { TablesStay }
+    ensures columns { ColumnsStay }
+    ensures room { RoomKeepsLimits }
+    ensures limits { LimitsStay }
+{}
+
+/// What an entry needs, and what it makes of the tables, of each row, and of the rows of one table.
+/// It does nothing: its contract is the law.
+pub fn entries_are_made_where_they_fit()
+    ensures made { EntryIsMade }
+    ensures within { FitsWithin }
+    ensures rows { EntryLeavesRows }
+    ensures put { RowIsPut }
+    ensures replaced { ReplacedTable }
+    ensures others { OtherTables }
 {}
 
 /// Each row has a value for each of its table's columns, of the column's kind, and entries and
@@ -33,6 +50,7 @@ pub fn commits_are_defined_one_by_one()
     ensures beginnings { BeginningsAreDefined }
     ensures each { EachIsDefined }
     ensures fits { EachFits }
+    ensures tables { EachHasTable }
     ensures longer { OneMoreIsDefined }
 {}
 

@@ -1,10 +1,10 @@
 //! Schemas, values, rows, entries and commits: the vocabulary of every other crate.
 //!
 //! A schema is the list of its tables, each with its name and the kinds of its columns. An entry is
-//! one physical change of one row; a commit is the entries of one transaction. The definitions are
-//! in `specs/`: what an entry does to the tables (`Tables.antt`), which lists of commits are legal
-//! (`Commits.antt`), the one spelling of an entry (`Spelling.antt`), and how values and lines of
-//! words are written (`Text.antt`).
+//! one physical change of one row, or a column more in a table; a commit is the entries of one
+//! transaction. The definitions are in `specs/`: what an entry does to the tables (`Tables.antt`),
+//! which lists of commits are legal (`Commits.antt`), the one spelling of an entry
+//! (`Spelling.antt`), and how values and lines of words are written (`Text.antt`).
 //!
 //! Promised: `fits` decides exactly which entries fit a schema; `write_entry` writes an entry's
 //! spelling, `read_entry` reads it, and `read_entries` reads entries that fill bytes; `row_values`
@@ -44,8 +44,8 @@ pub use entry::Entry;
 pub use entry_list::EntryList;
 pub use entry_ref::EntryRef;
 pub use faults::{EntryFault, SchemaFault};
-pub use filling::{entries_fill, entries_fit, read_entries};
-pub use fitting::{fits, fits_columns, fits_lent};
+pub use filling::{ENTRY_LEN_MIN, entries_fill, entries_have_table, read_entries};
+pub use fitting::{fits, fits_columns, fits_lent, fits_table};
 pub use kind::Kind;
 pub use kind_list::KindList;
 pub use octets::Octets;

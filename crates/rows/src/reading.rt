@@ -1,14 +1,17 @@
 //! Reading an entry from the front of bytes.
 
-ghost use Rattle.std.specs.Prelude.{◌≡◌, ℕ, List, ◌++◌, length, Some, IfSome};
+ghost use Rattle.std.specs.Prelude.{◌≡◌, ℕ, List, ◌++◌, length, Some, IfSome, slice_index, true};
 ghost use Rattle.std.specs.Option.{option_map};
 ghost use Rattle.rows.specs.declared.entry.Entry.{Entry};
-ghost use Rattle.rows.specs.Reading.{entry_at, insert_at, patch_at, is_row_code, seen, IsSpelledAt};
+ghost use Rattle.rows.specs.Reading.{entry_at, row_entry_at, column_entry_at, column_at_front, kind_coded, insert_at, patch_at};
+ghost use Rattle.rows.specs.Reading.{is_row_code, seen, IsSpelledAt};
 ghost use Rattle.rows.specs.Spelling.{HasSpelling, entry_spelling};
 
-use crate::codes::{DELETE_CODE, INSERT_CODE, PATCH_CODE};
+use crate::codes::{ADD_COLUMN_CODE, DELETE_CODE, INSERT_CODE, PATCH_CODE};
 use crate::entry_ref::EntryRef;
+use crate::kind::Kind;
 use crate::limits::{OCTETS_MAX, ROW_WIDTH_MAX, TABLES_MAX};
+use crate::row::first_value;
 use crate::row_id::RowId;
 use byteorder::{BigEndian, ByteOrder};
 
@@ -29,9 +32,23 @@ pub fn read_entry(bytes: &[u8]) -> Option<(EntryRef<'_>, usize)>
 fn front_entry(bytes: &[u8]) -> Option<(EntryRef<'_>, usize)>
     ensures { option_map seen result ≡ entry_at bytes.now }
 {
-    if bytes.is_empty() || !is_row_code(bytes[0]) {
+    if bytes.is_empty() {
         return None;
     }
+    if is_row_code(bytes[0]) {
+        return front_row_entry(bytes);
+    }
+    if bytes[0] == ADD_COLUMN_CODE {
+        return front_column_entry(bytes);
+    }
+    None
+}
+
+/// The entry of a row at the front of the bytes, test by test.
+fn front_row_entry(bytes: &[u8]) -> Option<(EntryRef<'_>, usize)>
+    requires { is_row_code (slice_index bytes.now 0) ≡ true }
+    ensures { option_map seen result ≡ row_entry_at bytes.now }
+{
     if bytes.len() < 10 || bytes[1] as usize >= TABLES_MAX {
         return None;
     }
@@ -42,6 +59,45 @@ fn front_entry(bytes: &[u8]) -> Option<(EntryRef<'_>, usize)>
         INSERT_CODE => read_insert(table, row, rest),
         PATCH_CODE => read_patch(table, row, rest),
         _ => Some((EntryRef::Delete { table, row }, 10)),
+    }
+}
+
+/// The added column at the front of the bytes, test by test.
+fn front_column_entry(bytes: &[u8]) -> Option<(EntryRef<'_>, usize)>
+    ensures { option_map seen result ≡ column_entry_at bytes.now }
+{
+    if bytes.len() < 2 || bytes[1] as usize >= TABLES_MAX {
+        return None;
+    }
+    let table = bytes[1];
+    let (_, rest) = bytes.split_at(2);
+    read_column(table, rest)
+}
+
+/// The part of an added column after its table: the kind and the value.
+fn read_column(table: u8, rest: &[u8]) -> Option<(EntryRef<'_>, usize)>
+    ensures { option_map seen result ≡ column_at_front table rest.now }
+{
+    if rest.is_empty() || rest[0] as usize > OCTETS_MAX {
+        return None;
+    }
+    let kind = kind_coded(rest[0]);
+    let (_, content) = rest.split_at(1);
+    if content.len() < kind.width() {
+        return None;
+    }
+    let default = first_value(kind, content);
+    Some((EntryRef::AddColumn { table, default }, 3 + kind.width()))
+}
+
+/// The kind that a byte stands for.
+fn kind_coded(code: u8) -> Kind
+    ensures { result ≡ kind_coded code }
+{
+    if code == 0 {
+        Kind::Int
+    } else {
+        Kind::Octets(code)
     }
 }
 

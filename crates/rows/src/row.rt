@@ -1,6 +1,6 @@
 //! A row's two forms: the values of its columns, and their bytes.
 
-ghost use Rattle.std.specs.Prelude.{◌≡◌, ◌≤◌, length, true, IfOk, slice_set};
+ghost use Rattle.std.specs.Prelude.{◌≡◌, ◌≤◌, ◌++◌, ◌∷◌, [], length, true, IfOk, slice_set};
 ghost use Rattle.std.specs.List.{list_all};
 ghost use Rattle.rows.specs.Shape.{row_width, width_of, is_good};
 ghost use Rattle.rows.specs.Values.{value_of, values_of, bytes_of};
@@ -43,6 +43,16 @@ impl Row {
         ensures { result.now ≡ self.now }
     {
         self.items.as_slice()
+    }
+
+    /// These values, with one more behind them. Fails only if out of memory.
+    pub fn with(&self, alloc: Global, value: Value) -> Result<Row, AllocError>
+        ensures { IfOk result (λ row. row ≡ self.now ++ value ∷ []) }
+    {
+        let mut items = Vec::with_capacity(alloc, self.items.len() + 1)?;
+        items.extend_from_slice(self.items.as_slice())?;
+        items.push(value)?;
+        Ok(Row { items })
     }
 
     /// Puts another value into a column. If there is no such column, nothing changes. Takes no

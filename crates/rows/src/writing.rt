@@ -2,16 +2,18 @@
 
 ghost use Rattle.std.specs.Prelude.{◌≡◌, ◌+◌, ◌≤◌, ◌++◌, ◌∷◌, [], length, drop};
 ghost use Rattle.byteorder.specs.Endian.{big_bytes};
-ghost use Rattle.rows.specs.Spelling.{insert_code, patch_code, entry_front, entry_spelling, HasSpelling};
+ghost use Rattle.rows.specs.Spelling.{insert_code, patch_code, entry_front, entry_spelling, HasSpelling, IsColumnValue};
+ghost use Rattle.rows.specs.Values.{value_bytes};
 
-use crate::codes::{DELETE_CODE, INSERT_CODE, PATCH_CODE};
+use crate::codes::{ADD_COLUMN_CODE, DELETE_CODE, INSERT_CODE, PATCH_CODE};
 use crate::entry::Entry;
 use crate::limits::{OCTETS_MAX, ROW_WIDTH_MAX};
 use crate::row_id::RowId;
+use crate::value::Value;
 use byteorder::{BigEndian, ByteOrder};
 
 /// How many bytes the spelling of an entry takes: 12 and its data for an insert, 14 and its data
-/// for a patch, 10 for a delete.
+/// for a patch, 10 for a delete, 3 and the value's width for an added column.
 pub fn entry_len(entry: &Entry) -> usize
     requires { HasSpelling entry.now }
     ensures { result ≡ length (entry_spelling entry.now) }
@@ -20,6 +22,7 @@ pub fn entry_len(entry: &Entry) -> usize
         Entry::Insert { bytes, .. } => 12 + bytes.len(),
         Entry::Patch { bytes, .. } => 14 + bytes.len(),
         Entry::Delete { .. } => 10,
+        Entry::AddColumn { default, .. } => 3 + default.kind().width(),
     }
 }
 
@@ -40,6 +43,7 @@ pub fn write_entry(entry: &Entry, buffer: &mut [u8]) -> usize
             bytes,
         } => write_patch(*table, *row, *offset, bytes.as_slice(), buffer),
         Entry::Delete { table, row } => write_delete(*table, *row, buffer),
+        Entry::AddColumn { table, default } => write_column(*table, *default, buffer),
     }
 }
 
@@ -81,7 +85,30 @@ fn write_delete(table: u8, row: RowId, buffer: &mut [u8]) -> usize
     10
 }
 
-/// The ten bytes that begin every entry: its kind, the table, and the row.
+/// Writes the spelling of an added column to the front of the buffer, and answers its length.
+fn write_column(table: u8, default: Value, buffer: &mut [u8]) -> usize
+    requires spelled { IsColumnValue default }
+    requires room { 3 + length (value_bytes default) ≤ length buffer.old }
+    ensures len { result ≡ 3 + length (value_bytes default) }
+    ensures written { buffer.new ≡ entry_spelling (Entry.AddColumn table default) ++ drop result buffer.old }
+{
+    match default {
+        Value::Int(number) => {
+            buffer[..3].copy_from_slice(&[ADD_COLUMN_CODE, table, 0]);
+            buffer[3..11].copy_from_slice(&number.to_be_bytes());
+            11
+        }
+        Value::Octets(octets) => {
+            let bytes = octets.as_slice();
+            let width = bytes.len();
+            buffer[..3].copy_from_slice(&[ADD_COLUMN_CODE, table, width as u8]);
+            buffer[3..3 + width].copy_from_slice(bytes);
+            3 + width
+        }
+    }
+}
+
+/// The ten bytes that begin every entry of one row: its kind, the table, and the row.
 fn entry_front(code: u8, table: u8, row: RowId) -> [u8; 10]
     ensures { result ≡ entry_front code table row.0 }
 {

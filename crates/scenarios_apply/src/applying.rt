@@ -1,9 +1,10 @@
 //! What it takes to change a store of columns of many rows. A test does the runs of a table with a few rows,
-//! and prints the microseconds of each step; `bench/apply` names one run, which it then does with a million.
+//! and prints the microseconds of each step; `bench/apply` and `bench/add-column` name one run, which it then does
+//! with a million.
 //! What passes is that so many rows are left.
 
-use apply::ColumnStore;
-use rows::{Commit, EntryList, Schema};
+use apply::{ColumnStore, PARTITIONS_MAX};
+use rows::{Commit, Entry, EntryList, Octets, Schema, Value};
 use scenarios_common::drawn_numbers::draw;
 use scenarios_common::wanted::{FIVE, NUMBERS, SIX, Wanted, made};
 use std::alloc::{AllocError, Global};
@@ -23,8 +24,11 @@ const FEW: usize = 20_000;
 /// Entries of a commit.
 const ENTRIES: usize = 4096;
 
-/// Partitions of the store.
+/// Partitions of the store, if columns are not what is timed.
 const PARTITIONS: usize = 8;
+
+/// Columns that are added to the two of the table: with them it has as many as it may have.
+const ADDED: usize = 14;
 
 /// Single rows that are deleted and inserted again.
 const SINGLES: usize = 1000;
@@ -54,20 +58,26 @@ enum Change {
     Delete,
     /// Each row is deleted and inserted again, each change in a commit of its own.
     Replace,
+    /// Columns of numbers are added to the table, each in a commit of its own, and the least time counts.
+    AddNumbers,
+    /// The same with columns of three bytes.
+    AddBytes,
 }
 
-/// A run: the word for it, what is done in a new store, and how many halves of the rows are left.
+/// A run: the word for it, the partitions of its store, what is done in that, and how many halves of the rows are left.
 #[derive(Clone, Copy)]
 struct Run {
     word: &'static str,
+    partitions: usize,
     steps: &'static [(Picked, Change)],
     halves: usize,
 }
 
 /// All runs.
-const RUNS: [Run; 5] = [
+const RUNS: [Run; 9] = [
     Run {
         word: "rising",
+        partitions: PARTITIONS,
         steps: &[
             (Picked::Rising, Change::Insert),
             (Picked::Drawn, Change::Patch),
@@ -78,6 +88,7 @@ const RUNS: [Run; 5] = [
     },
     Run {
         word: "falling",
+        partitions: PARTITIONS,
         steps: &[
             (Picked::Falling, Change::Insert),
             (Picked::Drawn, Change::Patch),
@@ -88,6 +99,7 @@ const RUNS: [Run; 5] = [
     },
     Run {
         word: "shuffled",
+        partitions: PARTITIONS,
         steps: &[
             (Picked::Shuffled, Change::Insert),
             (Picked::Drawn, Change::Patch),
@@ -98,12 +110,50 @@ const RUNS: [Run; 5] = [
     },
     Run {
         word: "made",
+        partitions: PARTITIONS,
         steps: &[(Picked::Rising, Change::Make)],
         halves: 0,
     },
     Run {
         word: "inserted",
+        partitions: PARTITIONS,
         steps: &[(Picked::Rising, Change::Insert)],
+        halves: 2,
+    },
+    Run {
+        word: "numbers 1",
+        partitions: 1,
+        steps: &[
+            (Picked::Rising, Change::Insert),
+            (Picked::Singles, Change::AddNumbers),
+        ],
+        halves: 2,
+    },
+    Run {
+        word: "numbers 4",
+        partitions: 4,
+        steps: &[
+            (Picked::Rising, Change::Insert),
+            (Picked::Singles, Change::AddNumbers),
+        ],
+        halves: 2,
+    },
+    Run {
+        word: "bytes 1",
+        partitions: 1,
+        steps: &[
+            (Picked::Rising, Change::Insert),
+            (Picked::Singles, Change::AddBytes),
+        ],
+        halves: 2,
+    },
+    Run {
+        word: "bytes 4",
+        partitions: 4,
+        steps: &[
+            (Picked::Rising, Change::Insert),
+            (Picked::Singles, Change::AddBytes),
+        ],
         halves: 2,
     },
 ];
@@ -248,6 +298,23 @@ fn replaced_timed<R: Threads + Clock + Sync>(
     Some(taken)
 }
 
+/// The least time that it takes to add a column with this value, of as many columns as the table has room for.
+fn added_timed<R: Threads + Clock + Sync>(
+    rt: &R,
+    alloc: Global,
+    store: &mut ColumnStore,
+    default: Value,
+) -> Option<u128> {
+    let mut least = u128::MAX;
+    for _ in 0..ADDED {
+        let mut entries = EntryList::new(alloc);
+        entries.push(Entry::AddColumn { table: 0, default }).ok()?;
+        let commit = Commit { worker: 0, entries };
+        least = least.min(applied_timed(rt, store, &[commit])?);
+    }
+    Some(least)
+}
+
 /// How long a step takes.
 fn step_timed<R: Threads + Clock + Sync>(
     rt: &R,
@@ -257,10 +324,17 @@ fn step_timed<R: Threads + Clock + Sync>(
     (picked, change): (Picked, Change),
 ) -> Option<u128> {
     let rows = rows_of(alloc, rows, picked).ok()?;
-    if change == Change::Replace {
-        return replaced_timed(rt, alloc, store, rows.as_slice());
+    match change {
+        Change::AddNumbers => added_timed(rt, alloc, store, Value::Int(7)),
+        Change::AddBytes => added_timed(
+            rt,
+            alloc,
+            store,
+            Value::Octets(Octets::from_slice(b"abc")?),
+        ),
+        Change::Replace => replaced_timed(rt, alloc, store, rows.as_slice()),
+        _ => changed_timed(rt, alloc, store, rows.as_slice(), change),
     }
-    changed_timed(rt, alloc, store, rows.as_slice(), change)
 }
 
 /// How long each step takes in a store; 0 for those that there are not. `None` if one of them is not done.
@@ -285,8 +359,11 @@ fn timed<R: Threads + Clock + Sync>(
     run: Run,
     rows: usize,
 ) -> Result<Option<[u128; 4]>, Fail> {
+    if run.partitions == 0 || run.partitions > PARTITIONS_MAX {
+        return Ok(None);
+    }
     let schema = Schema::new(alloc, &NUMBERS)?;
-    let mut store = ColumnStore::new(alloc, &schema, PARTITIONS)?;
+    let mut store = ColumnStore::new(alloc, &schema, run.partitions)?;
     let taken = steps_timed(rt, alloc, &mut store, rows, run.steps);
     if store.len(0) != (rows / 2).saturating_mul(run.halves) {
         return Ok(None);

@@ -5,7 +5,7 @@ ghost use Rattle.std.specs.Prelude.{◌<◌, ◌≤◌};
 ghost use Rattle.apply.specs.Limits.{partitions_max};
 
 use apply::ColumnStore;
-use rows::{Commit, Entry, RowId};
+use rows::{Commit, Entry, RowId, Value};
 use scenarios_common::drawn_numbers::draw;
 use scenarios_common::wanted::{FIVE, SIX, Wanted, all_made, bank, made};
 use std::alloc::{AllocError, Global};
@@ -21,6 +21,11 @@ enum Step {
     /// A change is made, 0, or refused with a fault of this kind. Where memory is refused, that has
     /// changed nothing, and it is asked for once more.
     Change(Wanted<'static>, u8),
+    /// A column of this number is added to the table, 0, or refused with a fault of this kind; and so
+    /// it is where memory is refused.
+    Add(u8, i64, u8),
+    /// So many columns have the accounts, and so many the audit.
+    Columns(usize, usize),
     /// These are the identifiers of the accounts, in their order.
     Ids(&'static [u64]),
     /// Commits are applied, one of each of these lists, or refused, and the store is broken, as it is
@@ -58,6 +63,23 @@ fn is_changed<S: Store>(store: &mut S, entry: &Entry, expected: u8) -> bool {
         return store.whole() && store.len(0) == before && kind_of_change(store, entry) == expected;
     }
     kind == expected
+}
+
+/// How many columns the table has.
+fn columns_of<S: Store>(store: &S, table: u8) -> usize {
+    store.kinds(table).unwrap_or(&[]).len()
+}
+
+/// Whether a change that adds a column is refused with a fault of this kind, or made: 0. Where memory
+/// is refused, that has changed nothing, and it is asked for once more.
+fn is_added<S: Store>(store: &mut S, table: u8, number: i64, expected: u8) -> bool {
+    let default = Value::Int(number);
+    let before = columns_of(store, table);
+    if !is_changed(store, &Entry::AddColumn { table, default }, expected) {
+        return false;
+    }
+    let added = if expected == 0 { 1 } else { 0 };
+    columns_of(store, table) == before.saturating_add(added)
 }
 
 /// Commits of worker 0, each of these entries.
@@ -108,6 +130,10 @@ fn is_answered<R: Threads + Sync>(
         Step::Change(wanted, kind) => {
             let entry = made(alloc, wanted)?;
             Ok(is_changed(store, &entry, *kind))
+        }
+        Step::Add(table, number, kind) => Ok(is_added(store, *table, *number, *kind)),
+        Step::Columns(accounts, audit) => {
+            Ok(columns_of(store, 0) == *accounts && columns_of(store, 1) == *audit)
         }
         Step::Ids(ids) => Ok(are_ids(store, ids)),
         Step::Apply(lists, expected) => {
@@ -185,6 +211,37 @@ const COMMITS: [Step; 5] = [
     ),
 ];
 
+/// The bytes of a row of three numbers, and of four.
+const THREE: [u8; 24] = [7; 24];
+
+const FOUR: [u8; 32] = [7; 32];
+
+/// A column comes where there are rows of some partitions, where there are none, and again.
+const WIDER: [Step; 16] = [
+    Step::Change(Wanted::Insert(0, 64, &FIVE), 0),
+    Step::Change(Wanted::Insert(0, 3, &FIVE), 0),
+    Step::Change(Wanted::Patch(0, 3, 16, &SIX), 3),
+    Step::Add(0, 3, 0),
+    Step::Add(2, 3, 3),
+    Step::Columns(3, 1),
+    Step::Change(Wanted::Insert(0, 4, &FIVE), 3),
+    Step::Change(Wanted::Insert(0, 4, &THREE), 0),
+    Step::Change(Wanted::Patch(0, 3, 16, &SIX), 0),
+    Step::Change(Wanted::Delete(0, 64), 0),
+    Step::Add(1, -1, 0),
+    Step::Add(0, i64::MIN, 0),
+    Step::Columns(4, 2),
+    Step::Change(Wanted::Insert(0, 64, &THREE), 3),
+    Step::Change(Wanted::Insert(0, 64, &FOUR), 0),
+    Step::Ids(&[3, 4, 64]),
+];
+
+#[test]
+fn columns_come_in_all_partitions(rt: HostRuntime) -> Result<(), Fail> {
+    assert_eq!(rt; other_answer(&rt, rt.alloc(), &WIDER)?, None);
+    Ok(())
+}
+
 #[test]
 fn rows_of_all_partitions_rise(rt: HostRuntime) -> Result<(), Fail> {
     assert_eq!(rt; other_answer(&rt, rt.alloc(), &RISING)?, None);
@@ -197,12 +254,14 @@ fn commits_are_applied_or_break_the_store(rt: HostRuntime) -> Result<(), Fail> {
     Ok(())
 }
 
-/// A change of a store without rows, and a commit.
-const FEW: [Step; 3] = [
+/// Changes of a store without rows, and a commit.
+const FEW: [Step; 5] = [
     Step::Change(Wanted::Insert(0, 7, &FIVE), 0),
     Step::Ids(&[7]),
+    Step::Add(0, 3, 0),
+    Step::Columns(3, 1),
     Step::Apply(
-        &[&[Wanted::Insert(0, 1, &FIVE), Wanted::Insert(0, 2, &FIVE)]],
+        &[&[Wanted::Insert(0, 1, &THREE), Wanted::Insert(0, 2, &THREE)]],
         Ok(()),
     ),
 ];

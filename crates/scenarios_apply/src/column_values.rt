@@ -23,13 +23,13 @@ fn column<S: Store>(store: &S, row: u64, column: usize) -> Option<Value>
 }
 
 /// The entry, owned.
-fn owned(alloc: Global, lent: EntryRef<'_>) -> Result<Entry, AllocError>
-    ensures { IfOk result (λ owned. owned ≡ entry_of lent.entry) }
+fn owned(alloc: Global, lent: &EntryRef<'_>) -> Result<Entry, AllocError>
+    ensures { IfOk result (λ owned. owned ≡ entry_of lent.now) }
 {
     Ok(match lent {
         EntryRef::Insert { table, row, bytes } => Entry::Insert {
-            table,
-            row,
+            table: *table,
+            row: *row,
             bytes: ByteList::from_vec(Vec::from_slice(alloc, bytes)?),
         },
         EntryRef::Patch {
@@ -38,18 +38,25 @@ fn owned(alloc: Global, lent: EntryRef<'_>) -> Result<Entry, AllocError>
             offset,
             bytes,
         } => Entry::Patch {
-            table,
-            row,
-            offset,
+            table: *table,
+            row: *row,
+            offset: *offset,
             bytes: ByteList::from_vec(Vec::from_slice(alloc, bytes)?),
         },
-        EntryRef::Delete { table, row } => Entry::Delete { table, row },
+        EntryRef::Delete { table, row } => Entry::Delete {
+            table: *table,
+            row: *row,
+        },
+        EntryRef::AddColumn { table, default } => Entry::AddColumn {
+            table: *table,
+            default: *default,
+        },
     })
 }
 
 /// The store makes the change of an entry.
-fn make(alloc: Global, store: &mut ColumnStore, lent: EntryRef<'_>) -> Result<(), Fail>
-    ensures made { OnOk result (apply_entry (tables_in store.old.parts) (entry_of lent.entry) ≡ Ok (tables_in store.new.parts)) }
+fn make(alloc: Global, store: &mut ColumnStore, lent: &EntryRef<'_>) -> Result<(), Fail>
+    ensures made { OnOk result (apply_entry (tables_in store.old.partitions) (entry_of lent.now) ≡ Ok (tables_in store.new.partitions)) }
     ensures whole { store.new.whole ≡ store.old.whole }
 {
     store.change(&owned(alloc, lent)?)?;
@@ -59,7 +66,7 @@ fn make(alloc: Global, store: &mut ColumnStore, lent: EntryRef<'_>) -> Result<()
 /// A store of accounts, each a number, three octets and a number, in seven partitions.
 fn accounts_with_octets(alloc: Global) -> Result<ColumnStore, Fail>
     ensures tables { IfOk result (λ store.
-        tables_in store.parts ≡ record { kinds = Int ∷ OctetsOf 3 ∷ Int ∷ []; rows = [] } ∷ []) }
+        tables_in store.partitions ≡ record { kinds = Int ∷ OctetsOf 3 ∷ Int ∷ []; rows = [] } ∷ []) }
     ensures whole { IfOk result (λ store. store.whole ≡ true) }
 {
     let kinds = [Kind::Int, Kind::Octets(3), Kind::Int];
@@ -71,25 +78,25 @@ fn accounts_with_octets(alloc: Global) -> Result<ColumnStore, Fail>
 /// -1. Then the octets of account 7 were patched to `xyz`.
 fn with_patched_account(alloc: Global) -> Result<ColumnStore, Fail>
     ensures whole { IfOk result (λ store. store.whole ≡ true) }
-    ensures first { IfOk result (λ store. IsSome (column_of (row_at (rows_of (tables_in store.parts) 0) 7) 0)) }
-    ensures second { IfOk result (λ store. IsSome (column_of (row_at (rows_of (tables_in store.parts) 0) 7) 1)) }
-    ensures third { IfOk result (λ store. IsSome (column_of (row_at (rows_of (tables_in store.parts) 0) 7) 2)) }
-    ensures other { IfOk result (λ store. IsSome (column_of (row_at (rows_of (tables_in store.parts) 0) 8) 1)) }
+    ensures first { IfOk result (λ store. IsSome (column_of (row_at (rows_of (tables_in store.partitions) 0) 7) 0)) }
+    ensures second { IfOk result (λ store. IsSome (column_of (row_at (rows_of (tables_in store.partitions) 0) 7) 1)) }
+    ensures third { IfOk result (λ store. IsSome (column_of (row_at (rows_of (tables_in store.partitions) 0) 7) 2)) }
+    ensures other { IfOk result (λ store. IsSome (column_of (row_at (rows_of (tables_in store.partitions) 0) 8) 1)) }
 {
     let mut store = accounts_with_octets(alloc)?;
     let table = 0;
     let bytes = b"\0\0\0\0\0\0\0\x05abc\xff\xff\xff\xff\xff\xff\xff\xff";
     let row = RowId(7);
-    make(alloc, &mut store, EntryRef::Insert { table, row, bytes })?;
+    make(alloc, &mut store, &EntryRef::Insert { table, row, bytes })?;
     let row = RowId(8);
-    make(alloc, &mut store, EntryRef::Insert { table, row, bytes })?;
+    make(alloc, &mut store, &EntryRef::Insert { table, row, bytes })?;
     let patch = EntryRef::Patch {
         table,
         row: RowId(7),
         offset: 8,
         bytes: b"xyz",
     };
-    make(alloc, &mut store, patch)?;
+    make(alloc, &mut store, &patch)?;
     Ok(store)
 }
 

@@ -9,6 +9,7 @@ use scenarios_common::drawn_numbers::draw;
 use scenarios_common::wanted::{FIVE, SIX};
 use std::alloc::{AllocError, Global};
 use std::test::Fail;
+use store::TableRows;
 
 /// Identifiers of rows.
 const ROWS: usize = 4000;
@@ -31,7 +32,7 @@ struct Accounts {
 impl Accounts {
     /// No row yet. Fails only when out of memory.
     fn new(alloc: Global) -> Result<Accounts, AllocError> {
-        let piece = Piece::new(alloc, &[Kind::Int, Kind::Int])?;
+        let piece = Piece::empty(alloc, &[Kind::Int, Kind::Int])?;
         Ok(Accounts { piece })
     }
 

@@ -170,7 +170,13 @@ fn reserve_and_add(
 }
 
 /// The commits of three workers: how many accounts each puts in, and how many it then takes out.
-const COMMITS: [(u8, u64, u64); 5] = [(0, 42, 0), (1, 38, 11), (0, 1, 0), (0, 4096, 0), (15, 1, 1)];
+static COMMITS: [(u8, u64, u64); 5] = [
+    (0, 42, 0),
+    (1, 38, 11),
+    (0, 1, 0),
+    (0, 4096, 0),
+    (15, 1, 1),
+];
 
 /// Commits, and their streams.
 #[derive(Drop)]
@@ -202,7 +208,7 @@ fn streams_of(alloc: Global) -> Result<Framed, Fail>
 type Sent = (usize, usize, u64, bool);
 
 /// Which frame is asked for, by worker and seq, and what is found.
-const FRAMES: [(u8, u64, Option<Sent>); 15] = [
+static FRAMES: [(u8, u64, Option<Sent>); 15] = [
     (0, 0, Some((1174, 41, 1, false))),
     (0, 1, Some((54, 1, 1, true))),
     (0, 2, Some((54, 1, 3, true))),

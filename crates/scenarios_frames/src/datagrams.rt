@@ -6,7 +6,7 @@ ghost use Rattle.rows.specs.Limits.{workers_max};
 ghost use Rattle.rows.specs.Spelling.{HasSpelling as EntryHasSpelling};
 ghost use Rattle.wire.specs.Spelling.{HasDatagramSpelling, FrameHasSpelling};
 
-use rows::{Commit, Entry, RowId};
+use rows::{Commit, Entry, RowId, Value};
 use scenarios_common::worker_datagrams::{ASK, FRAME, HEAD, HEAD_OF_TWO, WANT, changed, want_from};
 use std::alloc::Global;
 use std::test::Fail;
@@ -19,12 +19,19 @@ use wire::{
 /// The seq and commit of `FRAME` with three entries, all of row 7 of table 0: its insert, a
 /// patch of the second column to 6, and a delete.
 const THREE: [u8; 86] = [
-    0x42, 0x44, 0x01, 0x01, 0x00, 0x56, 0x00, 0x00, 0x00, 0x00, 0x00, 0x00, 0x00, 0x00, 0x00, 0x00,
+    0x42, 0x44, 0x02, 0x01, 0x00, 0x56, 0x00, 0x00, 0x00, 0x00, 0x00, 0x00, 0x00, 0x00, 0x00, 0x00,
     0x00, 0x00, 0x00, 0x00, 0x00, 0x00, 0x01, 0x01, 0x00, 0x03, 0x01, 0x00, 0x00, 0x00, 0x00, 0x00,
     0x00, 0x00, 0x00, 0x07, 0x00, 0x10, 0x00, 0x00, 0x00, 0x00, 0x00, 0x00, 0x00, 0x05, 0xff, 0xff,
     0xff, 0xff, 0xff, 0xff, 0xff, 0xff, 0x02, 0x00, 0x00, 0x00, 0x00, 0x00, 0x00, 0x00, 0x00, 0x07,
     0x00, 0x08, 0x00, 0x08, 0x00, 0x00, 0x00, 0x00, 0x00, 0x00, 0x00, 0x06, 0x03, 0x00, 0x00, 0x00,
     0x00, 0x00, 0x00, 0x00, 0x00, 0x07,
+];
+
+/// The seq and commit of `FRAME` with one entry, which adds a column of the number 3 to table 0.
+const ADDED: [u8; 37] = [
+    0x42, 0x44, 0x02, 0x01, 0x00, 0x25, 0x00, 0x00, 0x00, 0x00, 0x00, 0x00, 0x00, 0x00, 0x00, 0x00,
+    0x00, 0x00, 0x00, 0x00, 0x00, 0x00, 0x01, 0x01, 0x00, 0x01, 0x04, 0x00, 0x00, 0x00, 0x00, 0x00,
+    0x00, 0x00, 0x00, 0x00, 0x03,
 ];
 
 /// Whether the bytes read as the frame of commit 1 that has so many entries, of these bytes.
@@ -89,6 +96,7 @@ fn is_want(bytes: &[u8], expected: u64) -> bool {
 fn are_read() -> bool {
     is_frame(&FRAME, 1, &FRAME[26..])
         && is_frame(&THREE, 3, &THREE[26..])
+        && is_frame(&ADDED, 1, &ADDED[26..])
         && is_ask(&ASK)
         && is_head(&HEAD, &[1])
         && is_head(&HEAD_OF_TWO, &[1, 0])
@@ -119,8 +127,8 @@ fn frame_in(alloc: Global, bytes: &[u8]) -> Result<Frame, Fail>
     })
 }
 
-/// Whether the entry is the insert, the patch or the delete of `THREE`.
-fn is_of_three(entry: &Entry) -> bool {
+/// Whether the entry is the insert, the patch or the delete of `THREE`, or the column of `ADDED`.
+fn is_of_frames(entry: &Entry) -> bool {
     match entry {
         Entry::Insert { table, row, bytes } => {
             *table == 0 && *row == RowId(7) && bytes.as_slice() == &FRAME[38..]
@@ -135,20 +143,22 @@ fn is_of_three(entry: &Entry) -> bool {
             *table == 0 && *row == RowId(7) && *offset == 8 && bytes.as_slice() == six.as_slice()
         }
         Entry::Delete { table, row } => *table == 0 && *row == RowId(7),
+        Entry::AddColumn { table, default } => *table == 0 && *default == Value::Int(3),
     }
 }
 
-/// Whether these are the entries of `FRAME`, or those of `THREE`.
+/// Whether these are the entries of `FRAME`, of `THREE` or of `ADDED`.
 fn are_entries(entries: &[Entry]) -> bool {
     matches!(
         entries,
         [Entry::Insert { .. }]
+            | [Entry::AddColumn { .. }]
             | [
                 Entry::Insert { .. },
                 Entry::Patch { .. },
                 Entry::Delete { .. }
             ]
-    ) && entries.iter().all(|entry| is_of_three(entry))
+    ) && entries.iter().all(|entry| is_of_frames(entry))
 }
 
 /// Whether the frame that these bytes spell has so many entries, and those; and it is written as
@@ -200,7 +210,7 @@ fn fault_of(form: u8, table: u8, next: [u8; 4], len: u16) -> Option<WireFault> {
 const BODY: Option<WireFault> = Some(WireFault::Body);
 
 /// An entry's form and table, what goes on, how long it is, and the fault of its frame.
-const ENTRIES: [(u8, u8, [u8; 4], u16, Option<WireFault>); 15] = [
+const ENTRIES: [(u8, u8, [u8; 4], u16, Option<WireFault>); 19] = [
     // An insert: its size, and 1 to 512 bytes.
     (1, 0, [0, 0, 0, 0], 12, BODY),
     (1, 0, [2, 0, 0, 0], 524, None),
@@ -217,6 +227,11 @@ const ENTRIES: [(u8, u8, [u8; 4], u16, Option<WireFault>); 15] = [
     (3, 15, [0; 4], 10, None),
     (3, 16, [0; 4], 10, BODY),
     (0, 0, [0; 4], 10, BODY),
+    (5, 0, [0; 4], 10, BODY),
+    // An added column, whose kind stands where a row begins: an int, in eight bytes.
+    (4, 0, [0; 4], 11, None),
+    (4, 15, [0; 4], 11, None),
+    (4, 16, [0; 4], 11, BODY),
     (4, 0, [0; 4], 10, BODY),
     // A byte behind it, and one too few.
     (3, 0, [0; 4], 11, BODY),
@@ -227,6 +242,50 @@ const ENTRIES: [(u8, u8, [u8; 4], u16, Option<WireFault>); 15] = [
 fn other_entry() -> Option<usize> {
     for (index, (form, table, next, len, fault)) in ENTRIES.iter().enumerate() {
         if fault_of(*form, *table, *next, *len) != *fault {
+            return Some(index);
+        }
+    }
+    None
+}
+
+/// The fault of a frame that says that it has so many entries, and has one, which adds a column of this
+/// kind to table 0, with so many bytes behind the kind.
+fn fault_of_column(count: u16, kind: u8, len: u16) -> Option<WireFault> {
+    let mut bytes = [0u8; 1200];
+    let total = (29 + usize::from(len)).min(1200);
+    bytes[..26].copy_from_slice(&FRAME[..26]);
+    bytes[4..6].copy_from_slice(&(total as u16).to_be_bytes());
+    bytes[24..26].copy_from_slice(&count.to_be_bytes());
+    bytes[26] = 4;
+    bytes[28] = kind;
+    read(&bytes[..total]).err()
+}
+
+/// A count of entries, the kind of an added column, how many bytes its value has, and the fault.
+const ADDED_COLUMNS: [(u16, u8, u16, Option<WireFault>); 14] = [
+    // A number, and 1 to 64 bytes.
+    (1, 0, 8, None),
+    (1, 1, 1, None),
+    (1, 64, 64, None),
+    (1, 65, 8, BODY),
+    (1, 65, 65, BODY),
+    (1, 255, 8, BODY),
+    (1, 255, 255, BODY),
+    // A value that is cut short, one of no bytes, and a byte behind it.
+    (1, 0, 7, BODY),
+    (1, 64, 63, BODY),
+    (1, 1, 0, BODY),
+    (1, 0, 9, BODY),
+    (1, 1, 2, BODY),
+    // A count of one too many, and of none.
+    (2, 0, 8, BODY),
+    (0, 0, 8, BODY),
+];
+
+/// The index of the first of these that has another fault.
+fn other_column() -> Option<usize> {
+    for (index, (count, kind, len, fault)) in ADDED_COLUMNS.iter().enumerate() {
+        if fault_of_column(*count, *kind, *len) != *fault {
             return Some(index);
         }
     }
@@ -327,13 +386,15 @@ fn datagrams_are_read_and_written(rt: HostRuntime) -> Result<(), Fail> {
     assert!(rt; is_packet_of_read(&FRAME));
     assert!(rt; is_frame_of(rt.alloc(), &FRAME, 1)? && is_packet(rt.alloc(), &FRAME)?);
     assert!(rt; is_frame_of(rt.alloc(), &THREE, 3)? && is_packet(rt.alloc(), &THREE)?);
+    assert!(rt; is_frame_of(rt.alloc(), &ADDED, 1)? && is_packet(rt.alloc(), &ADDED)?);
     Ok(())
 }
 
 /// An index of the frame, another byte there, and the first fault.
-const FAULTS: [(usize, u8, WireFault); 9] = [
+static FAULTS: [(usize, u8, WireFault); 10] = [
     (1, 0x45, WireFault::Magic),
-    (2, 2, WireFault::Version),
+    (2, 1, WireFault::Version),
+    (2, 3, WireFault::Version),
     (3, 5, WireFault::Kind),
     (3, 0, WireFault::Kind),
     (3, 4, WireFault::Body),
@@ -369,7 +430,7 @@ fn are_lengths_refused() -> bool {
 
 /// A number of entries, how many bytes behind the front of the frame are to be theirs, and how many
 /// entries those then have; `None` where so many do not fill them.
-const FILLINGS: [(u16, usize, Option<usize>); 5] = [
+static FILLINGS: [(u16, usize, Option<usize>); 5] = [
     (1, 28, Some(1)),
     (0, 0, Some(0)),
     (0, 28, None),
@@ -409,6 +470,7 @@ fn filled(count: u16, bytes: &[u8]) -> Option<usize> {
 #[test]
 fn the_first_fault_is_named(rt: HostRuntime) {
     assert_eq!(rt; other_entry(), None);
+    assert_eq!(rt; other_column(), None);
     assert_eq!(rt; other_fault(), None);
     assert!(rt; are_lengths_refused());
     assert!(rt; are_wants_refused());

@@ -46,7 +46,7 @@ const REPEAT: Answer = Answer::Taken(Taken::Repeat);
 const AHEAD: Answer = Answer::Taken(Taken::Ahead);
 
 /// The window is 4096 seqs from the first that is missing, and never has the greatest number.
-const WINDOW: [Line; 5] = [
+static WINDOW: [Line; 5] = [
     (Step::Take(0, 4096, 1), AHEAD),
     (Step::Take(0, 4095, 1), STORED),
     (Step::Take(0, 4095, 1), REPEAT),
@@ -55,7 +55,7 @@ const WINDOW: [Line; 5] = [
 ];
 
 /// What fills a gap moves the window of its worker alone, past all that is known behind it.
-const GAPS: [Line; 11] = [
+static GAPS: [Line; 11] = [
     (Step::Take(0, 1, 1), STORED),
     (Step::Take(0, 2, 1), STORED),
     (Step::Take(0, 4, 1), STORED),
@@ -71,7 +71,7 @@ const GAPS: [Line; 11] = [
 
 /// The least worker that lacks a frame below its count is named, and a worker without a count lacks
 /// none.
-const MISSING: [Line; 6] = [
+static MISSING: [Line; 6] = [
     (Step::Take(1, 0, 1), STORED),
     (Step::FirstMissing(&[0, 1]), Answer::Missing(None)),
     (Step::FirstMissing(&[0, 2]), Answer::Missing(Some((1, 1)))),
@@ -81,7 +81,7 @@ const MISSING: [Line; 6] = [
 ];
 
 /// A frame that is dropped stays known, also one behind a gap.
-const DROPPED: [Line; 12] = [
+static DROPPED: [Line; 12] = [
     (Step::Take(0, 0, 7), STORED),
     (Step::Take(0, 2, 9), STORED),
     (Step::Take(1, 0, 8), STORED),
@@ -97,7 +97,7 @@ const DROPPED: [Line; 12] = [
 ];
 
 /// A frame that is taken itself is known and kept as one of which a copy is.
-const OWNED: [Line; 10] = [
+static OWNED: [Line; 10] = [
     (Step::TakeOwned(0, 4096, 1), AHEAD),
     (Step::TakeOwned(0, 18446744073709551615, 1), AHEAD),
     (Step::TakeOwned(0, 1, 7), STORED),

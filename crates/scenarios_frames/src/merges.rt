@@ -37,7 +37,7 @@ const THREE: [Sketch; 4] = [
 ];
 
 /// All commits, all but the first, the second alone, and none.
-const HELD: [Case<'static>; 4] = [
+static HELD: [Case<'static>; 4] = [
     (&THREE, [0, 0], [1, 3], (0, 3), Ok(&[1, 3, 0, 1, 1, 2])),
     (&THREE, [0, 2], [1, 3], (1, 3), Ok(&[0, 1, 1, 2])),
     (&THREE, [0, 2], [1, 2], (1, 2), Ok(&[0, 1])),
@@ -46,7 +46,7 @@ const HELD: [Case<'static>; 4] = [
 
 /// A number is missing at the end, at the beginning, and in the middle; another one stands behind
 /// the last.
-const OTHER_NUMBERS: [Case<'static>; 4] = [
+static OTHER_NUMBERS: [Case<'static>; 4] = [
     (&THREE, [0, 0], [1, 3], (0, 4), NONE),
     (&THREE, [0, 2], [1, 3], (0, 3), NONE),
     (&THREE, [1, 0], [1, 3], (0, 3), NONE),
@@ -54,7 +54,7 @@ const OTHER_NUMBERS: [Case<'static>; 4] = [
 ];
 
 /// Frames of one commit are of two workers, or not together.
-const APART: [Case<'static>; 3] = [
+static APART: [Case<'static>; 3] = [
     (
         &[(false, 0, 1, true, 1), (true, 0, 1, true, 1)],
         [0, 0],
@@ -84,7 +84,7 @@ const APART: [Case<'static>; 3] = [
 
 /// A frame before the last is marked as the last; the last is not, before nothing, before the next
 /// commit, and before the next number; a commit has no entry.
-const MARKED: [Case<'static>; 5] = [
+static MARKED: [Case<'static>; 5] = [
     (
         &[(false, 0, 1, true, 1), (false, 1, 1, true, 1)],
         [0, 0],

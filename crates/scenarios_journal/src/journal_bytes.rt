@@ -7,7 +7,7 @@ use journal::{JournalFault, Recovered, header_bytes, laws, records, recover, wor
 use rows::{Commit, Entry, EntryList, RowId, Schema, fits};
 use scenarios_common::wanted::{FIVE, NUMBERS, Wanted, made};
 use scenarios_journal_common::journal_cases::{
-    CASES, Case, HEADER_LEN, JOURNAL, Outcome, bytes_of,
+    ADD_BYTE, CASES, Case, HEADER_LEN, JOURNAL, Outcome, bytes_of,
 };
 use std::alloc::Global;
 use std::slice::from_ref;
@@ -42,6 +42,101 @@ fn other_case(alloc: Global) -> Result<Option<usize>, Fail> {
 #[test]
 fn bytes_keep_what_is_whole_and_legal(rt: HostRuntime) -> Result<(), Fail> {
     assert_eq!(rt; other_case(rt.alloc())?, None);
+    Ok(())
+}
+
+/// The record of a commit of that number: worker 0 adds a column of each of these kinds to table 0.
+fn push_columns(bytes: &mut Vec<u8>, number: u8, kinds: &[u8]) -> Result<(), Fail> {
+    let mut len: u32 = 11;
+    for kind in kinds {
+        len = len.saturating_add(width_of(*kind)).saturating_add(3);
+    }
+    bytes.extend_from_slice(&len.to_be_bytes())?;
+    bytes.extend_from_slice(&[0, 0, 0, 0, 0, 0, 0, 0, number])?;
+    bytes.extend_from_slice(&(kinds.len().min(4096) as u16).to_be_bytes())?;
+    for kind in kinds {
+        bytes.extend_from_slice(&[4, 0, *kind])?;
+        for _ in 0..width_of(*kind) {
+            bytes.push(0x61)?;
+        }
+    }
+    Ok(())
+}
+
+/// How many bytes a value takes whose kind is this byte.
+fn width_of(kind: u8) -> u32 {
+    if kind == 0 { 8 } else { u32::from(kind) }
+}
+
+/// The journal, and commits behind its own, each with a column of each of these kinds.
+fn with_columns(alloc: Global, commits: &[&[u8]]) -> Result<Vec<u8>, Fail> {
+    let mut bytes = Vec::from_slice(alloc, &JOURNAL)?;
+    let mut number: u8 = 1;
+    for kinds in commits {
+        number = number.saturating_add(1);
+        push_columns(&mut bytes, number, kinds)?;
+    }
+    Ok(bytes)
+}
+
+/// The kinds of the columns that each commit adds, and what is recovered.
+type Wider = (&'static [&'static [u8]], Outcome);
+
+/// Columns that are added to accounts, which have two of 8 bytes: up to 16 of them, and up to 512
+/// bytes, each of 1 to 64.
+const WIDER: [Wider; 15] = [
+    (&[&[1]], Ok((2, 71))),
+    (&[&[0]], Ok((2, 78))),
+    (&[&[64]], Ok((2, 134))),
+    (&[&[65]], Err(JournalFault::Damaged(52))),
+    (&[&[1], &[65]], Err(JournalFault::Damaged(71))),
+    (&[&[255]], Err(JournalFault::Damaged(52))),
+    (&[&[1, 0, 2]], Ok((2, 87))),
+    // The 16th column, and the 17th: in one commit, and in one of its own.
+    (&[&[1; 14]], Ok((2, 123))),
+    (&[&[1; 15]], Err(JournalFault::Illegal(52))),
+    (&[&[1; 14], &[1]], Err(JournalFault::Illegal(123))),
+    (&[&[1; 13], &[1], &[0]], Err(JournalFault::Illegal(138))),
+    // Rows of 512 bytes, and of 513.
+    (&[&[64; 7]], Ok((2, 536))),
+    (&[&[64; 8]], Err(JournalFault::Illegal(52))),
+    (&[&[64; 7], &[48]], Ok((3, 602))),
+    (&[&[64; 7], &[49]], Err(JournalFault::Illegal(536))),
+];
+
+/// The index of the first of these of which something else is recovered.
+fn other_width(alloc: Global) -> Result<Option<usize>, Fail> {
+    for (index, (commits, recovered)) in WIDER.iter().enumerate() {
+        let bytes = with_columns(alloc, commits)?;
+        if outcome(alloc, &bytes)? != *recovered {
+            return Ok(Some(index));
+        }
+    }
+    Ok(None)
+}
+
+#[test]
+fn columns_are_added_up_to_the_limits(rt: HostRuntime) -> Result<(), Fail> {
+    assert_eq!(rt; other_width(rt.alloc())?, None);
+    Ok(())
+}
+
+/// The first number of bytes of the record of an added column behind the journal of which something
+/// else is recovered than a torn end.
+fn other_torn_column(alloc: Global) -> Result<Option<usize>, Fail> {
+    for len in 0..19 {
+        let mut bytes = Vec::from_slice(alloc, &JOURNAL)?;
+        bytes.extend_from_slice(ADD_BYTE.split_at(len).0)?;
+        if outcome(alloc, &bytes)? != Ok((1, 52)) {
+            return Ok(Some(len));
+        }
+    }
+    Ok(None)
+}
+
+#[test]
+fn an_added_column_is_torn_at_each_byte(rt: HostRuntime) -> Result<(), Fail> {
+    assert_eq!(rt; other_torn_column(rt.alloc())?, None);
     Ok(())
 }
 

@@ -22,7 +22,7 @@ enum Call {
 }
 
 /// The header is written and a record, which is cut away and written again.
-const CALLS: [Call; 5] = [
+static CALLS: [Call; 5] = [
     Call::Append(&JOURNAL_HEADER),
     Call::Append(&JOURNAL_RECORD),
     Call::CutTo(9),
@@ -31,7 +31,7 @@ const CALLS: [Call; 5] = [
 ];
 
 /// The header of the journal.
-const JOURNAL_HEADER: [u8; 9] = [0x42, 0x44, 0x4a, 0x31, 0x02, 0x01, 0x02, 0x00, 0x00];
+const JOURNAL_HEADER: [u8; 9] = [0x42, 0x44, 0x4a, 0x32, 0x02, 0x01, 0x02, 0x00, 0x00];
 
 /// Makes a call, and answers whether it was done. The list is left with what was read.
 fn make<J: JournalStore>(journal: &mut J, call: Call, list: &mut Vec<u8>) -> Result<bool, Fail> {
@@ -77,7 +77,7 @@ fn make_all<J: JournalStore>(
 
 /// The number of the call that fails and leaves two bytes; and then how many bytes stand, how many
 /// faults there were, and what is recovered.
-const LEFT: [(u64, usize, u64, Outcome); 7] = [
+static LEFT: [(u64, usize, u64, Outcome); 7] = [
     (0, 2, 1, Ok((0, 0))),
     (1, 11, 1, Ok((0, 9))),
     (2, 52, 1, Ok((1, 52))),

@@ -4,8 +4,9 @@ ghost use Rattle.std.specs.Prelude.{◌<◌};
 
 use scenarios_common::drawn_numbers::{draw, draw_node, draw_recent, is_drawn, pick};
 use scenarios_model::slow_events::{Event, VALUES};
-use scenarios_model::slow_rows::{Table, Value, columns_of, row_of};
-use scenarios_model::slow_transactions::{snapshot_of, view};
+use scenarios_model::slow_queries::SEEN;
+use scenarios_model::slow_rows::{COLUMNS, Table, Value, has_room, row_of};
+use scenarios_model::slow_transactions::{columns_seen, snapshot_of, view};
 use scenarios_model::slow_world::World;
 use std::alloc::{AllocError, Global};
 
@@ -50,12 +51,18 @@ pub fn column_or_number(columns: &[u8], index: usize) -> u8 {
     columns.get(index).copied().unwrap_or(0)
 }
 
-/// A column of a table, seldom one that is not there.
-pub fn draw_column(state: &mut u64, columns: &[u8]) -> u8 {
+/// How many columns these are.
+pub fn count_of_columns(columns: &[u8]) -> u8 {
+    columns.len().min(255) as u8
+}
+
+/// A column of a table, seldom one that is not there: the next, which may be added, or one of none.
+fn draw_column(state: &mut u64, columns: &[u8]) -> u8 {
+    let count = count_of_columns(columns);
     if is_drawn(state, 30) {
-        pick(state, &[2, 3, 255])
+        pick(state, &[count, 255])
     } else {
-        draw_node(state, columns.len().min(255) as u8)
+        draw_node(state, count)
     }
 }
 
@@ -89,7 +96,8 @@ pub fn draw_transaction(state: &mut u64, world: &World) -> u64 {
 
 /// An insert; seldom one whose values do not fit.
 pub fn draw_insert(state: &mut u64, world: &World, transaction: u64, table: u8, row: u64) -> Event {
-    let columns = columns_of(world.settings.tables, table);
+    let columns = columns_seen(world, transaction, table);
+    let columns = columns.as_slice();
     let mut values = [Value::Number(0); VALUES];
     for (index, value) in values.iter_mut().enumerate() {
         *value = draw_any_value(state, column_or_number(columns, index));
@@ -109,7 +117,8 @@ pub fn draw_insert(state: &mut u64, world: &World, transaction: u64, table: u8, 
 }
 
 pub fn draw_set(state: &mut u64, world: &World, transaction: u64, table: u8, row: u64) -> Event {
-    let columns = columns_of(world.settings.tables, table);
+    let columns = columns_seen(world, transaction, table);
+    let columns = columns.as_slice();
     let column = draw_column(state, columns);
     Event::Set {
         transaction,
@@ -121,12 +130,45 @@ pub fn draw_set(state: &mut u64, world: &World, transaction: u64, table: u8, row
 }
 
 pub fn draw_get(state: &mut u64, world: &World, transaction: u64, table: u8, row: u64) -> Event {
-    let columns = columns_of(world.settings.tables, table);
+    let columns = columns_seen(world, transaction, table);
     Event::Get {
         transaction,
         table,
         row,
-        column: draw_column(state, columns),
+        column: draw_column(state, columns.as_slice()),
+    }
+}
+
+/// What a column holds at first that is added behind these. Where queries see it, it is not too wide
+/// to be printed.
+fn draw_default(state: &mut u64, columns: &[u8]) -> Value {
+    let kind = if columns.len() < SEEN {
+        pick(state, &[0, 0, 1, 2])
+    } else {
+        pick(state, &[0, 1, 2, 64])
+    };
+    draw_value(state, kind)
+}
+
+/// A column that is added. A table with as many as there are places for here has a look at the row
+/// instead, unless the column is to be refused.
+pub fn draw_add_column(
+    state: &mut u64,
+    world: &World,
+    transaction: u64,
+    table: u8,
+    row: u64,
+) -> Event {
+    let columns = columns_seen(world, transaction, table);
+    let columns = columns.as_slice();
+    let default = draw_default(state, columns);
+    if columns.len() >= COLUMNS && has_room(columns, default) {
+        return draw_get(state, world, transaction, table, row);
+    }
+    Event::AddColumn {
+        transaction,
+        table,
+        default,
     }
 }
 
@@ -140,6 +182,9 @@ fn draw_fitting(
 ) -> Result<Event, AllocError> {
     let table = draw_table(state, world.settings.tables);
     let row = draw_row(state);
+    if is_drawn(state, 16) {
+        return Ok(draw_add_column(state, world, transaction, table, row));
+    }
     let written = world.written.as_slice();
     let changes = world.changes.as_slice();
     let rows = view(alloc, written, changes, transaction, snapshot)?;

@@ -1,15 +1,15 @@
 //! Queries, drawn: most of them fit the tables.
 
-use crate::drawn_changes::{column_or_number, draw_any_value, draw_column, draw_table};
-use plans::{Aggregate, Column, Comparison, Join};
+use crate::drawn_changes::{column_or_number, count_of_columns, draw_any_value, draw_table};
+use queries::{Aggregate, Column, Comparison, Join};
 use scenarios_common::drawn_numbers::{draw, draw_node, is_drawn, pick};
-use scenarios_model::slow_queries::{PARTS, Query};
-use scenarios_model::slow_rows::{Table, Value, columns_of};
+use scenarios_model::slow_queries::{PARTS, Query, SEEN};
+use scenarios_model::slow_rows::{Table, Value, columns_of, first};
 
 /// How many queries a script has to choose from.
 pub const QUERIES: usize = 12;
 
-const COMPARISONS: [Comparison; 6] = [
+static COMPARISONS: [Comparison; 6] = [
     Comparison::Equal,
     Comparison::NotEqual,
     Comparison::Less,
@@ -21,6 +21,24 @@ const COMPARISONS: [Comparison; 6] = [
 /// Whether the plain program of queries prints what a column holds.
 fn is_printed(column: u8) -> bool {
     column <= 2
+}
+
+/// The columns of a table that queries name.
+fn named_columns(tables: &'static [Table], table: u8) -> &'static [u8] {
+    first(columns_of(tables, table), SEEN)
+}
+
+/// A column of a table, by its number: seldom the next one, which may be added and is not there yet, or
+/// one that no table has.
+fn draw_named(state: &mut u64, columns: &[u8]) -> u8 {
+    let count = count_of_columns(columns);
+    if columns.len() < SEEN && is_drawn(state, 8) {
+        count
+    } else if is_drawn(state, 60) {
+        255
+    } else {
+        draw_node(state, count)
+    }
 }
 
 /// A column that a query groups by, or looks for the least of: mostly one that is there. Where it
@@ -35,12 +53,8 @@ fn draw_query_column(
         Some(join) if is_drawn(state, 2) => Some(join.table),
         _ => None,
     };
-    let columns = columns_of(tables, joined.unwrap_or(table));
-    let column = if is_drawn(state, 90) {
-        pick(state, &[3, 255])
-    } else {
-        draw_node(state, columns.len().min(255) as u8)
-    };
+    let columns = named_columns(tables, joined.unwrap_or(table));
+    let column = draw_named(state, columns);
     if !is_printed(column_or_number(columns, column as usize)) {
         return None;
     }
@@ -62,8 +76,8 @@ fn draw_condition(
         Some(join) if is_drawn(state, 2) => Some(join.table),
         _ => None,
     };
-    let columns = columns_of(tables, joined.unwrap_or(table));
-    let column = draw_column(state, columns);
+    let columns = named_columns(tables, joined.unwrap_or(table));
+    let column = draw_named(state, columns);
     let value = draw_any_value(state, column_or_number(columns, column as usize));
     let name = if joined.is_some() {
         Column::Joined(column)
@@ -83,8 +97,8 @@ fn draw_aggregate(
         return Aggregate::Count;
     };
     let columns = match (column, join) {
-        (Column::Joined(_), Some(join)) => columns_of(tables, join.table),
-        _ => columns_of(tables, table),
+        (Column::Joined(_), Some(join)) => named_columns(tables, join.table),
+        _ => named_columns(tables, table),
     };
     let index = match column {
         Column::Own(index) | Column::Joined(index) => index as usize,
@@ -105,13 +119,13 @@ fn draw_aggregate(
 }
 
 fn draw_join(state: &mut u64, tables: &'static [Table], table: u8) -> Option<Join> {
-    let columns = columns_of(tables, table);
+    let columns = named_columns(tables, table);
     let number = number_column(columns);
     if !is_drawn(state, 3) || (number.is_none() && !is_drawn(state, 8)) {
         return None;
     }
     let column = if is_drawn(state, 12) {
-        draw_column(state, columns)
+        draw_named(state, columns)
     } else {
         number.unwrap_or(0)
     };

@@ -99,7 +99,7 @@ pub fn draw_push(state: &mut u64, alloc: Global, world: &World) -> Result<Event,
     let worker = draw_node(state, world.settings.workers);
     let replica = draw_node(state, world.settings.replicas);
     let written = world.written.as_slice();
-    let count = count_of(alloc, &world.settings, written, worker, world.durable)?;
+    let count = count_of(alloc, written, worker, world.durable)?;
     let seq = if is_drawn(state, 3) {
         draw_recent(state, (count as usize).saturating_add(1), 4)
     } else {

@@ -4,7 +4,8 @@
 ghost use Rattle.std.specs.Prelude.{◌<◌};
 
 use crate::drawn_changes::{
-    draw_get, draw_insert, draw_row, draw_set, draw_table, draw_transaction, draw_write,
+    draw_add_column, draw_get, draw_insert, draw_row, draw_set, draw_table, draw_transaction,
+    draw_write,
 };
 use crate::drawn_plans::{QUERIES, draw_query};
 use crate::drawn_rounds::{draw_deliver, draw_open, draw_push, draw_round};
@@ -40,11 +41,18 @@ const WIDE: Table = Table {
     columns: &[64, 0, 64],
 };
 
-const SCHEMAS: [&'static [Table]; 4] = [
+/// A row of it has room for 64 bytes more, and no others.
+const FULL: Table = Table {
+    name: "full",
+    columns: &[64; 7],
+};
+
+static SCHEMAS: [&'static [Table]; 5] = [
     &[ACCT, SITE],
     &[ITEM, WIDE],
     &[ACCT, ITEM, WIDE],
     &[SITE, WIDE, ACCT],
+    &[FULL, SITE],
 ];
 
 /// What is drawn next.
@@ -58,6 +66,7 @@ enum Choice {
     Insert,
     Set,
     Delete,
+    AddColumn,
     Get,
     Commit,
     Abort,
@@ -77,13 +86,14 @@ enum Choice {
 }
 
 /// What is drawn, and how often.
-const WEIGHTS: [(Choice, usize); 22] = [
+static WEIGHTS: [(Choice, usize); 23] = [
     (Choice::Round, 60),
     (Choice::Write, 60),
     (Choice::Begin, 3),
     (Choice::Insert, 4),
     (Choice::Set, 4),
     (Choice::Delete, 2),
+    (Choice::AddColumn, 3),
     (Choice::Get, 3),
     (Choice::Commit, 4),
     (Choice::Abort, 2),
@@ -115,9 +125,8 @@ fn draw_flush(state: &mut u64) -> Event {
 
 /// A stop, mostly within the records of what is pending, or at their end.
 fn draw_stop(state: &mut u64, alloc: Global, world: &World) -> Result<Event, AllocError> {
-    let tables = world.settings.tables;
     let written = world.written.as_slice();
-    let pending = records(alloc, tables, written, world.durable, world.last)?.len() as u64;
+    let pending = records(alloc, written, world.durable, world.last)?.len() as u64;
     let count = match draw(state, 4) {
         0 => pending.saturating_sub(draw(state, 2) as u64),
         1 => pick(state, &[0, u64::MAX]),
@@ -249,6 +258,7 @@ fn draw_transacting(state: &mut u64, world: &World, choice: Choice) -> Event {
             table,
             row,
         },
+        Choice::AddColumn => draw_add_column(state, world, transaction, table, row),
         Choice::Get => draw_get(state, world, transaction, table, row),
         Choice::Commit => Event::Commit {
             transaction,

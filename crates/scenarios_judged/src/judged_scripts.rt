@@ -16,7 +16,7 @@ const SCRIPTS: u64 = 1000;
 /// What each kind of event must answer in some script. Left out is what comes seldom or never:
 /// `too many entries` wants 4096 changes of one transaction, `ahead` 4096 frames of one worker, and
 /// `numbers used up` 2 to the 64th commits; a script has 200 events.
-const MUST: [(&str, &[&str]); 22] = [
+const MUST: [(&str, &[&str]); 23] = [
     ("begin", &["tx ", "stopped\n"]),
     (
         "insert",
@@ -27,6 +27,7 @@ const MUST: [(&str, &[&str]); 22] = [
         &["ok\n", "missing\n", "unfit\n", "no tx\n", "stopped\n"],
     ),
     ("delete", &["ok\n", "missing\n", "no tx\n", "stopped\n"]),
+    ("column", &["ok\n", "unfit\n", "no tx\n", "stopped\n"]),
     (
         "get",
         &["value ", "missing\n", "unfit\n", "no tx\n", "stopped\n"],
@@ -57,10 +58,10 @@ const MUST: [(&str, &[&str]); 22] = [
     (
         "show",
         &[
-            "42440101",
-            "42440102",
-            "42440103",
-            "42440104",
+            "42440201",
+            "42440202",
+            "42440203",
+            "42440204",
             "never sent\n",
         ],
     ),
@@ -105,12 +106,17 @@ fn judged<R: Threads + Sync>(
 /// Refuses a tally without one of the answers that must come.
 fn expect_all(rt: &impl Abort, tally: &Tally) {
     for (kind, answers) in MUST {
-        for answer in answers {
-            assert!(rt;
-                tally.count(kind, answer) != 0,
-                "{kind} never answers {answer}"
-            );
-        }
+        expect_each(rt, tally, kind, answers);
+    }
+}
+
+/// Refuses a tally in which an event of this kind never has one of these answers.
+fn expect_each(rt: &impl Abort, tally: &Tally, kind: &str, answers: &[&str]) {
+    for answer in answers {
+        assert!(rt;
+            tally.count(kind, answer) != 0,
+            "{kind} never answers {answer}"
+        );
     }
 }
 
@@ -123,6 +129,10 @@ fn drawn_scripts_print_what_is_allowed(rt: HostRuntime) -> Result<(), Fail> {
     }
     expect_all(&rt, &tally);
     assert!(rt; tally.long_commits() != 0, "each commit is one frame");
+    assert!(rt;
+        tally.column_conflicts() != 0,
+        "no commit is refused for a column"
+    );
     assert_eq!(rt; tally.count_of_answer("memory\n"), 0);
     assert_eq!(rt; tally.count_of_answer("broken\n"), 0);
     Ok(())

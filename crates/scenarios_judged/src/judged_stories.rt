@@ -1,7 +1,7 @@
 //! What the judge says of stories that are written out: of events that are out of memory, and of
 //! those that no script has yet.
 
-use plans::{Aggregate, Column, Comparison};
+use queries::{Aggregate, Column, Comparison};
 use scenarios_model::slow_events::{Event, Node, Script, VALUES};
 use scenarios_model::slow_judge::judge;
 use scenarios_model::slow_queries::{PARTS, Query};
@@ -36,6 +36,11 @@ const R0: Node = Node::Replica(0);
 const FIVE: [Value; VALUES] = [
     Value::Number(5),
     Value::Number(-1),
+    Value::Number(0),
+    Value::Number(0),
+    Value::Number(0),
+    Value::Number(0),
+    Value::Number(0),
     Value::Number(0),
     Value::Number(0),
 ];
@@ -129,7 +134,7 @@ fn refused_at(
 }
 
 /// What may be printed behind the front of the round, and where it is refused.
-const ENDS: [(&str, Option<usize>); 12] = [
+static ENDS: [(&str, Option<usize>); 12] = [
     (
         "version 1 queries 1\nquery 0 rows 1\n1\nno batch\nversion 1\n",
         None,
@@ -322,26 +327,31 @@ const RESTARTED: &str = "opened 1\nsent 0 23\nsent 1 48\nboot 2\nopened 1\nsent 
     waiting head\nboot used\nboot used\nversion 0\nversion 0 rows 0\n";
 
 /// The frame of the commit of the round.
-const FRAME: [u8; 54] = *b"\x42\x44\x01\x01\x00\x36\x00\0\0\0\0\0\0\0\0\0\0\0\0\0\0\0\x01\
+const FRAME: [u8; 54] = *b"\x42\x44\x02\x01\x00\x36\x00\0\0\0\0\0\0\0\0\0\0\0\0\0\0\0\x01\
     \x01\x00\x01\x01\x00\0\0\0\0\0\0\0\x07\x00\x10\0\0\0\0\0\0\0\x05\
     \xff\xff\xff\xff\xff\xff\xff\xff";
 
-/// That frame with another magic, and with another `last`.
-const OTHER_MAGIC: [u8; 54] = *b"\x42\x45\x01\x01\x00\x36\x00\0\0\0\0\0\0\0\0\0\0\0\0\0\0\0\x01\
+/// That frame with another magic, of the version before, and with another `last`.
+const OTHER_MAGIC: [u8; 54] = *b"\x42\x45\x02\x01\x00\x36\x00\0\0\0\0\0\0\0\0\0\0\0\0\0\0\0\x01\
     \x01\x00\x01\x01\x00\0\0\0\0\0\0\0\x07\x00\x10\0\0\0\0\0\0\0\x05\
     \xff\xff\xff\xff\xff\xff\xff\xff";
 
-const OTHER_LAST: [u8; 54] = *b"\x42\x44\x01\x01\x00\x36\x00\0\0\0\0\0\0\0\0\0\0\0\0\0\0\0\x01\
+const OTHER_VERSION: [u8; 54] = *b"\x42\x44\x01\x01\x00\x36\x00\0\0\0\0\0\0\0\0\0\0\0\0\0\0\0\x01\
+    \x01\x00\x01\x01\x00\0\0\0\0\0\0\0\x07\x00\x10\0\0\0\0\0\0\0\x05\
+    \xff\xff\xff\xff\xff\xff\xff\xff";
+
+const OTHER_LAST: [u8; 54] = *b"\x42\x44\x02\x01\x00\x36\x00\0\0\0\0\0\0\0\0\0\0\0\0\0\0\0\x01\
     \x02\x00\x01\x01\x00\0\0\0\0\0\0\0\x07\x00\x10\0\0\0\0\0\0\0\x05\
     \xff\xff\xff\xff\xff\xff\xff\xff";
 
-const RAWS: [&[u8]; 4] = [&FRAME, &OTHER_MAGIC, &OTHER_LAST, &[]];
+const RAWS: [&[u8]; 5] = [&FRAME, &OTHER_MAGIC, &OTHER_LAST, &[], &OTHER_VERSION];
 
 /// Bytes that are no datagram, one that was never sent, and the same once it was sent.
-const RAW_EVENTS: [Event; 12] = [
+const RAW_EVENTS: [Event; 13] = [
     Event::Raw { bytes: 1, node: R0 },
     Event::Raw { bytes: 2, node: R0 },
     Event::Raw { bytes: 3, node: R0 },
+    Event::Raw { bytes: 4, node: R0 },
     Event::Raw { bytes: 0, node: R0 },
     DUMP,
     Event::Begin,
@@ -356,7 +366,8 @@ const RAW_EVENTS: [Event; 12] = [
     },
 ];
 
-const RAW_LINES: &str = "ignored\nignored\nignored\nforged\nversion 0 rows 0\ntx 0 at 0\nok\n\
+const RAW_LINES: &str =
+    "ignored\nignored\nignored\nignored\nforged\nversion 0 rows 0\ntx 0 at 0\nok\n\
     ticket 1\ndurable 1\nsent 0 54\nstored\nignored\n";
 
 /// What a replica's tables print behind the round.

@@ -10,6 +10,8 @@ mod drawn_rounds;
 #[cfg(test)]
 mod drawn_scripts;
 #[cfg(test)]
+mod grown_tables;
+#[cfg(test)]
 mod judged_scripts;
 #[cfg(test)]
 mod judged_stories;

@@ -12,10 +12,10 @@ use world::{read_script, run_on};
 const SCRIPTS: u64 = 1000;
 
 /// Numbers of partitions, beside the 8 of a script that is run.
-const PARTITIONS: [usize; 4] = [1, 2, 7, 64];
+pub const PARTITIONS: [usize; 4] = [1, 2, 7, 64];
 
 /// What a script prints if its replicas' stores have so many partitions.
-fn printed_on<R: Threads + Sync>(
+pub fn printed_on<R: Threads + Sync>(
     rt: &R,
     alloc: Global,
     script: &[u8],

@@ -4,7 +4,7 @@ use crate::slow_datagrams::{Request, ask as ask_bytes, want};
 use crate::slow_network::send;
 use crate::slow_queries::{Query, fault_of, lines_of, push_answer};
 use crate::slow_replicas::{Batch, first_missing, put_replica, replica_of};
-use crate::slow_rows::rows_after;
+use crate::slow_rows::{Columns, columns_after, rows_after};
 use crate::slow_world::World;
 use std::alloc::{AllocError, Global};
 
@@ -27,6 +27,27 @@ pub fn waiting_count(world: &World, number: u8) -> u64 {
     count_of(world.waiting.as_slice(), number)
 }
 
+/// The columns of a table at a replica's version.
+fn columns_at(world: &World, number: u8, table: u8) -> Columns {
+    let version = replica_of(world, number).version;
+    columns_after(
+        world.settings.tables,
+        world.written.as_slice(),
+        version,
+        table,
+    )
+}
+
+/// The number of a query's first fault, at a replica's version.
+fn fault_at(world: &World, number: u8, query: &Query) -> Option<u64> {
+    let own = columns_at(world, number, query.table);
+    let joined = match query.join {
+        None => Columns::none(),
+        Some(join) => columns_at(world, number, join.table),
+    };
+    fault_of(query, (own.as_slice(), joined.as_slice()))
+}
+
 /// A query is opened, the one at that index of the script's.
 pub fn open(
     world: &mut World,
@@ -42,7 +63,7 @@ pub fn open(
     if count >= WAITING_MAX {
         return text.push_str("batch full\n");
     }
-    if let Some(fault) = fault_of(query, world.settings.tables) {
+    if let Some(fault) = fault_at(world, number, query) {
         return write!(text, "bad plan {fault}\n");
     }
     world.waiting.push((number, index))?;

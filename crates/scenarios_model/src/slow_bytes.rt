@@ -1,6 +1,6 @@
 //! How the slow world spells numbers, values and changes in bytes, and how it reads numbers.
 
-use crate::slow_rows::{Act, Change, Table, Value, columns_of};
+use crate::slow_rows::{Act, Change, Value, first, kind_of, width_of};
 use std::alloc::AllocError;
 
 /// Adds a number's lowest bytes, so many of them, the highest first.
@@ -29,41 +29,35 @@ fn push_value(bytes: &mut Vec<u8>, value: Value) -> Result<(), AllocError> {
     }
 }
 
-/// Adds the bytes of the values of a row with these columns.
-fn push_values(bytes: &mut Vec<u8>, values: &[Value], columns: &[u8]) -> Result<(), AllocError> {
-    for (value, _) in values.iter().zip(columns.iter()) {
+/// Adds the bytes of the values of a row.
+fn push_values(bytes: &mut Vec<u8>, values: &[Value]) -> Result<(), AllocError> {
+    for value in values {
         push_value(bytes, *value)?;
     }
     Ok(())
 }
 
-/// How many bytes a column takes.
-fn width_of(column: u8) -> u64 {
-    if column == 0 { 8 } else { u64::from(column) }
+/// How many bytes a value takes.
+fn value_len(value: Value) -> u64 {
+    width_of(kind_of(value))
 }
 
-/// How many bytes the first columns take, so many of them.
-fn width_before(columns: &[u8], count: usize) -> u64 {
-    let mut width: u64 = 0;
-    for (index, column) in columns.iter().enumerate() {
-        if index < count {
-            width = width.saturating_add(width_of(*column));
-        }
+/// How many bytes the values of a row take.
+fn values_len(values: &[Value]) -> u64 {
+    let mut len: u64 = 0;
+    for value in values {
+        len = len.saturating_add(value_len(*value));
     }
-    width
+    len
 }
 
 /// How many bytes a change takes.
-pub fn change_len(tables: &'static [Table], change: &Change) -> u64 {
-    let columns = columns_of(tables, change.table);
-    match change.act {
-        Act::Insert(_) => width_before(columns, columns.len()).saturating_add(12),
-        Act::Set(column, _) => {
-            let end = width_before(columns, usize::from(column).saturating_add(1));
-            let begin = width_before(columns, usize::from(column));
-            end.saturating_sub(begin).saturating_add(14)
-        }
+pub fn change_len(change: &Change) -> u64 {
+    match &change.act {
+        Act::Insert { values, count } => values_len(first(values, *count)).saturating_add(12),
+        Act::Set { value, .. } => value_len(*value).saturating_add(14),
         Act::Delete => 10,
+        Act::AddColumn(value) => value_len(*value).saturating_add(3),
     }
 }
 
@@ -75,26 +69,27 @@ fn push_row(bytes: &mut Vec<u8>, operation: u64, change: &Change) -> Result<(), 
 }
 
 /// Adds a change's bytes.
-pub fn push_change(
-    bytes: &mut Vec<u8>,
-    tables: &'static [Table],
-    change: &Change,
-) -> Result<(), AllocError> {
-    let columns = columns_of(tables, change.table);
+pub fn push_change(bytes: &mut Vec<u8>, change: &Change) -> Result<(), AllocError> {
     match &change.act {
-        Act::Insert(values) => {
+        Act::Insert { values, count } => {
+            let values = first(values, *count);
             push_row(bytes, 1, change)?;
-            push_number(bytes, width_before(columns, columns.len()), 2)?;
-            push_values(bytes, values, columns)
+            push_number(bytes, values_len(values), 2)?;
+            push_values(bytes, values)
         }
-        Act::Set(column, value) => {
+        Act::Set { offset, value, .. } => {
             push_row(bytes, 2, change)?;
-            let offset = width_before(columns, usize::from(*column));
-            push_number(bytes, offset, 2)?;
-            push_number(bytes, change_len(tables, change).saturating_sub(14), 2)?;
+            push_number(bytes, *offset, 2)?;
+            push_number(bytes, value_len(*value), 2)?;
             push_value(bytes, *value)
         }
         Act::Delete => push_row(bytes, 3, change),
+        Act::AddColumn(value) => {
+            push_number(bytes, 4, 1)?;
+            push_number(bytes, u64::from(change.table), 1)?;
+            push_number(bytes, u64::from(kind_of(*value)), 1)?;
+            push_value(bytes, *value)
+        }
     }
 }
 
@@ -140,6 +135,13 @@ fn spelled_len(bytes: &[u8]) -> Option<usize> {
             (size, 14)
         }
         3 => (0, 10),
+        4 => {
+            let kind = number_at(bytes, 2, 1)?;
+            if kind > 64 {
+                return None;
+            }
+            (width_of(kind as u8), 3)
+        }
         _ => return None,
     };
     let len = (size as usize).saturating_add(fixed);

@@ -37,7 +37,7 @@ pub struct Request {
 pub fn spelled(alloc: Global, kind: u64, body: &[u8]) -> Result<Vec<u8>, AllocError> {
     let mut bytes = Vec::new(alloc);
     push_number(&mut bytes, 0x4244, 2)?;
-    push_number(&mut bytes, 1, 1)?;
+    push_number(&mut bytes, 2, 1)?;
     push_number(&mut bytes, kind, 1)?;
     push_number(&mut bytes, body.len().saturating_add(6) as u64, 2)?;
     bytes.extend_from_slice(body)?;
@@ -77,7 +77,7 @@ fn below_sixteen(bytes: &[u8], from: usize) -> Option<u8> {
 
 /// The datagram that the bytes are; none where they are none.
 pub fn read(bytes: &[u8]) -> Option<Datagram> {
-    if number_at(bytes, 0, 2)? != 0x4244 || number_at(bytes, 2, 1)? != 1 {
+    if number_at(bytes, 0, 2)? != 0x4244 || number_at(bytes, 2, 1)? != 2 {
         return None;
     }
     let kind = number_at(bytes, 3, 1)?;

@@ -37,6 +37,11 @@ pub enum Event {
         table: u8,
         row: u64,
     },
+    AddColumn {
+        transaction: u64,
+        table: u8,
+        default: Value,
+    },
     Get {
         transaction: u64,
         table: u8,

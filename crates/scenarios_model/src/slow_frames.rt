@@ -2,7 +2,7 @@
 
 use crate::slow_bytes::{change_len, push_change, push_number};
 use crate::slow_datagrams::{Request, push_request, spelled};
-use crate::slow_rows::{Settings, Table, Written};
+use crate::slow_rows::{Settings, Written};
 use std::alloc::{AllocError, Global};
 
 /// How many bytes a frame has at the most.
@@ -21,7 +21,6 @@ pub struct Framed {
 /// The changes of a worker's commits up to that number, each with its frame.
 pub fn stream(
     alloc: Global,
-    tables: &'static [Table],
     written: &[Written],
     worker: u8,
     version: u64,
@@ -34,7 +33,7 @@ pub fn stream(
         if entry.worker != worker || entry.commit > version {
             continue;
         }
-        let len = change_len(tables, &entry.change);
+        let len = change_len(&entry.change);
         let goes_on = entry.commit == commit && size.saturating_add(len) <= FRAME_MAX;
         if !goes_on && commit != 0 {
             seq = seq.saturating_add(1);
@@ -71,7 +70,6 @@ fn commit_at(framed: &[Framed], seq: u64) -> u64 {
 /// A frame's datagram; none where there is no such frame.
 pub fn frame(
     alloc: Global,
-    tables: &'static [Table],
     framed: &[Framed],
     worker: u8,
     seq: u64,
@@ -96,20 +94,15 @@ pub fn frame(
     push_number(&mut body, commit, 8)?;
     push_number(&mut body, last, 1)?;
     push_number(&mut body, count, 2)?;
-    push_changes(&mut body, tables, framed, seq)?;
+    push_changes(&mut body, framed, seq)?;
     Ok(Some(spelled(alloc, 1, body.as_slice())?))
 }
 
 /// Adds the changes of a frame.
-fn push_changes(
-    body: &mut Vec<u8>,
-    tables: &'static [Table],
-    framed: &[Framed],
-    seq: u64,
-) -> Result<(), AllocError> {
+fn push_changes(body: &mut Vec<u8>, framed: &[Framed], seq: u64) -> Result<(), AllocError> {
     for entry in framed {
         if entry.seq == seq {
-            push_change(body, tables, &entry.written.change)?;
+            push_change(body, &entry.written.change)?;
         }
     }
     Ok(())
@@ -128,7 +121,7 @@ pub fn head(
     push_number(&mut body, durable, 8)?;
     push_number(&mut body, u64::from(settings.workers), 1)?;
     for worker in 0..settings.workers {
-        let count = count_of(alloc, settings, written, worker, durable)?;
+        let count = count_of(alloc, written, worker, durable)?;
         push_number(&mut body, count, 8)?;
     }
     spelled(alloc, 3, body.as_slice())
@@ -137,11 +130,10 @@ pub fn head(
 /// How many frames a worker's commits up to that number have.
 pub fn count_of(
     alloc: Global,
-    settings: &Settings,
     written: &[Written],
     worker: u8,
     version: u64,
 ) -> Result<u64, AllocError> {
-    let framed = stream(alloc, settings.tables, written, worker, version)?;
+    let framed = stream(alloc, written, worker, version)?;
     Ok(frame_count(framed.as_slice()))
 }

@@ -1,11 +1,11 @@
 //! The slow world's journal: written from its beginning at each stop, and read back.
 
 use crate::slow_bytes::{are_changes, behind, number_at, push_change, push_number};
-use crate::slow_rows::{Settings, Table, Written};
+use crate::slow_rows::{Settings, Written};
 use std::alloc::{AllocError, Global};
 
-/// The bytes of a record behind its length, of the least: a delete.
-const RECORD_MIN: u64 = 21;
+/// The bytes of a record behind its length, of the least: a column of one byte that is added.
+const RECORD_MIN: u64 = 15;
 
 /// Of the greatest: 4096 inserts of 512 bytes.
 const RECORD_MAX: u64 = 2146315;
@@ -13,7 +13,7 @@ const RECORD_MAX: u64 = 2146315;
 /// The journal's header.
 pub fn header(alloc: Global, settings: &Settings) -> Result<Vec<u8>, AllocError> {
     let mut bytes = Vec::new(alloc);
-    push_number(&mut bytes, 0x42444a31, 4)?;
+    push_number(&mut bytes, 0x42444a32, 4)?;
     push_number(&mut bytes, u64::from(settings.workers), 1)?;
     push_number(&mut bytes, settings.tables.len() as u64, 1)?;
     for table in settings.tables {
@@ -27,7 +27,6 @@ pub fn header(alloc: Global, settings: &Settings) -> Result<Vec<u8>, AllocError>
 fn push_record(
     bytes: &mut Vec<u8>,
     alloc: Global,
-    tables: &'static [Table],
     written: &[Written],
     commit: u64,
 ) -> Result<(), AllocError> {
@@ -36,7 +35,7 @@ fn push_record(
     let mut worker: u8 = 0;
     for entry in written {
         if entry.commit == commit {
-            push_change(&mut changes, tables, &entry.change)?;
+            push_change(&mut changes, &entry.change)?;
             count = count.saturating_add(1);
             worker = entry.worker;
         }
@@ -54,14 +53,13 @@ fn push_record(
 /// The records of the commits behind the first number, up to the second.
 pub fn records(
     alloc: Global,
-    tables: &'static [Table],
     written: &[Written],
     from: u64,
     to: u64,
 ) -> Result<Vec<u8>, AllocError> {
     let mut bytes = Vec::new(alloc);
     for before in from..to {
-        push_record(&mut bytes, alloc, tables, written, before.saturating_add(1))?;
+        push_record(&mut bytes, alloc, written, before.saturating_add(1))?;
     }
     Ok(bytes)
 }
@@ -112,9 +110,9 @@ pub fn kept_at_stop(
 ) -> Result<u64, AllocError> {
     let header = header(alloc, settings)?;
     let mut bytes = Vec::from_slice(alloc, header.as_slice())?;
-    push_all(&mut bytes, alloc, settings.tables, written, 0, durable)?;
+    push_all(&mut bytes, alloc, written, 0, durable)?;
     let whole = bytes.len();
-    push_all(&mut bytes, alloc, settings.tables, written, durable, last)?;
+    push_all(&mut bytes, alloc, written, durable, last)?;
     bytes.truncate(whole.saturating_add(count as usize));
     Ok(kept(bytes.as_slice(), header.as_slice(), settings.workers, last))
 }
@@ -123,11 +121,10 @@ pub fn kept_at_stop(
 fn push_all(
     bytes: &mut Vec<u8>,
     alloc: Global,
-    tables: &'static [Table],
     written: &[Written],
     from: u64,
     to: u64,
 ) -> Result<(), AllocError> {
-    let records = records(alloc, tables, written, from, to)?;
+    let records = records(alloc, written, from, to)?;
     bytes.extend_from_slice(records.as_slice())
 }

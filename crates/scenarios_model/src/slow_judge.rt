@@ -5,6 +5,7 @@ use crate::slow_bytes::behind;
 use crate::slow_events::{Event, Script};
 use crate::slow_replicas::{Batch, put_replica, replica_of};
 use crate::slow_tally::Tally;
+use crate::slow_transactions::meets_row;
 use crate::slow_world::{World, step};
 use std::alloc::{AllocError, Global};
 
@@ -23,6 +24,9 @@ pub fn judge(
             None => return Ok(Some(index)),
             Some(len) => {
                 tally.add(event, rest);
+                if is_refused_by_column(&world, event, rest) {
+                    tally.add_column_conflict();
+                }
                 rest = behind(rest, len);
             }
         }
@@ -32,6 +36,16 @@ pub fn judge(
         Ok(None)
     } else {
         Ok(Some(script.events.len()))
+    }
+}
+
+/// Whether an event is a commit that was refused for added columns alone.
+fn is_refused_by_column(world: &World, event: &Event, lines: &[u8]) -> bool {
+    match event {
+        Event::Commit { transaction, .. } => {
+            lines.starts_with(b"conflict ") && !meets_row(world, *transaction)
+        }
+        _ => false,
     }
 }
 
@@ -101,8 +115,8 @@ fn takes_memory(world: &World, event: &Event, lines: &[u8]) -> bool {
     match event {
         Event::Get { .. } | Event::Abort { .. } | Event::Version { .. } => false,
         Event::Begin => lines.starts_with(b"tx "),
-        Event::Insert { .. } | Event::Set { .. } | Event::Delete { .. } => lines
-            == b"ok\n".as_slice(),
+        Event::Insert { .. } | Event::Set { .. } | Event::Delete { .. } | Event::AddColumn { .. } =>
+            lines == b"ok\n".as_slice(),
         Event::Commit { .. } => lines.starts_with(b"ticket "),
         Event::Flush { count } => {
             lines.starts_with(b"durable ") && *count != 0 && world.durable < world.last
@@ -150,11 +164,13 @@ fn breaks(world: &mut World, event: &Event) -> bool {
     true
 }
 
-/// Whether an event asks at which version its replica stands, and this may be another one; from
-/// now on it is that one then.
+/// Whether an event tells at which version its replica stands, and this may be another one; from
+/// now on it is that one then. A query is opened against the columns there.
 fn stands_elsewhere(world: &mut World, event: &Event) -> bool {
     let number = match event {
-        Event::Version { replica } | Event::Dump { replica } => *replica,
+        Event::Version { replica } | Event::Dump { replica } | Event::Open { replica, .. } => {
+            *replica
+        }
         _ => return false,
     };
     let mut replica = replica_of(world, number);

@@ -27,15 +27,8 @@ fn send_frame(
     seq: u64,
     text: &mut String,
 ) -> Result<bool, AllocError> {
-    let tables = world.settings.tables;
-    let framed = stream(
-        alloc,
-        tables,
-        world.written.as_slice(),
-        worker,
-        world.durable,
-    )?;
-    match frame(alloc, tables, framed.as_slice(), worker, seq)? {
+    let framed = stream(alloc, world.written.as_slice(), worker, world.durable)?;
+    match frame(alloc, framed.as_slice(), worker, seq)? {
         None => Ok(false),
         Some(bytes) => {
             send(&mut world.sent, bytes, text)?;

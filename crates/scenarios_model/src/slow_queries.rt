@@ -1,13 +1,17 @@
 //! The slow world's queries: which plans fit, and the report on a batch.
 
-use crate::slow_rows::{COLUMNS, Row, Table, Value, columns_of, is_of};
-use plans::{Aggregate, Column, Comparison, Join};
+use crate::slow_rows::{Row, Value, first, is_of};
+use queries::{Aggregate, Column, Comparison, Join};
 use scenarios_plans_common::plain_queries::write_answer;
 use scenarios_plans_common::wishes::{Cell, Line, Wish};
 use std::alloc::{AllocError, Global};
 
 /// How many parts of a kind a query has here at the most: one too many.
 pub const PARTS: usize = 9;
+
+/// How many columns of a table the plain program of queries sees: the first ones. Whoever draws
+/// queries names no others that a table may have.
+pub const SEEN: usize = 3;
 
 /// A column, and how its value is to stand to this one.
 pub type Condition = (Column, Comparison, Value);
@@ -25,36 +29,34 @@ pub struct Query {
     pub aggregate_count: usize,
 }
 
+/// The columns that a query may name: those of its table, and those of the table that it joins.
+pub type Named<'a> = (&'a [u8], &'a [u8]);
+
 /// The column of that name; none where it is not there.
-fn column_at(query: &Query, tables: &'static [Table], column: Column) -> Option<u8> {
+fn column_at(named: Named<'_>, column: Column) -> Option<u8> {
     match column {
-        Column::Own(column) => columns_of(tables, query.table)
-            .get(column as usize)
-            .copied(),
-        Column::Joined(column) => {
-            let join = query.join?;
-            columns_of(tables, join.table).get(column as usize).copied()
-        }
+        Column::Own(column) => named.0.get(column as usize).copied(),
+        Column::Joined(column) => named.1.get(column as usize).copied(),
     }
 }
 
 /// The number of the fault of a column that is to be one of numbers.
-fn number_fault(query: &Query, tables: &'static [Table], column: Column) -> Option<u64> {
-    match column_at(query, tables, column) {
+fn number_fault(named: Named<'_>, column: Column) -> Option<u64> {
+    match column_at(named, column) {
         None => Some(2),
         Some(0) => None,
         Some(_) => Some(3),
     }
 }
 
-fn join_fault(query: &Query, tables: &'static [Table]) -> Option<u64> {
+fn join_fault(query: &Query, named: Named<'_>) -> Option<u64> {
     let join = query.join?;
-    number_fault(query, tables, Column::Own(join.column))
+    number_fault(named, Column::Own(join.column))
 }
 
-fn condition_fault(query: &Query, tables: &'static [Table]) -> Option<u64> {
+fn condition_fault(query: &Query, named: Named<'_>) -> Option<u64> {
     for (column, _, value) in query.conditions.iter().take(query.condition_count) {
-        let Some(held) = column_at(query, tables, *column) else {
+        let Some(held) = column_at(named, *column) else {
             return Some(2);
         };
         if !is_of(*value, held) {
@@ -64,22 +66,22 @@ fn condition_fault(query: &Query, tables: &'static [Table]) -> Option<u64> {
     None
 }
 
-fn group_fault(query: &Query, tables: &'static [Table]) -> Option<u64> {
+fn group_fault(query: &Query, named: Named<'_>) -> Option<u64> {
     for column in query.groups.iter().take(query.group_count) {
-        if column_at(query, tables, *column).is_none() {
+        if column_at(named, *column).is_none() {
             return Some(2);
         }
     }
     None
 }
 
-fn aggregate_fault(query: &Query, tables: &'static [Table]) -> Option<u64> {
+fn aggregate_fault(query: &Query, named: Named<'_>) -> Option<u64> {
     for aggregate in query.aggregates.iter().take(query.aggregate_count) {
         let fault = match aggregate {
             Aggregate::Count => None,
-            Aggregate::Sum(column) => number_fault(query, tables, *column),
+            Aggregate::Sum(column) => number_fault(named, *column),
             Aggregate::Min(column) | Aggregate::Max(column) => {
-                if column_at(query, tables, *column).is_none() {
+                if column_at(named, *column).is_none() {
                     Some(2)
                 } else {
                     None
@@ -93,21 +95,21 @@ fn aggregate_fault(query: &Query, tables: &'static [Table]) -> Option<u64> {
     None
 }
 
-/// The number of a query's first fault.
-pub fn fault_of(query: &Query, tables: &'static [Table]) -> Option<u64> {
+/// The number of a query's first fault, where it may name these columns.
+pub fn fault_of(query: &Query, named: Named<'_>) -> Option<u64> {
     if query.condition_count > 8 || query.group_count > 2 || query.aggregate_count > 8 {
         return Some(4);
     }
-    if let Some(fault) = join_fault(query, tables) {
+    if let Some(fault) = join_fault(query, named) {
         return Some(fault);
     }
-    if let Some(fault) = condition_fault(query, tables) {
+    if let Some(fault) = condition_fault(query, named) {
         return Some(fault);
     }
-    if let Some(fault) = group_fault(query, tables) {
+    if let Some(fault) = group_fault(query, named) {
         return Some(fault);
     }
-    aggregate_fault(query, tables)
+    aggregate_fault(query, named)
 }
 
 /// What the plain program of queries sees of a value: of bytes the first and the last, which tell
@@ -124,22 +126,14 @@ fn cell_of(value: Value) -> Cell {
 pub fn lines_of(alloc: Global, rows: &[Row]) -> Result<Vec<Line>, AllocError> {
     let mut lines = Vec::new(alloc);
     for row in rows {
-        let mut cells = [Cell::Beyond; COLUMNS];
-        for (cell, value) in cells.iter_mut().zip(row.values.iter()) {
+        let mut cells = [Cell::Beyond; SEEN];
+        let values = first(&row.values, row.count);
+        for (cell, value) in cells.iter_mut().zip(values.iter()) {
             *cell = cell_of(*value);
         }
         lines.push(Line(row.table, row.id, cells))?;
     }
     Ok(lines)
-}
-
-/// The first of these, so many of them.
-fn first<T>(items: &[T], count: usize) -> &[T] {
-    if count <= items.len() {
-        items.split_at(count).0
-    } else {
-        items
-    }
 }
 
 /// Adds the answer of a query, the one at this index of its batch.

@@ -1,7 +1,7 @@
 //! The slow world's replicas: the frames that they know, and the tables at their versions.
 
 use crate::slow_datagrams::{Datagram, Request, WORKERS};
-use crate::slow_rows::{Row, columns_of, rows_after};
+use crate::slow_rows::{Row, first, rows_after};
 use crate::slow_text::{name_of, push_value};
 use crate::slow_world::World;
 use std::alloc::{AllocError, Global};
@@ -222,7 +222,7 @@ fn push_row(text: &mut String, world: &World, row: &Row) -> Result<(), AllocErro
     let name = name_of(tables, row.table);
     let id = row.id;
     write!(text, "{name} {id}")?;
-    for (value, _) in row.values.iter().zip(columns_of(tables, row.table).iter()) {
+    for value in first(&row.values, row.count) {
         text.push_str(" ")?;
         push_value(text, *value)?;
     }

@@ -5,7 +5,7 @@ use crate::slow_events::{Event, Node};
 use std::alloc::{AllocError, Global};
 
 /// Kinds of events, by the words with which they begin.
-pub const KINDS: [&str; 22] = [
+pub const KINDS: [&str; 23] = [
     "begin",
     "insert",
     "set",
@@ -28,6 +28,7 @@ pub const KINDS: [&str; 22] = [
     "restart",
     "raw p",
     "raw r",
+    "column",
 ];
 
 /// Kinds of answers, by what they begin with; where two fit, the first is meant.
@@ -55,10 +56,10 @@ pub const ANSWERS: [&str; 41] = [
     "head ",
     "ignored\n",
     "never sent\n",
-    "42440101",
-    "42440102",
-    "42440103",
-    "42440104",
+    "42440201",
+    "42440202",
+    "42440203",
+    "42440204",
     "opened ",
     "batch full\n",
     "bad plan ",
@@ -106,6 +107,7 @@ fn kind_of(event: &Event) -> usize {
             ..
         } => 20,
         Event::Raw { .. } => 21,
+        Event::AddColumn { .. } => 22,
     }
 }
 
@@ -115,6 +117,8 @@ pub struct Tally {
     counts: Vec<u64>,
     /// How many frames were sent that do not end their commit.
     long_commits: u64,
+    /// How many commits were refused for added columns alone.
+    column_conflicts: u64,
 }
 
 impl Tally {
@@ -123,6 +127,7 @@ impl Tally {
         Ok(Tally {
             counts,
             long_commits: 0,
+            column_conflicts: 0,
         })
     }
 
@@ -139,6 +144,11 @@ impl Tally {
         }
     }
 
+    /// Counts a commit that was refused for added columns alone.
+    pub fn add_column_conflict(&mut self) {
+        self.column_conflicts = self.column_conflicts.saturating_add(1);
+    }
+
     /// Counts the frames among these datagrams that do not end their commit.
     pub fn add_sent(&mut self, sent: &[Vec<u8>]) {
         for bytes in sent {
@@ -153,6 +163,11 @@ impl Tally {
     /// How many frames were sent that do not end their commit.
     pub fn long_commits(&self) -> u64 {
         self.long_commits
+    }
+
+    /// How many commits were refused for added columns alone.
+    pub fn column_conflicts(&self) -> u64 {
+        self.column_conflicts
     }
 
     /// How often events of that kind gave answers of that kind, which is one of the lists above.

@@ -3,7 +3,7 @@
 use crate::slow_events::{Event, Node, Script};
 use crate::slow_queries::{Condition, Query};
 use crate::slow_rows::{Table, Value};
-use plans::{Aggregate, Column, Comparison};
+use queries::{Aggregate, Column, Comparison};
 use std::alloc::AllocError;
 
 /// Adds bytes in hexadecimal.
@@ -145,9 +145,11 @@ pub fn push_event(text: &mut String, script: &Script, event: &Event) -> Result<(
 fn push_words(text: &mut String, script: &Script, event: &Event) -> Result<(), AllocError> {
     match event {
         Event::Begin => text.push_str("begin"),
-        Event::Insert { .. } | Event::Set { .. } | Event::Delete { .. } | Event::Get { .. } => {
-            push_row_words(text, script, event)
-        }
+        Event::Insert { .. }
+        | Event::Set { .. }
+        | Event::Delete { .. }
+        | Event::AddColumn { .. }
+        | Event::Get { .. } => push_row_words(text, script, event),
         Event::Commit {
             transaction,
             worker,
@@ -166,7 +168,7 @@ fn push_words(text: &mut String, script: &Script, event: &Event) -> Result<(), A
     }
 }
 
-/// Adds an event of a row.
+/// Adds an event of a row or of a table.
 fn push_row_words(text: &mut String, script: &Script, event: &Event) -> Result<(), AllocError> {
     let tables = script.settings.tables;
     match event {
@@ -205,6 +207,15 @@ fn push_row_words(text: &mut String, script: &Script, event: &Event) -> Result<(
         } => {
             let name = name_of(tables, *table);
             write!(text, "delete {transaction} {name} {row}")
+        }
+        Event::AddColumn {
+            transaction,
+            table,
+            default,
+        } => {
+            let name = name_of(tables, *table);
+            write!(text, "column {transaction} {name} ")?;
+            push_value(text, *default)
         }
         Event::Get {
             transaction,

@@ -1,6 +1,9 @@
 //! The slow world's transactions and commits.
 
-use crate::slow_rows::{Act, Change, Row, Value, Written, apply, columns_of, row_of, rows_after};
+use crate::slow_rows::{
+    Act, Change, Columns, Row, Value, Written, adds_column, apply, columns_after, row_of,
+    rows_after,
+};
 use crate::slow_text::push_value;
 use crate::slow_world::World;
 use std::alloc::{AllocError, Global};
@@ -39,6 +42,19 @@ fn close(transactions: &mut Vec<Transaction>, number: u64) {
     if let Some(transaction) = transactions.get_mut(number as usize) {
         transaction.is_open = false;
     }
+}
+
+/// The columns of a table that a transaction sees: those at its snapshot, and its own.
+pub fn columns_seen(world: &World, number: u64, table: u8) -> Columns {
+    let snapshot = snapshot_of(world.transactions.as_slice(), number).unwrap_or(0);
+    let written = world.written.as_slice();
+    let mut columns = columns_after(world.settings.tables, written, snapshot, table);
+    for (owner, change) in &world.changes {
+        if *owner == number {
+            columns.change(table, change);
+        }
+    }
+    columns
 }
 
 /// The rows that a transaction sees.
@@ -87,7 +103,29 @@ fn change_count(changes: &[(u64, Change)], number: u64) -> u64 {
     count
 }
 
-/// A transaction changes a row, if the change fits the row's table; answers what is printed.
+/// What is printed where a row is put in that is there, or another is changed that is not there.
+fn row_refusal(
+    world: &World,
+    alloc: Global,
+    number: u64,
+    snapshot: u64,
+    change: &Change,
+) -> Result<Option<&'static str>, AllocError> {
+    if adds_column(change) {
+        return Ok(None);
+    }
+    let row = seen_row(world, alloc, number, snapshot, (change.table, change.row))?;
+    let is_insert = matches!(change.act, Act::Insert { .. });
+    if row.is_some() && is_insert {
+        return Ok(Some("exists\n"));
+    }
+    if row.is_none() && !is_insert {
+        return Ok(Some("missing\n"));
+    }
+    Ok(None)
+}
+
+/// A transaction makes a change, if it fits its table; answers what is printed.
 pub fn change(
     world: &mut World,
     alloc: Global,
@@ -101,13 +139,8 @@ pub fn change(
     if !fits {
         return Ok("unfit\n");
     }
-    let row = seen_row(world, alloc, number, snapshot, (change.table, change.row))?;
-    let is_insert = matches!(change.act, Act::Insert(_));
-    if row.is_some() && is_insert {
-        return Ok("exists\n");
-    }
-    if row.is_none() && !is_insert {
-        return Ok("missing\n");
+    if let Some(refusal) = row_refusal(world, alloc, number, snapshot, &change)? {
+        return Ok(refusal);
     }
     if change_count(world.changes.as_slice(), number) >= CHANGES_MAX {
         return Ok("too many entries\n");
@@ -129,7 +162,7 @@ pub fn get(
         return text.push_str("no tx\n");
     };
     let index = column as usize;
-    if columns_of(world.settings.tables, row.0).len() <= index {
+    if columns_seen(world, number, row.0).as_slice().len() <= index {
         return text.push_str("unfit\n");
     }
     let seen = seen_row(world, alloc, number, snapshot, row)?;
@@ -148,22 +181,52 @@ fn seen_value(row: Option<Row>, column: usize) -> Option<Value> {
     row?.values.get(column).copied()
 }
 
-/// The last commit behind the snapshot that wrote a row which the transaction wrote; 0 for none.
+/// The last commit behind the snapshot with which the transaction conflicts; 0 for none.
 fn conflict(written: &[Written], changes: &[(u64, Change)], number: u64, snapshot: u64) -> u64 {
     let mut last = 0;
     for entry in written {
-        if entry.commit > snapshot && is_written(changes, number, &entry.change) {
+        if entry.commit > snapshot && is_met(changes, number, &entry.change) {
             last = entry.commit.max(last);
         }
     }
     last
 }
 
-/// Whether a transaction has a change of the row that this changes.
-fn is_written(changes: &[(u64, Change)], number: u64, other: &Change) -> bool {
+/// Whether a transaction has a change that conflicts with this one: of the same row; or of the same
+/// table, where one of both adds a column.
+fn is_met(changes: &[(u64, Change)], number: u64, other: &Change) -> bool {
     for (owner, change) in changes {
-        if *owner == number && change.table == other.table && change.row == other.row {
-            return true;
+        if *owner == number && change.table == other.table {
+            if adds_column(change) || adds_column(other) || change.row == other.row {
+                return true;
+            }
+        }
+    }
+    false
+}
+
+/// Whether a commit behind its snapshot changed a row that a transaction changed.
+pub fn meets_row(world: &World, number: u64) -> bool {
+    let Some(transaction) = world.transactions.get(number as usize) else {
+        return false;
+    };
+    for entry in &world.written {
+        if entry.commit > transaction.snapshot && !adds_column(&entry.change) {
+            if changes_row(world.changes.as_slice(), number, &entry.change) {
+                return true;
+            }
+        }
+    }
+    false
+}
+
+/// Whether a transaction has a change of the row that this changes.
+fn changes_row(changes: &[(u64, Change)], number: u64, other: &Change) -> bool {
+    for (owner, change) in changes {
+        if *owner == number && !adds_column(change) {
+            if change.table == other.table && change.row == other.row {
+                return true;
+            }
         }
     }
     false

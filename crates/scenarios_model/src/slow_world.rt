@@ -2,12 +2,16 @@
 //! with the cores. Each question is answered by walking the lists anew.
 
 use crate::slow_batches::{ask, open, run};
-use crate::slow_events::{Event, Node, Script, VALUES};
+use crate::slow_events::{Event, Node, Script};
 use crate::slow_journal::kept_at_stop;
 use crate::slow_network::{deliver, deliver_bytes, push, show};
 use crate::slow_replicas::{Replica, dump, restart};
-use crate::slow_rows::{Act, Change, Settings, Written, are_of, columns_of, is_of};
-use crate::slow_transactions::{Transaction, abort, begin, change, commit, flush, get};
+use crate::slow_rows::{
+    Act, COLUMNS, Change, Settings, Value, Written, are_of, first, has_room, is_of, width_before,
+};
+use crate::slow_transactions::{
+    Transaction, abort, begin, change, columns_seen, commit, flush, get,
+};
 use std::alloc::{AllocError, Global};
 
 /// Everything there is.
@@ -76,6 +80,7 @@ fn needs_primary(event: &Event) -> bool {
         | Event::Insert { .. }
         | Event::Set { .. }
         | Event::Delete { .. }
+        | Event::AddColumn { .. }
         | Event::Get { .. }
         | Event::Commit { .. }
         | Event::Abort { .. }
@@ -100,9 +105,8 @@ pub fn step(
     }
     match event {
         Event::Begin => begin(world, text),
-        Event::Insert { .. } | Event::Set { .. } | Event::Delete { .. } => {
-            text.push_str(changed(world, alloc, event)?)
-        }
+        Event::Insert { .. } | Event::Set { .. } | Event::Delete { .. } | Event::AddColumn { .. } =>
+            text.push_str(changed(world, alloc, event)?),
         Event::Get {
             transaction,
             table,
@@ -150,7 +154,16 @@ fn step_replica(
     }
 }
 
-/// A transaction changes a row, or not; answers which.
+/// The first of an insert's values, as many as a row has room for.
+fn row_values(values: &[Value]) -> [Value; COLUMNS] {
+    let mut places = [Value::Number(0); COLUMNS];
+    for (place, value) in places.iter_mut().zip(values.iter()) {
+        *place = *value;
+    }
+    places
+}
+
+/// A transaction changes a row or its table's columns, or not; answers which.
 fn changed(world: &mut World, alloc: Global, event: &Event) -> Result<&'static str, AllocError> {
     match event {
         Event::Insert {
@@ -160,14 +173,16 @@ fn changed(world: &mut World, alloc: Global, event: &Event) -> Result<&'static s
             values,
             count,
         } => {
-            let columns = columns_of(world.settings.tables, *table);
-            let [first, second, third, _] = *values;
+            let columns = columns_seen(world, *transaction, *table);
+            let fits = are_of(first(values, *count), columns.as_slice());
             let wanted = Change {
                 table: *table,
                 row: *row,
-                act: Act::Insert([first, second, third]),
+                act: Act::Insert {
+                    values: row_values(values),
+                    count: *count,
+                },
             };
-            let fits = *count <= VALUES && are_of(values.split_at((*count).min(VALUES)).0, columns);
             change(world, alloc, *transaction, wanted, fits)
         }
         Event::Set {
@@ -177,15 +192,19 @@ fn changed(world: &mut World, alloc: Global, event: &Event) -> Result<&'static s
             column,
             value,
         } => {
-            let columns = columns_of(world.settings.tables, *table);
-            let fits = match columns.get(*column as usize) {
+            let columns = columns_seen(world, *transaction, *table);
+            let fits = match columns.as_slice().get(*column as usize) {
                 None => false,
                 Some(held) => is_of(*value, *held),
             };
             let wanted = Change {
                 table: *table,
                 row: *row,
-                act: Act::Set(*column, *value),
+                act: Act::Set {
+                    column: *column,
+                    offset: width_before(columns.as_slice(), *column as usize),
+                    value: *value,
+                },
             };
             change(world, alloc, *transaction, wanted, fits)
         }
@@ -200,6 +219,20 @@ fn changed(world: &mut World, alloc: Global, event: &Event) -> Result<&'static s
                 act: Act::Delete,
             };
             change(world, alloc, *transaction, wanted, true)
+        }
+        Event::AddColumn {
+            transaction,
+            table,
+            default,
+        } => {
+            let columns = columns_seen(world, *transaction, *table);
+            let fits = has_room(columns.as_slice(), *default);
+            let wanted = Change {
+                table: *table,
+                row: 0,
+                act: Act::AddColumn(*default),
+            };
+            change(world, alloc, *transaction, wanted, fits)
         }
         _ => Ok(""),
     }

@@ -1,6 +1,6 @@
 //! A store that counts for how many identifiers it is asked.
 
-use rows::{Entry, RowId, Value};
+use rows::{Entry, Kind, RowId, Value};
 use std::sync::atomic::{AtomicU64, Ordering};
 use store::{PlainStore, Store, StoreFault};
 
@@ -60,6 +60,10 @@ impl Store for CountedStore {
 
     fn value(&self, table: u8, place: RowId, column: usize) -> Value {
         self.inner.value(table, place, column)
+    }
+
+    fn kinds(&self, table: u8) -> Option<&[Kind]> {
+        self.inner.kinds(table)
     }
 
     fn len(&self, table: u8) -> usize {

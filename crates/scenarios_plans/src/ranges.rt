@@ -1,25 +1,25 @@
-//! Queries on a range of positions of a table, and on two ranges that are merged.
+//! Queries on a range of positions of a table, and on two ranges that are merged. Lists of cases are statics,
+//! since a proof writes out each constant that its function names.
 
-ghost use Rattle.std.specs.Prelude.{◌≡◌, ◌≤◌, true, Ok, IfOk};
+ghost use Rattle.std.specs.Prelude.{◌≡◌, ◌≤◌, ◌-◌, true, Ok, IfOk};
 ghost use Rattle.std.specs.List.{AllByRecursion};
 ghost use Rattle.rows.specs.Shape.{shape_of};
 ghost use Rattle.rows.specs.Tables.{shape_in};
-ghost use Rattle.plans.specs.Checking.{checked};
+ghost use Rattle.queries.specs.Checking.{checked};
 
-use crate::counted_store::CountedStore;
-use plans::{Aggregate, Column, Comparison, Plan, answer_batch, merge, partial, report};
+use plans::{Partial, merge, partial};
+use queries::{Aggregate, Column, Plan, report};
 use rows::Schema;
 use scenarios_plans_common::wishes::{COUNT, Cell, Line, NONE, SHOP, Wish, filled, plans_of};
 use std::alloc::{AllocError, Global};
 use std::test::Fail;
-use std::thread::Threads;
 use store::PlainStore;
 
 /// How many accounts there are.
-const ACCOUNTS: u32 = 5_000;
+pub const ACCOUNTS: u32 = 5_000;
 
 /// The accounts by their second column: how many there are, and the sum of the first.
-const BY_SECOND: Wish<'static> = Wish {
+pub const BY_SECOND: Wish<'static> = Wish {
     groups: &[Column::Own(1)],
     aggregates: &[Aggregate::Count, Aggregate::Sum(Column::Own(0))],
     ..COUNT
@@ -79,38 +79,63 @@ fn accounts(alloc: Global, count: u32) -> Result<Vec<Line>, AllocError> {
     Ok(lines)
 }
 
-/// The report on the positions before one and on those from there to 9,000, merged.
-fn merged_report(
+/// The report on no plan.
+const NO_PLANS: &[u8] = b"version 7 queries 0\n";
+
+/// A store of so many accounts.
+pub fn stocked(alloc: Global, schema: &Schema, count: u32) -> Result<PlainStore, Fail>
+    ensures whole { IfOk result (λ store. store.whole ≡ true) }
+    ensures kinds { IfOk result (λ store. shape_in store.tables ≡ shape_of schema.now) }
+{
+    let lines = accounts(alloc, count)?;
+    filled(alloc, schema, lines.as_slice())
+}
+
+/// What is asked of the positions of a table.
+#[derive(Clone, Copy)]
+enum Asked {
+    /// Those before one and those from there to 9,000, merged.
+    Cut(usize),
+    /// Those up to 9,000, cut at 5 and 9, the first two of which are merged first.
+    FromTheLeft,
+    /// The same, the last two of which are merged first.
+    FromTheRight,
+    /// Those from one to before a later one.
+    Range(usize, usize),
+}
+
+/// Two ranges that meet at a position, merged.
+fn merged(
     alloc: Global,
     store: &PlainStore,
     plans: &[Plan],
-    cut: usize,
-) -> Result<Vec<u8>, AllocError>
+    from: usize,
+    middle: usize,
+    to: usize,
+) -> Result<Partial, AllocError>
     requires whole { store.now.whole ≡ true }
     requires checked { AllByRecursion (λ plan. checked (shape_in store.now.tables) plan ≡ Ok tt) plans.now }
+    requires before { from ≤ middle }
+    requires behind { middle ≤ to }
+    ensures { IfOk result (λ both. both.positions ≡ to - from) }
 {
-    let middle = cut.min(9_000);
-    let first = partial(alloc, store, plans, 0, middle)?;
-    let second = partial(alloc, store, plans, middle, 9_000)?;
-    let both = merge(alloc, first, second)?;
-    report(alloc, 7, both.answers())
+    let first = partial(alloc, store, plans, from, middle)?;
+    let second = partial(alloc, store, plans, middle, to)?;
+    merge(alloc, first, second)
 }
 
-/// The report on three ranges, the first two of which are merged first.
+/// Three ranges, the first two of which are merged first.
 fn merged_from_the_left(
     alloc: Global,
     store: &PlainStore,
     plans: &[Plan],
-) -> Result<Vec<u8>, AllocError>
+) -> Result<Partial, AllocError>
     requires whole { store.now.whole ≡ true }
     requires checked { AllByRecursion (λ plan. checked (shape_in store.now.tables) plan ≡ Ok tt) plans.now }
 {
-    let first = partial(alloc, store, plans, 0, 5)?;
-    let second = partial(alloc, store, plans, 5, 9)?;
+    let left = merged(alloc, store, plans, 0, 5, 9)?;
     let third = partial(alloc, store, plans, 9, 9_000)?;
-    let left = merge(alloc, first, second)?;
-    let all = merge(alloc, left, third)?;
-    report(alloc, 7, all.answers())
+    merge(alloc, left, third)
 }
 
 /// The same, the last two of which are merged first.
@@ -118,210 +143,198 @@ fn merged_from_the_right(
     alloc: Global,
     store: &PlainStore,
     plans: &[Plan],
-) -> Result<Vec<u8>, AllocError>
+) -> Result<Partial, AllocError>
     requires whole { store.now.whole ≡ true }
     requires checked { AllByRecursion (λ plan. checked (shape_in store.now.tables) plan ≡ Ok tt) plans.now }
 {
     let first = partial(alloc, store, plans, 0, 5)?;
-    let second = partial(alloc, store, plans, 5, 9)?;
-    let third = partial(alloc, store, plans, 9, 9_000)?;
-    let right = merge(alloc, second, third)?;
-    let all = merge(alloc, first, right)?;
-    report(alloc, 7, all.answers())
+    let right = merged(alloc, store, plans, 5, 9, 9_000)?;
+    merge(alloc, first, right)
 }
 
-/// The report on the positions from one to before a later one.
+/// What is asked of a store.
+fn answered(
+    alloc: Global,
+    store: &PlainStore,
+    plans: &[Plan],
+    asked: Asked,
+) -> Result<Partial, AllocError>
+    requires whole { store.now.whole ≡ true }
+    requires checked { AllByRecursion (λ plan. checked (shape_in store.now.tables) plan ≡ Ok tt) plans.now }
+{
+    match asked {
+        Asked::Cut(cut) => merged(alloc, store, plans, 0, cut.min(9_000), 9_000),
+        Asked::FromTheLeft => merged_from_the_left(alloc, store, plans),
+        Asked::FromTheRight => merged_from_the_right(alloc, store, plans),
+        Asked::Range(from, to) => partial(alloc, store, plans, from.min(to), to),
+    }
+}
+
+/// Its report.
 fn report_of(
     alloc: Global,
     store: &PlainStore,
     plans: &[Plan],
-    from: usize,
-    to: usize,
+    asked: Asked,
 ) -> Result<Vec<u8>, AllocError>
     requires whole { store.now.whole ≡ true }
     requires checked { AllByRecursion (λ plan. checked (shape_in store.now.tables) plan ≡ Ok tt) plans.now }
-    requires order { from ≤ to }
 {
-    let all = partial(alloc, store, plans, from, to)?;
+    let all = answered(alloc, store, plans, asked)?;
     report(alloc, 7, all.answers())
 }
 
+/// Whether the report is this text.
+fn is_reported(
+    alloc: Global,
+    store: &PlainStore,
+    plans: &[Plan],
+    asked: Asked,
+    expected: &[u8],
+) -> Result<bool, AllocError>
+    requires whole { store.now.whole ≡ true }
+    requires checked { AllByRecursion (λ plan. checked (shape_in store.now.tables) plan ≡ Ok tt) plans.now }
+{
+    let text = report_of(alloc, store, plans, asked)?;
+    Ok(text.as_slice() == expected)
+}
+
+/// The same, asked for once more where memory was refused to it.
+fn is_reported_at_last(
+    alloc: Global,
+    store: &PlainStore,
+    plans: &[Plan],
+    asked: Asked,
+    expected: &[u8],
+) -> bool
+    requires whole { store.now.whole ≡ true }
+    requires checked { AllByRecursion (λ plan. checked (shape_in store.now.tables) plan ≡ Ok tt) plans.now }
+{
+    match is_reported(alloc, store, plans, asked, expected) {
+        Ok(is_same) => is_same,
+        Err(_) => is_reported(alloc, store, plans, asked, expected).unwrap_or(false),
+    }
+}
+
+/// What is asked of a store, and its report.
+type Case = (Asked, &'static [u8]);
+
+/// The index of the first case that is reported otherwise.
+fn other_reported(
+    alloc: Global,
+    store: &PlainStore,
+    plans: &[Plan],
+    cases: &[Case],
+) -> Option<usize>
+    requires whole { store.now.whole ≡ true }
+    requires checked { AllByRecursion (λ plan. checked (shape_in store.now.tables) plan ≡ Ok tt) plans.now }
+{
+    for (index, (asked, expected)) in cases.iter().enumerate() {
+        if !is_reported_at_last(alloc, store, plans, *asked, expected) {
+            return Some(index);
+        }
+    }
+    None
+}
+
+/// The same of the plans that are wished for.
+fn other_on(
+    alloc: Global,
+    schema: &Schema,
+    store: &PlainStore,
+    wishes: &[Wish<'_>],
+    cases: &[Case],
+) -> Result<Option<usize>, Fail>
+    requires whole { store.now.whole ≡ true }
+    requires kinds { shape_in store.now.tables ≡ shape_of schema.now }
+{
+    let plans = plans_of(alloc, schema, wishes)?;
+    Ok(other_reported(alloc, store, plans.as_slice(), cases))
+}
+
+/// The same, on a store of so many accounts.
+fn other_in(
+    alloc: Global,
+    schema: &Schema,
+    count: u32,
+    wishes: &[Wish<'_>],
+    cases: &[Case],
+) -> Result<Option<usize>, Fail> {
+    let store = stocked(alloc, schema, count)?;
+    other_on(alloc, schema, &store, wishes, cases)
+}
+
+/// The same, by the kinds of accounts and sites.
+fn other_of(
+    alloc: Global,
+    count: u32,
+    wishes: &[Wish<'_>],
+    cases: &[Case],
+) -> Result<Option<usize>, Fail> {
+    let schema = Schema::new(alloc, SHOP)?;
+    other_in(alloc, &schema, count, wishes, cases)
+}
+
+/// Both plans.
+static BOTH: [Wish<'static>; 2] = [BY_SECOND, EXTREMES];
+
+/// All accounts, cut in the middle.
+static HALVES: [Case; 1] = [(Asked::Cut(2_500), GROUPS)];
+
 #[test]
 fn ranges_are_merged(rt: HostRuntime) -> Result<(), Fail> {
-    let schema = Schema::new(rt.alloc(), SHOP)?;
-    let lines = accounts(rt.alloc(), ACCOUNTS)?;
-    let store = filled(rt.alloc(), &schema, lines.as_slice())?;
-    let plans = plans_of(rt.alloc(), &schema, &[BY_SECOND])?;
-    let text = merged_report(rt.alloc(), &store, plans.as_slice(), 2_500)?;
-    assert_eq!(rt; text.as_slice(), GROUPS);
+    assert_eq!(rt; other_of(rt.alloc(), ACCOUNTS, &BOTH[..1], &HALVES)?, None);
     Ok(())
 }
+
+/// Cuts before all rows, between them and behind them, and two cuts.
+static CUTS: [Case; 9] = [
+    (Asked::Cut(0), FEW),
+    (Asked::Cut(1), FEW),
+    (Asked::Cut(5), FEW),
+    (Asked::Cut(13), FEW),
+    (Asked::Cut(14), FEW),
+    (Asked::Cut(100), FEW),
+    (Asked::Cut(9_000), FEW),
+    (Asked::FromTheLeft, FEW),
+    (Asked::FromTheRight, FEW),
+];
 
 /// Wherever the positions are cut, before all rows, between them or behind them, the report is the same.
 #[test]
 fn a_cut_makes_no_difference(rt: HostRuntime) -> Result<(), Fail> {
-    let schema = Schema::new(rt.alloc(), SHOP)?;
-    let lines = accounts(rt.alloc(), 14)?;
-    let store = filled(rt.alloc(), &schema, lines.as_slice())?;
-    let plans = plans_of(rt.alloc(), &schema, &[BY_SECOND, EXTREMES])?;
-    for cut in [0, 1, 5, 13, 14, 100, 9_000] {
-        let text = merged_report(rt.alloc(), &store, plans.as_slice(), cut)?;
-        assert_eq!(rt; text.as_slice(), FEW);
-    }
-    let left = merged_from_the_left(rt.alloc(), &store, plans.as_slice())?;
-    assert_eq!(rt; left.as_slice(), FEW);
-    let right = merged_from_the_right(rt.alloc(), &store, plans.as_slice())?;
-    assert_eq!(rt; right.as_slice(), FEW);
+    assert_eq!(rt; other_of(rt.alloc(), 14, &BOTH, &CUTS)?, None);
     Ok(())
 }
+
+/// A range without a position, and one past the end of 14 rows.
+static OUTSIDE: [Case; 2] = [
+    (Asked::Range(3, 3), NO_ROWS),
+    (Asked::Range(14, usize::MAX), NO_ROWS),
+];
+
+/// All positions there may be.
+static ALL: [Case; 1] = [(Asked::Range(0, usize::MAX), NO_ROWS)];
+
+/// Those of 14 rows, of which no plan asks anything.
+static NOTHING: [Case; 1] = [(Asked::Range(0, 14), NO_PLANS)];
 
 /// A range without a position, one past the end, and any of a table without rows have no row.
 #[test]
 fn ranges_may_have_no_row(rt: HostRuntime) -> Result<(), Fail> {
-    let schema = Schema::new(rt.alloc(), SHOP)?;
-    let lines = accounts(rt.alloc(), 14)?;
-    let store = filled(rt.alloc(), &schema, lines.as_slice())?;
-    let plans = plans_of(rt.alloc(), &schema, &[BY_SECOND, EXTREMES])?;
-    let none = report_of(rt.alloc(), &store, plans.as_slice(), 3, 3)?;
-    assert_eq!(rt; none.as_slice(), NO_ROWS);
-    let past = report_of(rt.alloc(), &store, plans.as_slice(), 14, usize::MAX)?;
-    assert_eq!(rt; past.as_slice(), NO_ROWS);
-    let empty = filled(rt.alloc(), &schema, &[])?;
-    let all = report_of(rt.alloc(), &empty, plans.as_slice(), 0, usize::MAX)?;
-    assert_eq!(rt; all.as_slice(), NO_ROWS);
-    let asked_nothing = report_of(rt.alloc(), &store, &[], 0, 14)?;
-    assert_eq!(rt;
-        asked_nothing.as_slice(),
-        b"version 7 queries 0\n".as_slice()
-    );
+    assert_eq!(rt; other_of(rt.alloc(), 14, &BOTH, &OUTSIDE)?, None);
+    assert_eq!(rt; other_of(rt.alloc(), 0, &BOTH, &ALL)?, None);
+    assert_eq!(rt; other_of(rt.alloc(), 14, &[], &NOTHING)?, None);
     Ok(())
 }
 
-/// Whether two ranges, merged, have this report; asked for once more where memory was refused.
-fn are_merged_at_last(alloc: Global, store: &PlainStore, plans: &[Plan]) -> bool
-    requires whole { store.now.whole ≡ true }
-    requires checked { AllByRecursion (λ plan. checked (shape_in store.now.tables) plan ≡ Ok tt) plans.now }
-{
-    let text = match merged_report(alloc, store, plans, 5) {
-        Ok(text) => text,
-        Err(_) => merged_report(alloc, store, plans, 5).unwrap_or(Vec::new(alloc)),
-    };
-    text.as_slice() == FEW
-}
+/// A cut between rows.
+static AT_FIVE: [Case; 1] = [(Asked::Cut(5), FEW)];
 
 /// Whichever allocation is refused: a range or a merge that was refused for memory leaves the store as
 /// it was, and is made when it is asked for again.
 #[test]
 fn ranges_without_memory_leave_the_store(rt: HostRuntime) -> Result<(), Fail> {
-    let schema = Schema::new(rt.alloc(), SHOP)?;
-    let lines = accounts(rt.alloc(), 14)?;
-    let store = filled(rt.alloc(), &schema, lines.as_slice())?;
-    let plans = plans_of(rt.alloc(), &schema, &[BY_SECOND, EXTREMES])?;
-    assert!(rt; are_merged_at_last(rt.alloc(), &store, plans.as_slice()));
-    Ok(())
-}
-
-/// The plans that group the accounts from 0 on, from 1 on, and so on: 64 that differ.
-fn rising_plans(alloc: Global, schema: &Schema) -> Result<Vec<Plan>, Fail>
-    ensures { IfOk result (λ plans. AllByRecursion (λ plan. checked (shape_of schema.now) plan ≡ Ok tt) plans.items) }
-{
-    let mut bounds = [[(Column::Own(0), Comparison::AtLeast, Cell::Number(0))]; 64];
-    for number in 0..64u8 {
-        bounds[number as usize] = [(
-            Column::Own(0),
-            Comparison::AtLeast,
-            Cell::Number(i64::from(number)),
-        )];
-    }
-    let mut wishes = Vec::with_capacity(alloc, bounds.len())?;
-    for bound in &bounds {
-        wishes.push(Wish {
-            conditions: bound.as_slice(),
-            ..BY_SECOND
-        })?;
-    }
-    plans_of(alloc, schema, wishes.as_slice())
-}
-
-/// How many accounts from one on have this remainder, and the sum of their numbers.
-fn counted(least: u32, remainder: u32) -> (u64, u64) {
-    let mut count = 0u64;
-    let mut sum = 0u64;
-    for id in least..ACCOUNTS {
-        if id % 7 == remainder {
-            count = count.wrapping_add(1);
-            sum = sum.wrapping_add(u64::from(id));
-        }
-    }
-    (count, sum)
-}
-
-/// The report of those plans.
-fn rising_report(alloc: Global) -> Result<Vec<u8>, AllocError> {
-    let mut text = String::from_str(alloc, "version 7 queries 64\n")?;
-    for number in 0..64u32 {
-        let head = format!(in alloc; "query {number} rows 7\n")?;
-        text.push_str(head.as_str())?;
-        for remainder in 0..7u32 {
-            let (count, sum) = counted(number, remainder);
-            let line = format!(in alloc; "{remainder} {count} {sum}\n")?;
-            text.push_str(line.as_str())?;
-        }
-    }
-    Ok(text.into_bytes())
-}
-
-/// How often these plans ask a store of these rows for an identifier when they look at all of them, and
-/// their report.
-fn asked(alloc: Global, store: PlainStore, plans: &[Plan]) -> Result<(u64, Vec<u8>), AllocError>
-    requires whole { store.whole ≡ true }
-    requires checked { AllByRecursion (λ plan. checked (shape_in store.tables) plan ≡ Ok tt) plans.now }
-{
-    let counted = CountedStore::new(store);
-    let all = partial(alloc, &counted, plans, 0, 9_000)?;
-    let text = report(alloc, 7, all.answers())?;
-    Ok((counted.calls(), text))
-}
-
-/// The same of a batch of these plans.
-fn asked_by_batch<R: Threads + Sync>(
-    rt: &R,
-    alloc: Global,
-    store: PlainStore,
-    plans: &[Plan],
-) -> Result<(u64, Vec<u8>), AllocError>
-    requires whole { store.whole ≡ true }
-    requires checked { AllByRecursion (λ plan. checked (shape_in store.tables) plan ≡ Ok tt) plans.now }
-{
-    let counted = CountedStore::new(store);
-    let answers = answer_batch(rt, alloc, &counted, plans)?;
-    let text = report(alloc, 7, answers.as_slice())?;
-    Ok((counted.calls(), text))
-}
-
-/// One scan serves all plans on a table.
-#[test]
-fn a_range_is_scanned_once(rt: HostRuntime) -> Result<(), Fail> {
-    let schema = Schema::new(rt.alloc(), SHOP)?;
-    let lines = accounts(rt.alloc(), ACCOUNTS)?;
-    let store = filled(rt.alloc(), &schema, lines.as_slice())?;
-    let plans = rising_plans(rt.alloc(), &schema)?;
-    let (calls, text) = asked(rt.alloc(), store, plans.as_slice())?;
-    assert!(rt; calls <= 10_000);
-    let wanted = rising_report(rt.alloc())?;
-    assert_eq!(rt; text.as_slice(), wanted.as_slice());
-    Ok(())
-}
-
-#[test]
-fn a_batch_scans_a_table_once(rt: HostRuntime) -> Result<(), Fail> {
-    let schema = Schema::new(rt.alloc(), SHOP)?;
-    let lines = accounts(rt.alloc(), ACCOUNTS)?;
-    let store = filled(rt.alloc(), &schema, lines.as_slice())?;
-    let plans = rising_plans(rt.alloc(), &schema)?;
-    let (calls, text) = asked_by_batch(&rt, rt.alloc(), store, plans.as_slice())?;
-    assert!(rt; calls <= 10_000);
-    let wanted = rising_report(rt.alloc())?;
-    assert_eq!(rt; text.as_slice(), wanted.as_slice());
+    assert_eq!(rt; other_of(rt.alloc(), 14, &BOTH, &AT_FIVE)?, None);
     Ok(())
 }

@@ -2,7 +2,7 @@
 //! at all rows again.
 
 use crate::wishes::{Cell, Line, Wish};
-use plans::{Aggregate, Column, Comparison, Join};
+use queries::{Aggregate, Column, Comparison, Join};
 use std::alloc::{AllocError, Global};
 use std::cmp::Ordering;
 

@@ -1,20 +1,19 @@
-//! Plans that are wished for, and the report of their answers on a plain store.
+//! Plans that are wished for, and the rows of a plain store.
 
 ghost use Rattle.std.specs.Prelude.{◌≡◌, true, Ok, IfOk, OnOk};
 ghost use Rattle.std.specs.List.{AllByRecursion};
 ghost use Rattle.rows.specs.Shape.{shape_of};
 ghost use Rattle.rows.specs.Tables.{shape_in};
-ghost use Rattle.plans.specs.Checking.{checked};
+ghost use Rattle.queries.specs.Checking.{checked};
 
-use plans::{
+use queries::{
     Aggregate, AggregateList, Column, ColumnList, Comparison, Condition, ConditionList, Join, Plan,
-    PlanFault, answer_batch, report,
+    PlanFault,
 };
-use rows::laws::changes_keep_kinds;
-use rows::{Entry, Kind, Octets, RowId, Schema, Value, row_bytes};
+use rows::laws::changes_tell_kinds;
+use rows::{ByteList, Entry, Kind, Octets, RowId, Schema, Value, row_bytes};
 use std::alloc::{AllocError, Global};
 use std::test::Fail;
-use std::thread::Threads;
 use store::{PlainStore, Store};
 
 /// What a column holds.
@@ -54,21 +53,27 @@ fn value_of(cell: Cell) -> Option<Value> {
     }
 }
 
-/// Puts a row into a store.
-fn put(alloc: Global, store: &mut PlainStore, line: &Line) -> Result<(), Fail>
-    ensures whole { store.new.whole ≡ store.old.whole }
-    ensures kinds { shape_in store.new.tables ≡ shape_in store.old.tables }
-{
-    let mut values = Vec::with_capacity(alloc, line.2.len())?;
-    for cell in &line.2 {
+/// The bytes of a row of these columns.
+fn bytes_of(alloc: Global, cells: &[Cell]) -> Result<ByteList, AllocError> {
+    let mut values = Vec::with_capacity(alloc, cells.len())?;
+    for cell in cells {
         if let Some(value) = value_of(*cell) {
             values.push(value)?;
         }
     }
+    row_bytes(alloc, values.as_slice())
+}
+
+/// Puts a row into a store.
+fn put(alloc: Global, store: &mut PlainStore, line: &Line) -> Result<(), Fail>
+    ensures whole { store.new.whole ≡ store.old.whole }
+    ensures kinds { OnOk result (shape_in store.new.tables ≡ shape_in store.old.tables) }
+{
+    changes_tell_kinds();
     let insert = Entry::Insert {
         table: line.0,
         row: RowId(line.1),
-        bytes: row_bytes(alloc, values.as_slice())?,
+        bytes: bytes_of(alloc, &line.2)?,
     };
     store.change(&insert)?;
     Ok(())
@@ -79,7 +84,7 @@ pub fn filled(alloc: Global, schema: &Schema, lines: &[Line]) -> Result<PlainSto
     ensures whole { IfOk result (λ store. store.whole ≡ true) }
     ensures kinds { IfOk result (λ store. shape_in store.tables ≡ shape_of schema.now) }
 {
-    changes_keep_kinds();
+    changes_tell_kinds();
     let mut store = PlainStore::new(alloc, schema)?;
     for line in lines {
         put(alloc, &mut store, line)?;
@@ -127,34 +132,6 @@ pub fn plans_of(alloc: Global, schema: &Schema, wishes: &[Wish<'_>]) -> Result<V
         plans.push(plan)?;
     }
     Ok(plans)
-}
-
-/// The report of the answers of plans, at version 7.
-pub fn reported<R: Threads + Sync>(
-    rt: &R,
-    alloc: Global,
-    store: &PlainStore,
-    plans: &[Plan],
-) -> Result<Vec<u8>, AllocError>
-    requires whole { store.now.whole ≡ true }
-    requires checked { AllByRecursion (λ plan. checked (shape_in store.now.tables) plan ≡ Ok tt) plans.now }
-{
-    let answers = answer_batch(rt, alloc, store, plans)?;
-    report(alloc, 7, answers.as_slice())
-}
-
-/// The report of the answers of the plans that are wished for, on a store with these rows.
-pub fn report_of<R: Threads + Sync>(
-    rt: &R,
-    alloc: Global,
-    tables: Tables<'_>,
-    lines: &[Line],
-    wishes: &[Wish<'_>],
-) -> Result<Vec<u8>, Fail> {
-    let schema = Schema::new(alloc, tables)?;
-    let store = filled(alloc, &schema, lines)?;
-    let plans = plans_of(alloc, &schema, wishes)?;
-    Ok(reported(rt, alloc, &store, plans.as_slice())?)
 }
 
 /// Accounts of two numbers, and sites of two octets.

@@ -7,11 +7,11 @@ use std::alloc::Global;
 use std::test::Fail;
 
 /// Accounts of a number and two bytes.
-pub const ACCOUNTS: [Table; 1] = [("accounts", &[Kind::Int, Kind::Octets(2)])];
+pub static ACCOUNTS: [Table; 1] = [("accounts", &[Kind::Int, Kind::Octets(2)])];
 
 /// Account 7 put in with 5 and `ab`, set to 6 and taken out; then in one commit put in again with 8
 /// and `ab`, and account 8 put in with 9 and `ab` and set to 10; then account 8 set to 11.
-pub const HISTORY: [&[Wanted<'static>]; 5] = [
+pub static HISTORY: [&[Wanted<'static>]; 5] = [
     &[Wanted::Insert(0, 7, b"\0\0\0\0\0\0\0\x05ab")],
     &[Wanted::Patch(0, 7, 0, &SIX)],
     &[Wanted::Delete(0, 7)],

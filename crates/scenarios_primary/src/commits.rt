@@ -119,7 +119,7 @@ const CONFLICTS: [Line; 7] = [
     ),
 ];
 
-const STORIES: [(u8, &[Line]); 8] = [
+static STORIES: [(u8, &[Line]); 8] = [
     (1, &REFUSED),
     (1, &NO_VERSION),
     (1, &ROW_THERE),
@@ -137,7 +137,7 @@ fn commits_are_answered_by_what_stands(rt: HostRuntime) -> Result<(), Fail> {
 }
 
 /// Row 7 is replaced, and that is made durable.
-const REPLACED_AND_DURABLE: [Line; 4] = [INSERT_7, FLUSH, REPLACE_7, (Step::Flush(1, 2), 2, 0)];
+static REPLACED_AND_DURABLE: [Line; 4] = [INSERT_7, FLUSH, REPLACE_7, (Step::Flush(1, 2), 2, 0)];
 
 /// Whichever request for memory is refused: a commit that was refused for memory has changed
 /// nothing, and a flush has moved nothing; each is answered when it is asked for again.

@@ -11,14 +11,14 @@ use std::alloc::Global;
 use std::test::Fail;
 
 /// Two commits are pending when a flush of the first one begins.
-const BEFORE: [Line; 2] = [
+static BEFORE: [Line; 2] = [
     (Step::Commit(0, 0, &[Change::Insert(7)], Ok(1)), 0, 1),
     (Step::Commit(0, 0, &[Change::Insert(8)], Ok(2)), 0, 2),
 ];
 
 /// While it is written: a commit is numbered after both, one of the same row conflicts, and what the
 /// flush offers is not durable yet; no other flush begins.
-const MEANWHILE: [Line; 6] = [
+static MEANWHILE: [Line; 6] = [
     (Step::Commit(1, 0, &[Change::Insert(9)], Ok(3)), 0, 3),
     (
         Step::Commit(0, 0, &[Change::Insert(7)], Err(CommitFault::Conflict(1))),
@@ -37,7 +37,7 @@ const MEANWHILE: [Line; 6] = [
 
 /// Once it has ended, the commit that was offered is durable, and no other; the next flush takes the
 /// rest.
-const AFTER: [Line; 3] = [
+static AFTER: [Line; 3] = [
     (Step::Push(0, 0, Some(&FRAME)), 1, 2),
     (Step::Push(0, 1, None), 1, 2),
     (Step::Flush(usize::MAX, 3), 3, 0),

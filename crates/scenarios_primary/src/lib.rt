@@ -9,6 +9,8 @@ mod commits;
 #[cfg(test)]
 mod lending;
 #[cfg(test)]
+mod many_rows;
+#[cfg(test)]
 mod primary_starts;
 #[cfg(test)]
 mod primary_steps;

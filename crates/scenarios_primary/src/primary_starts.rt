@@ -205,7 +205,7 @@ const FIRST_APPEND: Failure = Failure {
 
 /// The header is written again where its write failed, also behind the three bytes that a stop left
 /// of it.
-const HEADER_LOST: [History; 2] = [
+static HEADER_LOST: [History; 2] = [
     (
         (0, &[], &[]),
         FIRST_APPEND,
@@ -225,7 +225,7 @@ const HEADER_LOST: [History; 2] = [
 ];
 
 /// A journal that could not be read is as it was.
-const NOT_READ: [History; 2] = [
+static NOT_READ: [History; 2] = [
     (
         (52, &[], &[]),
         READ,
@@ -246,7 +246,7 @@ const NOT_READ: [History; 2] = [
 
 /// A torn end that could not be cut away is torn still, whatever is left of it, and nothing else is
 /// lost.
-const NOT_CUT: [History; 4] = [
+static NOT_CUT: [History; 4] = [
     (
         (51, &[], &[]),
         CUT,
@@ -358,7 +358,7 @@ const KEPT: [Line; 1] = [(Step::Push(0, 0, Some(&FRAME)), 1, 0)];
 /// The first flush fails, and leaves two bytes of the record, or none, or all; then what was not
 /// acknowledged and yet stands whole is kept. The second flush fails; and one of two records, of
 /// which the first is whole.
-const FLUSHES: [History; 5] = [
+static FLUSHES: [History; 5] = [
     (
         (0, &[], &[]),
         Failure {
@@ -450,7 +450,7 @@ const OF_WORKER_1: [Line; 3] = [
     (Step::Receive(&ASK, Some(&HEAD_OF_WORKER_1)), 1, 0),
 ];
 
-const WORKERS: [History; 1] = [(
+static WORKERS: [History; 1] = [(
     (52, &[(13, 1)], &[0, 0]),
     NONE,
     &[(Started::Durable(1), &OF_WORKER_1, (52, &[(13, 1)], &[]))],
@@ -469,7 +469,7 @@ const DELETED: [Line; 3] = [
     (Step::Flush(1, 2), 2, 0),
 ];
 
-const TORN: [History; 1] = [(
+static TORN: [History; 1] = [(
     (52, &[], &[0, 0, 0]),
     NONE,
     &[
@@ -478,14 +478,14 @@ const TORN: [History; 1] = [(
     ],
 )];
 
-const EMPTY: [History; 1] = [(
+static EMPTY: [History; 1] = [(
     (3, &[], &[]),
     NONE,
     &[(Started::Durable(0), &MADE_AGAIN, (52, &[], &DELETE_7))],
 )];
 
 /// The first flush fails, and what is refused for that is refused.
-const FAILING_ONCE: [History; 1] = [(
+static FAILING_ONCE: [History; 1] = [(
     (9, &[], &[]),
     FIRST_FLUSH,
     &[(Started::Durable(0), &FAILED, (9, &[], &[]))],

@@ -102,7 +102,7 @@ const TWENTY_COMMITS: [Line; 24] = [
     (Step::Want(0, 0, 0, &[54; 16]), 19, 1),
 ];
 
-const STORIES: [(u8, &[Line]); 5] = [
+static STORIES: [(u8, &[Line]); 5] = [
     (1, &DURABLE),
     (1, &ANSWERED),
     (2, &TWO_WORKERS),
@@ -117,7 +117,7 @@ fn frames_are_sent_to_the_byte(rt: HostRuntime) -> Result<(), Fail> {
 }
 
 /// A commit's frames are wanted once it is durable.
-const WANTED: [Line; 3] = [
+static WANTED: [Line; 3] = [
     (Step::Commit(0, 0, &[Change::InsertAll(42)], Ok(1)), 0, 1),
     (Step::Flush(1, 1), 1, 0),
     (Step::Want(0, 0, 0, &[1174, 54]), 1, 0),

@@ -266,7 +266,7 @@ const MOST_ENTRIES: [Call; 16] = [
 /// A version, the calls of a transaction on it, and how many entries it then has.
 type Story = (u64, &'static [Call], usize);
 
-const STORIES: [Story; 12] = [
+static STORIES: [Story; 12] = [
     // What is seen at each snapshot.
     (
         0,
@@ -335,7 +335,7 @@ fn transactions_answer_as_they_should(rt: HostRuntime) -> Result<(), Fail> {
 }
 
 /// An insert and a patch, and what is seen before each and behind it.
-const CHANGES: [Story; 1] = [(
+static CHANGES: [Story; 1] = [(
     4,
     &[
         Call::Count(0),

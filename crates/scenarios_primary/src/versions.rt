@@ -142,7 +142,7 @@ const NEWEST: [Look; 8] = [
 ];
 
 /// How many commits of the history there are, and looks at them.
-const STORIES: [(usize, &[Look]); 4] = [
+static STORIES: [(usize, &[Look]); 4] = [
     (0, &EMPTY),
     (4, &VALUES),
     (4, &COLUMNS_AND_COMMITS),
@@ -185,7 +185,7 @@ const COMMIT: [Wanted<'static>; 3] = [
 ];
 
 /// What is found before that commit. Takes no memory.
-const BEFORE: [Look; 6] = [
+static BEFORE: [Look; 6] = [
     Look::Sizes(4, 4, false),
     Look::Newest(0, 7, 4),
     Look::Newest(0, 9, 0),
@@ -195,7 +195,7 @@ const BEFORE: [Look; 6] = [
 ];
 
 /// What is found behind it.
-const BEHIND: [Look; 6] = [
+static BEHIND: [Look; 6] = [
     Look::Sizes(5, 5, false),
     Look::Newest(0, 7, 5),
     Look::Newest(0, 9, 5),
@@ -249,7 +249,7 @@ enum Applying {
 
 /// Commits, and whether each is added, one after the other, behind four commits of the history:
 /// account 7 is there, account 8 is taken out twice, and that commit is not possible again.
-const APPLIED: [(&[Wanted<'static>], bool); 4] = [
+static APPLIED: [(&[Wanted<'static>], bool); 4] = [
     (&[Wanted::Insert(0, 7, b"\0\0\0\0\0\0\0\x05ab")], false),
     (&[Wanted::Delete(0, 8), Wanted::Delete(0, 8)], false),
     (&COMMIT, true),

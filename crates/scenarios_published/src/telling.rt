@@ -7,7 +7,7 @@ ghost use Rattle.journal.specs.Recovery.{IsJournaled};
 use history::{Keeper, Opened};
 use journal::laws::beginnings_are_journaled;
 use left_right::reader::Reader;
-use published::{Line, Published, Publisher, Seat, Shown, Step};
+use published::{Line, Publication, Published, Publisher, Seat, Shown};
 use rows::{Commit, Schema};
 use std::alloc::Global;
 use std::marker::Model;
@@ -104,12 +104,12 @@ impl<L: Line, R: Wait + Drop> Telling<L, R> {
         }
         let commit = next_of::<L>(commits.as_slice(), told)?;
         keeper.add(&commit);
-        let step = Step {
+        let publication = Publication {
             commit,
             seen: keeper.seen(),
         };
-        if let Err(step) = publisher.push(step) {
-            publisher.push(step).ok()?;
+        if let Err(back) = publisher.push(publication) {
+            publisher.push(back).ok()?;
         }
         Some(Telling {
             commits,

@@ -1,6 +1,6 @@
 //! Plans that tell who puts them, and bear a number.
 
-use plans::{AggregateList, ColumnList, ConditionList, Join, Plan};
+use queries::{AggregateList, ColumnList, ConditionList, Join, Plan};
 use std::alloc::Global;
 
 /// The plan of a putter with this number: its table is the putter, and the column of its join the

@@ -4,7 +4,7 @@
 ghost use Rattle.queue.specs.Passes.{IsPassOf};
 
 use crate::numbered_plans::{numbered, rise, times};
-use plans::Plan;
+use queries::Plan;
 use queue::{Pass, QueryQueue};
 use std::alloc::{AllocError, Global};
 use std::sync::Wait;

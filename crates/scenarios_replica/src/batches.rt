@@ -2,7 +2,7 @@
 
 use crate::replica::{Ran, Step, Story, other_step, other_story};
 use dispatcher::{AskFault, Got, OpenFault, fed_replicas_stay_fed};
-use plans::PlanFault;
+use queries::PlanFault;
 use rows::Kind;
 use scenarios_common::wanted::{NUMBERS, Table, bank};
 use scenarios_common::worker_datagrams::{
@@ -102,7 +102,7 @@ const MANY: [Step<'static>; 2] = [
     Step::OpenRefused(0, OpenFault::BatchFull),
 ];
 
-const STORIES: [Story; 8] = [
+static STORIES: [Story; 8] = [
     (1, &NUMBERS, &REPEATED_ASK),
     (1, &NUMBERS, &HEADS),
     (1, &NUMBERS, &ANSWERED),

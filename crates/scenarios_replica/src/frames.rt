@@ -18,12 +18,13 @@ const WINDOW: [Step<'static>; 6] = [
     Step::GetFrameAt(4096, Got::Stored),
 ];
 
-/// Frames that do not fit are ignored: of a table that is not there, of a worker that is not there,
-/// one that patches octets where the table has numbers, and one that ends too early.
+/// Ignored are frames of a table that is not there, of a worker that is not there, and one that ends
+/// too early. One that patches octets where the table has numbers is kept: whether an entry fits is
+/// known only as it is applied.
 const UNFIT: [Step<'static>; 4] = [
     Step::GetFrameWith(27, 5, Got::Ignored),
     Step::GetFrameWith(6, 1, Got::Ignored),
-    Step::Get(&PATCH_AND_DELETE, Got::Ignored),
+    Step::Get(&PATCH_AND_DELETE, Got::Stored),
     Step::Get(&FRONT_OF_FRAME, Got::Ignored),
 ];
 
@@ -44,7 +45,7 @@ const MISSING: [Step<'static>; 12] = [
     Step::GetFrameAt(4098, Got::Stored),
 ];
 
-const STORIES: [Story; 3] = [
+static STORIES: [Story; 3] = [
     (1, &NUMBERS, &WINDOW),
     (1, &NUMBERS, &UNFIT),
     (1, &NUMBERS, &MISSING),

@@ -3,7 +3,7 @@
 
 use crate::replica::{Ran, Step, Story, other_step, other_story};
 use dispatcher::{AskFault, Got, OpenFault};
-use plans::{Aggregate, Column};
+use queries::{Aggregate, Column, PlanFault};
 use scenarios_common::wanted::NUMBERS;
 use scenarios_common::worker_datagrams::{FRAME, HEAD};
 use scenarios_plans_common::wishes::{COUNT, MOST, SHOP, UNFIT, WISHES, Wish};
@@ -80,7 +80,7 @@ query 4 rows 1
     )),
 ];
 
-const STORIES: [Story; 4] = [
+static STORIES: [Story; 4] = [
     (2, SHOP, &REFUSED),
     (2, SHOP, &ORDER),
     (2, SHOP, &FULL),
@@ -123,6 +123,66 @@ fn a_run_of_groups_without_memory_stands_or_breaks(rt: HostRuntime) -> Result<()
     if other.is_some_and(|index| index < 5) {
         return Err("out of memory".into());
     }
+    assert_eq!(rt; other, None);
+    Ok(())
+}
+
+/// The frame of commit 1 of worker 0: it inserts row 7 with the values 5 and -1, and adds a column of
+/// the number 3 to the accounts.
+const ADDED: [u8; 65] = [
+    0x42, 0x44, 0x02, 0x01, 0x00, 0x41, 0x00, 0x00, 0x00, 0x00, 0x00, 0x00, 0x00, 0x00, 0x00, 0x00,
+    0x00, 0x00, 0x00, 0x00, 0x00, 0x00, 0x01, 0x01, 0x00, 0x02, 0x01, 0x00, 0x00, 0x00, 0x00, 0x00,
+    0x00, 0x00, 0x00, 0x07, 0x00, 0x10, 0x00, 0x00, 0x00, 0x00, 0x00, 0x00, 0x00, 0x05, 0xff, 0xff,
+    0xff, 0xff, 0xff, 0xff, 0xff, 0xff, 0x04, 0x00, 0x00, 0x00, 0x00, 0x00, 0x00, 0x00, 0x00, 0x00,
+    0x03,
+];
+
+/// The run of a batch that brings a column, twice.
+const RUN_WITH_COLUMN_TWICE: [Step<'static>; 6] = [
+    Step::OpenWish(GROUPED, 1),
+    Step::Open(0, 2),
+    Step::Ask,
+    Step::Get(&HEAD, Got::Head(1)),
+    Step::Get(&ADDED, Got::Stored),
+    Step::RunTwice(b"version 1 queries 2\nquery 0 rows 1\n5 1 -1 -1\nquery 1 rows 1\n1\n"),
+];
+
+/// Whichever request for memory is refused: a run that brings a column can be run again, or breaks the
+/// replica.
+#[test]
+fn a_run_with_a_column_without_memory_stands_or_breaks(rt: HostRuntime) -> Result<(), Fail> {
+    let other = other_step(&rt, rt.alloc(), 1, &NUMBERS, &RUN_WITH_COLUMN_TWICE)?;
+    if other.is_some_and(|index| index < 5) {
+        return Err("out of memory".into());
+    }
+    assert_eq!(rt; other, None);
+    Ok(())
+}
+
+/// The sum of the column that is added.
+const SUM_ADDED: Wish<'static> = Wish {
+    aggregates: &[Aggregate::Sum(Column::Own(2))],
+    ..COUNT
+};
+
+/// A plan on a column is refused until the run that brings it, and the table then has it.
+const OPENED_WITH_COLUMN: [Step<'static>; 11] = [
+    Step::Get(&ADDED, Got::Stored),
+    Step::OpenWishRefused(SUM_ADDED, OpenFault::BadPlan(PlanFault::NoColumn)),
+    Step::Open(0, 1),
+    Step::Ask,
+    Step::Get(&HEAD, Got::Head(1)),
+    Step::OpenWishRefused(SUM_ADDED, OpenFault::BadPlan(PlanFault::NoColumn)),
+    Step::Run(Ran::Answered(b"version 1 queries 1\nquery 0 rows 1\n1\n")),
+    Step::Dump(b"version 1 rows 1\nacct 7 5 -1 3\n"),
+    Step::OpenWish(SUM_ADDED, 1),
+    Step::AskOf(2),
+    Step::Run(Ran::WaitingHead),
+];
+
+#[test]
+fn plans_see_a_column_from_its_version_on(rt: HostRuntime) -> Result<(), Fail> {
+    let other = other_step(&rt, rt.alloc(), 1, &NUMBERS, &OPENED_WITH_COLUMN)?;
     assert_eq!(rt; other, None);
     Ok(())
 }

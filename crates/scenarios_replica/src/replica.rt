@@ -1,7 +1,7 @@
 //! What is done with a replica, step by step, and what it answers.
 
 use dispatcher::{AskFault, DumpFault, Got, OpenFault, ReplicaCore, Run};
-use plans::PlanFault;
+use queries::PlanFault;
 use rows::Schema;
 use scenarios_common::wanted::Table;
 use scenarios_common::worker_datagrams::{

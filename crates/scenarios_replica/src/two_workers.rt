@@ -217,7 +217,7 @@ const ROW_TWICE: [Step<'static>; 7] = [
     Step::Get(&HEAD, Got::Broken),
 ];
 
-const STORIES: [Story; 10] = [
+static STORIES: [Story; 10] = [
     (2, &NUMBERS, &HEADS),
     (2, &NUMBERS, &WORKER_0_MISSING),
     (2, &NUMBERS, &WORKER_1_MISSING),
@@ -273,7 +273,7 @@ const SIXTEEN: [Step<'static>; 5] = [
     Step::GetHead(1, 0, [0, 0], Got::Ignored),
 ];
 
-const WINDOWS_OF_EACH: [Story; 2] = [(2, &NUMBERS, &WINDOWS), (16, &NUMBERS, &SIXTEEN)];
+static WINDOWS_OF_EACH: [Story; 2] = [(2, &NUMBERS, &WINDOWS), (16, &NUMBERS, &SIXTEEN)];
 
 #[test]
 fn each_worker_has_frames_of_its_own(rt: HostRuntime) -> Result<(), Fail> {

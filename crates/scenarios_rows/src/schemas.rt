@@ -52,7 +52,7 @@ const TOO_MANY: [Table; 17] = [
 ];
 
 /// Tables, and how many there are or their fault.
-const SCHEMAS: [(&[Table], Result<usize, SchemaFault>); 5] = [
+static SCHEMAS: [(&[Table], Result<usize, SchemaFault>); 5] = [
     (&[], Err(SchemaFault::Empty)),
     (&[("", INT)], Err(SchemaFault::Empty)),
     (
@@ -134,10 +134,10 @@ fn other_count(alloc: Global) -> Option<usize> {
 }
 
 /// Columns that are looked for by where their bytes stand.
-const KINDS: [Kind; 3] = [Kind::Octets(2), Kind::Int, Kind::Octets(2)];
+static KINDS: [Kind; 3] = [Kind::Octets(2), Kind::Int, Kind::Octets(2)];
 
 /// An offset and a size, and which column stands there.
-const SPANS: [(usize, usize, Option<(usize, Kind)>); 7] = [
+static SPANS: [(usize, usize, Option<(usize, Kind)>); 7] = [
     (0, 2, Some((0, Kind::Octets(2)))),
     (2, 8, Some((1, Kind::Int))),
     (10, 2, Some((2, Kind::Octets(2)))),
@@ -149,7 +149,7 @@ const SPANS: [(usize, usize, Option<(usize, Kind)>); 7] = [
 ];
 
 /// Kinds, each with its width, and whether it is good.
-const WIDTHS: [(Kind, usize, bool); 5] = [
+static WIDTHS: [(Kind, usize, bool); 5] = [
     (Kind::Int, 8, true),
     (Kind::Octets(3), 3, true),
     (Kind::Octets(64), 64, true),

@@ -20,6 +20,11 @@ enum Step {
     /// A change is made, 0, or refused with a fault of this kind. Where memory is refused, that has
     /// changed nothing, and it is asked for once more.
     Change(Wanted<'static>, u8),
+    /// A column of this number is added to the table, 0, or refused with a fault of this kind; and so
+    /// it is where memory is refused.
+    Add(u8, i64, u8),
+    /// So many columns have the accounts, and so many the audit.
+    Columns(usize, usize),
     /// A run of changes stops at one of them with a fault of this kind, or goes to the end.
     Run(&'static [Wanted<'static>], Option<(usize, u8)>),
     /// A list of commits is applied, and so many accounts are there then; or it is refused, and the
@@ -88,6 +93,10 @@ fn is_answered<R: Threads + Sync>(
             let entry = made(alloc, wanted)?;
             Ok(is_changed(store, &entry, *kind))
         }
+        Step::Add(table, number, kind) => Ok(is_added(store, *table, *number, *kind)),
+        Step::Columns(accounts, audit) => {
+            Ok(columns_of(store, 0) == *accounts && columns_of(store, 1) == *audit)
+        }
         Step::Run(wanted, stop) => {
             let entries = all_made(alloc, wanted)?;
             Ok(stop_of_run(store, entries.as_slice()) == *stop)
@@ -122,6 +131,7 @@ fn told<S: Store>(store: &S, entry: &Entry) -> (bool, bool) {
         Entry::Insert { table, row, .. }
         | Entry::Patch { table, row, .. }
         | Entry::Delete { table, row } => store.find(*table, *row),
+        Entry::AddColumn { .. } => None,
     };
     (store.whole(), place.is_some())
 }
@@ -135,6 +145,23 @@ fn is_changed<S: Store>(store: &mut S, entry: &Entry, expected: u8) -> bool {
         return told(store, entry) == before && kind_of_change(store, entry) == expected;
     }
     kind == expected
+}
+
+/// How many columns the table has.
+fn columns_of<S: Store>(store: &S, table: u8) -> usize {
+    store.kinds(table).unwrap_or(&[]).len()
+}
+
+/// Whether a change that adds a column is refused with a fault of this kind, or made: 0. Where memory
+/// is refused, that has changed nothing, and it is asked for once more.
+fn is_added<S: Store>(store: &mut S, table: u8, number: i64, expected: u8) -> bool {
+    let default = Value::Int(number);
+    let before = columns_of(store, table);
+    if !is_changed(store, &Entry::AddColumn { table, default }, expected) {
+        return false;
+    }
+    let added = if expected == 0 { 1 } else { 0 };
+    columns_of(store, table) == before.saturating_add(added)
 }
 
 /// Where a run of these entries stops, and the kind of the fault; `None` where it goes to the end.
@@ -254,6 +281,23 @@ const RISING: [Step; 3] = [
     Step::Audits(0),
 ];
 
+/// The bytes of a row of three numbers.
+const THREE: [u8; 24] = [7; 24];
+
+/// A column comes where there are rows, and where there are none.
+const WIDER: [Step; 10] = [
+    Step::Change(Wanted::Insert(0, 7, &FIVE), 0),
+    Step::Change(Wanted::Patch(0, 7, 16, &SIX), 3),
+    Step::Add(0, 3, 0),
+    Step::Add(2, 3, 3),
+    Step::Add(1, -1, 0),
+    Step::Columns(3, 2),
+    Step::Change(Wanted::Insert(0, 8, &FIVE), 3),
+    Step::Change(Wanted::Insert(0, 8, &THREE), 0),
+    Step::Change(Wanted::Patch(0, 7, 16, &SIX), 0),
+    Step::Ids(&[7, 8]),
+];
+
 /// Commits are applied.
 const APPLIED: [Step; 4] = [
     Step::Apply(
@@ -274,11 +318,12 @@ const REFUSED: [Step; 1] = [Step::Apply(
     Err(ApplyFault::Inconsistent),
 )];
 
-const STORIES: [&[Step]; 6] = [
+const STORIES: [&[Step]; 7] = [
     &NO_COLUMN,
     &ROWS_THERE_OR_NOT,
     &STOP,
     &RISING,
+    &WIDER,
     &APPLIED,
     &REFUSED,
 ];
@@ -289,17 +334,21 @@ fn stores_answer_as_they_should(rt: HostRuntime) -> Result<(), Fail> {
     Ok(())
 }
 
-/// A change of a store without rows.
-const CHANGE: [Step; 5] = [
+/// Changes of a store without rows.
+static CHANGE: [Step; 9] = [
     Step::IsWhole,
     Step::Has(7, false),
     Step::Change(Wanted::Insert(0, 7, &FIVE), 0),
     Step::IsWhole,
     Step::Has(7, true),
+    Step::Add(0, 3, 0),
+    Step::IsWhole,
+    Step::Has(7, true),
+    Step::Columns(3, 1),
 ];
 
 /// A commit of two inserts.
-const COMMIT: [Step; 1] = [Step::Apply(
+static COMMIT: [Step; 1] = [Step::Apply(
     &[&[Wanted::Insert(0, 1, &FIVE), Wanted::Insert(0, 2, &FIVE)]],
     Ok(2),
 )];
@@ -322,13 +371,13 @@ fn column<S: Store>(store: &S, row: u64, column: usize) -> Option<Value>
 }
 
 /// The entry, owned.
-fn owned(alloc: Global, lent: EntryRef<'_>) -> Result<Entry, AllocError>
-    ensures { IfOk result (λ owned. owned ≡ entry_of lent.entry) }
+fn owned(alloc: Global, lent: &EntryRef<'_>) -> Result<Entry, AllocError>
+    ensures { IfOk result (λ owned. owned ≡ entry_of lent.now) }
 {
     Ok(match lent {
         EntryRef::Insert { table, row, bytes } => Entry::Insert {
-            table,
-            row,
+            table: *table,
+            row: *row,
             bytes: ByteList::from_vec(Vec::from_slice(alloc, bytes)?),
         },
         EntryRef::Patch {
@@ -337,18 +386,25 @@ fn owned(alloc: Global, lent: EntryRef<'_>) -> Result<Entry, AllocError>
             offset,
             bytes,
         } => Entry::Patch {
-            table,
-            row,
-            offset,
+            table: *table,
+            row: *row,
+            offset: *offset,
             bytes: ByteList::from_vec(Vec::from_slice(alloc, bytes)?),
         },
-        EntryRef::Delete { table, row } => Entry::Delete { table, row },
+        EntryRef::Delete { table, row } => Entry::Delete {
+            table: *table,
+            row: *row,
+        },
+        EntryRef::AddColumn { table, default } => Entry::AddColumn {
+            table: *table,
+            default: *default,
+        },
     })
 }
 
 /// The store makes the change of an entry.
-fn make(alloc: Global, store: &mut PlainStore, lent: EntryRef<'_>) -> Result<(), Fail>
-    ensures made { OnOk result (apply_entry store.old.tables (entry_of lent.entry) ≡ Ok store.new.tables) }
+fn make(alloc: Global, store: &mut PlainStore, lent: &EntryRef<'_>) -> Result<(), Fail>
+    ensures made { OnOk result (apply_entry store.old.tables (entry_of lent.now) ≡ Ok store.new.tables) }
     ensures whole { store.new.whole ≡ store.old.whole }
 {
     store.change(&owned(alloc, lent)?)?;
@@ -379,16 +435,16 @@ fn with_patched_account(alloc: Global) -> Result<PlainStore, Fail>
     let table = 0;
     let bytes = b"\0\0\0\0\0\0\0\x05abc\xff\xff\xff\xff\xff\xff\xff\xff";
     let row = RowId(7);
-    make(alloc, &mut store, EntryRef::Insert { table, row, bytes })?;
+    make(alloc, &mut store, &EntryRef::Insert { table, row, bytes })?;
     let row = RowId(8);
-    make(alloc, &mut store, EntryRef::Insert { table, row, bytes })?;
+    make(alloc, &mut store, &EntryRef::Insert { table, row, bytes })?;
     let patch = EntryRef::Patch {
         table,
         row: RowId(7),
         offset: 8,
         bytes: b"xyz",
     };
-    make(alloc, &mut store, patch)?;
+    make(alloc, &mut store, &patch)?;
     Ok(store)
 }
 
@@ -414,5 +470,56 @@ fn a_patch_writes_one_column_of_one_row(rt: HostRuntime) -> Result<(), Fail> {
         Octets::from_slice(b"abc").map(Value::Octets),
     ];
     assert!(rt; patched_columns(rt.alloc())? == expected);
+    Ok(())
+}
+
+/// A store whose account 7 was put in before a column came that is 3 in each row, and account 8 after
+/// it, with 4 there. Then another column came, `x`.
+fn with_added_columns(alloc: Global) -> Result<PlainStore, Fail>
+    ensures whole { IfOk result (λ store. store.whole ≡ true) }
+    ensures first { IfOk result (λ store. IsSome (column_of (row_at (rows_of store.tables 0) 7) 1)) }
+    ensures second { IfOk result (λ store. IsSome (column_of (row_at (rows_of store.tables 0) 7) 3)) }
+    ensures third { IfOk result (λ store. IsSome (column_of (row_at (rows_of store.tables 0) 7) 4)) }
+    ensures other_second { IfOk result (λ store. IsSome (column_of (row_at (rows_of store.tables 0) 8) 3)) }
+    ensures other_third { IfOk result (λ store. IsSome (column_of (row_at (rows_of store.tables 0) 8) 4)) }
+{
+    let mut store = accounts_with_octets(alloc)?;
+    let table = 0;
+    let row = RowId(7);
+    let bytes = b"\0\0\0\0\0\0\0\x05abc\xff\xff\xff\xff\xff\xff\xff\xff";
+    make(alloc, &mut store, &EntryRef::Insert { table, row, bytes })?;
+    let default = Value::Int(3);
+    make(alloc, &mut store, &EntryRef::AddColumn { table, default })?;
+    let row = RowId(8);
+    let bytes = b"\0\0\0\0\0\0\0\x06xyz\0\0\0\0\0\0\0\0\0\0\0\0\0\0\0\x04";
+    make(alloc, &mut store, &EntryRef::Insert { table, row, bytes })?;
+    let default = Value::Octets(Octets::from_slice(b"x").ok_or("too long")?);
+    make(alloc, &mut store, &EntryRef::AddColumn { table, default })?;
+    Ok(store)
+}
+
+/// The octets of account 7 and the added columns of both accounts in that store.
+fn added_columns(alloc: Global) -> Result<[Option<Value>; 5], Fail> {
+    let store = with_added_columns(alloc)?;
+    Ok([
+        column(&store, 7, 1),
+        column(&store, 7, 3),
+        column(&store, 7, 4),
+        column(&store, 8, 3),
+        column(&store, 8, 4),
+    ])
+}
+
+#[test]
+fn an_added_column_is_in_each_row(rt: HostRuntime) -> Result<(), Fail> {
+    let letter = Octets::from_slice(b"x").map(Value::Octets);
+    let expected = [
+        Octets::from_slice(b"abc").map(Value::Octets),
+        Some(Value::Int(3)),
+        letter,
+        Some(Value::Int(4)),
+        letter,
+    ];
+    assert!(rt; added_columns(rt.alloc())? == expected);
     Ok(())
 }

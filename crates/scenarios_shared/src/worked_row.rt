@@ -52,6 +52,15 @@ fn reads_five<L: Origin>(alloc: Global, seat: &mut Seat<L>) -> bool {
     transaction.snapshot() >= 1 && seat.value(&transaction, 0, RowId(7), 0) == Ok(Value::Int(5))
 }
 
+/// Whether a transaction that begins now adds a column to the table, and finds its value in the row.
+fn adds_column<L: Origin>(alloc: Global, seat: &mut Seat<L>) -> bool {
+    let Ok(mut transaction) = seat.begin(alloc) else {
+        return false;
+    };
+    seat.add_column(&mut transaction, 0, Value::Int(3)) == Ok(())
+        && seat.value(&transaction, 0, RowId(7), 2) == Ok(Value::Int(3))
+}
+
 /// Whether the row is pending and nothing of it is sent, and after a flush is durable and sent.
 fn is_flushed<L: Origin, R: Wait + Drop, W: Wait>(
     rt: &W,
@@ -90,6 +99,7 @@ fn is_told<L: Origin, R: Wait + Drop, W: Wait>(
     reader.meet(writer);
     reader.value(&old, 0, RowId(7), 0) == Err(LineFault::Tx(TxFault::Missing))
         && reads_five(alloc, reader)
+        && adds_column(alloc, reader)
 }
 
 /// Whether the line is handed back while a seat is missing, and ends with both.

@@ -1,7 +1,7 @@
 //! What a replica's node does: it is given a query, and serves some turns.
 
 use dispatcher::ReplicaCore;
-use plans::{Aggregate, Column};
+use queries::{Aggregate, Column};
 use queue::QueryQueue;
 use rows::ByteList;
 use scenarios_plans_common::wishes::{COUNT, Wish, plan_of};

@@ -6,7 +6,7 @@ use Rattle.rows.specs.declared.row_id.RowId.{RowId}
 use Rattle.rows.specs.declared.value.Value.{Value}
 use Rattle.script.specs.declared.event.Event.{Event}
 use Rattle.script.specs.declared.event.Event.TheVariants.{Begin, Insert, Set, Delete, Get, Commit, Abort, Flush, Push, Deliver, Show, Open}
-use Rattle.script.specs.declared.event.Event.TheVariants.{Ask, Run, Stop, Start, Version, Dump, Restart, Raw}
+use Rattle.script.specs.declared.event.Event.TheVariants.{Ask, Run, Stop, Start, Version, Dump, Restart, Raw, AddColumn}
 use Rattle.script.specs.declared.event.Node.{Node}
 use Rattle.script.specs.declared.event.Node.TheVariants.{Primary, Replica}
 use Rattle.script.specs.declared.setup.Setup.{Setup}
@@ -18,7 +18,7 @@ use Rattle.script.specs.Tables.{table_called}
 use Rattle.script.specs.Inner.Reading.{on_table, row_of, node_of, begin_of, commit_of, abort_of, flush_of}
 use Rattle.script.specs.Inner.WordReading.{or_no_table}
 use Rattle.script.specs.Inner.Reading.{pair_of, stop_of, start_of, raw_of}
-use Rattle.script.specs.Inner.Reading.{deliver_of, show_of, replica_of, insert_of, set_of, delete_of, get_of, open_of}
+use Rattle.script.specs.Inner.Reading.{deliver_of, show_of, replica_of, insert_of, set_of, delete_of, add_column_of, get_of, open_of}
 use Rattle.script.specs.Inner.PlanReading.{plan_of}
 use Rattle.script.specs.Inner.Reading.{open_event}
 use Rattle.script.specs.Inner.Reading.{one_of, two_of, three_of, four_of, five_of, three_and_more}
@@ -44,6 +44,8 @@ at_tables setup naming (Set transaction table row column value) =
     tabled (table_called setup.schema (naming table)) (λ found. Set transaction found row column value)
 at_tables setup naming (Delete transaction table row) =
     tabled (table_called setup.schema (naming table)) (λ found. Delete transaction found row)
+at_tables setup naming (AddColumn transaction table default) =
+    tabled (table_called setup.schema (naming table)) (λ found. AddColumn transaction found default)
 at_tables setup naming (Get transaction table row column) =
     tabled (table_called setup.schema (naming table)) (λ found. Get transaction found row column)
 at_tables setup naming (Open replica plan) = open_event (Some replica) (plan_of setup.schema (plan_words naming plan))
@@ -74,7 +76,7 @@ pub complete : (setup : Setup) (naming : ℕ → List ℕ) (event : Event) → s
     → AreNamed naming (tables_in event) → HasLine event → IsPossible setup.workers setup.replicas event
     → words_event setup (event_words naming event) ≡ at_tables setup naming event
 unfolding event_of primary_event network_event replica_event begin_of commit_of abort_of flush_of stop_of start_of pair_of deliver_of
-    raw_of show_of replica_of insert_of set_of delete_of get_of open_of one_of two_of three_of four_of five_of three_and_more
+    raw_of show_of replica_of insert_of set_of delete_of add_column_of get_of open_of one_of two_of three_of four_of five_of three_and_more
 complete setup naming Begin w r named form possible = refl
 complete setup naming (Insert transaction table row []) w r named form possible = absurd (omega arith)
 complete setup naming (Insert transaction table row (value ∷ values)) w r named form possible =
@@ -94,6 +96,12 @@ complete setup naming (Delete transaction table row) w r named form possible =
     rw (row_of-text transaction row form.0 form.1)
     (rw (table_of-name setup.schema (naming table) named.0)
     (placed-tabled {A = ℕ × RowId} (transaction, row) (table_called setup.schema (naming table)) (λ at found. Delete at.0 found at.1)))
+complete setup naming (AddColumn transaction table default) w r named form possible =
+    rw (number_of-decimal transaction form.0)
+    (rw (value_of-text default form.1)
+    (rw (table_of-name setup.schema (naming table) named.0)
+    (placed-tabled {A = ℕ × Value} (transaction, default) (table_called setup.schema (naming table))
+    (λ parts found. AddColumn parts.0 found parts.1))))
 complete setup naming (Get transaction table row column) w r named form possible =
     rw (row_of-text transaction row form.0 form.1)
     (rw (below_of-decimal (2 ^ 8) column form.2 (omega arith))

@@ -4,11 +4,11 @@ use Rattle.std.proofs.Common.{refl, sym, ap, ◌∙◌, arith, codes}
 use Rattle.std.specs.List.{slice_index_or}
 use Rattle.std.specs.Str.{bytes_eq}
 use Rattle.rows.specs.declared.kind.Kind.{Kind}
-use Rattle.plans.specs.declared.plan.Join.{Join}
-use Rattle.plans.specs.declared.plan.Plan.{Plan}
+use Rattle.queries.specs.declared.plan.Join.{Join}
+use Rattle.queries.specs.declared.plan.Plan.{Plan}
 use Rattle.script.specs.declared.event.Event.{Event}
 use Rattle.script.specs.declared.event.Event.TheVariants.{Begin, Insert, Set, Delete, Get, Commit, Abort, Flush, Push, Deliver, Show, Open}
-use Rattle.script.specs.declared.event.Event.TheVariants.{Ask, Run, Stop, Start, Version, Dump, Restart, Raw}
+use Rattle.script.specs.declared.event.Event.TheVariants.{Ask, Run, Stop, Start, Version, Dump, Restart, Raw, AddColumn}
 use Rattle.script.specs.declared.faults.Reason.{Reason}
 use Rattle.script.specs.declared.faults.Reason.TheVariants.{NotText, BadSetting, UnknownEvent, BadWords, NoTable}
 use Rattle.script.specs.declared.setup.Setup.{Setup}
@@ -94,6 +94,8 @@ event-missing setup naming (Set transaction table row column value) other form n
     not-tabled _ _ other (missing-one setup.schema naming table missing) h
 event-missing setup naming (Delete transaction table row) other form named missing h =
     not-tabled _ _ other (missing-one setup.schema naming table missing) h
+event-missing setup naming (AddColumn transaction table default) other form named missing h =
+    not-tabled _ _ other (missing-one setup.schema naming table missing) h
 event-missing setup naming (Get transaction table row column) other form named missing h =
     not-tabled _ _ other (missing-one setup.schema naming table missing) h
 event-missing setup naming (Commit transaction worker) other form named missing h = none-missing setup.schema naming missing
@@ -130,6 +132,7 @@ first-event-word naming Begin = first-of (codes "begin") _ refl refl
 first-event-word naming (Insert transaction table row values) = first-of (codes "insert") _ refl refl
 first-event-word naming (Set transaction table row column value) = first-of (codes "set") _ refl refl
 first-event-word naming (Delete transaction table row) = first-of (codes "delete") _ refl refl
+first-event-word naming (AddColumn transaction table default) = first-of (codes "column") _ refl refl
 first-event-word naming (Get transaction table row column) = first-of (codes "get") _ refl refl
 first-event-word naming (Commit transaction worker) = first-of (codes "commit") _ refl refl
 first-event-word naming (Abort transaction) = first-of (codes "abort") _ refl refl

@@ -3,13 +3,13 @@ use Rattle.std.proofs.Common.{◌≡◌, ℕ, ◌<◌, ◌^◌, List, [], ◌∷
 use Rattle.std.proofs.Common.{refl, sym, ap, ◌∙◌, subst, arith, slice_index, ◌==◌, ◌&&◌, codes, decimal, inr}
 use Rattle.std.specs.Str.{bytes_eq}
 use Rattle.rows.specs.declared.value.Value.{Value}
-use Rattle.plans.specs.declared.aggregate.Aggregate.{Aggregate}
-use Rattle.plans.specs.declared.aggregate.Aggregate.TheVariants.{Count, Sum, Min, Max}
-use Rattle.plans.specs.declared.column.Column.{Column}
-use Rattle.plans.specs.declared.column.Column.TheVariants.{Own, Joined}
-use Rattle.plans.specs.declared.condition.Comparison.{Comparison}
-use Rattle.plans.specs.declared.condition.Comparison.TheVariants.{Equal, NotEqual, Less, AtMost, Greater, AtLeast}
-use Rattle.plans.specs.declared.condition.Condition.{Condition}
+use Rattle.queries.specs.declared.aggregate.Aggregate.{Aggregate}
+use Rattle.queries.specs.declared.aggregate.Aggregate.TheVariants.{Count, Sum, Min, Max}
+use Rattle.queries.specs.declared.column.Column.{Column}
+use Rattle.queries.specs.declared.column.Column.TheVariants.{Own, Joined}
+use Rattle.queries.specs.declared.condition.Comparison.{Comparison}
+use Rattle.queries.specs.declared.condition.Comparison.TheVariants.{Equal, NotEqual, Less, AtMost, Greater, AtLeast}
+use Rattle.queries.specs.declared.condition.Condition.{Condition}
 use Rattle.script.specs.Text.{is_name}
 use Rattle.script.specs.PlanText.{column_text, comparison_text, condition_words, aggregate_words}
 use Rattle.script.specs.PlanText.{HasColumnWord, HasConditionWords, HasAggregateWords}

@@ -1,11 +1,11 @@
 -- The plan that words give, from what its parts give.
 use Rattle.std.proofs.Common.{◌≡◌, ℕ, ◌<◌, List, [], ◌∷◌, length, Option, None, Some, Result, Ok, Err, refl, sym, subst, arith}
 use Rattle.rows.specs.declared.kind.Kind.{Kind}
-use Rattle.plans.specs.declared.aggregate.Aggregate.{Aggregate}
-use Rattle.plans.specs.declared.column.Column.{Column}
-use Rattle.plans.specs.declared.condition.Condition.{Condition}
-use Rattle.plans.specs.declared.plan.Join.{Join}
-use Rattle.plans.specs.declared.plan.Plan.{Plan}
+use Rattle.queries.specs.declared.aggregate.Aggregate.{Aggregate}
+use Rattle.queries.specs.declared.column.Column.{Column}
+use Rattle.queries.specs.declared.condition.Condition.{Condition}
+use Rattle.queries.specs.declared.plan.Join.{Join}
+use Rattle.queries.specs.declared.plan.Plan.{Plan}
 use Rattle.script.specs.declared.faults.LineFault.{LineFault}
 use Rattle.script.specs.declared.faults.Reason.{Reason}
 use Rattle.script.specs.declared.faults.Reason.TheVariants.{BadWords}

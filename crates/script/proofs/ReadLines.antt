@@ -6,7 +6,7 @@ use Rattle.std.proofs.lemmas.List.Splits.{join_with_byte-slice_split}
 use Rattle.rows.specs.Text.{words_text}
 use Rattle.script.specs.declared.event.Event.{Event}
 use Rattle.script.specs.declared.event.Event.TheVariants.{Begin, Insert, Set, Delete, Get, Commit, Abort, Flush, Push, Deliver, Show, Open}
-use Rattle.script.specs.declared.event.Event.TheVariants.{Ask, Run, Stop, Start, Version, Dump, Restart, Raw}
+use Rattle.script.specs.declared.event.Event.TheVariants.{Ask, Run, Stop, Start, Version, Dump, Restart, Raw, AddColumn}
 use Rattle.script.specs.declared.setup.Setup.{Setup}
 use Rattle.script.specs.declared.faults.Reason.{Reason}
 use Rattle.script.specs.declared.faults.Reason.TheVariants.{NotText, BadSetting, UnknownEvent, BadWords, NoTable}
@@ -18,7 +18,7 @@ use Rattle.script.specs.EventLines.{IsSpelled, IsEventLine, IsEventFault, first_
 use Rattle.script.specs.Tables.{table_called}
 use Rattle.script.specs.Inner.LineFaults.{OrMemory, Gives}
 use Rattle.script.specs.Inner.Reading.{event_of}
-use Rattle.plans.specs.declared.plan.Plan.{Plan}
+use Rattle.queries.specs.declared.plan.Plan.{Plan}
 use Rattle.script.specs.Tables.{AreNamed}
 use Rattle.script.proofs.PlanLaws.{plan-read, plan-not-bad}
 use Rattle.script.specs.Events.{HasLine}
@@ -44,6 +44,7 @@ some_words naming Begin = omega arith
 some_words naming (Insert transaction table row values) = omega arith
 some_words naming (Set transaction table row column value) = omega arith
 some_words naming (Delete transaction table row) = omega arith
+some_words naming (AddColumn transaction table default) = omega arith
 some_words naming (Get transaction table row column) = omega arith
 some_words naming (Commit transaction worker) = omega arith
 some_words naming (Abort transaction) = omega arith
@@ -89,6 +90,8 @@ at_tables-fine setup naming (Insert transaction table row values) named form h =
 at_tables-fine setup naming (Set transaction table row column value) named form h =
     tabled-fine (table_called setup.schema (naming table)) _ h
 at_tables-fine setup naming (Delete transaction table row) named form h = tabled-fine (table_called setup.schema (naming table)) _ h
+at_tables-fine setup naming (AddColumn transaction table default) named form h =
+    tabled-fine (table_called setup.schema (naming table)) _ h
 at_tables-fine setup naming (Get transaction table row column) named form h = tabled-fine (table_called setup.schema (naming table)) _ h
 at_tables-fine setup naming (Commit transaction worker) named form h = cc
 at_tables-fine setup naming (Abort transaction) named form h = cc
@@ -154,6 +157,7 @@ kept_tables setup line Begin s = refl
 kept_tables setup line (Insert transaction table row values) s = rw s.found.0 refl
 kept_tables setup line (Set transaction table row column value) s = rw s.found.0 refl
 kept_tables setup line (Delete transaction table row) s = rw s.found.0 refl
+kept_tables setup line (AddColumn transaction table default) s = rw s.found.0 refl
 kept_tables setup line (Get transaction table row column) s = rw s.found.0 refl
 kept_tables setup line (Commit transaction worker) s = refl
 kept_tables setup line (Abort transaction) s = refl

@@ -12,7 +12,7 @@ use Rattle.rows.specs.Spelling.{AreBytes}
 use Rattle.rows.specs.Text.{value_text}
 use Rattle.script.specs.declared.event.Event.{Event}
 use Rattle.script.specs.declared.event.Event.TheVariants.{Begin, Insert, Set, Delete, Get, Commit, Abort, Flush, Push, Deliver, Show, Open}
-use Rattle.script.specs.declared.event.Event.TheVariants.{Ask, Run, Stop, Start, Version, Dump, Restart, Raw}
+use Rattle.script.specs.declared.event.Event.TheVariants.{Ask, Run, Stop, Start, Version, Dump, Restart, Raw, AddColumn}
 use Rattle.script.specs.declared.event.Node.{Node}
 use Rattle.script.specs.declared.event.Node.TheVariants.{Primary, Replica}
 use Rattle.script.specs.declared.setup.Setup.{Setup}
@@ -29,9 +29,9 @@ use Rattle.script.specs.Inner.PlanReading.{plan_of}
 use Rattle.script.specs.Inner.Reading.{given_as_wanted, on_table, or_bad_words, row_id, row_of, node_of, pair_of, replica_of}
 use Rattle.script.specs.Inner.Reading.{one_of, two_of, three_of, four_of, five_of, three_and_more}
 use Rattle.script.specs.Inner.Reading.{begin_of, commit_of, abort_of, flush_of, stop_of, start_of, deliver_of, show_of, raw_of}
-use Rattle.script.specs.Inner.Reading.{insert_of, set_of, delete_of, get_of, open_event, open_of}
+use Rattle.script.specs.Inner.Reading.{insert_of, set_of, delete_of, add_column_of, get_of, open_event, open_of}
 use Rattle.script.specs.Inner.Reading.{replica_event, network_event, primary_event, event_of}
-use Rattle.plans.specs.declared.plan.Plan.{Plan}
+use Rattle.queries.specs.declared.plan.Plan.{Plan}
 use Rattle.script.proofs.Tables.{named_so}
 use Rattle.script.proofs.PlanLaws.{IsPlanSound, plan-sound}
 use Rattle.script.proofs.Numbers.{number_of-some, below_of-some, first-is, words_same}
@@ -261,6 +261,17 @@ set-sound setup (transaction ∷ name ∷ row ∷ column ∷ value ∷ []) =
     (refl, (small, fits, c.0, v.0), (fits, value-possible it.1 v.0), rw (c.1, v.1) refl))
 set-sound setup words = bad refl
 
+add_column-sound : (setup : Setup) (words : List (List ℕ)) → Sound setup (codes "column") words (add_column_of setup.schema words)
+unfolding add_column_of three_of
+add_column-sound setup (transaction ∷ name ∷ value ∷ []) =
+    located (two (number_of transaction) (value_of value)) name (λ it table. AddColumn it.0 table it.1) refl
+    (λ it table naming e same.
+    let p = two-some (number_of transaction) (value_of value) it e in
+    let t = number_of-some transaction it.0 p.0 in
+    let v = value_of-some value it.1 p.1 in
+    (refl, (t.0, v.0), value-possible it.1 v.0, rw (t.1, same, v.1) refl))
+add_column-sound setup words = bad refl
+
 insert-sound : (setup : Setup) (words : List (List ℕ)) → Sound setup (codes "insert") words (insert_of setup.schema words)
 unfolding insert_of three_and_more
 insert-sound setup (transaction ∷ name ∷ row ∷ first ∷ more) =
@@ -315,6 +326,7 @@ of-first setup first words =
     chosen (codes "insert") (insert-sound setup words) (λ insert.
     chosen (codes "set") (set-sound setup words) (λ set.
     chosen (codes "delete") (delete-sound setup words) (λ delete.
+    chosen (codes "column") (add_column-sound setup words) (λ column.
     chosen (codes "get") (get-sound setup words) (λ get.
     chosen (codes "open") (open-sound setup words) (λ opens.
     chosen (codes "raw") (two-sound words (node setup.replicas) hex Raw refl (λ n bytes is are. (refl, are, (is, are), refl))) (λ raw.
@@ -332,7 +344,7 @@ of-first setup first words =
     chosen (codes "version") (replica-sound words setup.replicas Version refl (λ r is. (refl, tt, is, refl))) (λ version.
     chosen (codes "dump") (replica-sound words setup.replicas Dump refl (λ r is. (refl, tt, is, refl))) (λ dump.
     chosen (codes "restart") (pair-sound words setup.replicas Restart refl (λ r boot is low. (refl, low, (is, low), refl))) (λ restart.
-    no_event (sets first) refl (cc)))))))))))))))))))))
+    no_event (sets first) refl (cc))))))))))))))))))))))
 
 -- what the words of a line give says of them what it has to
 pub event-sound : (setup : Setup) (first : List ℕ) (words : List (List ℕ)) → IsSound setup first words (event_of setup first words)

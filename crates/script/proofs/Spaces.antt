@@ -6,7 +6,7 @@ use Rattle.std.proofs.lemmas.List.Elements.{All-cons}
 use Rattle.rows.specs.Text.{value_text}
 use Rattle.script.specs.declared.event.Event.{Event}
 use Rattle.script.specs.declared.event.Event.TheVariants.{Begin, Insert, Set, Delete, Get, Commit, Abort, Flush, Push, Deliver, Show, Open}
-use Rattle.script.specs.declared.event.Event.TheVariants.{Ask, Run, Stop, Start, Version, Dump, Restart, Raw}
+use Rattle.script.specs.declared.event.Event.TheVariants.{Ask, Run, Stop, Start, Version, Dump, Restart, Raw, AddColumn}
 use Rattle.script.specs.declared.event.Node.{Node}
 use Rattle.script.specs.declared.event.Node.TheVariants.{Primary, Replica}
 use Rattle.script.specs.Text.{is_name}
@@ -46,6 +46,10 @@ event-plain workers replicas naming (Set transaction table row column value) w r
 )
 event-plain workers replicas naming (Delete transaction table row) w r named form possible =
     (plain-by-test (codes "delete") refl, located-plain transaction row.0 (naming table) [] form.0 form.1 named.0 tt)
+event-plain workers replicas naming (AddColumn transaction table default) w r named form possible = (
+  plain-by-test (codes "column") refl,
+  (decimal-plain transaction form.0, (name-plain (naming table) named.0, (value-plain default form.1, tt))),
+)
 event-plain workers replicas naming (Get transaction table row column) w r named form possible = (
   plain-by-test (codes "get") refl,
   located-plain transaction row.0 (naming table) (decimal column ∷ []) form.0 form.1 named.0

@@ -4,7 +4,7 @@ use Rattle.std.specs.List.{list_any, before_first}
 use Rattle.std.specs.Str.{bytes_eq}
 use Rattle.rows.specs.declared.kind.Kind.{Kind}
 use Rattle.rows.specs.Text.{words_text}
-use Rattle.plans.specs.declared.plan.Plan.{Plan}
+use Rattle.queries.specs.declared.plan.Plan.{Plan}
 use Rattle.script.specs.declared.faults.Reason.{Reason}
 use Rattle.script.specs.declared.faults.Reason.TheVariants.{NotText, BadSetting, UnknownEvent, BadWords, NoTable}
 use Rattle.script.specs.PlanText.{plan_words, plan_tables, HasPlanWords}
@@ -40,9 +40,9 @@ pub record IsPlanText (schema : List (List ℕ × List Kind)) (text : List ℕ) 
 -- what lines of events begin with
 abbrev pub event_names : List (List ℕ)
 event_names =
-    codes "begin" ∷ codes "insert" ∷ codes "set" ∷ codes "delete" ∷ codes "get" ∷ codes "commit" ∷ codes "abort" ∷ codes "flush"
-    ∷ codes "stop" ∷ codes "start" ∷ codes "push" ∷ codes "deliver" ∷ codes "show" ∷ codes "open" ∷ codes "ask" ∷ codes "run"
-    ∷ codes "version" ∷ codes "dump" ∷ codes "restart" ∷ codes "raw" ∷ []
+    codes "begin" ∷ codes "insert" ∷ codes "set" ∷ codes "delete" ∷ codes "column" ∷ codes "get" ∷ codes "commit" ∷ codes "abort"
+    ∷ codes "flush" ∷ codes "stop" ∷ codes "start" ∷ codes "push" ∷ codes "deliver" ∷ codes "show" ∷ codes "open" ∷ codes "ask"
+    ∷ codes "run" ∷ codes "version" ∷ codes "dump" ∷ codes "restart" ∷ codes "raw" ∷ []
 
 -- what lines of settings begin with
 abbrev pub setting_names : List (List ℕ)

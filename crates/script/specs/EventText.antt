@@ -6,7 +6,7 @@ use Rattle.script.specs.PlanText.{plan_words, plan_tables}
 use Rattle.script.specs.Tables.{name_in}
 use Rattle.script.specs.declared.event.Event.{Event}
 use Rattle.script.specs.declared.event.Event.TheVariants.{Begin, Insert, Set, Delete, Get, Commit, Abort, Flush, Push, Deliver, Show, Open}
-use Rattle.script.specs.declared.event.Event.TheVariants.{Ask, Run, Stop, Start, Version, Dump, Restart, Raw}
+use Rattle.script.specs.declared.event.Event.TheVariants.{Ask, Run, Stop, Start, Version, Dump, Restart, Raw, AddColumn}
 use Rattle.script.specs.declared.event.Node.{Node}
 use Rattle.script.specs.declared.event.Node.TheVariants as nodes
 use Rattle.script.specs.declared.output.Output.{Output}
@@ -30,6 +30,8 @@ event_words naming (Insert transaction table row values) =
 event_words naming (Set transaction table row column value) =
     codes "set" ∷ decimal transaction ∷ naming table ∷ decimal row.0 ∷ decimal column ∷ value_text value ∷ []
 event_words naming (Delete transaction table row) = codes "delete" ∷ decimal transaction ∷ naming table ∷ decimal row.0 ∷ []
+event_words naming (AddColumn transaction table default) =
+    codes "column" ∷ decimal transaction ∷ naming table ∷ value_text default ∷ []
 event_words naming (Get transaction table row column) =
     codes "get" ∷ decimal transaction ∷ naming table ∷ decimal row.0 ∷ decimal column ∷ []
 event_words naming (Commit transaction worker) = codes "commit" ∷ decimal transaction ∷ decimal worker ∷ []
@@ -53,6 +55,7 @@ abbrev pub tables_in : Event → List ℕ
 tables_in (Insert transaction table row values) = table ∷ []
 tables_in (Set transaction table row column value) = table ∷ []
 tables_in (Delete transaction table row) = table ∷ []
+tables_in (AddColumn transaction table default) = table ∷ []
 tables_in (Get transaction table row column) = table ∷ []
 tables_in (Open replica plan) = plan_tables plan
 tables_in other = []

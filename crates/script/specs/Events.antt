@@ -27,6 +27,7 @@ abbrev pub IsPossible : ℕ → ℕ → Event → Type 0
 IsPossible workers replicas (events.Insert transaction table row values) = (row.0 < 2 ^ 64) × AllByRecursion IsValue values
 IsPossible workers replicas (events.Set transaction table row column value) = (row.0 < 2 ^ 64) × IsValue value
 IsPossible workers replicas (events.Delete transaction table row) = row.0 < 2 ^ 64
+IsPossible workers replicas (events.AddColumn transaction table default) = IsValue default
 IsPossible workers replicas (events.Commit transaction worker) = worker < workers
 IsPossible workers replicas (events.Push worker seq) = worker < workers
 IsPossible workers replicas (events.Deliver index node) = IsThere replicas node
@@ -47,6 +48,7 @@ HasLine (events.Insert transaction table row values) =
 HasLine (events.Set transaction table row column value) =
     (transaction < 2 ^ 64) × (row.0 < 2 ^ 64) × (column < 2 ^ 8) × HasWord value
 HasLine (events.Delete transaction table row) = (transaction < 2 ^ 64) × (row.0 < 2 ^ 64)
+HasLine (events.AddColumn transaction table default) = (transaction < 2 ^ 64) × HasWord default
 HasLine (events.Get transaction table row column) = (transaction < 2 ^ 64) × (row.0 < 2 ^ 64) × (column < 2 ^ 8)
 HasLine (events.Commit transaction worker) = transaction < 2 ^ 64
 HasLine (events.Abort transaction) = transaction < 2 ^ 64

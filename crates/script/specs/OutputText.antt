@@ -3,8 +3,8 @@
 use Rattle.std.specs.Prelude.{ℕ, List, [], ◌∷◌, ◌++◌, codes, decimal}
 use Rattle.std.specs.List.{flat_map}
 use Rattle.rows.specs.Text.{hex_text, value_text, line_text}
-use Rattle.plans.specs.declared.faults.PlanFault.{PlanFault}
-use Rattle.plans.specs.declared.faults.PlanFault.TheVariants.{NoTable, NoColumn, WrongKind, TooMany, NoAggregate}
+use Rattle.queries.specs.declared.faults.PlanFault.{PlanFault}
+use Rattle.queries.specs.declared.faults.PlanFault.TheVariants.{NoTable, NoColumn, WrongKind, TooMany, NoAggregate}
 use Rattle.script.specs.declared.sent.Sent.{Sent as SentOne}
 use Rattle.script.specs.declared.output.Output.{Output}
 use Rattle.script.specs.declared.output.Output.TheVariants.{Tx, Accepted, Exists, Missing, Unfit, TooManyEntries, NoTx, Value, Ticket}

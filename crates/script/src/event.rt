@@ -1,4 +1,4 @@
-use plans::Plan;
+use queries::Plan;
 use rows::{ByteList, Row, RowId, Value};
 
 /// A node that a datagram is delivered to.
@@ -33,6 +33,12 @@ pub enum Event {
         transaction: u64,
         table: u8,
         row: RowId,
+    },
+    /// A transaction adds a column to a table, behind its others, with this value in every row.
+    AddColumn {
+        transaction: u64,
+        table: u8,
+        default: Value,
     },
     /// A transaction looks at one column of a row.
     Get {

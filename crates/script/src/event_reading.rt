@@ -13,7 +13,8 @@ use crate::node_reading::{
 };
 use crate::setup::Setup;
 use crate::transaction_reading::{
-    read_abort, read_begin, read_commit, read_delete, read_get, read_insert, read_set,
+    read_abort, read_add_column, read_begin, read_commit, read_delete, read_get, read_insert,
+    read_set,
 };
 use crate::word_reading::words_of;
 use std::alloc::Global;
@@ -51,6 +52,8 @@ fn read_table_event(
         read_set(&setup.schema, words)
     } else if first == b"delete".as_slice() {
         read_delete(&setup.schema, words)
+    } else if first == b"column".as_slice() {
+        read_add_column(&setup.schema, words)
     } else if first == b"get".as_slice() {
         read_get(&setup.schema, words)
     } else if first == b"open".as_slice() {

@@ -13,7 +13,7 @@ use crate::output::Output;
 use crate::output_text::push_output;
 use crate::plan_writing::push_plan;
 use crate::table_names::name_of;
-use plans::Plan;
+use queries::Plan;
 use rows::{RowId, Schema, Value};
 use std::alloc::AllocError;
 
@@ -66,6 +66,11 @@ fn push_event(text: &mut Vec<u8>, schema: &Schema, event: &Event) -> Result<(), 
             table,
             row,
         } => push_delete(text, name_of(schema, *table), *transaction, *row),
+        Event::AddColumn {
+            transaction,
+            table,
+            default,
+        } => push_add_column(text, name_of(schema, *table), *transaction, default),
         Event::Get {
             transaction,
             table,
@@ -178,6 +183,23 @@ fn push_delete(
         Word::Number(row.0),
     ];
     push_words(text, "delete", &words)
+}
+
+fn push_add_column<'x>(
+    text: &mut Vec<u8>,
+    name: &'x str,
+    transaction: u64,
+    default: &'x Value,
+) -> Result<(), AllocError>
+    ensures { OnOk result (text.new.items
+        ≡ text.old.items ++ words_text (event_words (λ table. name.now) (Event.AddColumn transaction 0 default.now))) }
+{
+    let words = [
+        Word::Number(transaction),
+        Word::Text(name),
+        Word::Value(default),
+    ];
+    push_words(text, "column", &words)
 }
 
 fn push_get(

@@ -1,5 +1,5 @@
 use crate::sent::{Sent, SentList};
-use plans::PlanFault;
+use queries::PlanFault;
 use rows::{ByteList, Value};
 
 /// What an event answers.
@@ -23,7 +23,8 @@ pub enum Output {
     Value(Value),
     /// The transaction was committed under that number.
     Ticket(u64),
-    /// The commit of that number touches a row of the transaction.
+    /// The commit of that number touches a row of the transaction, or one of the two adds a column to
+    /// a table of the other's.
     Conflict(u64),
     /// The transaction changes nothing.
     ReadOnly,
@@ -61,7 +62,7 @@ pub enum Output {
     Opened(usize),
     /// As many queries wait as are allowed.
     BatchFull,
-    /// The query's plan does not fit the schema.
+    /// The query's plan does not fit the tables.
     BadPlan(PlanFault),
     /// The batch has its version already.
     Busy,

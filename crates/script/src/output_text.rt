@@ -7,7 +7,7 @@ ghost use Rattle.script.specs.OutputText.{output_text, sent_text, word_of, numbe
 use crate::lines::{Word, push_line};
 use crate::output::Output;
 use crate::sent::Sent;
-use plans::PlanFault;
+use queries::PlanFault;
 use rows::append_hex;
 use std::alloc::AllocError;
 

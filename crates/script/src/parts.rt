@@ -1,7 +1,7 @@
 //! Reading a plan, or the line of an event, by itself.
 
 ghost use Rattle.std.specs.Prelude.{IfOk, MatchOption, MatchResult};
-ghost use Rattle.plans.specs.declared.plan.Plan.{Plan};
+ghost use Rattle.queries.specs.declared.plan.Plan.{Plan};
 ghost use Rattle.script.specs.EventLines.{IsPlanText, IsEventLine, IsEventFault};
 
 use crate::event::Event;
@@ -10,7 +10,7 @@ use crate::faults::{LineFault, Reason};
 use crate::plan_reading::read_plan_words;
 use crate::setup::Setup;
 use crate::word_reading::words_of;
-use plans::Plan;
+use queries::Plan;
 use std::alloc::{AllocError, Global};
 
 /// The plan that a text spells, on the tables of a setup; `None` exactly if it spells none, or

@@ -11,7 +11,7 @@ ghost use Rattle.script.specs.Inner.WordReading.{table_of};
 use crate::faults::{LineFault, Reason};
 use crate::table_names::named_table;
 use crate::word_reading::{is_name, small_number, value_of};
-use plans::{
+use queries::{
     Aggregate, AggregateList, Column, ColumnList, Comparison, Condition, ConditionList, Join, Plan,
 };
 use rows::Schema;

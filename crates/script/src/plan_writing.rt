@@ -9,7 +9,7 @@ ghost use Rattle.script.specs.Tables.{name_in};
 
 use crate::lines::{Word, push_tail};
 use crate::table_names::name_of;
-use plans::{Aggregate, Column, Comparison, Condition, Join, Plan};
+use queries::{Aggregate, Column, Comparison, Condition, Join, Plan};
 use rows::Schema;
 use std::alloc::AllocError;
 

@@ -2,7 +2,7 @@
 
 ghost use Rattle.std.specs.Prelude.{◌≡◌, map};
 ghost use Rattle.script.specs.Inner.LineFaults.{Gives, because};
-ghost use Rattle.script.specs.Inner.Reading.{begin_of, insert_of, set_of, delete_of, get_of, commit_of, abort_of, row_of};
+ghost use Rattle.script.specs.Inner.Reading.{begin_of, insert_of, set_of, delete_of, add_column_of, get_of, commit_of, abort_of, row_of};
 
 use crate::event::Event;
 use crate::faults::{LineFault, Reason};
@@ -91,6 +91,28 @@ pub fn read_delete(schema: &Schema, words: &[&[u8]]) -> Result<Event, LineFault>
         transaction,
         table,
         row,
+    })
+}
+
+/// Reads `column T NAME V`.
+#[tactic(auto, unfolding(crate::specs::Inner::Reading::add_column_of))]
+pub fn read_add_column(schema: &Schema, words: &[&[u8]]) -> Result<Event, LineFault>
+    ensures { result ≡ because (add_column_of schema.now (map (λ word. word.now) words.now)) }
+{
+    let Some((transaction, name, value)) = three_words(words) else {
+        return Err(LineFault::Because(Reason::BadWords));
+    };
+    let Some(transaction) = number(transaction) else {
+        return Err(LineFault::Because(Reason::BadWords));
+    };
+    let Some(default) = value_of(value) else {
+        return Err(LineFault::Because(Reason::BadWords));
+    };
+    let table = named_table(schema, name)?;
+    Ok(Event::AddColumn {
+        transaction,
+        table,
+        default,
     })
 }
 

@@ -1,11 +1,9 @@
 -- When a replica is broken, by what its calls answer.
 use Rattle.std.proofs.Common.{◌≡◌, ℕ, Bool, true, false, cond, List, Option, Some, None, Result, Ok, Err, refl, sym, ap, ◌∙◌, inl, inr}
-use Rattle.std.proofs.Common.{not, ◌||◌, ◌&&◌, ◌==◌, nat_lt}
+use Rattle.std.proofs.Common.{length, not, ◌||◌, ◌&&◌, ◌==◌, nat_lt}
 use Rattle.std.proofs.lemmas.Bool.{cond_both}
 use Rattle.std.specs.List.{list_all}
-use Rattle.std.specs.Result.{is_ok}
-use Rattle.rows.specs.Entries.{fitting}
-use Rattle.rows.specs.Tables.{shape_in}
+use Rattle.rows.specs.Entries.{table_of}
 use Rattle.update_log.specs.declared.frame.Frame.{Frame}
 use Rattle.intake.specs.declared.taken.Taken.{Taken}
 use Rattle.intake.specs.declared.taken.Taken.TheVariants as takens
@@ -14,7 +12,7 @@ use Rattle.wire.specs.declared.datagram.Datagram.{Datagram}
 use Rattle.wire.specs.declared.datagram.Datagram.TheVariants as datagrams
 use Rattle.wire.specs.declared.faults.WireFault.{WireFault}
 use Rattle.wire.specs.Reading.{reading}
-use Rattle.plans.specs.declared.plan.Plan.{Plan}
+use Rattle.queries.specs.declared.plan.Plan.{Plan}
 use Rattle.dispatcher.specs.State.{Replica, Batch, Fetched, protocol_of}
 use Rattle.dispatcher.specs.Protocol.{is_own, takes_head}
 use Rattle.dispatcher.specs.declared.outcome.Got.{Got}
@@ -34,7 +32,7 @@ got_of-other takens.Stored = λ is. absurd (cc)
 
 frame-other : (r : Replica) (frame : Frame) → IsOther (frame_comes r frame).0
 frame-other r frame =
-    cond_both (not (nat_lt frame.worker r.workers) || not (list_all (λ entry. is_ok (fitting (shape_in r.tables) entry)) frame.entries))
+    cond_both (not (nat_lt frame.worker r.workers) || not (list_all (λ entry. nat_lt (table_of entry) (length r.tables)) frame.entries))
     (got.Ignored, r) (got_of (taken r.arrivals frame).0, record r { arrivals = (taken r.arrivals frame).1 })
     (λ (answer : Got × Replica). IsOther answer.0) (λ not_taken is. absurd (cc)) (λ takes. got_of-other (taken r.arrivals frame).0)
 

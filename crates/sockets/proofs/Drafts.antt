@@ -1,11 +1,12 @@
 -- Drafts, on a list and on a longer one.
 use Rattle.std.proofs.Common.{◌≡◌, refl, ap, sym, ◌∙◌, subst, arith, ℕ, suc, ◌+◌, ◌<◌, ◌≤◌, Bool, true, false, not, nat_lt, if◌then◌else◌}
-use Rattle.std.proofs.Common.{List, [], ◌∷◌, ◌++◌, length, get_or, drop, drop-cons, Result, Ok, Err, IfOk, Some, slice_get, is_some}
+use Rattle.std.proofs.Common.{List, [], ◌∷◌, ◌++◌, length, get_or, drop, drop-cons, Result, Ok, Err, IfOk, Some, slice_get, is_some, is_ok}
 use Rattle.std.proofs.Math.Numerals.{suc-eq-add-one}
 use mathlib.Core.List.{IsPrefix}
 use Rattle.rows.specs.declared.commit.Commit.{Commit}
 use Rattle.rows.specs.declared.entry.Entry.{Entry}
 use Rattle.rows.specs.declared.entry.Entry.TheVariants as entries
+use Rattle.rows.specs.Entries.{addable}
 use Rattle.rows.specs.Limits.{commit_entries_max}
 use Rattle.rows.specs.Values.{value_bytes, bytes_of}
 use Rattle.rows.specs.Shape.{Shape}
@@ -16,7 +17,7 @@ use Rattle.mvcc.specs.Transactions.{match_table, match_column, column_kind, colu
 use Rattle.primary.specs.declared.ticket.Ticket.{Ticket}
 use Rattle.desk.specs.Answers.{Stands}
 use Rattle.sockets.specs.declared.change.Change.{Change}
-use Rattle.sockets.specs.declared.change.Change.TheVariants.{Insert, Set, Delete}
+use Rattle.sockets.specs.declared.change.Change.TheVariants.{Insert, Set, Delete, AddColumn}
 use Rattle.sockets.specs.declared.faults.WorkersFault.{WorkersFault}
 use Rattle.sockets.specs.declared.job.Job.{Job}
 use Rattle.sockets.specs.declared.job_answer.JobAnswer.{JobAnswer}
@@ -31,6 +32,7 @@ pub change-begun : (shape : Shape) (list all : List Commit) (draft : Transaction
 change-begun shape list all draft (Insert table row values) begins le = rw (take-begun draft.snapshot list all begins le) refl
 change-begun shape list all draft (Set table row column value) begins le = rw (take-begun draft.snapshot list all begins le) refl
 change-begun shape list all draft (Delete table row) begins le = rw (take-begun draft.snapshot list all begins le) refl
+change-begun shape list all draft (AddColumn table default) begins le = rw (take-begun draft.snapshot list all begins le) refl
 
 -- a change that may be refused for two reasons, and for want of room, keeps the snapshot
 kept-by : (first second room : Bool) (draft next : Transaction) (entries : List Entry) (f g h : TxFault)
@@ -56,6 +58,10 @@ change-kept shape list draft next (Set table row column value) is =
 change-kept shape list draft next (Delete table row) is =
     kept-by (not (is_some (slice_get (seen_shape shape list draft) table))) (not (sees shape list draft table row.0))
     (nat_lt (length draft.entries) commit_entries_max) draft next (draft.entries ++ entries.Delete table row ∷ [])
+    Unfit Missing TooManyEntries is
+change-kept shape list draft next (AddColumn table default) is =
+    kept-by (not (is_ok (addable (slice_get (seen_shape shape list draft) table) default))) false
+    (nat_lt (length draft.entries) commit_entries_max) draft next (draft.entries ++ entries.AddColumn table default ∷ [])
     Unfit Missing TooManyEntries is
 
 -- two ways on, which are one after each draft with this snapshot

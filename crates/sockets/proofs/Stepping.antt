@@ -5,7 +5,7 @@ use Rattle.std.proofs.lemmas.List.{append-nil, map-append}
 use Rattle.std.proofs.lemmas.Grind.{flat_map-append}
 use Rattle.journal.specs.Storing.{CountsFault, faults_max}
 use Rattle.wire.specs.declared.out.Out.{Out}
-use Rattle.plans.specs.declared.plan.Plan.{Plan}
+use Rattle.queries.specs.declared.plan.Plan.{Plan}
 use Rattle.rows.specs.Faults.{IsFaultOf}
 use Rattle.dispatcher.specs.State.{Replica}
 use Rattle.dispatcher.specs.Steps.{opened, received, MayTake}

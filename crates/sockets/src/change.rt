@@ -23,4 +23,9 @@ pub enum Change {
         table: u8,
         row: RowId,
     },
+    /// Adds a column to a table, with this value in each row.
+    AddColumn {
+        table: u8,
+        default: Value,
+    },
 }

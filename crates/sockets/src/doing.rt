@@ -23,7 +23,8 @@ use std::sync::Wait;
 /// notified before and after the commit; `index` is the job's number for the gate. It may wait.
 ///
 /// `Ticket`: the commit is durable, and the seat has seen it under that number. `Conflict`: the
-/// commit is refused because of the last one above its snapshot that touches one of its rows.
+/// commit is refused because of the last one above its snapshot that touches one of its rows, or
+/// where one of the two adds a column to a table in which the other has an entry.
 /// `Refused`: a change is refused, or the commit is for any other reason (no changes, or a number
 /// used up), or a call could not read what is published, even when it was tried again 1000 times;
 /// nothing is committed then.

@@ -115,6 +115,7 @@ fn make_once<L: Origin>(
             value,
         } => seat.set(transaction, *table, *row, *column, *value),
         Change::Delete { table, row } => seat.delete(transaction, *table, *row),
+        Change::AddColumn { table, default } => seat.add_column(transaction, *table, *default),
     }
 }
 

@@ -6,7 +6,7 @@ pub enum JobAnswer {
     /// It is committed under this number, and durable.
     Ticket(u64),
     /// It is not committed: the commit of this number, which is above its snapshot, touches one of
-    /// its rows.
+    /// its rows, or one of the two adds a column to a table in which the other has an entry.
     Conflict(u64),
     /// It is not committed: a change or the commit is refused, for any reason other than a
     /// conflict, or what is published could not be read.

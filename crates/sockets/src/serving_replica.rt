@@ -17,7 +17,7 @@ use crate::turns::{
     AWAITING_DATAGRAMS, BUFFER_LEN, ROUND_DATAGRAMS, TURN_ROUNDS, last_wanted, take_turn,
 };
 use dispatcher::{AskFault, Got, OpenFault, ReplicaCore, Run};
-use plans::Plan;
+use queries::Plan;
 use queue::{Pass, QueryQueue};
 use rows::ByteList;
 use std::alloc::Global;
@@ -31,7 +31,7 @@ use wire::{Datagram, read};
 /// means no limit. It may be called again and continues where it stopped.
 ///
 /// In a turn it asks while nothing is fetched for the batch; if there is no batch, it first takes the
-/// queries of the queue for a new one, and drops those that do not fit the schema. It then runs the
+/// queries of the queue for a new one, and drops those that do not fit its tables. It then runs the
 /// batch, which may use threads, and sends the Want of a missing frame. Then it receives, and waits
 /// at most 10 ms while nothing arrives. The Head is awaited before it asks again, and a Want is followed
 /// by the next one once the last frame of its answer has arrived, and not before, unless these are late. A
@@ -162,7 +162,7 @@ fn open_batch<S: ApplyStore + Sync, R: Wait>(
     offer_all(replica, plans)
 }
 
-/// Offers queries to the replica, in order; one that does not fit the schema is dropped.
+/// Offers queries to the replica, in order; one that does not fit its tables is dropped.
 fn offer_all<S: ApplyStore + Sync>(
     replica: &mut ReplicaCore<S>,
     plans: Vec<Plan>,

@@ -1,13 +1,16 @@
 -- The rows of a table in their order, and a row that is taken out.
-use Rattle.std.proofs.Common.{◌≡◌, ℕ, zero, suc, ◌<◌, [], ◌∷◌, None, Some, Less, refl, arith}
+use Rattle.std.proofs.Common.{◌≡◌, ℕ, zero, suc, ◌<◌, List, [], ◌∷◌, ◌++◌, take, None, Some, Less, refl, sym, ap, ◌∙◌}
+use Rattle.std.proofs.Common.{slice_get, arith}
 use Rattle.std.specs.List.{AllByRecursion}
 use Rattle.std.specs.List.Sorted.{IsStrictlySortedBy}
 use Rattle.std.specs.Map.{remove_entry, keys_of}
 use Rattle.std.specs.Ordering.{nat_cmp}
-use Rattle.std.specs.BTreeMap.{is_at}
+use Rattle.std.specs.BTreeMap.{is_at, insert_entry}
 use Rattle.std.proofs.lemmas.Bool.Decides.{nat_tests}
 use Rattle.std.proofs.lemmas.Map.Keys.{sorted_head, sorted_tail}
-use Rattle.rows.specs.Tables.{Rows, row_at, without_row}
+use Rattle.std.proofs.lemmas.Option.{same_Some}
+use Rattle.rows.specs.declared.value.Value.{Value}
+use Rattle.rows.specs.Tables.{Rows, row_at, without_row, with_column}
 use Rattle.store.specs.Changes.{id_in, IsAboveAllBefore}
 
 -- a row that is not there
@@ -36,3 +39,34 @@ IsAboveAllBefore-sorted (row ∷ rows) zero id h e j lt = absurd (omega arith)
 IsAboveAllBefore-sorted (row ∷ rows) (suc i) id h e zero lt = below_each rows row.0 i id (sorted_head nat_cmp row.0 (keys_of rows) h) e
 IsAboveAllBefore-sorted (row ∷ rows) (suc i) id h e (suc j) lt =
     IsAboveAllBefore-sorted rows i id (sorted_tail nat_cmp row.0 (keys_of rows) h) e j (omega arith)
+
+-- the row at an index of a table's order
+at-first : (rows : Rows) (first : ℕ × List Value) (id : ℕ) → id ≡ first.0 → row_at (first ∷ rows) id ≡ Some first.1
+at-first rows first id e = grind (arith, nat_tests)
+
+past-first : (rows : Rows) (first : ℕ × List Value) (id : ℕ) → first.0 < id → row_at (first ∷ rows) id ≡ row_at rows id
+past-first rows first id lt = grind (arith, nat_tests)
+
+pub placed : (rows : Rows) (i id : ℕ) → Some id ≡ id_in rows i → IsAboveAllBefore rows i id
+    → (values : List Value) × (slice_get rows i ≡ Some (id, values)) × (row_at rows id ≡ Some values)
+placed [] i id e above = absurd (cc)
+placed (first ∷ rows) zero id e above =
+    let same : id ≡ first.0 = same_Some id first.0 e in
+    (first.1, ap (λ id. Some (id, first.1)) (sym same), at-first rows first id same)
+placed (first ∷ rows) (suc i) id e above =
+    let lt : first.0 < id = above zero (omega arith) in
+    let rest = placed rows i id e (λ j h. above (suc j) (omega arith)) in
+    (rest.0, rest.1, past-first rows first id lt ∙ rest.2)
+
+-- the first rows with one more value, and the next one put in behind them
+pub with_column-next : (rows : Rows) (i id : ℕ) (values : List Value) (default : Value) → slice_get rows i ≡ Some (id, values)
+    → IsAboveAllBefore rows i id
+    → insert_entry nat_cmp (with_column default (take i rows)) id (values ++ default ∷ []) ≡ with_column default (take (suc i) rows)
+with_column-next [] i id values default e above = absurd cc
+with_column-next (first ∷ rows) zero id values default e above =
+    let same = same_Some first (id, values) e in
+    ap (λ (row : ℕ × List Value). (row.0, row.1 ++ default ∷ []) ∷ []) (sym same)
+with_column-next (first ∷ rows) (suc i) id values default e above =
+    let lt : first.0 < id = above zero (omega arith) in
+    let rest = with_column-next rows i id values default e (λ j h. above (suc j) (omega arith)) in
+    grind (arith, nat_tests, rest)

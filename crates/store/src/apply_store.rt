@@ -1,7 +1,6 @@
 //! The interface to a store to which a replica applies commits.
 
 ghost use Rattle.std.specs.Prelude.{◌≡◌, true, false, Ok, OnOk, OnErr, IfErr};
-ghost use Rattle.rows.specs.Tables.{shape_in};
 ghost use Rattle.rows.specs.Commits.{apply_commits};
 ghost use Rattle.store.specs.Faults.{FailsAs, have_entries};
 
@@ -24,6 +23,5 @@ pub trait ApplyStore: Store {
         ensures stays_whole { OnOk result (Self.is_whole self.new ≡ true) }
         ensures err { IfErr result
             (FailsAs (Self.is_whole self.old) (have_entries commits.now) (apply_commits (Self.tables self.old) commits.now)) }
-        ensures broken { OnErr result (Self.is_whole self.new ≡ false) }
-        ensures kinds { shape_in (Self.tables self.new) ≡ shape_in (Self.tables self.old) };
+        ensures broken { OnErr result (Self.is_whole self.new ≡ false) };
 }

@@ -1,30 +1,29 @@
 //! Changes of tables.
 
-ghost use Rattle.std.specs.Prelude.{◌≡◌, ◌≤◌, length, true, false, Ok, Err, Some, slice_get, slice_set, OnOk, OnErr, IfOk, IfErr, nat_lt};
-ghost use Rattle.std.specs.Prelude.{if◌then◌else◌};
+ghost use Rattle.std.specs.Prelude.{◌≡◌, ◌≤◌, length, map, true, false, Ok, Err, Some, slice_get, slice_set, OnOk, OnErr, IfOk, IfErr};
+ghost use Rattle.std.specs.Prelude.{if◌then◌else◌, ◌++◌, ◌∷◌, []};
 ghost use Rattle.rows.specs.Entries.{table_of};
-ghost use Rattle.rows.specs.Shape.{shape_of, row_width};
-ghost use Rattle.rows.specs.Values.{values_of};
-ghost use Rattle.rows.specs.Tables.{Tables, opening, shape_in, apply_entry, apply_entries, is_present, with_row};
-ghost use Rattle.rows.specs.Commits.{apply_commits};
+ghost use Rattle.rows.specs.Shape.{shape_of, row_width, AreColumns};
+ghost use Rattle.rows.specs.Values.{values_of, kind_of};
+ghost use Rattle.rows.specs.Tables.{Tables, opening, apply_entry, is_present, with_row, with_column};
 ghost use Rattle.store.specs.Changes.{fault_kind};
-ghost use Rattle.store.specs.Faults.{number_of, FailsAs, have_entries};
+ghost use Rattle.store.specs.Faults.{number_of};
 
-use crate::faults::{ApplyFault, StoreFault};
-use crate::table_map::TableMap;
-use rows::{Commit, Entry, Schema, fits_columns, row_values};
+use crate::faults::StoreFault;
+use crate::table_rows::TableRows;
+use rows::{Entry, Schema, Value, fits_columns, laws};
 use std::alloc::{AllocError, Global};
 
 /// The tables of a schema, without rows. Fails only if out of memory.
-pub fn empty_tables(alloc: Global, schema: &Schema) -> Result<Vec<TableMap>, AllocError>
-    ensures { IfOk result (λ tables. tables.items ≡ opening (shape_of schema.now)) }
+pub fn empty_tables<T: TableRows>(alloc: Global, schema: &Schema) -> Result<Vec<T>, AllocError>
+    ensures { IfOk result (λ tables. map T.table tables.items ≡ opening (shape_of schema.now)) }
 {
     let mut tables = Vec::new(alloc);
     for table in 0..schema.len() {
         let Some(kinds) = schema.kinds(table) else {
             unreachable!();
         };
-        tables.push(TableMap::new(alloc, kinds)?)?;
+        tables.push(T::empty(alloc, kinds)?)?;
     }
     Ok(tables)
 }
@@ -32,15 +31,14 @@ pub fn empty_tables(alloc: Global, schema: &Schema) -> Result<Vec<TableMap>, All
 /// Makes the change of one entry, or refuses it and changes nothing.
 ///
 /// The fault is the first of these that applies: `Unfit`; `Exists` or `Missing`; `Memory`.
-pub fn change_tables(
+pub fn change_tables<T: TableRows>(
     alloc: Global,
-    tables: &mut [TableMap],
+    tables: &mut [T],
     entry: &Entry,
 ) -> Result<(), StoreFault>
-    ensures ok { OnOk result (apply_entry tables.old entry.now ≡ Ok tables.new) }
-    ensures err { OnErr result (tables.new ≡ tables.old) }
-    ensures refused { IfErr result (λ fault. number_of fault ≡ fault_kind true (apply_entry tables.old entry.now)) }
-    ensures kinds { shape_in tables.new ≡ shape_in tables.old }
+    ensures ok { OnOk result (apply_entry (map T.table tables.old) entry.now ≡ Ok (map T.table tables.new)) }
+    ensures err { OnErr result (map T.table tables.new ≡ map T.table tables.old) }
+    ensures refused { IfErr result (λ fault. number_of fault ≡ fault_kind true (apply_entry (map T.table tables.old) entry.now)) }
 {
     let table = entry.table() as usize;
     if table >= tables.len() {
@@ -50,13 +48,12 @@ pub fn change_tables(
 }
 
 /// Makes the change of an entry in its table, or refuses it and changes nothing.
-fn change_table(alloc: Global, table: &mut TableMap, entry: &Entry) -> Result<(), StoreFault>
-    ensures ok { OnOk result ((tables : Tables) → slice_get tables (table_of entry.now) ≡ Some table.old
-        → apply_entry tables entry.now ≡ Ok (slice_set tables (table_of entry.now) table.new)) }
-    ensures err { OnErr result (table.new ≡ table.old) }
-    ensures refused { IfErr result (λ fault. (tables : Tables) → slice_get tables (table_of entry.now) ≡ Some table.old
+fn change_table<T: TableRows>(alloc: Global, table: &mut T, entry: &Entry) -> Result<(), StoreFault>
+    ensures ok { OnOk result ((tables : Tables) → slice_get tables (table_of entry.now) ≡ Some (T.table table.old)
+        → apply_entry tables entry.now ≡ Ok (slice_set tables (table_of entry.now) (T.table table.new))) }
+    ensures err { OnErr result (T.table table.new ≡ T.table table.old) }
+    ensures refused { IfErr result (λ fault. (tables : Tables) → slice_get tables (table_of entry.now) ≡ Some (T.table table.old)
         → number_of fault ≡ fault_kind true (apply_entry tables entry.now)) }
-    ensures kinds { table.new.kinds ≡ table.old.kinds }
 {
     if fits_columns(table.kinds(), entry).is_err() {
         return Err(StoreFault::Unfit);
@@ -70,23 +67,35 @@ fn change_table(alloc: Global, table: &mut TableMap, entry: &Entry) -> Result<()
             ..
         } => where_found(table.patch(row.0, *offset, bytes.as_slice())),
         Entry::Delete { row, .. } => where_found(table.remove(row.0)),
+        Entry::AddColumn { default, .. } => {
+            laws::changes_tell_kinds();
+            add_column(alloc, table, *default)
+        }
     }
 }
 
 /// Inserts a row into a table; if the row is there, the insert is refused, and nothing has changed.
-fn insert_row(alloc: Global, table: &mut TableMap, row: u64, bytes: &[u8]) -> Result<(), StoreFault>
-    requires { row_width table.old.kinds ≤ length bytes.now }
-    ensures ok { OnOk result ((is_present table.old.rows row ≡ false)
-        × (table.new ≡ record table.old { rows = with_row table.old.rows row (values_of table.old.kinds bytes.now) })) }
-    ensures err { OnErr result (table.new ≡ table.old) }
-    ensures refused { IfErr result (λ fault. number_of fault ≡ (if is_present table.old.rows row
+fn insert_row<T: TableRows>(
+    alloc: Global,
+    table: &mut T,
+    row: u64,
+    bytes: &[u8],
+) -> Result<(), StoreFault>
+    requires { row_width (T.table table.old).kinds ≤ length bytes.now }
+    ensures ok { OnOk result ((is_present (T.table table.old).rows row ≡ false)
+        × (T.table table.new ≡ record {
+          kinds = (T.table table.old).kinds;
+          rows = with_row (T.table table.old).rows row (values_of (T.table table.old).kinds bytes.now);
+        })) }
+    ensures err { OnErr result (T.table table.new ≡ T.table table.old) }
+    ensures refused { IfErr result (λ fault. number_of fault ≡ (if is_present (T.table table.old).rows row
         then number_of StoreFault.Exists else number_of StoreFault.Memory)) }
 {
-    if table.contains(row) {
-        return Err(StoreFault::Exists);
+    match table.insert(alloc, row, bytes) {
+        Ok(true) => Ok(()),
+        Ok(false) => Err(StoreFault::Exists),
+        Err(_) => Err(StoreFault::Memory),
     }
-    let values = row_values(alloc, table.kinds(), bytes).map_err(|_| StoreFault::Memory)?;
-    table.insert(row, values).map_err(|_| StoreFault::Memory)
 }
 
 /// Refuses a change of a row that was not found.
@@ -100,38 +109,18 @@ fn where_found(found: bool) -> Result<(), StoreFault>
     }
 }
 
-/// Makes the changes of entries in their order, up to the first that is refused.
-fn apply_entries(
-    alloc: Global,
-    tables: &mut [TableMap],
-    entries: &[Entry],
-) -> Result<(), ApplyFault>
-    ensures ok { OnOk result (apply_entries tables.old entries.now ≡ Ok tables.new) }
-    ensures err { IfErr result (FailsAs true (nat_lt 0 (length entries.now)) (apply_entries tables.old entries.now)) }
-    ensures kinds { shape_in tables.new ≡ shape_in tables.old }
+/// Adds a column that a table may have to it. Fails only if out of memory, and nothing has then
+/// changed.
+fn add_column<T: TableRows>(alloc: Global, table: &mut T, default: Value) -> Result<(), StoreFault>
+    requires { AreColumns ((T.table table.old).kinds ++ kind_of default ∷ []) }
+    ensures ok { OnOk result (T.table table.new ≡ record {
+      kinds = (T.table table.old).kinds ++ kind_of default ∷ [];
+      rows = with_column default (T.table table.old).rows;
+    }) }
+    ensures err { OnErr result (T.table table.new ≡ T.table table.old) }
+    ensures refused { IfErr result (λ fault. fault ≡ StoreFault.Memory) }
 {
-    for entry in entries {
-        match change_tables(alloc, tables, entry) {
-            Ok(()) => {}
-            Err(StoreFault::Memory) => return Err(ApplyFault::Memory),
-            Err(_) => return Err(ApplyFault::Inconsistent),
-        }
-    }
-    Ok(())
-}
-
-/// Makes all changes of these commits in their order, up to the first that is refused.
-pub fn apply_commits(
-    alloc: Global,
-    tables: &mut [TableMap],
-    commits: &[Commit],
-) -> Result<(), ApplyFault>
-    ensures ok { OnOk result (apply_commits tables.old commits.now ≡ Ok tables.new) }
-    ensures err { IfErr result (FailsAs true (have_entries commits.now) (apply_commits tables.old commits.now)) }
-    ensures kinds { shape_in tables.new ≡ shape_in tables.old }
-{
-    for commit in commits {
-        apply_entries(alloc, tables, commit.entries.as_slice())?;
-    }
-    Ok(())
+    table
+        .add_column(alloc, default)
+        .map_err(|_| StoreFault::Memory)
 }

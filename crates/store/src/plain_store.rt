@@ -1,15 +1,18 @@
 //! A store that keeps each table's rows in an ordered map, and their identifiers in a list.
 
-ghost use Rattle.std.specs.Prelude.{◌≡◌, [], true, IfOk, MatchOption};
+ghost use Rattle.std.specs.Prelude.{◌≡◌, [], true, IfOk, MatchOption, slice_get};
+ghost use Rattle.std.specs.Option.{option_map};
 ghost use Rattle.rows.specs.Shape.{shape_of};
-ghost use Rattle.rows.specs.Tables.{opening, rows_of};
+ghost use Rattle.rows.specs.Tables.{opening, rows_of, shape_in};
 
 use crate::apply_store::ApplyStore;
-use crate::changing::{apply_commits, change_tables, empty_tables};
+use crate::changing::{change_tables, empty_tables};
 use crate::faults::{ApplyFault, StoreFault};
+use crate::running::run_commits;
 use crate::store::Store;
 use crate::table_map::TableMap;
-use rows::{Commit, Entry, RowId, Schema, Value, laws};
+use crate::table_rows::TableRows;
+use rows::{Commit, Entry, Kind, RowId, Schema, Value, laws};
 use std::alloc::{AllocError, Global};
 use std::marker::{Model, Sync};
 use std::thread::Threads;
@@ -55,7 +58,8 @@ impl PlainStore {
 
     /// A table, lent; `None` if there is no table of that number.
     fn table(&self, table: u8) -> Option<&TableMap>
-        ensures { MatchOption result (rows_of self.now.tables table ≡ []) (λ found. rows_of self.now.tables table ≡ found.now.rows) }
+        ensures rows { MatchOption result (rows_of self.now.tables table ≡ []) (λ found. rows_of self.now.tables table ≡ found.now.rows) }
+        ensures kinds { slice_get (shape_in self.now.tables) table ≡ option_map (λ found. found.now.kinds) result }
     {
         self.tables.get(table as usize)
     }
@@ -110,6 +114,14 @@ impl Store for PlainStore {
         values[column]
     }
 
+    /// The kinds of a table's columns, lent; `None` if there is no table of that number.
+    fn kinds(&self, table: u8) -> Option<&[Kind]> {
+        match self.table(table) {
+            Some(found) => Some(found.kinds()),
+            None => None,
+        }
+    }
+
     /// How many rows a table has; 0 if there is no table of that number.
     fn len(&self, table: u8) -> usize {
         match self.table(table) {
@@ -138,13 +150,7 @@ impl Store for PlainStore {
 
     /// The number of a fault: 1 Exists, 2 Missing, 3 Unfit, 4 Memory, 5 Broken.
     fn kind(fault: &StoreFault) -> u8 {
-        match fault {
-            StoreFault::Exists => 1,
-            StoreFault::Missing => 2,
-            StoreFault::Unfit => 3,
-            StoreFault::Memory => 4,
-            StoreFault::Broken => 5,
-        }
+        fault.number()
     }
 }
 
@@ -160,8 +166,7 @@ impl ApplyStore for PlainStore {
         if !self.whole {
             return Err(ApplyFault::Broken);
         }
-        laws::rows_are_of_kinds();
-        let applied = apply_commits(self.alloc, &mut self.tables, commits);
+        let applied = run_commits(self, commits);
         self.whole = applied.is_ok();
         applied
     }

@@ -1,13 +1,15 @@
 //! The interface to a store of rows.
 
 ghost use Rattle.std.specs.Prelude.{◌≡◌, ℕ, ◌+◌, ◌<◌, ◌≤◌, [], length, true, Ok, Some, is_some, IsSome, IfSome, OnOk, OnErr, IfErr};
+ghost use Rattle.std.specs.Prelude.{slice_get};
 ghost use Rattle.std.specs.Map.{keys_of};
-ghost use Rattle.rows.specs.Tables.{shape_in, rows_of, row_at, is_row_at, RowsAreOfKinds, apply_entry};
+ghost use Rattle.std.specs.Option.{option_map};
+ghost use Rattle.rows.specs.Tables.{shape_in, kinds_of, rows_of, row_at, is_row_at, RowsAreOfKinds, apply_entry};
 ghost use Rattle.store.specs.Changes.{column_of, id_in, IsAboveAllBefore, fault_kind};
 ghost use Rattle.store.specs.Lent.{rows_in, rows_from, column_in, AreLent};
 
 use crate::lent::Lent;
-use rows::{Entry, RowId, Value};
+use rows::{Entry, Kind, RowId, Value};
 
 /// A store of rows: a map from a table and a row to the row's values, and the way to change it.
 ///
@@ -57,6 +59,21 @@ pub trait Store {
         requires whole { is_whole self.now ≡ true }
         requires there { IsSome (column_of (values_at self.now table place) column) }
         ensures { Some result ≡ column_of (values_at self.now table place) column };
+
+    /// The kinds of a table's columns, lent; `None` if there is no table of that number.
+    fn kinds(&self, table: u8) -> Option<&[Kind]>
+        ensures { is_whole self.now ≡ true → option_map (λ kinds. kinds.now) result ≡ slice_get (shape_in (tables self.now)) table };
+
+    /// The kind of a column of a table, columns being counted from 0; `None` if the table or the
+    /// column is not there.
+    fn column_kind(&self, table: u8, column: usize) -> Option<Kind>
+        ensures { is_whole self.now ≡ true → result ≡ slice_get (kinds_of (tables self.now) table) column }
+    {
+        match self.kinds(table) {
+            None => None,
+            Some(kinds) => kinds.get(column).copied(),
+        }
+    }
 
     /// How many rows a table has; 0 if there is no table of that number.
     fn len(&self, table: u8) -> usize
@@ -115,7 +132,7 @@ pub trait Store {
     /// Makes one change, or refuses it and changes nothing.
     ///
     /// The kind of the fault is that of the first of these that applies: 5 Broken, the store is not
-    /// whole; 3 Unfit, the entry does not fit the schema; 1 Exists, an insert of a row that is
+    /// whole; 3 Unfit, the entry does not fit the tables; 1 Exists, an insert of a row that is
     /// there; 2 Missing, a patch or a delete of a row that is not there; 4 Memory.
     fn change(&mut self, entry: &Entry) -> Result<(), Self::Fault>
         ensures ok { OnOk result (apply_entry (tables self.old) entry.now ≡ Ok (tables self.new)) }
@@ -123,8 +140,7 @@ pub trait Store {
         ensures err { OnErr result (tables self.new ≡ tables self.old) }
         ensures refused { IfErr result
             (λ fault. kind_of fault ≡ fault_kind (is_whole self.old) (apply_entry (tables self.old) entry.now)) }
-        ensures whole { is_whole self.new ≡ is_whole self.old }
-        ensures kinds { shape_in (tables self.new) ≡ shape_in (tables self.old) };
+        ensures whole { is_whole self.new ≡ is_whole self.old };
 
     /// The number of a fault: 1 Exists, 2 Missing, 3 Unfit, 4 Memory, 5 Broken.
     fn kind(fault: &Self::Fault) -> u8

@@ -1,15 +1,18 @@
 //! One table: the kinds of its columns, and its rows by identifier and by index.
 
-ghost use Rattle.std.specs.Prelude.{◌≡◌, ◌<◌, [], length, false, Some, IfOk, OnOk, OnErr, nat_lt};
+ghost use Rattle.std.specs.Prelude.{◌≡◌, ◌<◌, [], ◌∷◌, ◌++◌, length, true, false, Some, IfOk, OnOk, OnErr, nat_lt};
+ghost use Rattle.std.specs.Map.{keys_of};
 ghost use Rattle.std.specs.List.{prefix_len};
 ghost use Rattle.std.specs.List.Sorted.{IsStrictlySortedBy};
 ghost use Rattle.std.specs.Option.{option_map};
 ghost use Rattle.std.specs.Ordering.{nat_cmp};
 ghost use Rattle.rows.specs.Shape.{AreColumns};
-ghost use Rattle.rows.specs.Tables.{row_at, is_present, with_row, with_patch, without_row};
+ghost use Rattle.rows.specs.Values.{kind_of};
+ghost use Rattle.rows.specs.Tables.{row_at, is_present, with_row, with_patch, without_row, with_column};
 ghost use Rattle.store.specs.Changes.{id_in, IsAboveAllBefore};
 
-use rows::{Kind, KindList, Row, Value};
+use crate::table_rows::TableRows;
+use rows::{Kind, KindList, Row, Value, row_values};
 use std::alloc::{AllocError, Global};
 use std::collections::{BTreeMap, VecDeque};
 use std::marker::Model;
@@ -37,26 +40,6 @@ impl Model for TableMap {
 }
 
 impl TableMap {
-    /// A table with columns of these kinds, and without rows. Fails only if out of memory.
-    pub fn new(alloc: Global, kinds: &[Kind]) -> Result<TableMap, AllocError>
-        requires { AreColumns kinds.now }
-        ensures { IfOk result (λ table. table ≡ record { kinds = kinds.now; rows = [] }) }
-    {
-        Ok(TableMap {
-            kinds: KindList::from_slice(alloc, kinds)?,
-            rows: BTreeMap::new(alloc),
-            ids: VecDeque::new(alloc),
-        })
-    }
-
-    /// The kinds of its columns, lent.
-    pub fn kinds(&self) -> &[Kind]
-        ensures value { result.now ≡ self.now.kinds }
-        ensures columns { AreColumns result.now }
-    {
-        self.kinds.as_slice()
-    }
-
     /// How many rows there are.
     pub fn len(&self) -> usize
         ensures { result ≡ length self.now.rows }
@@ -90,9 +73,9 @@ impl TableMap {
         self.ids[i]
     }
 
-    /// Inserts a row. Fails only if out of memory. It moves the identifiers on the row's shorter
+    /// Puts a row in. Fails only if out of memory. It moves the identifiers on the row's shorter
     /// side: none if the row's identifier is the greatest so far.
-    pub fn insert(&mut self, row: u64, values: Row) -> Result<(), AllocError>
+    fn put(&mut self, row: u64, values: Row) -> Result<(), AllocError>
         ensures ok { OnOk result (self.new ≡ record self.old { rows = with_row self.old.rows row values }) }
         ensures err { OnErr result (self.new ≡ self.old) }
     {
@@ -106,13 +89,38 @@ impl TableMap {
         }
         Ok(())
     }
+}
 
-    /// Puts bytes at one column's offset of a row, and answers whether the row is there; if it is
-    /// not, nothing changes. Takes no memory.
-    pub fn patch(&mut self, row: u64, offset: u16, bytes: &[u8]) -> bool
-        ensures rows { self.new ≡ record self.old { rows = with_patch self.old.kinds self.old.rows row offset bytes.now } }
-        ensures found { result ≡ is_present self.old.rows row }
-    {
+impl TableRows for TableMap {
+    ghost table = { λ t. t };
+
+    /// A table with columns of these kinds, and without rows. Fails only if out of memory.
+    fn empty(alloc: Global, kinds: &[Kind]) -> Result<TableMap, AllocError> {
+        Ok(TableMap {
+            kinds: KindList::from_slice(alloc, kinds)?,
+            rows: BTreeMap::new(alloc),
+            ids: VecDeque::new(alloc),
+        })
+    }
+
+    /// The kinds of its columns, lent.
+    fn kinds(&self) -> &[Kind] {
+        self.kinds.as_slice()
+    }
+
+    /// Inserts a row, given by its bytes, and answers whether it is new. It moves the identifiers on
+    /// the row's shorter side: none if the row's identifier is the greatest so far.
+    fn insert(&mut self, alloc: Global, row: u64, bytes: &[u8]) -> Result<bool, AllocError> {
+        if self.contains(row) {
+            return Ok(false);
+        }
+        let values = row_values(alloc, self.kinds.as_slice(), bytes)?;
+        self.put(row, values)?;
+        Ok(true)
+    }
+
+    /// Puts bytes at one column's offset of a row, and answers whether the row is there.
+    fn patch(&mut self, row: u64, offset: u16, bytes: &[u8]) -> bool {
         match self.rows.get_mut(&row) {
             Some(values) => {
                 values.patch(self.kinds.as_slice(), offset, bytes);
@@ -122,13 +130,9 @@ impl TableMap {
         }
     }
 
-    /// Deletes a row, and answers whether it was there; if it was not, nothing changes. It moves
-    /// the identifiers on the row's shorter side.
-    pub fn remove(&mut self, row: u64) -> bool
-        ensures rows { self.new ≡ record self.old { rows = without_row self.old.rows row } }
-        ensures found { result ≡ is_present self.old.rows row }
-        ensures kept { result ≡ false → self.new ≡ self.old }
-    {
+    /// Deletes a row, and answers whether it was there. It moves the identifiers on the row's
+    /// shorter side.
+    fn remove(&mut self, row: u64) -> bool {
         if self.rows.remove(&row).is_none() {
             return false;
         }
@@ -136,6 +140,38 @@ impl TableMap {
         self.ids.remove(index);
         true
     }
+
+    /// Adds a column with this value in each row. All rows are copied.
+    fn add_column(&mut self, alloc: Global, default: Value) -> Result<(), AllocError> {
+        let kinds = self.kinds.with(alloc, default.kind())?;
+        let rows = widened(alloc, &self.rows, &self.ids, default)?;
+        self.kinds = kinds;
+        self.rows = rows;
+        Ok(())
+    }
+}
+
+/// The rows, whose identifiers these are, each with this value behind its others. Fails only if out
+/// of memory.
+fn widened(
+    alloc: Global,
+    rows: &BTreeMap<u64, Row>,
+    ids: &VecDeque<u64>,
+    default: Value,
+) -> Result<BTreeMap<u64, Row>, AllocError>
+    requires ids { ids.now.items ≡ keys_of rows.now.entries }
+    requires rise { IsStrictlySortedBy nat_cmp ids.now.items }
+    ensures { IfOk result (λ made. made.entries ≡ with_column default rows.now.entries) }
+{
+    let mut made = BTreeMap::new(alloc);
+    for i in 0..ids.len() {
+        let id = ids[i];
+        let Some(row) = rows.get(&id) else {
+            unreachable!();
+        };
+        made.insert(id, row.with(alloc, default)?)?;
+    }
+    Ok(made)
 }
 
 /// The index of an identifier in the rising list: how many identifiers are below it.

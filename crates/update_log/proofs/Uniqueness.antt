@@ -6,7 +6,8 @@ use Rattle.std.proofs.lemmas.Bool.{leb-true, leb-false, le-leb, lt-leb}
 use Rattle.std.proofs.lemmas.List.{append-nil, take-append-drop, take_more, drop_more, length-take-le, length-drop}
 use Rattle.std.proofs.lemmas.List.Concat.{flat_map-append}
 use Rattle.rows.specs.declared.entry.Entry.{Entry}
-use Rattle.rows.specs.declared.entry.Entry.TheVariants.{Insert, Patch, Delete}
+use Rattle.rows.specs.declared.entry.Entry.TheVariants.{Insert, Patch, Delete, AddColumn}
+use Rattle.rows.specs.declared.value.Value.TheVariants.{Int, Octets}
 use Rattle.rows.specs.Limits.{datagram_max}
 use Rattle.rows.specs.Spelling.{HasSpelling, entry_spelling}
 use Rattle.update_log.specs.Parts.{frame_len, joined, IsFullBefore, AreFull, AreParts, has_room, parts_from, parts_of}
@@ -38,6 +39,8 @@ pub short : (entry : Entry) → HasSpelling entry → length (entry_spelling ent
 short (Insert table row bytes) h = omega (arith, h.few)
 short (Patch table row offset bytes) h = omega (arith, h.few)
 short (Delete table row) h = omega arith
+short (AddColumn table (Int number)) h = omega arith
+short (AddColumn table (Octets bytes)) h = omega (arith, h.value.1)
 
 -- one more entry of a list
 pub frame_len-more : (entries : List Entry) (i : ℕ) (entry : Entry) → i < length entries → entry ≡ get_or entries i entry

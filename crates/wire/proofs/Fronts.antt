@@ -23,7 +23,7 @@ third_number (a ∷ b ∷ c ∷ d ∷ []) = refl
 third_number (a ∷ b ∷ c ∷ d ∷ e ∷ []) = refl
 third_number (a ∷ b ∷ c ∷ d ∷ e ∷ f ∷ bytes) = refl
 
-pub reading-of : (bytes : List ℕ) (kind : ℕ) → 6 ≤ length bytes → big_number 2 bytes ≡ 0x4244 → get_or bytes 2 0 ≡ 1
+pub reading-of : (bytes : List ℕ) (kind : ℕ) → 6 ≤ length bytes → big_number 2 bytes ≡ 0x4244 → get_or bytes 2 0 ≡ 2
     → get_or bytes 3 0 ≡ kind
     → (not (eqb kind 1) && not (eqb kind 2) && not (eqb kind 3) && not (eqb kind 4)) ≡ false
     → big_number 2 (drop 4 bytes) ≡ length bytes → length bytes ≤ DATAGRAM_MAX
@@ -35,15 +35,15 @@ reading-of bytes kind long magic version kind_is known total few =
     let r5 = ok_or (body_at (get_or bytes 3 0) (drop 6 bytes)) Body in
     let r4 = cond refused (Err Length) r5 in
     let r3 = cond unknown (Err Kind) r4 in
-    let r2 = cond (not (eqb (get_or bytes 2 0) 1)) (Err Version) r3 in
+    let r2 = cond (not (eqb (get_or bytes 2 0) 2)) (Err Version) r3 in
     let r1 = cond (not (eqb (big_number 2 bytes) 0x4244)) (Err Magic) r2 in
     let is_known : unknown ≡ false =
     ap (λ (n : ℕ). not (eqb n 1) && not (eqb n 2) && not (eqb n 3) && not (eqb n 4)) kind_is ∙ known in
     cond-false (ltb (length bytes) 6) (Err Short) r1 (le-ltb (length bytes) 6 long)
     ∙ cond-false (not (eqb (big_number 2 bytes) 0x4244)) (Err Magic) r2
     (not_from_true (eqb (big_number 2 bytes) 0x4244) (eq-eqb (big_number 2 bytes) 0x4244 magic))
-    ∙ cond-false (not (eqb (get_or bytes 2 0) 1)) (Err Version) r3
-    (not_from_true (eqb (get_or bytes 2 0) 1) (eq-eqb (get_or bytes 2 0) 1 version))
+    ∙ cond-false (not (eqb (get_or bytes 2 0) 2)) (Err Version) r3
+    (not_from_true (eqb (get_or bytes 2 0) 2) (eq-eqb (get_or bytes 2 0) 2 version))
     ∙ cond-false unknown (Err Kind) r4 is_known
     ∙ cond-false refused (Err Length) r5
     (or_from (not (eqb (big_number 2 (drop 4 bytes)) (length bytes))) (ltb DATAGRAM_MAX (length bytes))

@@ -5,7 +5,7 @@ use Rattle.std.specs.List.{flat_map}
 use Rattle.std.proofs.lemmas.List.{drop-drop, take_at}
 use Rattle.byteorder.specs.Endian.{big_bytes}
 use Rattle.rows.specs.declared.entry.Entry.{Entry}
-use Rattle.rows.specs.declared.entry.Entry.TheVariants.{Insert, Patch, Delete}
+use Rattle.rows.specs.declared.entry.Entry.TheVariants.{Insert, Patch, Delete, AddColumn}
 use Rattle.rows.specs.declared.limits.TheConstants.{DATAGRAM_MAX}
 use Rattle.rows.specs.Spelling.{entry_spelling}
 use Rattle.wire.specs.declared.faults.TooSmall.{TooSmall}
@@ -18,6 +18,7 @@ entry_some : (entry : Entry) → 0 < length (entry_spelling entry)
 entry_some (Insert table row content) = omega arith
 entry_some (Patch table row offset content) = omega arith
 entry_some (Delete table row) = omega arith
+entry_some (AddColumn table default) = omega arith
 
 -- so there are at most as many entries as bytes
 pub entries_few : (entries : List Entry) → length entries ≤ length (flat_map entry_spelling entries)

@@ -49,7 +49,7 @@ known_kind n known = grind (arith, nat_tests)
 record IsFront (bytes : List ℕ) : Type 0 where
   long : 6 ≤ length bytes
   magic : big_number 2 bytes ≡ 0x4244
-  version : get_or bytes 2 0 ≡ 1
+  version : get_or bytes 2 0 ≡ 2
   known : unknown (get_or bytes 3 0) ≡ false
   total : big_number 2 (drop 4 bytes) ≡ length bytes
   few : length bytes ≤ DATAGRAM_MAX
@@ -62,11 +62,11 @@ reading-only bytes found e =
     let r5 = ok_or (body_at kind (drop 6 bytes)) Body in
     let r4 = cond total (Err Length) r5 in
     let r3 = cond (unknown kind) (Err Kind) r4 in
-    let r2 = cond (not (eqb (get_or bytes 2 0) 1)) (Err Version) r3 in
+    let r2 = cond (not (eqb (get_or bytes 2 0) 2)) (Err Version) r3 in
     let r1 = cond (not (eqb (big_number 2 bytes) 0x4244)) (Err Magic) r2 in
     let p0 = passed (ltb (length bytes) 6) Short r1 found e in
     let p1 = passed (not (eqb (big_number 2 bytes) 0x4244)) Magic r2 found p0.1 in
-    let p2 = passed (not (eqb (get_or bytes 2 0) 1)) Version r3 found p1.1 in
+    let p2 = passed (not (eqb (get_or bytes 2 0) 2)) Version r3 found p1.1 in
     let p3 = passed (unknown kind) Kind r4 found p2.1 in
     let p4 = passed total Length r5 found p3.1 in
     let sizes = or_parts _ _ p4.0 in (
@@ -226,10 +226,10 @@ module _ (cut : NumbersAreSpelled) (below : NumbersAreBelow) where
       let at_4 : big_bytes 2 (6 + length body) ++ body ≡ drop 4 bytes =
       ap (λ (n : ℕ). big_bytes 2 n ++ body) (sym size) ∙ cut 2 4 bytes (omega arith) fits in
       let at_3 : kind ∷ drop 4 bytes ≡ drop 3 bytes = cut_1 3 bytes (omega arith) in
-      let at_2 : 1 ∷ drop 3 bytes ≡ drop 2 bytes = ap (λ (n : ℕ). n ∷ drop 3 bytes) (sym front.version) ∙ cut_1 2 bytes (omega arith) in
+      let at_2 : 2 ∷ drop 3 bytes ≡ drop 2 bytes = ap (λ (n : ℕ). n ∷ drop 3 bytes) (sym front.version) ∙ cut_1 2 bytes (omega arith) in
       let at_0 : big_bytes 2 0x4244 ++ drop 2 bytes ≡ bytes =
       ap (λ (n : ℕ). big_bytes 2 n ++ drop 2 bytes) (sym front.magic) ∙ cut 2 0 bytes (omega arith) fits in
-      sym (ap (λ (t : List ℕ). 0x42 ∷ 0x44 ∷ 1 ∷ kind ∷ t) at_4 ∙ ap (λ (t : List ℕ). 0x42 ∷ 0x44 ∷ 1 ∷ t) at_3
+      sym (ap (λ (t : List ℕ). 0x42 ∷ 0x44 ∷ 2 ∷ kind ∷ t) at_4 ∙ ap (λ (t : List ℕ). 0x42 ∷ 0x44 ∷ 2 ∷ t) at_3
       ∙ ap (λ (t : List ℕ). 0x42 ∷ 0x44 ∷ t) at_2 ∙ at_0)
 
   pub reading-spelled : (law : FoundAreSpelled) (bytes : List ℕ) (found : Datagram) → AreBytes bytes → reading bytes ≡ Ok found

@@ -1,6 +1,6 @@
 -- The one spelling of a datagram as bytes. All numbers are big-endian.
 --
--- Each begins with six bytes: 42 44, the version 01, the kind, and the total length in two. The
+-- Each begins with six bytes: 42 44, the version 02, the kind, and the total length in two. The
 -- body is by kind.
 use Rattle.std.specs.Prelude.{ℕ, ◌+◌, ◌^◌, ◌<◌, ◌≤◌, List, [], ◌∷◌, ◌++◌, length, Bool, true, false}
 use Rattle.std.specs.List.{flat_map, AllByRecursion}
@@ -18,7 +18,7 @@ datagram_magic = 0x4244
 
 -- the version of this format: the third byte
 abbrev pub datagram_version : ℕ
-datagram_version = 1
+datagram_version = 2
 
 -- the kinds of datagrams: the fourth byte
 abbrev pub frame_kind : ℕ

@@ -1,13 +1,12 @@
 //! The entries of a frame, still in the bytes that they were read from.
 
-ghost use Rattle.std.specs.Prelude.{◌≡◌, IfOk, is_ok, length};
+ghost use Rattle.std.specs.Prelude.{◌≡◌, IfOk, length, nat_lt};
 ghost use Rattle.std.specs.List.{flat_map, list_all};
-ghost use Rattle.rows.specs.Entries.{fitting};
+ghost use Rattle.rows.specs.Entries.{table_of};
 ghost use Rattle.rows.specs.Reading.{entries_filling};
-ghost use Rattle.rows.specs.Shape.{shape_of};
 ghost use Rattle.rows.specs.Spelling.{entry_spelling};
 
-use rows::{EntryList, Schema, entries_fill, entries_fit, laws, read_entries};
+use rows::{EntryList, entries_fill, entries_have_table, laws, read_entries};
 use std::alloc::{AllocError, Global};
 use std::marker::Model;
 
@@ -63,11 +62,11 @@ impl<'a> LentEntries<'a> {
         self.bytes
     }
 
-    /// Whether every entry fits the schema. Takes no memory.
-    pub fn fit(&self, schema: &Schema) -> bool
-        ensures { result ≡ list_all (λ entry. is_ok (fitting (shape_of schema.now) entry)) self.now }
+    /// Whether the table of every entry is one of this many. Takes no memory.
+    pub fn have_table(&self, tables: usize) -> bool
+        ensures { result ≡ list_all (λ entry. nat_lt (table_of entry) tables) self.now }
     {
-        entries_fit(schema, self.count, self.bytes)
+        entries_have_table(tables, self.count, self.bytes)
     }
 
     /// The entries, owned. Fails only if out of memory.

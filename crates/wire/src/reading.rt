@@ -18,11 +18,11 @@ use rows::limits::{DATAGRAM_MAX, REPLICAS_MAX, WORKERS_MAX};
 pub const DATAGRAM_MAGIC: u16 = 0x4244;
 
 /// The version of the format.
-pub const DATAGRAM_VERSION: u8 = 1;
+pub const DATAGRAM_VERSION: u8 = 2;
 
 /// The datagram that the bytes spell, with parts lent by them. Otherwise the first of these faults:
 /// `Short`, there are fewer than 6 bytes; `Magic`, the first bytes are not 42 44; `Version`, the
-/// third byte is not 01; `Kind`, the fourth byte is not 01 (Frame), 02 (Ask), 03 (Head) or 04
+/// third byte is not 02; `Kind`, the fourth byte is not 01 (Frame), 02 (Ask), 03 (Head) or 04
 /// (Want); `Length`, the total length in bytes 5 and 6 is not the number of the bytes, or is above
 /// 1200; `Body`, the rest does not have the form of its kind. Takes no memory.
 pub fn read(bytes: &[u8]) -> Result<Datagram<'_>, WireFault>

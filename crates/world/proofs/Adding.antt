@@ -1,15 +1,15 @@
 -- A change of a transaction that is taken adds one entry, and its row stands as the entry needs it.
 use Rattle.std.proofs.Common.{◌≡◌, ℕ, Bool, true, false, cond, not, ◌&&◌, ◌==◌, List, [], ◌∷◌, ◌++◌, length, Ok, Err, nat_lt, refl, sym, ap}
-use Rattle.std.proofs.Common.{subst, ◌∙◌}
 use Rattle.std.specs.List.{slice_get}
 use Rattle.std.specs.Option.{is_some}
+use Rattle.std.specs.Result.{is_ok}
 use Rattle.std.proofs.lemmas.Bool.{and_from, eq-eqb}
 use Rattle.rows.specs.declared.commit.Commit.{Commit}
 use Rattle.rows.specs.declared.entry.Entry.{Entry}
-use Rattle.rows.specs.declared.entry.Entry.TheVariants.{Insert, Patch, Delete}
+use Rattle.rows.specs.declared.entry.Entry.TheVariants.{Insert, Patch, Delete, AddColumn}
 use Rattle.rows.specs.declared.value.Value.{Value}
 use Rattle.rows.specs.Shape.{Shape}
-use Rattle.rows.specs.Commits.{is_of, tables_after}
+use Rattle.rows.specs.Commits.{is_of}
 use Rattle.rows.specs.Presence.{stands_for}
 use Rattle.rows.specs.Values.{bytes_of, value_bytes}
 use Rattle.mvcc.specs.declared.faults.TxFault.TheVariants.{Exists, Missing, Unfit, TooManyEntries}
@@ -18,13 +18,8 @@ use Rattle.mvcc.specs.Transaction.{Transaction}
 use Rattle.mvcc.specs.Transactions.{match_table, match_column, column_kind, column_offset, seen_shape, sees, transaction_with}
 use Rattle.mvcc.specs.Transactions.{insert_answer}
 use Rattle.mvcc.specs.Transactions.{set_answer}
-use Rattle.mvcc.specs.Transactions.{delete_answer}
-use Rattle.world.specs.Inner.StepLaws.{StepLaws}
-
--- a transaction sees tables of the kinds that they were opened with
-pub seen-shape : (laws : StepLaws) (shape : Shape) (commits : List Commit) (draft : Transaction) → seen_shape shape commits draft ≡ shape
-seen-shape laws shape commits draft =
-    laws.applied (tables_after shape commits draft.snapshot) draft.entries ∙ laws.versions shape commits draft.snapshot
+use Rattle.mvcc.specs.Transactions.{delete_answer, add_column_answer}
+use Rattle.rows.specs.Entries.{addable}
 
 -- the transaction with this entry behind its others
 pub record IsAdded (shape : Shape) (commits : List Commit) (draft : Transaction) (entry : Entry) (new : Transaction) : Type 0 where
@@ -56,9 +51,9 @@ added_to shape commits draft entry new table row of_row stands h = by (nat_lt (l
         let same : with ≡ new = cc in
         record { table = table; row = row; of_row = of_row; stands = stands; made = sym same }
 
-module _ (laws : StepLaws) (shape : Shape) (commits : List Commit) (draft : Transaction) (table row : ℕ) (new : Transaction) where
+module _ (shape : Shape) (commits : List Commit) (draft : Transaction) (table row : ℕ) (new : Transaction) where
   pub insert-added : (values : List Value) → insert_answer shape commits draft table row values ≡ Ok new
-      → (match_table values (slice_get shape table) ≡ true)
+      → (match_table values (slice_get (seen_shape shape commits draft) table) ≡ true)
       × IsAdded shape commits draft (Insert table (record { 0 = row }) (bytes_of values)) new
   insert-added values h =
       by (match_table values (slice_get (seen_shape shape commits draft) table)) (sees shape commits draft table row) refl refl h
@@ -68,17 +63,15 @@ module _ (laws : StepLaws) (shape : Shape) (commits : List Commit) (draft : Tran
 
       by : (a b : Bool) → match_table values (slice_get (seen_shape shape commits draft) table) ≡ a → sees shape commits draft table row ≡ b
           → cond (not a) (Err Unfit) (cond b (Err Exists) (transaction_with draft entry)) ≡ Ok new
-          → (match_table values (slice_get shape table) ≡ true) × IsAdded shape commits draft entry new
+          → (match_table values (slice_get (seen_shape shape commits draft) table) ≡ true) × IsAdded shape commits draft entry new
       by false b e f h = absurd (cc)
       by true true e f h = absurd (cc)
-      by true false e f h = (
-        ap (λ (s : Shape). match_table values (slice_get s table)) (sym (seen-shape laws shape commits draft)) ∙ e,
-        added_to shape commits draft entry new table row (own table row) (ap not f) h,
-      )
+      by true false e f h = (e, added_to shape commits draft entry new table row (own table row) (ap not f) h)
 
   pub set-added : (column : ℕ) (value : Value) → set_answer shape commits draft table row column value ≡ Ok new
-      → (match_column value (column_kind shape table column) ≡ true)
-      × IsAdded shape commits draft (Patch table (record { 0 = row }) (column_offset shape table column) (value_bytes value)) new
+      → (match_column value (column_kind (seen_shape shape commits draft) table column) ≡ true)
+      × IsAdded shape commits draft
+      (Patch table (record { 0 = row }) (column_offset (seen_shape shape commits draft) table column) (value_bytes value)) new
   set-added column value h =
       by (match_column value (column_kind (seen_shape shape commits draft) table column)) (sees shape commits draft table row) refl refl h
     where
@@ -88,19 +81,14 @@ module _ (laws : StepLaws) (shape : Shape) (commits : List Commit) (draft : Tran
       by : (a b : Bool) → match_column value (column_kind (seen_shape shape commits draft) table column) ≡ a
           → sees shape commits draft table row ≡ b
           → cond (not a) (Err Unfit) (cond (not b) (Err Missing) (transaction_with draft entry)) ≡ Ok new
-          → (match_column value (column_kind shape table column) ≡ true)
-          × IsAdded shape commits draft (Patch table (record { 0 = row }) (column_offset shape table column) (value_bytes value)) new
+          → (match_column value (column_kind (seen_shape shape commits draft) table column) ≡ true)
+          × IsAdded shape commits draft entry new
       by false b e f h = absurd (cc)
       by true false e f h = absurd (cc)
-      by true true e f h =
-          let seen = seen-shape laws shape commits draft in (
-            ap (λ (s : Shape). match_column value (column_kind s table column)) (sym seen) ∙ e,
-            subst (λ (s : Shape). IsAdded shape commits draft
-                (Patch table (record { 0 = row }) (column_offset s table column) (value_bytes value)) new) seen
-                (added_to shape commits draft entry new table row (own table row) f h),
-          )
+      by true true e f h = (e, added_to shape commits draft entry new table row (own table row) f h)
 
-  pub delete-added : delete_answer shape commits draft table row ≡ Ok new → (is_some (slice_get shape table) ≡ true)
+  pub delete-added : delete_answer shape commits draft table row ≡ Ok new
+      → (is_some (slice_get (seen_shape shape commits draft) table) ≡ true)
       × IsAdded shape commits draft (Delete table (record { 0 = row })) new
   delete-added h = by (is_some (slice_get (seen_shape shape commits draft) table)) (sees shape commits draft table row) refl refl h
     where
@@ -109,10 +97,22 @@ module _ (laws : StepLaws) (shape : Shape) (commits : List Commit) (draft : Tran
 
       by : (a b : Bool) → is_some (slice_get (seen_shape shape commits draft) table) ≡ a → sees shape commits draft table row ≡ b
           → cond (not a) (Err Unfit) (cond (not b) (Err Missing) (transaction_with draft entry)) ≡ Ok new
-          → (is_some (slice_get shape table) ≡ true) × IsAdded shape commits draft entry new
+          → (is_some (slice_get (seen_shape shape commits draft) table) ≡ true) × IsAdded shape commits draft entry new
       by false b e f h = absurd (cc)
       by true false e f h = absurd (cc)
-      by true true e f h = (
-        ap (λ (s : Shape). is_some (slice_get s table)) (sym (seen-shape laws shape commits draft)) ∙ e,
-        added_to shape commits draft entry new table row (own table row) f h,
-      )
+      by true true e f h = (e, added_to shape commits draft entry new table row (own table row) f h)
+
+-- an added column is of each row of its table
+pub column-added : (shape : Shape) (commits : List Commit) (draft new : Transaction) (table : ℕ) (default : Value)
+    → add_column_answer shape commits draft table default ≡ Ok new
+    → (is_ok (addable (slice_get (seen_shape shape commits draft) table) default) ≡ true)
+    × IsAdded shape commits draft (AddColumn table default) new
+column-added shape commits draft new table default h =
+    by (is_ok (addable (slice_get (seen_shape shape commits draft) table) default)) refl h
+  where
+    by : (a : Bool) → is_ok (addable (slice_get (seen_shape shape commits draft) table) default) ≡ a
+        → cond (not a) (Err Unfit) (transaction_with draft (AddColumn table default)) ≡ Ok new
+        → (is_ok (addable (slice_get (seen_shape shape commits draft) table) default) ≡ true)
+        × IsAdded shape commits draft (AddColumn table default) new
+    by false e h = absurd (cc)
+    by true e h = (e, added_to shape commits draft (AddColumn table default) new table 0 (eq-eqb table table refl) refl h)

@@ -6,7 +6,7 @@ use Rattle.wire.specs.declared.datagram.Datagram.{Datagram}
 use Rattle.wire.specs.declared.faults.WireFault.{WireFault}
 use Rattle.wire.specs.Reading.{reading}
 use Rattle.dispatcher.specs.Feeding.{Tells}
-use Rattle.world.specs.Parts.{Parts}
+use Rattle.world.specs.Cores.{Cores}
 use Rattle.world.specs.Standing.{world_of}
 use Rattle.world.specs.Steps.{is_forged}
 use Rattle.world.specs.Inner.Fresh.{IsFreshReading, Fresh}
@@ -14,11 +14,11 @@ use Rattle.world.specs.Inner.Sound.{Sound}
 use Rattle.world.proofs.Raw.{unforged}
 
 -- what they read as is true of the durable list, and fresh
-pub record Means (p : Parts) (datagram : Result Datagram WireFault) : Type 0 where
+pub record Means (p : Cores) (datagram : Result Datagram WireFault) : Type 0 where
   pub tells : Tells p.primary.workers p.primary.durable datagram
   pub fresh : IsFreshReading p.primary.durable (world_of p).members datagram
 
-module _ (shape : Shape) (p : Parts) where
+module _ (shape : Shape) (p : Cores) where
   pub sent-means : Sound shape p → Fresh (world_of p) → (i : ℕ) (bytes : List ℕ) → slice_get p.sent i ≡ Some bytes → Means p (reading bytes)
   sent-means sound fresh i bytes here = record { tells = sound.sent_is i bytes here; fresh = fresh.sent_is i bytes here }
 

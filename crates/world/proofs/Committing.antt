@@ -33,7 +33,7 @@ use Rattle.script.specs.declared.event.Node.TheVariants as nodes
 use Rattle.script.specs.declared.output.Output.{Output}
 use Rattle.script.specs.declared.output.Output.TheVariants as outputs
 use Rattle.world.specs.Outputs.{of_look, packets_of}
-use Rattle.world.specs.Parts.{Parts}
+use Rattle.world.specs.Cores.{Cores}
 use Rattle.world.specs.Steps.{World, open_transaction, change_happens, commit_happens, abort_happens, on_transaction, push_happens}
 use Rattle.world.specs.Steps.{deliver_happens}
 use Rattle.world.specs.Steps.{stop_happens, delivered, raw_happens, is_forged}
@@ -58,7 +58,7 @@ opened None draft h = absurd (none-some draft h)
 opened (Some slot) draft h = ap Some h
 
 -- the transactions with one more
-pub transactions-begun : (shape : Shape) (p : Parts) → Sound shape p
+pub transactions-begun : (shape : Shape) (p : Cores) → Sound shape p
     → Sound shape (record p { transactions = p.transactions ++ Some (record { snapshot = length p.primary.durable; entries = [] }) ∷ [] })
 transactions-begun shape p sound =
     let fresh : Transaction = record { snapshot = length p.primary.durable; entries = [] } in
@@ -72,7 +72,7 @@ transactions-begun shape p sound =
     ])
 
 -- one transaction changed
-transactions-changed : (shape : Shape) (p : Parts) (number : ℕ) (new : Transaction) → Sound shape p
+transactions-changed : (shape : Shape) (p : Cores) (number : ℕ) (new : Transaction) → Sound shape p
     → new.snapshot ≤ length p.primary.durable
     → Sound shape (record p { transactions = slice_set p.transactions number (Some new) })
 transactions-changed shape p number new sound known =
@@ -85,7 +85,7 @@ transactions-changed shape p number new sound known =
     ])
 
 -- one transaction no longer open
-transactions-ended : (shape : Shape) (p : Parts) (number : ℕ) → Sound shape p
+transactions-ended : (shape : Shape) (p : Cores) (number : ℕ) → Sound shape p
     → Sound shape (record p { transactions = slice_set p.transactions number None })
 transactions-ended shape p number sound =
     Sound-transactions shape p (slice_set p.transactions number None) sound
@@ -103,13 +103,13 @@ none-open (slot ∷ slots) (suc number) draft h = none-open slots number draft h
 
 -- ---- changes, looks, and giving up
 
-changed : (shape : Shape) (p : Parts) (number : ℕ) (answer : Result Transaction TxFault) → Sound shape p
+changed : (shape : Shape) (p : Cores) (number : ℕ) (answer : Result Transaction TxFault) → Sound shape p
     → ((new : Transaction) → answer ≡ Ok new → new.snapshot ≤ length p.primary.durable)
     → Sound shape (beside_of (change_happens (world_of p) number answer).1 p)
 changed shape p number (Ok new) sound known = transactions-changed shape p number new sound (known new refl)
 changed shape p number (Err fault) sound known = sound
 
-pub change-sound : (shape : Shape) (p : Parts) (number : ℕ) (change : Transaction → Result Transaction TxFault) (found : Option Transaction)
+pub change-sound : (shape : Shape) (p : Cores) (number : ℕ) (change : Transaction → Result Transaction TxFault) (found : Option Transaction)
     → Sound shape p
     → ((draft new : Transaction) → change draft ≡ Ok new → new.snapshot ≡ draft.snapshot) → open_transaction p.transactions number ≡ found
     → Sound shape (beside_of (on_transaction (world_of p) found (λ draft. change_happens (world_of p) number (change draft))).1 p)
@@ -118,12 +118,12 @@ change-sound shape p number change (Some draft) sound reads at =
     let known = sound.transactions_are number draft (opened (slice_get p.transactions number) draft at) in
     changed shape p number (change draft) sound (λ new h. let same = reads draft new h in omega arith)
 
-pub look-sound : (shape : Shape) (p : Parts) (look : Transaction → Result Value TxFault) (found : Option Transaction) → Sound shape p
+pub look-sound : (shape : Shape) (p : Cores) (look : Transaction → Result Value TxFault) (found : Option Transaction) → Sound shape p
     → Sound shape (beside_of (on_transaction (world_of p) found (λ draft. (of_look (look draft), world_of p))).1 p)
 look-sound shape p look None sound = sound
 look-sound shape p look (Some draft) sound = sound
 
-pub abort-sound : (shape : Shape) (p : Parts) (number : ℕ) (found : Option Transaction) → Sound shape p
+pub abort-sound : (shape : Shape) (p : Cores) (number : ℕ) (found : Option Transaction) → Sound shape p
     → Sound shape (beside_of (on_transaction (world_of p) found (λ draft. abort_happens (world_of p) number)).1 p)
 abort-sound shape p number None sound = sound
 abort-sound shape p number (Some draft) sound = transactions-ended shape p number sound
@@ -153,27 +153,27 @@ commit-numbered p worker draft number h =
         (and_parts (nat_lt (next_number p) (2 ^ 64))
         (nat_lt (length (stream_of (p.durable ++ p.pending) worker) + length (parts_of draft.entries)) (2 ^ 64)) t).0
 
-commits : (shape : Shape) (p : Parts) (number worker : ℕ) (draft : Transaction) (answer : Result ℕ CommitFault) → Sound shape p
+commits : (shape : Shape) (p : Cores) (number worker : ℕ) (draft : Transaction) (answer : Result ℕ CommitFault) → Sound shape p
     → Sound shape (beside_of (commit_happens (world_of p) number worker draft answer).1 p)
 commits shape p number worker draft (Ok ticket) sound =
     Sound-pending shape (record p { transactions = slice_set p.transactions number None })
     (p.primary.pending ++ record { worker = worker; entries = draft.entries } ∷ []) (transactions-ended shape p number sound)
 commits shape p number worker draft (Err fault) sound = transactions-ended shape p number sound
 
-pub commit-sound : (shape : Shape) (p : Parts) (number worker : ℕ) (found : Option Transaction) → Sound shape p
+pub commit-sound : (shape : Shape) (p : Cores) (number worker : ℕ) (found : Option Transaction) → Sound shape p
     → Sound shape (beside_of (on_transaction (world_of p) found
     (λ draft. commit_happens (world_of p) number worker draft (commit_answer p.primary worker draft))).1 p)
 commit-sound shape p number worker None sound = sound
 commit-sound shape p number worker (Some draft) sound = commits shape p number worker draft (commit_answer p.primary worker draft) sound
 
 -- the legal list of a primary's shape
-own-legal : (shape : Shape) (p : Parts) → PrimaryListsAreLegal p.primary → Sound shape p
+own-legal : (shape : Shape) (p : Cores) → PrimaryListsAreLegal p.primary → Sound shape p
     → IsLegal shape p.primary.workers (p.primary.durable ++ p.primary.pending)
 own-legal shape p lists sound =
     subst (λ (s : Shape). IsLegal s p.primary.workers (p.primary.durable ++ p.primary.pending)) sound.primary_is.shape_is lists.all.legal
 
 -- the first of the pending commits behind the durable ones are legal
-legal-taken : (shape : Shape) (p : Parts) (count : ℕ) → PrimaryListsAreLegal p.primary → Sound shape p
+legal-taken : (shape : Shape) (p : Cores) (count : ℕ) → PrimaryListsAreLegal p.primary → Sound shape p
     → IsLegal shape p.primary.workers (p.primary.durable ++ take count p.primary.pending)
 legal-taken shape p count lists sound =
     let durable = p.primary.durable in
@@ -184,7 +184,7 @@ legal-taken shape p count lists sound =
     legal-front shape p.primary.workers (durable ++ take count pending) (drop count pending)
     (subst (IsLegal shape p.primary.workers) (sym whole) (own-legal shape p lists sound))
 
-pub flush-sound : (laws : FedLaws) (shape : Shape) (p : Parts) (count : ℕ) (failed : Bool) (refused answered : Output)
+pub flush-sound : (laws : FedLaws) (shape : Shape) (p : Cores) (count : ℕ) (failed : Bool) (refused answered : Output)
     → PrimaryListsAreLegal p.primary → Sound shape p
     → Sound shape (beside_of (cond {A = Output × World} failed (refused, world_of p)
     (answered, world_of (record p { primary = flushed p.primary count }))).1 p)
@@ -194,7 +194,7 @@ flush-sound laws shape p count false refused answered lists sound =
 
 -- ---- stops and starts
 
-pub stop-sound : (laws : FedLaws) (shape : Shape) (p : Parts) (bytes : ℕ) → PrimaryListsAreLegal p.primary → Sound shape p
+pub stop-sound : (laws : FedLaws) (shape : Shape) (p : Cores) (bytes : ℕ) → PrimaryListsAreLegal p.primary → Sound shape p
     → Sound shape (beside_of (stop_happens (world_of p) bytes).1 p)
 stop-sound laws shape p bytes lists sound =
     let count = whole_in (length p.primary.durable) p.primary.pending bytes in
@@ -208,7 +208,7 @@ stop-sound laws shape p bytes lists sound =
     (record p { primary = record (stopped_at p.primary bytes) { failed = p.primary.failed }; transactions = closed p.transactions })
     false true p.journal grown
 
-pub start-sound : (shape : Shape) (p : Parts) (stopped : Bool) → Sound shape p
+pub start-sound : (shape : Shape) (p : Cores) (stopped : Bool) → Sound shape p
     → Sound shape (beside_of (cond {A = Output × World} stopped
     (outputs.Durable (length p.primary.durable), record (world_of p) { stopped = false }) (outputs.Running, world_of p)).1 p)
 start-sound shape p true sound = Sound-apart shape p p.primary.failed false p.journal sound
@@ -217,7 +217,7 @@ start-sound shape p false sound = sound
 -- ---- what the primary sends
 
 -- a frame of the durable list tells the truth of it
-frame-tells : (reads : SpelledAreRead) (p : Parts) (worker seq : ℕ) (frame : Frame) → PrimaryListsAreLegal p.primary
+frame-tells : (reads : SpelledAreRead) (p : Cores) (worker seq : ℕ) (frame : Frame) → PrimaryListsAreLegal p.primary
     → slice_get (stream_of p.primary.durable worker) seq ≡ Some frame
     → Tells p.primary.workers p.primary.durable (reading (frame_spelling frame))
 frame-tells reads p worker seq frame lists h =
@@ -228,7 +228,7 @@ frame-tells reads p worker seq frame lists h =
     (ap (λ (w : ℕ). slice_get (stream_of durable w) frame.seq) at.worker_is
     ∙ ap (slice_get (stream_of durable worker)) at.seq_is ∙ h)
 
-pub push-sound : (reads : SpelledAreRead) (shape : Shape) (p : Parts) (worker seq : ℕ) (found : Option Frame)
+pub push-sound : (reads : SpelledAreRead) (shape : Shape) (p : Cores) (worker seq : ℕ) (found : Option Frame)
     → PrimaryListsAreLegal p.primary → Sound shape p
     → slice_get (stream_of p.primary.durable worker) seq ≡ found
     → Sound shape (beside_of (push_happens (world_of p) (option_map frame_spelling found)).1 p)
@@ -243,7 +243,7 @@ durable-below p lists worker =
     let grows = stream-grows p.durable p.pending worker in
     omega arith
 
-head-tells : (reads : SpelledAreRead) (shape : Shape) (p : Parts) (replica boot request : ℕ) → PrimaryListsAreLegal p.primary
+head-tells : (reads : SpelledAreRead) (shape : Shape) (p : Cores) (replica boot request : ℕ) → PrimaryListsAreLegal p.primary
     → Sound shape p
     → IsAsk replica boot request
     → Tells p.primary.workers p.primary.durable (reading (spelling (head_for p.primary replica boot request)))
@@ -268,7 +268,7 @@ packets-at replica [] i bytes h = absurd (none-some bytes h)
 packets-at replica (frame ∷ frames) zero bytes h = (frame, refl, same_Some (frame_spelling frame) bytes h)
 packets-at replica (frame ∷ frames) (suc i) bytes h = packets-at replica frames i bytes h
 
-want-tells : (reads : SpelledAreRead) (p : Parts) (replica worker from : ℕ) → PrimaryListsAreLegal p.primary → (i : ℕ) (bytes : List ℕ)
+want-tells : (reads : SpelledAreRead) (p : Cores) (replica worker from : ℕ) → PrimaryListsAreLegal p.primary → (i : ℕ) (bytes : List ℕ)
     → slice_get (packets_of (map (frame_to replica) (wanted p.primary worker from))) i ≡ Some bytes
     → Tells p.primary.workers p.primary.durable (reading bytes)
 want-tells reads p replica worker from lists i bytes h =
@@ -278,7 +278,7 @@ want-tells reads p replica worker from lists i bytes h =
     subst (λ (b : List ℕ). Tells p.primary.workers p.primary.durable (reading b)) found.2
     (frame-tells reads p worker (from + i) found.0 lists at)
 
-answers-tell : (reads : SpelledAreRead) (shape : Shape) (p : Parts) (datagram : Result Datagram WireFault)
+answers-tell : (reads : SpelledAreRead) (shape : Shape) (p : Cores) (datagram : Result Datagram WireFault)
     → PrimaryListsAreLegal p.primary → Sound shape p
     → Means p datagram
     → (i : ℕ) (bytes : List ℕ) → slice_get (packets_of (answers_to p.primary datagram)) i ≡ Some bytes
@@ -296,20 +296,20 @@ answers-tell reads shape p (Ok (datagrams.Want replica worker from)) lists sound
     h
 
 -- bytes that come to the primary
-hand-sound : (reads : SpelledAreRead) (shape : Shape) (p : Parts) (bytes : List ℕ) → PrimaryListsAreLegal p.primary → Sound shape p
+hand-sound : (reads : SpelledAreRead) (shape : Shape) (p : Cores) (bytes : List ℕ) → PrimaryListsAreLegal p.primary → Sound shape p
     → Means p (reading bytes)
     → Sound shape (beside_of (delivered (world_of p) bytes nodes.Primary).1 p)
 hand-sound reads shape p bytes lists sound means =
     Sound-sent shape p (packets_of (answers p.primary bytes)) sound (answers-tell reads shape p (reading bytes) lists sound means)
 
-pub deliver-sound : (reads : SpelledAreRead) (shape : Shape) (p : Parts) (index : ℕ) (found : Option (List ℕ))
+pub deliver-sound : (reads : SpelledAreRead) (shape : Shape) (p : Cores) (index : ℕ) (found : Option (List ℕ))
     → PrimaryListsAreLegal p.primary → Sound shape p → Fresh (world_of p)
     → slice_get p.sent index ≡ found → Sound shape (beside_of (deliver_happens (world_of p) nodes.Primary found).1 p)
 deliver-sound reads shape p index None lists sound fresh here = sound
 deliver-sound reads shape p index (Some bytes) lists sound fresh here =
     hand-sound reads shape p bytes lists sound (sent-means shape p sound fresh index bytes here)
 
-pub raw-sound : (reads : SpelledAreRead) (shape : Shape) (p : Parts) (bytes : List ℕ) → PrimaryListsAreLegal p.primary → Sound shape p
+pub raw-sound : (reads : SpelledAreRead) (shape : Shape) (p : Cores) (bytes : List ℕ) → PrimaryListsAreLegal p.primary → Sound shape p
     → Fresh (world_of p) → Sound shape (beside_of (raw_happens (world_of p) nodes.Primary bytes).1 p)
 raw-sound reads shape p bytes lists sound fresh = by (is_forged p.sent bytes) refl
   where

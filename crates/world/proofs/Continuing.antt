@@ -10,7 +10,7 @@ use Rattle.script.specs.declared.event.Event.{Event}
 use Rattle.script.specs.declared.output.Output.{Output}
 use Rattle.script.specs.declared.setup.Setup.{Setup}
 use Rattle.script.specs.Events.{IsPossible}
-use Rattle.world.specs.Parts.{Parts, parts_started}
+use Rattle.world.specs.Cores.{Cores, cores_started}
 use Rattle.world.specs.Steps.{World, opening_world}
 use Rattle.world.specs.Allowed.{Step, LeadsTo, events_in, outputs_in, IsAllowed, Runs}
 use Rattle.world.specs.Database.{IsDatabaseRun, new_database}
@@ -28,55 +28,55 @@ use Rattle.world.proofs.Worlds.{world-started}
 -- ---- step by step
 
 -- a step of the cores that the world allows, and after which they stand
-abbrev pub KeepsStanding : Step Parts → Type 0
+abbrev pub KeepsStanding : Step Cores → Type 0
 KeepsStanding step = IsAllowed (seen step) × AreFed step.new × JournalStands step.new × StopLeaves step.old step.event step.new
 
 -- the steps by these events and with these outputs, from the cores' start to where they are now
-pub record RunsSoFar (setup : Setup) (events : List Event) (outputs : List Output) (now : Parts) : Type 0 where
-  pub steps : List (Step Parts)
+pub record RunsSoFar (setup : Setup) (events : List Event) (outputs : List Output) (now : Cores) : Type 0 where
+  pub steps : List (Step Cores)
   pub events_are : events_in steps ≡ events
   pub outputs_are : outputs_in steps ≡ outputs
-  pub leads : LeadsTo (parts_started setup) steps now
+  pub leads : LeadsTo (cores_started setup) steps now
   pub kept : AllByRecursion KeepsStanding steps
 
-pub none_yet : (setup : Setup) → RunsSoFar setup [] [] (parts_started setup)
+pub none_yet : (setup : Setup) → RunsSoFar setup [] [] (cores_started setup)
 none_yet setup = record { steps = []; events_are = refl; outputs_are = refl; leads = refl; kept = tt }
 
-leads-push : (old : Parts) (steps : List (Step Parts)) (step : Step Parts) → LeadsTo old steps step.old
+leads-push : (old : Cores) (steps : List (Step Cores)) (step : Step Cores) → LeadsTo old steps step.old
     → LeadsTo old (steps ++ step ∷ []) step.new
 leads-push old [] step leads = (leads, refl)
 leads-push old (first ∷ steps) step leads = (leads.0, leads-push first.new steps step leads.1)
 
-pub one_more : (setup : Setup) (events : List Event) (outputs : List Output) (step : Step Parts)
+pub one_more : (setup : Setup) (events : List Event) (outputs : List Output) (step : Step Cores)
     → RunsSoFar setup events outputs step.old → KeepsStanding step
     → RunsSoFar setup (events ++ step.event ∷ []) (outputs ++ step.output ∷ []) step.new
 one_more setup events outputs step run kept = record {
   steps = run.steps ++ step ∷ [];
   events_are =
-      map-append (λ (s : Step Parts). s.event) run.steps (step ∷ [])
+      map-append (λ (s : Step Cores). s.event) run.steps (step ∷ [])
       ∙ ap (λ (l : List Event). l ++ step.event ∷ []) run.events_are;
   outputs_are =
-      map-append (λ (s : Step Parts). s.output) run.steps (step ∷ [])
+      map-append (λ (s : Step Cores). s.output) run.steps (step ∷ [])
       ∙ ap (λ (l : List Output). l ++ step.output ∷ []) run.outputs_are;
-  leads = leads-push (parts_started setup) run.steps step run.leads;
+  leads = leads-push (cores_started setup) run.steps step run.leads;
   kept = all_push KeepsStanding run.steps step kept run.kept;
 }
 
 -- ---- as a run of the world
 
-seen-leads : (old end : Parts) (steps : List (Step Parts)) → LeadsTo old steps end → LeadsTo (world_of old) (map seen steps) (world_of end)
+seen-leads : (old end : Cores) (steps : List (Step Cores)) → LeadsTo old steps end → LeadsTo (world_of old) (map seen steps) (world_of end)
 seen-leads old end [] leads = ap world_of leads
 seen-leads old end (step ∷ steps) leads = (ap world_of leads.0, seen-leads step.new end steps leads.1)
 
-seen-events : (steps : List (Step Parts)) → events_in (map seen steps) ≡ events_in steps
+seen-events : (steps : List (Step Cores)) → events_in (map seen steps) ≡ events_in steps
 seen-events [] = refl
 seen-events (step ∷ steps) = ap (λ (l : List Event). step.event ∷ l) (seen-events steps)
 
-seen-outputs : (steps : List (Step Parts)) → outputs_in (map seen steps) ≡ outputs_in steps
+seen-outputs : (steps : List (Step Cores)) → outputs_in (map seen steps) ≡ outputs_in steps
 seen-outputs [] = refl
 seen-outputs (step ∷ steps) = ap (λ (l : List Output). step.output ∷ l) (seen-outputs steps)
 
-pub keeps_promises : (laws : StepLaws) (setup : Setup) (events : List Event) (outputs : List Output) (end : Parts)
+pub keeps_promises : (laws : StepLaws) (setup : Setup) (events : List Event) (outputs : List Output) (end : Cores)
     → setup.replicas ≤ replicas_max → AllByRecursion (IsPossible setup.workers setup.replicas) events
     → IsLegal (shape_of setup.schema) setup.workers end.primary.durable → RunsSoFar setup events outputs end
     → KeepsPromises setup events outputs
@@ -85,16 +85,16 @@ keeps_promises laws setup events outputs end few possible legal run =
     let commits = end.primary.durable in
     let told = seen-outputs run.steps ∙ run.outputs_are in
     let allowed =
-    all_weaker KeepsStanding (λ (step : Step Parts). IsAllowed (seen step)) run.steps (λ step kept. kept.0) run.kept in
-    let fed = all_weaker KeepsStanding (λ (step : Step Parts). AreFed step.new) run.steps (λ step kept. kept.1) run.kept in
+    all_weaker KeepsStanding (λ (step : Step Cores). IsAllowed (seen step)) run.steps (λ step kept. kept.0) run.kept in
+    let fed = all_weaker KeepsStanding (λ (step : Step Cores). AreFed step.new) run.steps (λ step kept. kept.1) run.kept in
     let grow =
-    all_weaker (λ (step : Step Parts). IsAllowed (seen step))
-    (λ (step : Step Parts). IsBeginning step.old.primary.durable step.new.primary.durable) run.steps
+    all_weaker (λ (step : Step Cores). IsAllowed (seen step))
+    (λ (step : Step Cores). IsBeginning step.old.primary.durable step.new.primary.durable) run.steps
     (λ step may. (step-fine laws (world_of step.old) step.event step.output (world_of step.new) may).grows) allowed in
     let runs : Runs (opening_world setup) worlds (world_of end) = record {
       leads =
           subst (λ (w : World). LeadsTo w worlds (world_of end)) (world-started setup)
-          (seen-leads (parts_started setup) end run.steps run.leads);
+          (seen-leads (cores_started setup) end run.steps run.leads);
       allowed = all_map seen IsAllowed run.steps allowed;
     } in
     let can =
@@ -116,9 +116,9 @@ keeps_promises laws setup events outputs end few possible legal run =
       legal = legal;
       cores = record {
         fed = fed;
-        journal = all_weaker KeepsStanding (λ (step : Step Parts). JournalStands step.new) run.steps (λ step kept. kept.2) run.kept;
+        journal = all_weaker KeepsStanding (λ (step : Step Cores). JournalStands step.new) run.steps (λ step kept. kept.2) run.kept;
         leaves =
-            all_weaker KeepsStanding (λ (step : Step Parts). StopLeaves step.old step.event step.new) run.steps (λ step kept. kept.3)
+            all_weaker KeepsStanding (λ (step : Step Cores). StopLeaves step.old step.event step.new) run.steps (λ step kept. kept.3)
             run.kept;
         tables = run-stands setup end run.steps run.leads allowed grow fed;
       };
@@ -127,8 +127,8 @@ keeps_promises laws setup events outputs end few possible legal run =
     record {
       promise = (database_of (world_of end), database);
       each =
-          ap length (sym run.outputs_are) ∙ length-map run.steps (λ (step : Step Parts). step.output)
-          ∙ sym (length-map run.steps (λ (step : Step Parts). step.event)) ∙ ap length run.events_are;
+          ap length (sym run.outputs_are) ∙ length-map run.steps (λ (step : Step Cores). step.output)
+          ∙ sym (length-map run.steps (λ (step : Step Cores). step.event)) ∙ ap length run.events_are;
       run = has;
       dumps = subst HasOneDumpOfVersion told (run-dumps setup worlds (world_of end) commits runs exact.reports);
       faultless = subst (AllByRecursion IsFaultless) told exact.faultless;

@@ -67,7 +67,7 @@ ask-read reads replica boot request replica_below boot_below =
 tested : (P : Result Datagram WireFault → Type 0) (bytes : List ℕ) → ((fault : WireFault) → P (Err fault))
     → P (ok_or (body_at (slice_index bytes 3) (drop 6 bytes)) Body) → P (reading bytes)
 tested P bytes faults read =
-    by (nat_lt (length bytes) 6) (not (big_number 2 bytes == 0x4244)) (not (slice_index bytes 2 == 1))
+    by (nat_lt (length bytes) 6) (not (big_number 2 bytes == 0x4244)) (not (slice_index bytes 2 == 2))
     (not (slice_index bytes 3 == 1) && not (slice_index bytes 3 == 2) && not (slice_index bytes 3 == 3) && not (slice_index bytes 3 == 4))
     (not (big_number 2 (drop 4 bytes) == length bytes) || nat_lt DATAGRAM_MAX (length bytes))
   where

@@ -11,14 +11,14 @@ use Rattle.rows.specs.declared.kind.Kind.{Kind}
 use Rattle.rows.specs.declared.row_id.RowId.{RowId}
 use Rattle.rows.specs.declared.value.Value.{Value}
 use Rattle.rows.specs.Shape.{Shape, row_width}
-use Rattle.rows.specs.Entries.{sized, fitting}
-use Rattle.rows.specs.Tables.{is_row_at, apply_entries}
+use Rattle.rows.specs.Entries.{sized, fitting, shape_after}
+use Rattle.rows.specs.Tables.{shape_in, is_row_at, apply_entries}
 use Rattle.rows.specs.Commits.{tables_after}
 use Rattle.rows.specs.Presence.{stands_for, is_there_after}
 use Rattle.rows.specs.Values.{bytes_of}
 use Rattle.mvcc.specs.Transaction.{Transaction}
-use Rattle.mvcc.specs.Transactions.{match_table, sees, insert_answer, set_answer, delete_answer}
-use Rattle.world.proofs.Adding.{IsAdded, insert-added, set-added, delete-added}
+use Rattle.mvcc.specs.Transactions.{match_table, seen_shape, sees, insert_answer, set_answer, delete_answer, add_column_answer}
+use Rattle.world.proofs.Adding.{IsAdded, insert-added, set-added, delete-added, column-added}
 use Rattle.world.proofs.Placing.{column-matched, value-fits}
 use Rattle.world.proofs.Changing.{length-values, matched, delete-fits}
 use Rattle.world.specs.Inner.StepLaws.{StepLaws}
@@ -43,8 +43,8 @@ pub record IsDefined (shape : Shape) (commits : List Commit) (draft new : Transa
 module _ (laws : StepLaws) (shape : Shape) (commits : List Commit) (draft new : Transaction)
     (defined : is_ok (apply_entries (tables_after shape commits draft.snapshot) draft.entries) ≡ true) where
   -- an entry that fits, and whose row stands as it needs it, is defined behind the others
-  added-defined : (entry : Entry) → is_ok (fitting shape entry) ≡ true → IsAdded shape commits draft entry new
-      → IsDefined shape commits draft new
+  added-defined : (entry : Entry) → is_ok (fitting (seen_shape shape commits draft) entry) ≡ true
+      → IsAdded shape commits draft entry new → IsDefined shape commits draft new
   added-defined entry fits added =
       let tables = tables_after shape commits draft.snapshot in
       let table = added.table in
@@ -54,24 +54,31 @@ module _ (laws : StepLaws) (shape : Shape) (commits : List Commit) (draft new : 
       sym (laws.presence tables draft.entries table row defined) in
       let is : is_ok (apply_entries tables (draft.entries ++ entry ∷ [])) ≡ true =
       laws.longer shape commits draft.snapshot draft.entries entry table row added.of_row defined
-      ∙ and_from (is_ok (fitting shape entry)) (stands_for entry (is_there_after table row draft.entries was)) fits
+      ∙ and_from (is_ok (fitting (shape_after (shape_in tables) draft.entries) entry))
+      (stands_for entry (is_there_after table row draft.entries was))
+      (ap (λ (s : Shape). is_ok (fitting s entry)) (sym (laws.applied tables draft.entries)) ∙ fits)
       (ap (stands_for entry) seen ∙ added.stands) in
       subst (IsDefined shape commits draft) (sym added.made) (record { reads = refl; defined = is })
 
   pub insert-defined : (table row : ℕ) (values : List Value) → insert_answer shape commits draft table row values ≡ Ok new
       → IsDefined shape commits draft new
   insert-defined table row values h =
-      let taken = insert-added laws shape commits draft table row new values h in
-      added-defined _ (values-fit shape table (record { 0 = row }) values taken.0) taken.1
+      let taken = insert-added shape commits draft table row new values h in
+      added-defined _ (values-fit (seen_shape shape commits draft) table (record { 0 = row }) values taken.0) taken.1
 
   pub set-defined : (table row column : ℕ) (value : Value) → set_answer shape commits draft table row column value ≡ Ok new
       → IsDefined shape commits draft new
   set-defined table row column value h =
-      let taken = set-added laws shape commits draft table row new column value h in
-      let at = column-matched shape table column value taken.0 in
-      added-defined _ (value-fits shape table (record { 0 = row }) column value at) taken.1
+      let taken = set-added shape commits draft table row new column value h in
+      let at = column-matched (seen_shape shape commits draft) table column value taken.0 in
+      added-defined _ (value-fits (seen_shape shape commits draft) table (record { 0 = row }) column value at) taken.1
 
   pub delete-defined : (table row : ℕ) → delete_answer shape commits draft table row ≡ Ok new → IsDefined shape commits draft new
   delete-defined table row h =
-      let taken = delete-added laws shape commits draft table row new h in
-      added-defined _ (delete-fits shape table (record { 0 = row }) taken.0) taken.1
+      let taken = delete-added shape commits draft table row new h in
+      added-defined _ (delete-fits (seen_shape shape commits draft) table (record { 0 = row }) taken.0) taken.1
+
+  pub column-defined : (table : ℕ) (default : Value) → add_column_answer shape commits draft table default ≡ Ok new
+      → IsDefined shape commits draft new
+  column-defined table default h =
+      let taken = column-added shape commits draft new table default h in added-defined _ taken.0 taken.1

@@ -13,7 +13,7 @@ use Rattle.wire.specs.declared.datagram.Datagram.TheVariants as datagrams
 use Rattle.wire.specs.declared.faults.WireFault.{WireFault}
 use Rattle.wire.specs.Reading.{reading}
 use Rattle.mvcc.specs.Transaction.{Transaction}
-use Rattle.plans.specs.declared.plan.Plan.{Plan}
+use Rattle.queries.specs.declared.plan.Plan.{Plan}
 use Rattle.dispatcher.specs.State.{Batch, Fetched}
 use Rattle.primary.specs.Steps.{committed, flushed}
 use Rattle.script.specs.declared.setup.Setup.{Setup}

@@ -10,7 +10,7 @@ use Rattle.wire.specs.declared.faults.WireFault.{WireFault}
 use Rattle.update_log.specs.declared.frame.Frame.{Frame}
 use Rattle.wire.specs.Reading.{reading}
 use Rattle.primary.specs.Sending.{counts_of, answers_to, wanted, frame_to}
-use Rattle.plans.specs.declared.plan.Plan.{Plan}
+use Rattle.queries.specs.declared.plan.Plan.{Plan}
 use Rattle.world.specs.Outputs.{packets_of}
 use Rattle.world.specs.Steps.{World, Member}
 use Rattle.world.specs.Inner.Fresh.{IsFreshHead, IsFreshReading, Fresh}

@@ -11,7 +11,7 @@ use Rattle.journal.specs.Recovery.{IsBeginning}
 use Rattle.dispatcher.specs.Feeding.{IsFedFrom}
 use Rattle.dispatcher.specs.State.{Replica}
 use Rattle.script.specs.declared.setup.Setup.{Setup}
-use Rattle.world.specs.Parts.{Parts, replicas_from, parts_started}
+use Rattle.world.specs.Cores.{Cores, replicas_from, cores_started}
 use Rattle.world.specs.Allowed.{Step, LeadsTo, IsAllowed}
 use Rattle.world.specs.Standing.{world_of, AreFed, TablesAgree}
 use Rattle.world.specs.Theorem.{seen, cores_of}
@@ -25,17 +25,17 @@ use Rattle.world.proofs.Slots.{all_weaker}
 abbrev Holds : Shape → List Commit → Replica → Type 0
 Holds shape commits r = r.broken ≡ false → (r.version ≤ length commits) × (r.tables ≡ tables_after shape commits r.version)
 
-abbrev AllHold : Shape → List Commit → Parts → Type 0
+abbrev AllHold : Shape → List Commit → Cores → Type 0
 AllHold shape commits p = AllByRecursion (Holds shape commits) p.replicas
 
 -- and so it does by each list that goes on from that
-hold-longer : (shape : Shape) (commits more : List Commit) (p : Parts) → AllHold shape commits p → AllHold shape (commits ++ more) p
+hold-longer : (shape : Shape) (commits more : List Commit) (p : Cores) → AllHold shape commits p → AllHold shape (commits ++ more) p
 hold-longer shape commits more p =
     all_weaker (Holds shape commits) (Holds shape (commits ++ more)) p.replicas
     (λ r holds whole. let held = holds whole in let below = held.0 in
     (omega (arith, length-append commits more), held.1 ∙ sym (tables-stay shape commits more r.version below)))
 
-fed-hold : (schema : List (List ℕ × List Kind)) (p : Parts) → p.primary.schema ≡ schema → AreFed p
+fed-hold : (schema : List (List ℕ × List Kind)) (p : Cores) → p.primary.schema ≡ schema → AreFed p
     → AllHold (shape_of schema) p.primary.durable p
 fed-hold schema p same fed =
     subst (λ (s : List (List ℕ × List Kind)). AllHold (shape_of s) p.primary.durable p) same
@@ -43,10 +43,10 @@ fed-hold schema p same fed =
     (λ r feeding whole. (feeding.below, feeding.tables_are whole)) fed)
 
 -- what the cores through which a run goes are, by the list that is durable at its end
-abbrev Told : List (List ℕ × List Kind) → List Commit → Parts → Type 0
+abbrev Told : List (List ℕ × List Kind) → List Commit → Cores → Type 0
 Told schema commits p = (p.primary.schema ≡ schema) × AllHold (shape_of schema) commits p
 
-told-later : (schema : List (List ℕ × List Kind)) (commits more : List Commit) (p : Parts) → IsBeginning commits more
+told-later : (schema : List (List ℕ × List Kind)) (commits more : List Commit) (p : Cores) → IsBeginning commits more
     → Told schema commits p → Told schema more p
 told-later schema commits more p begins told = (
   told.0,
@@ -55,16 +55,16 @@ told-later schema commits more p begins told = (
 )
 
 -- the cores that each step leaves, if every replica there is fed from what is durable
-steps-told : (schema : List (List ℕ × List Kind)) (old end : Parts) (steps : List (Step Parts)) → old.primary.schema ≡ schema
-    → LeadsTo old steps end → AllByRecursion (λ (step : Step Parts). IsAllowed (seen step)) steps
-    → AllByRecursion (λ (step : Step Parts). IsBeginning step.old.primary.durable step.new.primary.durable) steps
-    → AllByRecursion (λ (step : Step Parts). AreFed step.new) steps
-    → AllByRecursion (Told schema end.primary.durable) (map (λ (step : Step Parts). step.new) steps)
+steps-told : (schema : List (List ℕ × List Kind)) (old end : Cores) (steps : List (Step Cores)) → old.primary.schema ≡ schema
+    → LeadsTo old steps end → AllByRecursion (λ (step : Step Cores). IsAllowed (seen step)) steps
+    → AllByRecursion (λ (step : Step Cores). IsBeginning step.old.primary.durable step.new.primary.durable) steps
+    → AllByRecursion (λ (step : Step Cores). AreFed step.new) steps
+    → AllByRecursion (Told schema end.primary.durable) (map (λ (step : Step Cores). step.new) steps)
 steps-told schema old end [] same leads allowed grow fed = tt
 steps-told schema old end (step ∷ steps) same leads allowed grow fed =
     let stays = step-counts (world_of step.old) step.event step.output (world_of step.new) allowed.0 in
-    let here = stays.schema ∙ ap (λ (p : Parts). p.primary.schema) leads.0 ∙ same in
-    let later = run-grows (λ (p : Parts). p.primary.durable) step.new end steps leads.1 grow.1 in (
+    let here = stays.schema ∙ ap (λ (p : Cores). p.primary.schema) leads.0 ∙ same in
+    let later = run-grows (λ (p : Cores). p.primary.durable) step.new end steps leads.1 grow.1 in (
       told-later schema step.new.primary.durable end.primary.durable step.new later (here, fed-hold schema step.new here fed.0),
       steps-told schema step.new end steps here leads.1 allowed.1 grow.1 fed.1,
     )
@@ -75,26 +75,26 @@ started-hold : (schema : List (List ℕ × List Kind)) (workers number count : �
 started-hold schema workers number zero = tt
 started-hold schema workers number (suc count) = (λ whole. (omega arith, refl), started-hold schema workers (suc number) count)
 
-told-agree : (schema : List (List ℕ × List Kind)) (commits : List Commit) (p q : Parts) → Told schema commits p → Told schema commits q
+told-agree : (schema : List (List ℕ × List Kind)) (commits : List Commit) (p q : Cores) → Told schema commits p → Told schema commits q
     → TablesAgree p q
 told-agree schema commits p q one two i j r other here there whole sound same =
     (All-get (Holds (shape_of schema) commits) p.replicas one.1 i r here whole).1
     ∙ ap (tables_after (shape_of schema) commits) same
     ∙ sym (All-get (Holds (shape_of schema) commits) q.replicas two.1 j other there sound).1
 
-pub run-stands : (setup : Setup) (end : Parts) (steps : List (Step Parts)) → LeadsTo (parts_started setup) steps end
-    → AllByRecursion (λ (step : Step Parts). IsAllowed (seen step)) steps
-    → AllByRecursion (λ (step : Step Parts). IsBeginning step.old.primary.durable step.new.primary.durable) steps
-    → AllByRecursion (λ (step : Step Parts). AreFed step.new) steps
-    → AllByRecursion (λ (p : Parts). AllByRecursion (TablesAgree p) (cores_of setup steps)) (cores_of setup steps)
+pub run-stands : (setup : Setup) (end : Cores) (steps : List (Step Cores)) → LeadsTo (cores_started setup) steps end
+    → AllByRecursion (λ (step : Step Cores). IsAllowed (seen step)) steps
+    → AllByRecursion (λ (step : Step Cores). IsBeginning step.old.primary.durable step.new.primary.durable) steps
+    → AllByRecursion (λ (step : Step Cores). AreFed step.new) steps
+    → AllByRecursion (λ (p : Cores). AllByRecursion (TablesAgree p) (cores_of setup steps)) (cores_of setup steps)
 run-stands setup end steps leads allowed grow fed =
     let schema = setup.schema in
     let commits = end.primary.durable in
     let cores = cores_of setup steps in
-    let start : Told schema [] (parts_started setup) = (refl, started-hold schema setup.workers 0 setup.replicas) in
+    let start : Told schema [] (cores_started setup) = (refl, started-hold schema setup.workers 0 setup.replicas) in
     let told : AllByRecursion (Told schema commits) cores = (
-      told-later schema [] commits (parts_started setup) (commits, refl) start,
-      steps-told schema (parts_started setup) end steps refl leads allowed grow fed,
+      told-later schema [] commits (cores_started setup) (commits, refl) start,
+      steps-told schema (cores_started setup) end steps refl leads allowed grow fed,
     ) in
-    all_weaker (Told schema commits) (λ (p : Parts). AllByRecursion (TablesAgree p) cores) cores
+    all_weaker (Told schema commits) (λ (p : Cores). AllByRecursion (TablesAgree p) cores) cores
     (λ p one. all_weaker (Told schema commits) (TablesAgree p) cores (λ q two. told-agree schema commits p q one two) told) told

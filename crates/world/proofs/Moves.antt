@@ -15,7 +15,7 @@ use Rattle.dispatcher.specs.Feeding.{IsFedFrom, Tells, identity_of}
 use Rattle.dispatcher.specs.State.{Replica}
 use Rattle.dispatcher.specs.TableText.{names_of}
 use Rattle.script.specs.declared.output.Output.{Output}
-use Rattle.world.specs.Parts.{Parts}
+use Rattle.world.specs.Cores.{Cores}
 use Rattle.world.specs.Inner.CoreSteps.{with_replica, with_sent}
 use Rattle.world.specs.Steps.{World}
 use Rattle.world.proofs.Lists.{get-set, get-append, get-one, set-same}
@@ -32,7 +32,7 @@ pub record Goes (shape : Shape) (durable : List Commit) (old new : Replica) : Ty
   pub identity : identity_of new ≡ identity_of old
 
 -- a step of the parts from sound ones, and the same step in the world
-abbrev pub Follows : Shape → Output × World → Output × Parts → Type 0
+abbrev pub Follows : Shape → Output × World → Output × Cores → Type 0
 Follows shape there here = (there ≡ seen here) × Sound shape here.1
 
 -- ---- one replica
@@ -47,7 +47,7 @@ goes-fed shape names workers durable boots i old new fed goes = record {
   boot_is = subst (λ (x : List (List ℕ) × ℕ × ℕ × ℕ). IsInBoot boots x.3) (sym goes.identity) fed.boot_is;
 }
 
-pub Sound-replica : (shape : Shape) (p : Parts) (i : ℕ) (old new : Replica) → Sound shape p → slice_get p.replicas i ≡ Some old
+pub Sound-replica : (shape : Shape) (p : Cores) (i : ℕ) (old new : Replica) → Sound shape p → slice_get p.replicas i ≡ Some old
     → Goes shape p.primary.durable old new → Sound shape (with_replica p i new)
 Sound-replica shape p i old new sound at goes = let names = names_of p.primary.schema in record {
   setup_is = sound.setup_is;
@@ -66,15 +66,15 @@ Sound-replica shape p i old new sound at goes = let names = names_of p.primary.s
 }
 
 -- nothing of a replica changes
-pub Follows-same : (shape : Shape) (p : Parts) (i : ℕ) (r : Replica) (output : Output) → Sound shape p → slice_get p.replicas i ≡ Some r
+pub Follows-same : (shape : Shape) (p : Cores) (i : ℕ) (r : Replica) (output : Output) → Sound shape p → slice_get p.replicas i ≡ Some r
     → Follows shape (output, world_of p) (output, with_replica p i r)
 Follows-same shape p i r output sound at =
     let same : p ≡ with_replica p i r =
     ap (λ (replicas : List Replica). record p { replicas = replicas }) (sym (set-same p.replicas i r at)) in
-    (ap (λ (p : Parts). (output, world_of p)) same, subst (Sound shape) same sound)
+    (ap (λ (p : Cores). (output, world_of p)) same, subst (Sound shape) same sound)
 
 -- what is noted of a replica changes
-pub Sound-noted : (shape : Shape) (p : Parts) (asked_at : List ℕ) → Sound shape p → length asked_at ≡ length p.asked_at
+pub Sound-noted : (shape : Shape) (p : Cores) (asked_at : List ℕ) → Sound shape p → length asked_at ≡ length p.asked_at
     → Sound shape (record p { asked_at = asked_at })
 Sound-noted shape p asked_at sound same = record {
   setup_is = sound.setup_is;
@@ -89,7 +89,7 @@ Sound-noted shape p asked_at sound same = record {
 
 -- ---- datagrams
 
-pub Sound-sent : (shape : Shape) (p : Parts) (more : List (List ℕ)) → Sound shape p
+pub Sound-sent : (shape : Shape) (p : Cores) (more : List (List ℕ)) → Sound shape p
     → ((i : ℕ) (bytes : List ℕ) → slice_get more i ≡ Some bytes
     → Tells p.primary.workers p.primary.durable (reading bytes))
     → Sound shape (record p { sent = p.sent ++ more })
@@ -106,7 +106,7 @@ Sound-sent shape p more sound means = record {
       [ inl old ↦ sound.sent_is i bytes old | inr new ↦ means new.0 bytes new.1 ];
 }
 
-pub Sound-one : (shape : Shape) (p : Parts) (bytes : List ℕ) → Sound shape p
+pub Sound-one : (shape : Shape) (p : Cores) (bytes : List ℕ) → Sound shape p
     → Tells p.primary.workers p.primary.durable (reading bytes)
     → Sound shape (with_sent p bytes)
 Sound-one shape p bytes sound means =
@@ -116,7 +116,7 @@ Sound-one shape p bytes sound means =
 
 -- ---- transactions
 
-pub Sound-transactions : (shape : Shape) (p : Parts) (transactions : List (Option Transaction)) → Sound shape p
+pub Sound-transactions : (shape : Shape) (p : Cores) (transactions : List (Option Transaction)) → Sound shape p
     → ((i : ℕ) (draft : Transaction) → slice_get transactions i ≡ Some (Some draft) → draft.snapshot ≤ length p.primary.durable)
     → Sound shape (record p { transactions = transactions })
 Sound-transactions shape p transactions sound are = record {
@@ -133,7 +133,7 @@ Sound-transactions shape p transactions sound are = record {
 -- ---- commits
 
 -- another commit is pending
-pub Sound-pending : (shape : Shape) (p : Parts) (pending : List Commit) → Sound shape p
+pub Sound-pending : (shape : Shape) (p : Cores) (pending : List Commit) → Sound shape p
     → Sound shape (record p { primary = record p.primary { pending = pending } })
 Sound-pending shape p pending sound = record {
   setup_is = sound.setup_is;
@@ -175,7 +175,7 @@ tells-stay workers durable more (Ok (datagrams.Head replica boot request version
 tells-stay workers durable more (Ok (datagrams.Want replica worker from)) h = tt
 
 -- what is durable grows, and other commits are pending behind it
-pub Sound-grown : (laws : FedLaws) (shape : Shape) (p : Parts) (more pending : List Commit)
+pub Sound-grown : (laws : FedLaws) (shape : Shape) (p : Cores) (more pending : List Commit)
     → IsLegal shape p.primary.workers (p.primary.durable ++ more) → Sound shape p
     → Sound shape (record p { primary = record p.primary { durable = p.primary.durable ++ more; pending = pending } })
 Sound-grown laws shape p more pending legal sound =
@@ -201,7 +201,7 @@ Sound-grown laws shape p more pending legal sound =
     }
 
 -- the primary fails, stops or starts, or its journal changes
-pub Sound-apart : (shape : Shape) (p : Parts) (failed stopped : Bool) (journal : List ℕ) → Sound shape p
+pub Sound-apart : (shape : Shape) (p : Cores) (failed stopped : Bool) (journal : List ℕ) → Sound shape p
     → Sound shape (record p { primary = record p.primary { failed = failed }; stopped = stopped; journal = journal })
 Sound-apart shape p failed stopped journal sound = record {
   setup_is = sound.setup_is;

@@ -7,7 +7,7 @@ use Rattle.rows.specs.declared.value.Value.{Value}
 use Rattle.mvcc.specs.declared.faults.TxFault.{TxFault}
 use Rattle.mvcc.specs.declared.faults.TxFault.TheVariants as changes
 use Rattle.mvcc.specs.Transaction.{Transaction}
-use Rattle.mvcc.specs.Transactions.{insert_answer, set_answer, delete_answer}
+use Rattle.mvcc.specs.Transactions.{insert_answer, set_answer, delete_answer, add_column_answer}
 use Rattle.rows.specs.Shape.{shape_of}
 use Rattle.primary.specs.declared.faults.CommitFault.{CommitFault}
 use Rattle.primary.specs.declared.faults.CommitFault.TheVariants as commits
@@ -18,7 +18,7 @@ use Rattle.wire.specs.declared.out.Out.{Out}
 use Rattle.dispatcher.specs.declared.faults.AskFault.{AskFault}
 use Rattle.dispatcher.specs.declared.faults.OpenFault.{OpenFault}
 use Rattle.dispatcher.specs.declared.faults.OpenFault.TheVariants as opens
-use Rattle.plans.specs.declared.plan.Plan.{Plan}
+use Rattle.queries.specs.declared.plan.Plan.{Plan}
 use Rattle.dispatcher.specs.declared.outcome.Run.{Run}
 use Rattle.dispatcher.specs.declared.outcome.Run.TheVariants as runs
 use Rattle.dispatcher.specs.State.{Replica}
@@ -31,7 +31,7 @@ use Rattle.script.specs.declared.output.Output.TheVariants as outputs
 use Rattle.world.specs.Outputs.{of_change, of_commit, of_look, of_open, of_ask}
 use Rattle.world.specs.Allowed.{takes_memory, asks_for_memory}
 use Rattle.world.specs.Inner.Naming.{of_changed}
-use Rattle.world.specs.Parts.{Parts}
+use Rattle.world.specs.Cores.{Cores}
 use Rattle.world.specs.Standing.{world_of}
 use Rattle.world.specs.Steps.{World, unless_stopped, open_transaction, happens, on_transaction, change_happens, commit_happens}
 use Rattle.world.specs.Steps.{abort_happens}
@@ -72,7 +72,7 @@ not-memory p worker draft told =
 -- ---- beside the replicas
 
 -- what happens in the world, where the replicas stay and the primary runs
-pub beside : (p old new : Parts) (event : Event) (output : Output) → p ≡ old → happens (world_of p) event ≡ (output, world_of new)
+pub beside : (p old new : Cores) (event : Event) (output : Output) → p ≡ old → happens (world_of p) event ≡ (output, world_of new)
     → new.stopped ≡ false → new.setup ≡ p.setup → new.replicas ≡ p.replicas → new.boots ≡ p.boots
     → new.asked_at ≡ p.asked_at
     → HappensBeside old event output new
@@ -87,7 +87,7 @@ beside p old new event output seen is running setup replicas boots asked_at =
     })
 
 -- nothing changes
-pub beside_same : (p old : Parts) (event : Event) (output : Output) → p ≡ old → happens (world_of p) event ≡ (output, world_of p)
+pub beside_same : (p old : Cores) (event : Event) (output : Output) → p ≡ old → happens (world_of p) event ≡ (output, world_of p)
     → HappensBeside old event output old
 beside_same p old event output seen is =
     subst (λ x. HappensBeside x event output x) seen
@@ -102,11 +102,11 @@ abbrev Asks : World → Event → Output → Type 0
 Asks w event answer = asks_for_memory w event answer ≡ true
 
 -- it is out of memory where it asks for some, and nothing has changed
-pub beside_memory : (p old new : Parts) (event : Event) (output : Output) (there : Output × World) → p ≡ old
+pub beside_memory : (p old new : Cores) (event : Event) (output : Output) (there : Output × World) → p ≡ old
     → happens (world_of p) event ≡ there → Asks (world_of p) event there.0 → output ≡ outputs.Memory → new ≡ old
     → HappensBeside old event output new
 beside_memory p old new event output there seen is asks memory same =
-    let asked = subst (λ (x : Parts). Asks (world_of x) event (happens (world_of x) event).0) seen
+    let asked = subst (λ (x : Cores). Asks (world_of x) event (happens (world_of x) event).0) seen
     (subst (λ (x : Output × World). Asks (world_of p) event x.0) (sym is) asks) in
     subst (λ x. HappensBeside old event output x) (sym same) (record {
       happens = inr (inl (memory, refl, asked));
@@ -122,15 +122,15 @@ abbrev pub AsksByAnswer : World → Event → Type 0
 AsksByAnswer w event = (answer : Output) → TakesMemory answer → Asks w event answer
 
 -- a primary that runs serves
-runs_on : (p : Parts) (next : Output × World) → p.stopped ≡ false → unless_stopped (world_of p) next ≡ next
+runs_on : (p : Cores) (next : Output × World) → p.stopped ≡ false → unless_stopped (world_of p) next ≡ next
 runs_on p next running = ap (λ (stopped : Bool). cond stopped (outputs.Stopped, world_of p) next) running
 
 -- the parts with these transactions
-abbrev with_slots : Parts → List (Option Transaction) → Parts
+abbrev with_slots : Cores → List (Option Transaction) → Cores
 with_slots p slots = record p { transactions = slots }
 
 -- what stood in a slot is put back there
-put_same : (p : Parts) (number : ℕ) (slot : Option Transaction) (left : List (Option Transaction))
+put_same : (p : Cores) (number : ℕ) (slot : Option Transaction) (left : List (Option Transaction))
     → open_transaction p.transactions number ≡ slot
     → left ≡ slice_set p.transactions number slot → p ≡ with_slots p left
 put_same p number slot left at is = ap (with_slots p) (sym (is ∙ slot_same p.transactions number slot at))
@@ -140,7 +140,7 @@ abbrev change_in : World → ℕ → (Transaction → Result Transaction TxFault
 change_in w number change slot = on_transaction w slot (λ draft. change_happens w number (change draft))
 
 -- an event that changes a transaction of a primary that runs
-pub change-is : (p : Parts) (number : ℕ) (event : Event) → ChangesTransaction number event → p.stopped ≡ false
+pub change-is : (p : Cores) (number : ℕ) (event : Event) → ChangesTransaction number event → p.stopped ≡ false
     → happens (world_of p) event
     ≡ change_in (world_of p) number (change_answer (shape_of p.primary.schema) p.primary.durable event)
     (open_transaction p.transactions number)
@@ -156,15 +156,20 @@ change-is p number (events.Delete transaction table row) is running =
     runs_on p _ running ∙ ap (λ n. change_in (world_of p) n
     (λ draft. delete_answer (shape_of p.primary.schema) p.primary.durable draft table row.0) (open_transaction p.transactions n))
     (sym is)
+change-is p number (events.AddColumn transaction table default) is running =
+    runs_on p _ running ∙ ap (λ n. change_in (world_of p) n
+    (λ draft. add_column_answer (shape_of p.primary.schema) p.primary.durable draft table default) (open_transaction p.transactions n))
+    (sym is)
 change-is p number other is running = absurd is
 
 pub change-asks : (w : World) (number : ℕ) (event : Event) → ChangesTransaction number event → AsksByAnswer w event
 change-asks w number (events.Insert transaction table row values) is answer takes = takes
 change-asks w number (events.Set transaction table row column value) is answer takes = takes
 change-asks w number (events.Delete transaction table row) is answer takes = takes
+change-asks w number (events.AddColumn transaction table default) is answer takes = takes
 change-asks w number other is answer takes = absurd is
 
-module _ (p old : Parts) (seen : p ≡ old) (running : p.stopped ≡ false) (number : ℕ) where
+module _ (p old : Cores) (seen : p ≡ old) (running : p.stopped ≡ false) (number : ℕ) where
   -- a change of a transaction, which is taken out of its slot, changed or not, and put back
   module _ (event : Event) (change : Transaction → Result Transaction TxFault)
       (is_change : happens (world_of p) event ≡ change_in (world_of p) number change (open_transaction p.transactions number)) where
@@ -273,7 +278,7 @@ module _ (p old : Parts) (seen : p ≡ old) (running : p.stopped ≡ false) (num
       (is ∙ set-set p.transactions number None (Some after) ∙ ap (λ x. slice_set p.transactions number (Some x)) same)) ∙ seen
 
   module _ (worker : ℕ) where
-    commit_by : (slot : Option Transaction) (output : Output) (new : Parts) → open_transaction p.transactions number ≡ slot
+    commit_by : (slot : Option Transaction) (output : Output) (new : Cores) → open_transaction p.transactions number ≡ slot
         → on_transaction (world_of p) slot (λ draft. commit_happens (world_of p) number worker draft (commit_answer p.primary worker draft))
         ≡ (output, world_of new)
         → new.stopped ≡ false → new.setup ≡ p.setup → new.replicas ≡ p.replicas → new.boots ≡ p.boots
@@ -365,7 +370,7 @@ waits_same old new worker seq want (inr lacks) = elim lacks.2 [
 
 -- ---- calls on a replica
 
-module _ (p old : Parts) (seen : p ≡ old) (number : ℕ) where
+module _ (p old : Cores) (seen : p ≡ old) (number : ℕ) where
   module _ (before after : Replica) (at : slice_get p.replicas number ≡ Some before) where
     pub replica_same : after ≡ before → p ≡ with_replica p number after
     replica_same same =
@@ -373,7 +378,7 @@ module _ (p old : Parts) (seen : p ≡ old) (number : ℕ) where
         (sym (ap (slice_set p.replicas number) same ∙ set_same p.replicas number before at))
 
     module _ (plan : Plan) where
-      by_replica : (output : Output) (new : Parts) → opening_query p number (opened before plan) ≡ (output, new)
+      by_replica : (output : Output) (new : Cores) → opening_query p number (opened before plan) ≡ (output, new)
           → MayStep old (events.Open number plan) output new
       by_replica output new is = subst (λ x. MayStep x (events.Open number plan) output new) seen (inl (ap (open_by p number plan) at ∙ is))
 
@@ -384,7 +389,7 @@ module _ (p old : Parts) (seen : p ≡ old) (number : ℕ) where
       -- a query that is opened takes memory
       pub open_takes : IsOk (opened before plan) → TakesMemory (open_by old number plan (slice_get old.replicas number)).0
       open_takes ok =
-          subst (λ (x : Parts). TakesMemory (open_by x number plan (slice_get x.replicas number)).0) seen
+          subst (λ (x : Cores). TakesMemory (open_by x number plan (slice_get x.replicas number)).0) seen
           (subst (λ (found : Option Replica). TakesMemory (open_by p number plan found).0) (sym at) (by (opened before plan) ok))
         where
           by : (answer : Result (ℕ × Replica) OpenFault) → IsOk answer → TakesMemory (opening_query p number answer).0
@@ -413,7 +418,7 @@ module _ (p old : Parts) (seen : p ≡ old) (number : ℕ) where
         (subst (λ (found : Option Replica). ReplicaRunsBy p number found output new) (sym at) (answer, after, may, inl refl))
 
     -- a run that waits for a frame has changed nothing, so that its Want may lack memory
-    pub run_waits : (worker seq : ℕ) (want : Out) → MayRun before (runs.Waiting worker seq want) after → (output : Output) (new : Parts)
+    pub run_waits : (worker seq : ℕ) (want : Out) → MayRun before (runs.Waiting worker seq want) after → (output : Output) (new : Cores)
         → ((output ≡ waiting_for p worker seq want.packet) × (new ≡ with_sent (with_replica p number after) want.packet))
         ⊎ ((output ≡ outputs.Memory) × (new ≡ with_replica p number after))
         → MayStep old (events.Run number) output new
@@ -426,7 +431,7 @@ module _ (p old : Parts) (seen : p ≡ old) (number : ℕ) where
           may,
           elim wants [
             | inl sent ↦
-                let same : ◌≡◌ {A = Output × Parts} (output, new) (run_output p number (answer, after)) = cc (sent.0, sent.1) in
+                let same : ◌≡◌ {A = Output × Cores} (output, new) (run_output p number (answer, after)) = cc (sent.0, sent.1) in
                 inl (sym same)
             | inr lacks ↦ inr (lacks.0, lacks.1 ∙ sym (replica_same (waits_same before after worker seq want may)), refl)
           ],

@@ -20,13 +20,13 @@ use Rattle.world.specs.declared.primary_node.PrimaryNode.{PrimaryNode}
 use Rattle.world.specs.Inner.Running.{Running as RunningOf}
 use Rattle.world.specs.Inner.Nodes.{primary_kept, primary_in, is_stopped, journal_bytes_in}
 use Rattle.world.specs.declared.primary_node.PrimaryNode.TheVariants.{Running}
-use Rattle.world.specs.Parts.{Parts, parts_started, replicas_from, zeros}
+use Rattle.world.specs.Cores.{Cores, cores_started, replicas_from, zeros}
 use Rattle.world.specs.Standing.{world_of}
 use Rattle.world.specs.Stops.{stopped_at, closed}
 use Rattle.world.proofs.Stops.{stop-recovered}
 
 -- the parts, by the primary's node
-abbrev pub parts_with : Setup → PrimaryNode → List (Option Transaction) → List (List ℕ) → List Replica → List (List ℕ) → List ℕ → Parts
+abbrev pub parts_with : Setup → PrimaryNode → List (Option Transaction) → List (List ℕ) → List Replica → List (List ℕ) → List ℕ → Cores
 parts_with setup node transactions sent replicas boots asked_at = record {
   setup = setup;
   primary = primary_in setup node;
@@ -41,7 +41,7 @@ parts_with setup node transactions sent replicas boots asked_at = record {
 
 -- what the parts are where the primary's node is known
 pub node_seen : (setup : Setup) (node known : PrimaryNode) (transactions : List (Option Transaction)) (sent : List (List ℕ))
-    (replicas : List Replica) (boots : List (List ℕ)) (asked_at : List ℕ) (old : Parts) → node ≡ known
+    (replicas : List Replica) (boots : List (List ℕ)) (asked_at : List ℕ) (old : Cores) → node ≡ known
     → parts_with setup node transactions sent replicas boots asked_at ≡ old
     → parts_with setup known transactions sent replicas boots asked_at ≡ old
 node_seen setup node known transactions sent replicas boots asked_at old is seen =
@@ -60,9 +60,9 @@ pub parts_made : (setup copy : Setup) (core : RunningOf) (transactions : List (O
     → core.journal.bytes ≡ journal_text setup.workers (shape_of setup.schema) core.primary.durable → transactions ≡ [] → sent ≡ []
     → replicas ≡ replicas_from setup.schema setup.workers 0 setup.replicas → boots ≡ replicate setup.replicas (1 ∷ [])
     → asked_at ≡ zeros setup.replicas
-    → parts_with copy (Running core) transactions sent replicas boots asked_at ≡ parts_started setup
+    → parts_with copy (Running core) transactions sent replicas boots asked_at ≡ cores_started setup
 parts_made setup copy core transactions sent replicas boots asked_at same primary text none unsent made first noted =
-    let start = parts_started setup in
+    let start = cores_started setup in
     let bytes = text ∙ ap (λ (p : Primary). journal_text setup.workers (shape_of setup.schema) p.durable) primary in
     let all
     : (copy, core.primary, core.journal.bytes, transactions, sent, replicas, boots, asked_at)
@@ -135,7 +135,7 @@ module _ (stops : StopsAreRecovered) (setup : Setup) (p : Primary) (bytes : ℕ)
 
 module _ (setup : Setup) (p : Primary) (journal : List ℕ) (transactions : List (Option Transaction)) (sent : List (List ℕ))
     (replicas : List Replica) (boots : List (List ℕ)) (asked_at : List ℕ) where
-  abbrev running : Parts
+  abbrev running : Cores
   running = record {
     setup = setup;
     primary = p;
@@ -148,7 +148,7 @@ module _ (setup : Setup) (p : Primary) (journal : List ℕ) (transactions : List
     asked_at = asked_at;
   }
 
-  abbrev stopped : List Commit → List ℕ → List (Option Transaction) → Parts
+  abbrev stopped : List Commit → List ℕ → List (Option Transaction) → Cores
   stopped kept bytes slots = record {
     setup = setup;
     primary = primary_kept setup kept;
@@ -162,7 +162,7 @@ module _ (setup : Setup) (p : Primary) (journal : List ℕ) (transactions : List
   }
 
   -- the primary stops, and leaves the bytes that the stop names
-  pub stop_done : (old : Parts) (bytes count : ℕ) (content : List ℕ) (kept : List Commit) (left : List ℕ)
+  pub stop_done : (old : Cores) (bytes count : ℕ) (content : List ℕ) (kept : List Commit) (left : List ℕ)
       (slots : List (Option Transaction))
       → running ≡ old → (setup.schema ≡ p.schema) × (setup.workers ≡ p.workers) → kept ≡ (stopped_at p bytes).durable
       → IsRecovered setup.workers (shape_of setup.schema) content kept count → left ≡ content
@@ -175,7 +175,7 @@ module _ (setup : Setup) (p : Primary) (journal : List ℕ) (transactions : List
       ap (λ (x : List (List ℕ × List Kind) × ℕ × List Commit). record
       (primary_kept setup kept) { schema = x.0; workers = x.1; durable = x.2 }) all in
       let happened : (stopped_at p bytes, closed transactions) ≡ (primary_kept setup kept, slots) = cc (made, over) in
-      subst (λ (x : Parts). MayStep x (Stop bytes) outputs.Stopped (stopped kept left slots)) seen (
+      subst (λ (x : Cores). MayStep x (Stop bytes) outputs.Stopped (stopped kept left slots)) seen (
         record {
           happens = inl (ap (λ (x : Primary × List (Option Transaction)).
               (outputs.Stopped, record w { primary = x.0; stopped = true; transactions = x.1 })) happened);
@@ -192,11 +192,11 @@ module _ (setup : Setup) (p : Primary) (journal : List ℕ) (transactions : List
       )
 
   -- it starts on what is kept
-  pub start_done : (old : Parts) (kept : List Commit) (bytes : List ℕ) → stopped kept bytes transactions ≡ old → p ≡ primary_kept setup kept
+  pub start_done : (old : Cores) (kept : List Commit) (bytes : List ℕ) → stopped kept bytes transactions ≡ old → p ≡ primary_kept setup kept
       → HappensBeside old Start (outputs.Durable (length p.durable)) running
   start_done old kept bytes seen same =
       let w = world_of (stopped kept bytes transactions) in
-      subst (λ (x : Parts). HappensBeside x Start (outputs.Durable (length p.durable)) running) seen (record {
+      subst (λ (x : Cores). HappensBeside x Start (outputs.Durable (length p.durable)) running) seen (record {
         happens = inl (ap (λ (x : Primary). (outputs.Durable (length x.durable), record w { primary = x; stopped = false })) (sym same));
         setup = refl;
         replicas = refl;
@@ -206,11 +206,11 @@ module _ (setup : Setup) (p : Primary) (journal : List ℕ) (transactions : List
       })
 
   -- it is out of memory, and stays stopped
-  pub start_lacks : (old : Parts) (kept : List Commit) (bytes back : List ℕ) (count : ℕ) → stopped kept bytes transactions ≡ old
+  pub start_lacks : (old : Cores) (kept : List Commit) (bytes back : List ℕ) (count : ℕ) → stopped kept bytes transactions ≡ old
       → IsRecovered setup.workers (shape_of setup.schema) back kept count
       → HappensBeside old Start outputs.Memory (stopped kept back transactions)
   start_lacks old kept bytes back count seen found =
-      subst (λ (x : Parts). HappensBeside x Start outputs.Memory (stopped kept back transactions)) seen (record {
+      subst (λ (x : Cores). HappensBeside x Start outputs.Memory (stopped kept back transactions)) seen (record {
         happens = inr (inl (refl, refl, refl));
         setup = refl;
         replicas = refl;

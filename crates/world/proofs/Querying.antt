@@ -15,9 +15,9 @@ use Rattle.wire.specs.declared.datagram.Datagram.TheVariants as datagrams
 use Rattle.wire.specs.declared.out.Out.{Out}
 use Rattle.wire.specs.Reading.{reading}
 use Rattle.wire.specs.Spelling.{spelling}
-use Rattle.plans.specs.declared.plan.Plan.{Plan}
-use Rattle.plans.specs.declared.faults.PlanFault.{PlanFault}
-use Rattle.plans.specs.Checking.{checked}
+use Rattle.queries.specs.declared.plan.Plan.{Plan}
+use Rattle.queries.specs.declared.faults.PlanFault.{PlanFault}
+use Rattle.queries.specs.Checking.{checked}
 use Rattle.dispatcher.specs.declared.faults.OpenFault.{OpenFault}
 use Rattle.dispatcher.specs.declared.faults.OpenFault.TheVariants as faults
 use Rattle.dispatcher.specs.declared.faults.AskFault.{AskFault}
@@ -29,7 +29,7 @@ use Rattle.dispatcher.specs.TableText.{names_of}
 use Rattle.dispatcher.specs.Steps.{stepped, opened, asked}
 use Rattle.script.specs.declared.output.Output.{Output}
 use Rattle.script.specs.declared.output.Output.TheVariants as outputs
-use Rattle.world.specs.Parts.{Parts}
+use Rattle.world.specs.Cores.{Cores}
 use Rattle.world.specs.Inner.CoreSteps.{with_replica, with_sent, open_by, opening_query, ask_by, asking, sent_one}
 use Rattle.world.specs.Steps.{World, Member, open_happens, ask_happens, send, on_member, durable_tables}
 use Rattle.world.proofs.Lists.{set-same}
@@ -58,7 +58,7 @@ opened-is r plan tables same = by r.broken same
     by true same = refl
     by false same = ap (opens false) (same refl)
 
-pub query-opens : (laws : FedLaws) (shape : Shape) (p : Parts) (i : ℕ) (plan : Plan) (found : Option Replica) → Sound shape p
+pub query-opens : (laws : FedLaws) (shape : Shape) (p : Cores) (i : ℕ) (plan : Plan) (found : Option Replica) → Sound shape p
     → slice_get p.replicas i ≡ found
     → Follows shape
     (on_member (world_of p) (option_map (member_at p i) found) (λ m. open_happens (world_of p) m
@@ -103,14 +103,14 @@ ask-tells reads workers durable number boot request number_below boot_below =
     subst (Tells workers durable) (sym (ask-read reads number boot request number_below boot_below)) tt
 
 -- the number of a replica that is there
-number-below : (shape : Shape) (p : Parts) (i : ℕ) (r : Replica) → Sound shape p → slice_get p.replicas i ≡ Some r → r.number < REPLICAS_MAX
+number-below : (shape : Shape) (p : Cores) (i : ℕ) (r : Replica) → Sound shape p → slice_get p.replicas i ≡ Some r → r.number < REPLICAS_MAX
 number-below shape p i r sound here =
     let few = sound.few in
     let number = (sound.fed i r here).number_is in
     let within = slice_get_within p.replicas i r here in
     omega arith
 
-module _ (laws : FedLaws) (shape : Shape) (p : Parts) (i : ℕ) (r : Replica) (sound : Sound shape p) (here : slice_get p.replicas i ≡ Some r)
+module _ (laws : FedLaws) (shape : Shape) (p : Cores) (i : ℕ) (r : Replica) (sound : Sound shape p) (here : slice_get p.replicas i ≡ Some r)
   where
     abbrev w : World
     w = world_of p
@@ -148,7 +148,7 @@ module _ (laws : FedLaws) (shape : Shape) (p : Parts) (i : ℕ) (r : Replica) (s
         let bytes = (ask_for r.number r.boot r.request).packet in
         let same : with_sent p bytes ≡ with_sent (with_replica p i r) bytes =
         ap (λ (replicas : List Replica). with_sent (record p { replicas = replicas }) bytes) (sym (set-same p.replicas i r here)) in (
-          ap (λ (p' : Parts). (sent_one p bytes, world_of p')) same,
+          ap (λ (p' : Cores). (sent_one p bytes, world_of p')) same,
           subst (Sound shape) same (Sound-one shape p bytes sound
               (ask-tells laws.steps.reads p.primary.workers p.primary.durable r.number r.boot r.request
               (number-below shape p i r sound here) (sound.fed i r here).boot_is.below)),
@@ -178,7 +178,7 @@ module _ (laws : FedLaws) (shape : Shape) (p : Parts) (i : ℕ) (r : Replica) (s
         by None = asks-again batch
         by (Some fetched) = (refl, sound)
 
-pub version-asked : (laws : FedLaws) (shape : Shape) (p : Parts) (i : ℕ) (found : Option Replica) → Sound shape p
+pub version-asked : (laws : FedLaws) (shape : Shape) (p : Cores) (i : ℕ) (found : Option Replica) → Sound shape p
     → slice_get p.replicas i ≡ found
     → Follows shape
     (on_member (world_of p) (option_map (member_at p i) found)

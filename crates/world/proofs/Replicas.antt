@@ -18,7 +18,7 @@ use Rattle.intake.specs.State.{Arrivals, arrivals_of}
 use Rattle.intake.specs.Steps.{with_frame, taken}
 use Rattle.dispatcher.specs.declared.outcome.Got.{Got}
 use Rattle.dispatcher.specs.declared.outcome.Got.TheVariants as got
-use Rattle.plans.specs.declared.plan.Plan.{Plan}
+use Rattle.queries.specs.declared.plan.Plan.{Plan}
 use Rattle.dispatcher.specs.Feeding.{Tells}
 use Rattle.dispatcher.specs.State.{Replica, Batch, Fetched}
 use Rattle.dispatcher.specs.Protocol.{is_own, takes_head}
@@ -27,7 +27,7 @@ use Rattle.dispatcher.specs.Steps.{received, headed, own_head_comes, goes_on, go
 use Rattle.script.specs.declared.output.Output.{Output}
 use Rattle.script.specs.declared.output.Output.TheVariants as outputs
 use Rattle.world.specs.Outputs.{of_got}
-use Rattle.world.specs.Parts.{Parts}
+use Rattle.world.specs.Cores.{Cores}
 use Rattle.world.specs.Inner.CoreSteps.{with_replica, got_by, to_replica}
 use Rattle.world.specs.Steps.{World, Member, arrived, known_in, head_happens, datagram_happens, member_output, on_member}
 use Rattle.world.specs.Inner.Sound.{Sound, IsFed}
@@ -93,7 +93,7 @@ taken-known arrivals frame =
 -- ---- bytes
 
 -- a replica that goes on, and the member that does as it does
-pub Follows-goes : (shape : Shape) (p : Parts) (i : ℕ) (r : Replica) (there : Output × Member) (output : Output) (new : Replica)
+pub Follows-goes : (shape : Shape) (p : Cores) (i : ℕ) (r : Replica) (there : Output × Member) (output : Output) (new : Replica)
     → Sound shape p → slice_get p.replicas i ≡ Some r
     → there ≡ (output, member_at p i new) → Goes shape p.primary.durable r new
     → Follows shape (member_output (world_of p) there) (output, with_replica p i new)
@@ -108,7 +108,7 @@ abbrev awaits : Option Batch → Bool
 awaits None = false
 awaits (Some batch) = is_none batch.fetched
 
-module _ (laws : FedLaws) (shape : Shape) (p : Parts) (i : ℕ) (r : Replica) (sound : Sound shape p) (fresh : Fresh (world_of p))
+module _ (laws : FedLaws) (shape : Shape) (p : Cores) (i : ℕ) (r : Replica) (sound : Sound shape p) (fresh : Fresh (world_of p))
     (here : slice_get p.replicas i ≡ Some r) (bytes : List ℕ) (whole : r.broken ≡ false) where
   abbrev m : Member
   m = member_at p i r
@@ -212,7 +212,7 @@ module _ (laws : FedLaws) (shape : Shape) (p : Parts) (i : ℕ) (r : Replica) (s
         identity = laws.identity.by_bytes r bytes;
       })
 
-pub bytes-come : (laws : FedLaws) (shape : Shape) (p : Parts) (i : ℕ) (bytes : List ℕ) (found : Option Replica) → Sound shape p
+pub bytes-come : (laws : FedLaws) (shape : Shape) (p : Cores) (i : ℕ) (bytes : List ℕ) (found : Option Replica) → Sound shape p
     → Fresh (world_of p) → Means p (reading bytes) → slice_get p.replicas i ≡ found
     → Follows shape
     (on_member (world_of p) (option_map (member_at p i) found)

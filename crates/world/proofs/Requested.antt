@@ -8,11 +8,11 @@ use Rattle.dispatcher.specs.State.{Replica}
 use Rattle.script.specs.declared.event.Event.{Event}
 use Rattle.script.specs.declared.output.Output.{Output}
 use Rattle.script.specs.declared.setup.Setup.{Setup}
-use Rattle.world.specs.Parts.{Parts}
+use Rattle.world.specs.Cores.{Cores}
 use Rattle.world.specs.Steps.{World, Member, fresh_from, opening_world, with_member}
 use Rattle.world.specs.Allowed.{MayHappen}
 use Rattle.world.specs.Standing.{world_of, members_of}
-use Rattle.world.specs.Inner.Invariant.{IsReady, IsRequested, PartsAreKept}
+use Rattle.world.specs.Inner.Invariant.{IsReady, IsRequested, CoresAreKept}
 use Rattle.world.proofs.Slots.{all_at, all_set, all_weaker}
 use Rattle.world.proofs.WorldMoves.{ask_bytes, new_batch, Change, Move, restarts, sends, asks, becomes}
 use Rattle.world.proofs.WorldMoves.{step-moves}
@@ -99,7 +99,7 @@ members-length [] boots asked_at = refl
 members-length (r ∷ replicas) boots asked_at = ap suc (members-length replicas (drop 1 boots) (drop 1 asked_at))
 
 -- the world has as many replicas
-pub as-many : (p : Parts) → length (world_of p).members ≡ length p.replicas
+pub as-many : (p : Cores) → length (world_of p).members ≡ length p.replicas
 as-many p = members-length p.replicas p.boots p.asked_at
 
 requests-made : (replicas : List Replica) (boots : List (List ℕ)) (asked_at : List ℕ) (count : ℕ)
@@ -118,7 +118,7 @@ snapshots-known durable (Some draft ∷ slots) are =
     (are 0 draft refl, snapshots-known durable slots (λ i other here. are (suc i) other here))
 
 -- the parts of a world are ready for its calls
-pub kept-ready : (p : Parts) → PartsAreKept p → IsReady p
+pub kept-ready : (p : Cores) → CoresAreKept p → IsReady p
 kept-ready p kept = record {
   setup_is = kept.sound.setup_is;
   workers_some = kept.sound.primary_is.workers_some;

@@ -23,7 +23,7 @@ use Rattle.dispatcher.specs.Steps.{started_replica as replica_started}
 use Rattle.script.specs.declared.event.Event.TheVariants.{Restart}
 use Rattle.script.specs.declared.output.Output.{Output}
 use Rattle.script.specs.declared.output.Output.TheVariants as outputs
-use Rattle.world.specs.Parts.{Parts}
+use Rattle.world.specs.Cores.{Cores}
 use Rattle.world.specs.Standing.{boots_at, member_of, world_of}
 use Rattle.world.specs.Steps.{World, Member, had_boot, restarted, with_member}
 use Rattle.world.specs.Inner.Boots.{IsOfBoot}
@@ -70,7 +70,7 @@ restarted-member schema workers i boot at had old is =
     ap (λ (x : ℕ × List (List ℕ)). record m { known = x.1; protocol = started_protocol x.0 boot }) (cc (sym is, known-started workers))
 
 -- the world with the member as it is then
-pub world-restarts : (p : Parts) (i boot : ℕ) (old : Replica) → length p.boots ≡ length p.replicas → old.number ≡ i
+pub world-restarts : (p : Cores) (i boot : ℕ) (old : Replica) → length p.boots ≡ length p.replicas → old.number ≡ i
     → world_of (with_restarted p i boot) ≡ with_member (world_of p) (restarted p.primary.workers (member_at p i old) boot)
 world-restarts p i boot old there is =
     let schema = p.primary.schema in
@@ -111,7 +111,7 @@ others-fed shape names workers durable boots i boot j r fed = record {
   boot_is = record { had = boots-grow boots i boot j r.boot fed.boot_is.had; below = fed.boot_is.below };
 }
 
-pub Sound-restarted : (laws : FedLaws) (shape : Shape) (p : Parts) (i boot : ℕ) (old : Replica) → Sound shape p
+pub Sound-restarted : (laws : FedLaws) (shape : Shape) (p : Cores) (i boot : ℕ) (old : Replica) → Sound shape p
     → slice_get p.replicas i ≡ Some old → (Contains (boots_at p.boots i) boot → ⊥) → boot < 2 ^ 64
     → Sound shape (with_restarted p i boot)
 Sound-restarted laws shape p i boot old sound at never below =
@@ -145,7 +145,7 @@ Sound-restarted laws shape p i boot old sound at never below =
     }
 
 -- what a restart does in the world, and that it leaves sound parts, by what it answers
-pub restart-follows : (laws : FedLaws) (shape : Shape) (p : Parts) (i boot : ℕ) (old : Replica) (used done : Output) → Sound shape p
+pub restart-follows : (laws : FedLaws) (shape : Shape) (p : Cores) (i boot : ℕ) (old : Replica) (used done : Output) → Sound shape p
     → slice_get p.replicas i ≡ Some old → boot < 2 ^ 64
     → Follows shape
     (cond (had_boot (boots_at p.boots i) boot) (used, world_of p)
@@ -236,21 +236,21 @@ index-at [] i had at = absurd (none-some had at)
 index-at (first ∷ boots) zero had at = same_Some first had at
 index-at (first ∷ boots) (suc i) had at = index-at boots i had at
 
-module _ (p old : Parts) (seen : p ≡ old) (number boot : ℕ) (below : boot < 2 ^ 64) (had : List ℕ)
+module _ (p old : Cores) (seen : p ≡ old) (number boot : ℕ) (below : boot < 2 ^ 64) (had : List ℕ)
     (at : slice_get p.boots number ≡ Some had) where
   -- the parts with this replica and these boots in the place of what stood there
-  abbrev placed : Replica → List ℕ → Parts
+  abbrev placed : Replica → List ℕ → Cores
   placed new after = record p { replicas = slice_set p.replicas number new; boots = slice_set p.boots number after }
 
   -- a boot that it never had takes memory
   pub restart_takes : number < length p.replicas → had_boot had boot ≡ false
       → TakesMemory (restart_by old number boot (slice_get old.replicas number)).0
   restart_takes there none =
-      subst (λ (x : Parts). TakesMemory (restart_by x number boot (slice_get x.replicas number)).0) seen
+      subst (λ (x : Cores). TakesMemory (restart_by x number boot (slice_get x.replicas number)).0) seen
       (elim (slice_get_cases p.replicas number).1 [
         | inl found ↦ subst (λ (r : Option Replica). TakesMemory (restart_by p number boot r).0) (sym found.2)
             (subst (λ (used : Bool). TakesMemory
-            (cond {A = Output × Parts} used (outputs.BootUsed, p) (outputs.Boot boot, with_restarted p number boot)).0)
+            (cond {A = Output × Cores} used (outputs.BootUsed, p) (outputs.Boot boot, with_restarted p number boot)).0)
             (sym (ap (λ (l : List ℕ). had_boot l boot) (index-at p.boots number had at) ∙ none)) refl)
         | inr past ↦ absurd (omega (arith, there, past.0))
       ])
@@ -272,10 +272,10 @@ module _ (p old : Parts) (seen : p ≡ old) (number boot : ℕ) (below : boot < 
       → MayStep old (Restart number boot) (outputs.Boot boot) (placed new after)
   restart_done r new after there none grown made =
       let is = index-at p.boots number had at in
-      let answer : Bool → Output × Parts = λ used. cond used (outputs.BootUsed, p) (outputs.Boot boot, with_restarted p number boot) in
-      let told : Replica × List ℕ → Output × Parts = λ x. (outputs.Boot boot, placed x.0 x.1) in
+      let answer : Bool → Output × Cores = λ used. cond used (outputs.BootUsed, p) (outputs.Boot boot, with_restarted p number boot) in
+      let told : Replica × List ℕ → Output × Cores = λ x. (outputs.Boot boot, placed x.0 x.1) in
       let stands : ◌≡◌ {A = Replica × List ℕ}
       (replica_started p.primary.schema p.primary.workers number boot, boots_at p.boots number ++ boot ∷ [])
       (new, after) = cc (is, grown, made) in
-      subst (λ (x : Parts). MayStep x (Restart number boot) (outputs.Boot boot) (placed new after)) seen
+      subst (λ (x : Cores). MayStep x (Restart number boot) (outputs.Boot boot) (placed new after)) seen
       (below, inl (ap (restart_by p number boot) there ∙ ap answer (ap (λ (l : List ℕ). had_boot l boot) is ∙ none) ∙ ap told stands))

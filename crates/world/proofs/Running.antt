@@ -13,7 +13,7 @@ use Rattle.intake.specs.State.{Arrivals}
 use Rattle.intake.specs.Steps.{dropped, lacking_from as arrivals_lacking_from}
 use Rattle.dispatcher.specs.declared.outcome.Run.{Run}
 use Rattle.dispatcher.specs.declared.outcome.Run.TheVariants as runs
-use Rattle.plans.specs.declared.plan.Plan.{Plan}
+use Rattle.queries.specs.declared.plan.Plan.{Plan}
 use Rattle.dispatcher.specs.Feeding.{IsFedFrom, Tells}
 use Rattle.dispatcher.specs.State.{Replica, Batch, Fetched, protocol_of}
 use Rattle.dispatcher.specs.Protocol.{Readiness, Broken, NoBatch, WaitsForHead, WaitsForFrame, Ready, want_for, readiness, fetched_in}
@@ -21,7 +21,7 @@ use Rattle.dispatcher.specs.Report.{report_of}
 use Rattle.dispatcher.specs.Steps.{at_fetched, broken_of, readiness_of, CaughtUp, RunsAs, RunsOutOfMemory}
 use Rattle.script.specs.declared.output.Output.{Output}
 use Rattle.script.specs.declared.output.Output.TheVariants as outputs
-use Rattle.world.specs.Parts.{Parts}
+use Rattle.world.specs.Cores.{Cores}
 use Rattle.world.specs.Inner.CoreSteps.{with_replica, with_sent, run_output}
 use Rattle.world.specs.Steps.{World, Member, arrived, known_in, readiness_at, run_happens, with_member}
 use Rattle.world.specs.Allowed.{RunIsInterrupted}
@@ -67,7 +67,7 @@ caught-member had at r fetched tables batch = λ i. record (member_of had at r) 
 
 -- ---- the run
 
-module _ (laws : FedLaws) (shape : Shape) (p : Parts) (i : ℕ) (r : Replica) (sound : Sound shape p) (here : slice_get p.replicas i ≡ Some r)
+module _ (laws : FedLaws) (shape : Shape) (p : Cores) (i : ℕ) (r : Replica) (sound : Sound shape p) (here : slice_get p.replicas i ≡ Some r)
   where
     -- a run that leaves the replica as it was
     run-same : (there : Output × World) (answer : Run) (after : Replica) (known : Run) → after ≡ r → answer ≡ known
@@ -86,7 +86,7 @@ module _ (laws : FedLaws) (shape : Shape) (p : Parts) (i : ℕ) (r : Replica) (s
         ap (λ (replicas : List Replica). with_sent (record p { replicas = replicas }) bytes) (sym (set-same p.replicas i r here)) in
         let tells : Tells p.primary.workers p.primary.durable (reading bytes) =
         want-reads (Tells p.primary.workers p.primary.durable) (λ fault. tt) (λ replica worker from. tt) r.number worker seq in
-        (ap (λ (p : Parts). (output, world_of p)) same, subst (Sound shape) same (Sound-one shape p bytes sound tells))
+        (ap (λ (p : Cores). (output, world_of p)) same, subst (Sound shape) same (Sound-one shape p bytes sound tells))
 
     run-finishes : (plans : List Plan) (fetched : Fetched) (answer : Run) (after : Replica)
         → readiness_of r ≡ Ready plans fetched → RunsAs (readiness_of r) r answer after
@@ -147,7 +147,7 @@ abbrev pub Cuts : World → Option Member → Output → World → Type 0
 Cuts w found output new = ((output ≡ outputs.Memory) × (new ≡ w)) ⊎ RunIsInterrupted w found output new
 
 -- a cut run, and sound parts after it
-abbrev Ends : Shape → Parts → Member → Output × Parts → Type 0
+abbrev Ends : Shape → Cores → Member → Output × Cores → Type 0
 Ends shape p m answer = Cuts (world_of p) (Some m) answer.0 (world_of answer.1) × Sound shape answer.1
 
 -- the tables of a replica that has caught up
@@ -160,7 +160,7 @@ caught-up old fetched new caught = by (apply_commits old.tables caught.commits) 
     by (Ok tables) h = (tables, h)
     by (Err refusal) h = absurd h
 
-module _ (laws : FedLaws) (shape : Shape) (p : Parts) (i : ℕ) (r : Replica) (sound : Sound shape p) (here : slice_get p.replicas i ≡ Some r)
+module _ (laws : FedLaws) (shape : Shape) (p : Cores) (i : ℕ) (r : Replica) (sound : Sound shape p) (here : slice_get p.replicas i ≡ Some r)
   where
     memory-same : Ends shape p (member_at p i r) (outputs.Memory, with_replica p i r)
     memory-same =

@@ -15,6 +15,7 @@ module _ (shape : Shape) (durable pending : List Commit) (draft : Transaction)
   change-told (events.Insert transaction table row values) = rw (tables-stay shape durable pending draft.snapshot known) refl
   change-told (events.Set transaction table row column value) = rw (tables-stay shape durable pending draft.snapshot known) refl
   change-told (events.Delete transaction table row) = rw (tables-stay shape durable pending draft.snapshot known) refl
+  change-told (events.AddColumn transaction table default) = rw (tables-stay shape durable pending draft.snapshot known) refl
   change-told other = refl
 
   pub get-told : (table row column : ℕ) → get_answer shape

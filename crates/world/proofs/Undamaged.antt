@@ -29,7 +29,7 @@ use Rattle.world.specs.Inner.Undamaged.{IsBegunTransaction, IsUndamaged}
 use Rattle.world.specs.Inner.StepLaws.{StepLaws}
 use Rattle.world.proofs.Durable.{tables-stay}
 use Rattle.world.proofs.Lists.{get-set, get-append, get-one}
-use Rattle.world.proofs.Defined.{IsDefined, insert-defined, set-defined, delete-defined}
+use Rattle.world.proofs.Defined.{IsDefined, insert-defined, set-defined, delete-defined, column-defined}
 use Rattle.world.proofs.Committing.{opened, none-open}
 use Rattle.world.proofs.WorldMoves.{IsChanged, Change, hears, Move, idle, fails, begins, changes, ends, refuses, commits, flushes, stops}
 use Rattle.world.proofs.WorldMoves.{sends, becomes, step-moves}
@@ -114,8 +114,10 @@ changed-defined laws w draft new (inl row) defined =
     insert-defined laws (shape_of w.primary.schema) w.primary.durable draft new defined row.0 row.1 row.2 row.3
 changed-defined laws w draft new (inr (inl row)) defined =
     set-defined laws (shape_of w.primary.schema) w.primary.durable draft new defined row.0 row.1 row.2 row.3 row.4
-changed-defined laws w draft new (inr (inr row)) defined =
+changed-defined laws w draft new (inr (inr (inl row))) defined =
     delete-defined laws (shape_of w.primary.schema) w.primary.durable draft new defined row.0 row.1 row.2
+changed-defined laws w draft new (inr (inr (inr column))) defined =
+    column-defined laws (shape_of w.primary.schema) w.primary.durable draft new defined column.0 column.1 column.2
 
 -- ---- commits
 

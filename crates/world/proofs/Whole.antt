@@ -23,20 +23,20 @@ use Rattle.dispatcher.specs.declared.faults.DumpFault.TheVariants as dumps
 use Rattle.dispatcher.specs.declared.faults.OpenFault.{OpenFault}
 use Rattle.dispatcher.specs.declared.outcome.Run.{Run}
 use Rattle.dispatcher.specs.declared.outcome.Run.TheVariants as runs
-use Rattle.plans.specs.declared.plan.Plan.{Plan}
+use Rattle.queries.specs.declared.plan.Plan.{Plan}
 use Rattle.dispatcher.specs.State.{Replica}
 use Rattle.dispatcher.specs.Protocol.{fetched_in}
 use Rattle.dispatcher.specs.Steps.{started_replica, opened, asked, dumped, readiness_of, RunsAs, RunsOutOfMemory, MayRun}
 use Rattle.dispatcher.specs.TableText.{names_of, table_text}
 use Rattle.dispatcher.specs.Feeding.{IsFedFrom}
-use Rattle.mvcc.specs.Transactions.{insert_answer, set_answer, delete_answer, get_answer}
+use Rattle.mvcc.specs.Transactions.{insert_answer, set_answer, delete_answer, add_column_answer, get_answer}
 use Rattle.script.specs.declared.event.Event.{Event}
 use Rattle.script.specs.declared.event.Event.TheVariants as events
 use Rattle.script.specs.declared.event.Node.TheVariants as nodes
 use Rattle.script.specs.declared.output.Output.{Output}
 use Rattle.script.specs.declared.output.Output.TheVariants as outputs
 use Rattle.script.specs.declared.setup.Setup.{Setup}
-use Rattle.world.specs.Parts.{Parts, parts_started, replicas_from, zeros}
+use Rattle.world.specs.Cores.{Cores, cores_started, replicas_from, zeros}
 use Rattle.world.specs.Inner.CoreSteps.{HappensBeside, KeepsStopped, MayAnswer, MayStep, ReplicaRunsBy, come_by, to_replica, open_by}
 use Rattle.world.specs.Inner.CoreSteps.{opening_query}
 use Rattle.world.specs.Inner.CoreSteps.{ask_by, asking, run_output, raw_by, version_by, dump_by, of_dumped, restart_by}
@@ -50,8 +50,8 @@ use Rattle.world.specs.Standing.{boots_at, world_of, members_of, AreFed, Journal
 use Rattle.world.specs.Inner.Undamaged.{IsUndamaged}
 use Rattle.world.specs.Inner.Fresh.{Fresh, HasBoot}
 use Rattle.world.proofs.Restarts.{restart-follows}
-use Rattle.world.specs.Inner.Invariant.{IsRequested, PartsAreKept}
-use Rattle.world.proofs.Adding.{reads_same, insert-added, set-added, delete-added}
+use Rattle.world.specs.Inner.Invariant.{IsRequested, CoresAreKept}
+use Rattle.world.proofs.Adding.{reads_same, insert-added, set-added, delete-added, column-added}
 use Rattle.world.proofs.FedLaws.{FedLaws}
 use Rattle.world.proofs.Worlds.{beside_of, member_at, members-get, world-started}
 use Rattle.world.proofs.Moves.{Follows, Sound-apart}
@@ -71,13 +71,13 @@ use Rattle.world.proofs.Arriving.{sent-means, raw-means}
 -- ---- one step
 
 -- a step of the member that stands for a replica
-found-member : (shape : Shape) (p : Parts) (i : ℕ) (next : Member → Output × World) (here : Output × Parts)
+found-member : (shape : Shape) (p : Cores) (i : ℕ) (next : Member → Output × World) (here : Output × Cores)
     → Follows shape (on_member (world_of p) (option_map (member_at p i) (slice_get p.replicas i)) next) here
     → Follows shape (on_member (world_of p) (slice_get (members_of p.replicas p.boots p.asked_at) i) next) here
 found-member shape p i next here follows =
     (ap (λ (found : Option Member). on_member (world_of p) found next) (members-get p.replicas p.boots p.asked_at i) ∙ follows.0, follows.1)
 
-bytes-delivered : (laws : FedLaws) (shape : Shape) (p : Parts) (index number : ℕ) (found : Option (List ℕ)) → Sound shape p
+bytes-delivered : (laws : FedLaws) (shape : Shape) (p : Cores) (index number : ℕ) (found : Option (List ℕ)) → Sound shape p
     → Fresh (world_of p)
     → slice_get p.sent index ≡ found
     → Follows shape (deliver_happens (world_of p) (nodes.Replica number) found) (come_by p number found)
@@ -87,7 +87,7 @@ bytes-delivered laws shape p index number (Some bytes) sound fresh here =
     (bytes-come laws shape p number bytes (slice_get p.replicas number) sound fresh (sent-means shape p sound fresh index bytes here) refl)
 
 -- bytes that are handed over mean what was sent, or nothing, unless they are forged
-raw-delivered : (laws : FedLaws) (shape : Shape) (p : Parts) (number : ℕ) (bytes : List ℕ) → Sound shape p → Fresh (world_of p)
+raw-delivered : (laws : FedLaws) (shape : Shape) (p : Cores) (number : ℕ) (bytes : List ℕ) → Sound shape p → Fresh (world_of p)
     → Follows shape (raw_happens (world_of p) (nodes.Replica number) bytes) (raw_by p number bytes (slice_get p.replicas number))
 raw-delivered laws shape p number bytes sound fresh = by (is_forged p.sent bytes) refl
   where
@@ -100,7 +100,7 @@ raw-delivered laws shape p number bytes sound fresh = by (is_forged p.sent bytes
         (bytes-come laws shape p number bytes (slice_get p.replicas number) sound fresh (raw-means shape p bytes sound fresh e) refl)
 
 -- a replica that starts again
-restart-made : (laws : FedLaws) (shape : Shape) (p : Parts) (i boot : ℕ) (found : Option Replica) → Sound shape p
+restart-made : (laws : FedLaws) (shape : Shape) (p : Cores) (i boot : ℕ) (found : Option Replica) → Sound shape p
     → slice_get p.replicas i ≡ found → boot < 2 ^ 64
     → Follows shape (on_member (world_of p) (option_map (member_at p i) found) (λ m. restart_happens (world_of p) m boot))
     (restart_by p i boot found)
@@ -110,14 +110,14 @@ restart-made laws shape p i boot (Some r) sound here below =
 
 -- ---- looks at a replica
 
-version-told : (shape : Shape) (p : Parts) (i : ℕ) (found : Option Replica) → Sound shape p
+version-told : (shape : Shape) (p : Cores) (i : ℕ) (found : Option Replica) → Sound shape p
     → Follows shape
     (on_member (world_of p) (option_map (member_at p i) found) (λ m. (outputs.Version m.protocol.version, world_of p)))
     (version_by p found)
 version-told shape p i None sound = (refl, sound)
 version-told shape p i (Some r) sound = (refl, sound)
 
-tables-dumped : (laws : FedLaws) (shape : Shape) (p : Parts) (i : ℕ) (found : Option Replica) → Sound shape p
+tables-dumped : (laws : FedLaws) (shape : Shape) (p : Cores) (i : ℕ) (found : Option Replica) → Sound shape p
     → slice_get p.replicas i ≡ found
     → Follows shape
     (on_member (world_of p) (option_map (member_at p i) found)
@@ -145,15 +145,15 @@ tables-dumped laws shape p i (Some r) sound here = (by r.broken refl, sound)
 -- ---- what a call on a replica leaves
 
 -- a call on a replica leaves the primary and its journal
-record Leaves (p new : Parts) : Type 0 where
+record Leaves (p new : Cores) : Type 0 where
   primary : new.primary ≡ p.primary
   stopped : new.stopped ≡ p.stopped
   journal : new.journal ≡ p.journal
 
-leaves-same : (p : Parts) → Leaves p p
+leaves-same : (p : Cores) → Leaves p p
 leaves-same p = record { primary = refl; stopped = refl; journal = refl }
 
-leaves-keeps : (p new : Parts) → Leaves p new → KeepsStopped p → KeepsStopped new
+leaves-keeps : (p new : Cores) → Leaves p new → KeepsStopped p → KeepsStopped new
 leaves-keeps p new leaves keeps stopped =
     let pair : (new.primary, new.journal) ≡ (p.primary, p.journal) = cc (leaves.primary, leaves.journal) in
     let kept = keeps (sym leaves.stopped ∙ stopped) in (
@@ -162,39 +162,39 @@ leaves-keeps p new leaves keeps stopped =
           (sym pair) kept.1,
     )
 
-bytes-leave : (p : Parts) (number : ℕ) (bytes : List ℕ) (found : Option Replica) → Leaves p (to_replica p number bytes found).1
+bytes-leave : (p : Cores) (number : ℕ) (bytes : List ℕ) (found : Option Replica) → Leaves p (to_replica p number bytes found).1
 bytes-leave p number bytes None = leaves-same p
 bytes-leave p number bytes (Some r) = record { primary = refl; stopped = refl; journal = refl }
 
-come-leaves : (p : Parts) (number : ℕ) (found : Option (List ℕ)) → Leaves p (come_by p number found).1
+come-leaves : (p : Cores) (number : ℕ) (found : Option (List ℕ)) → Leaves p (come_by p number found).1
 come-leaves p number None = leaves-same p
 come-leaves p number (Some bytes) = bytes-leave p number bytes (slice_get p.replicas number)
 
-raw-leaves : (p : Parts) (number : ℕ) (bytes : List ℕ) → Leaves p (raw_by p number bytes (slice_get p.replicas number)).1
+raw-leaves : (p : Cores) (number : ℕ) (bytes : List ℕ) → Leaves p (raw_by p number bytes (slice_get p.replicas number)).1
 raw-leaves p number bytes = by (is_forged p.sent bytes)
   where
     by : (forged : Bool)
-        → Leaves p (cond {A = Output × Parts} forged (outputs.Forged, p) (to_replica p number bytes (slice_get p.replicas number))).1
+        → Leaves p (cond {A = Output × Cores} forged (outputs.Forged, p) (to_replica p number bytes (slice_get p.replicas number))).1
     by true = leaves-same p
     by false = bytes-leave p number bytes (slice_get p.replicas number)
 
-restart-leaves : (p : Parts) (number boot : ℕ) (found : Option Replica) → Leaves p (restart_by p number boot found).1
+restart-leaves : (p : Cores) (number boot : ℕ) (found : Option Replica) → Leaves p (restart_by p number boot found).1
 restart-leaves p number boot None = leaves-same p
 restart-leaves p number boot (Some r) = by (had_boot (boots_at p.boots number) boot)
   where
-    by : (used : Bool) → Leaves p (cond {A = Output × Parts} used (outputs.BootUsed, p) (outputs.Boot boot, with_restarted p number boot)).1
+    by : (used : Bool) → Leaves p (cond {A = Output × Cores} used (outputs.BootUsed, p) (outputs.Boot boot, with_restarted p number boot)).1
     by true = leaves-same p
     by false = record { primary = refl; stopped = refl; journal = refl }
 
-version-leaves : (p : Parts) (found : Option Replica) → Leaves p (version_by p found).1
+version-leaves : (p : Cores) (found : Option Replica) → Leaves p (version_by p found).1
 version-leaves p None = leaves-same p
 version-leaves p (Some r) = leaves-same p
 
-dump-leaves : (p : Parts) (found : Option Replica) → Leaves p (dump_by p found).1
+dump-leaves : (p : Cores) (found : Option Replica) → Leaves p (dump_by p found).1
 dump-leaves p None = leaves-same p
 dump-leaves p (Some r) = leaves-same p
 
-open-leaves : (p : Parts) (number : ℕ) (plan : Plan) (found : Option Replica) → Leaves p (open_by p number plan found).1
+open-leaves : (p : Cores) (number : ℕ) (plan : Plan) (found : Option Replica) → Leaves p (open_by p number plan found).1
 open-leaves p number plan None = leaves-same p
 open-leaves p number plan (Some r) = by (opened r plan)
   where
@@ -202,7 +202,7 @@ open-leaves p number plan (Some r) = by (opened r plan)
     by (Ok done) = record { primary = refl; stopped = refl; journal = refl }
     by (Err fault) = leaves-same p
 
-ask-leaves : (p : Parts) (number : ℕ) (found : Option Replica) → Leaves p (ask_by p number found).1
+ask-leaves : (p : Cores) (number : ℕ) (found : Option Replica) → Leaves p (ask_by p number found).1
 ask-leaves p number None = leaves-same p
 ask-leaves p number (Some r) = by (asked r)
   where
@@ -210,7 +210,7 @@ ask-leaves p number (Some r) = by (asked r)
     by (Ok done) = record { primary = refl; stopped = refl; journal = refl }
     by (Err fault) = leaves-same p
 
-run-leaves : (p : Parts) (number : ℕ) (answer : Run) (after : Replica) → Leaves p (run_output p number (answer, after)).1
+run-leaves : (p : Cores) (number : ℕ) (answer : Run) (after : Replica) → Leaves p (run_output p number (answer, after)).1
 run-leaves p number runs.NoBatch after = record { primary = refl; stopped = refl; journal = refl }
 run-leaves p number runs.WaitingHead after = record { primary = refl; stopped = refl; journal = refl }
 run-leaves p number (runs.Waiting worker seq want) after = record { primary = refl; stopped = refl; journal = refl }
@@ -222,12 +222,12 @@ run-leaves p number runs.Memory after = record { primary = refl; stopped = refl;
 -- ---- what may happen
 
 -- a step that may happen, sound parts after it, and while the primary is stopped its journal keeps what is durable
-abbrev Happens : Shape → Parts → Event → Output → Parts → Type 0
+abbrev Happens : Shape → Cores → Event → Output → Cores → Type 0
 Happens shape p event output new =
     MayHappen (world_of p) event output (world_of new) × Sound shape new × (KeepsStopped p → KeepsStopped new)
 
 -- what happens beside the replicas, where it leaves sound parts
-happens-beside : (shape : Shape) (p : Parts) (event : Event) (output : Output) (new : Parts) → Sound shape p
+happens-beside : (shape : Shape) (p : Cores) (event : Event) (output : Output) (new : Cores) → Sound shape p
     → (RunIsInterruptedAt (world_of p) event output (world_of new) → ⊥) → HappensBeside p event output new
     → Sound shape (beside_of (happens (world_of p) event).1 p)
     → Happens shape p event output new
@@ -247,7 +247,7 @@ happens-beside shape p event output new sound uncut may after =
     by (inr (inr cut)) = absurd (uncut cut)
 
 -- an event of the primary: nothing happens while it is stopped
-happens-served : (shape : Shape) (p : Parts) (event : Event) (next : Output × World) (output : Output) (new : Parts) → Sound shape p
+happens-served : (shape : Shape) (p : Cores) (event : Event) (next : Output × World) (output : Output) (new : Cores) → Sound shape p
     → (RunIsInterruptedAt (world_of p) event output (world_of new) → ⊥) → (p.stopped ≡ false → PrimaryListsAreLegal p.primary)
     → HappensBeside p event output new → happens (world_of p) event ≡ unless_stopped (world_of p) next
     → (PrimaryListsAreLegal p.primary → Sound shape (beside_of next.1 p))
@@ -261,19 +261,19 @@ happens-served shape p event next output new sound uncut lists may is served =
     by false e = served (lists e)
 
 -- what a call on a replica does, where the world follows it
-happens-called : (shape : Shape) (p : Parts) (event : Event) (here : Output × Parts) (output : Output) (new : Parts) → Sound shape p
+happens-called : (shape : Shape) (p : Cores) (event : Event) (here : Output × Cores) (output : Output) (new : Cores) → Sound shape p
     → AsksByAnswer (world_of p) event → Follows shape (happens (world_of p) event) here → Leaves p here.1 → MayAnswer p here output new
     → Happens shape p event output new
 happens-called shape p event here output new sound asks follows leaves (inl made) =
-    subst (λ (x : Output × Parts). Happens shape p event x.0 x.1) made (inl follows.0, follows.1, leaves-keeps p here.1 leaves)
+    subst (λ (x : Output × Cores). Happens shape p event x.0 x.1) made (inl follows.0, follows.1, leaves-keeps p here.1 leaves)
 happens-called shape p event here output new sound asks follows leaves (inr memory) = (
   inr (inl (memory.0, ap world_of memory.1, asks _ (subst (λ (x : Output × World). TakesMemory x.0) (sym follows.0) memory.2))),
   subst (Sound shape) (sym memory.1) sound,
-  subst (λ (new : Parts). KeepsStopped p → KeepsStopped new) (sym memory.1) (λ keeps. keeps),
+  subst (λ (new : Cores). KeepsStopped p → KeepsStopped new) (sym memory.1) (λ keeps. keeps),
 )
 
 -- a run that is out of memory in the replica answers nothing that is made with memory
-cut-takes : (p : Parts) (i : ℕ) (r : Replica) (answer : Run) (after : Replica) → RunsOutOfMemory r answer after
+cut-takes : (p : Cores) (i : ℕ) (r : Replica) (answer : Run) (after : Replica) → RunsOutOfMemory r answer after
     → TakesMemory (run_output p i (answer, after)).0 → ⊥
 cut-takes p i r answer after wants takes = elim wants.2 [
   | inl memory ↦ false≢true (subst (λ (a : Run). TakesMemory (run_output p i (a, after)).0) memory.0 takes)
@@ -281,7 +281,7 @@ cut-takes p i r answer after wants takes = elim wants.2 [
 ]
 
 -- what a run does, memory aside
-run-told : (laws : FedLaws) (shape : Shape) (p : Parts) (i : ℕ) (r : Replica) (answer : Run) (after : Replica) → Sound shape p
+run-told : (laws : FedLaws) (shape : Shape) (p : Cores) (i : ℕ) (r : Replica) (answer : Run) (after : Replica) → Sound shape p
     → slice_get p.replicas i ≡ Some r → RunsAs (readiness_of r) r answer after
     → Follows shape (happens (world_of p) (events.Run i)) (run_output p i (answer, after))
 run-told laws shape p i r answer after sound here run =
@@ -291,7 +291,7 @@ run-told laws shape p i r answer after sound here run =
     (λ m. run_happens (world_of p) m (readiness_at m)))
     (run_output p i (answer, after))) (sym here) (replica-runs laws shape p i r sound here answer after run))
 
-run-made : (laws : FedLaws) (shape : Shape) (p : Parts) (i : ℕ) (r : Replica) (answer : Run) (after : Replica) → Sound shape p
+run-made : (laws : FedLaws) (shape : Shape) (p : Cores) (i : ℕ) (r : Replica) (answer : Run) (after : Replica) → Sound shape p
     → slice_get p.replicas i ≡ Some r → MayRun r answer after
     → Happens shape p (events.Run i) (run_output p i (answer, after)).0 (run_output p i (answer, after)).1
 run-made laws shape p i r answer after sound here (inl run) =
@@ -316,11 +316,11 @@ run-made laws shape p i r answer after sound here (inr wants) =
       leaves-keeps p new.1 (run-leaves p i answer after),
     )
 
-run-follows : (laws : FedLaws) (shape : Shape) (p : Parts) (i : ℕ) (found : Option Replica) (output : Output) (new : Parts) → Sound shape p
+run-follows : (laws : FedLaws) (shape : Shape) (p : Cores) (i : ℕ) (found : Option Replica) (output : Output) (new : Cores) → Sound shape p
     → slice_get p.replicas i ≡ found → ReplicaRunsBy p i found output new → Happens shape p (events.Run i) output new
 run-follows laws shape p i None output new sound here run = absurd run
 run-follows laws shape p i (Some r) output new sound here run = elim run.3 [
-  | inl made ↦ subst (λ (x : Output × Parts). Happens shape p (events.Run i) x.0 x.1) made
+  | inl made ↦ subst (λ (x : Output × Cores). Happens shape p (events.Run i) x.0 x.1) made
       (run-made laws shape p i r run.0 run.1 sound here run.2)
   | inr memory ↦ elim run.2 [
     | inl ran ↦ happens-called shape p (events.Run i) (run_output p i (run.0, run.1)) output new sound (λ answer takes. takes)
@@ -329,9 +329,9 @@ run-follows laws shape p i (Some r) output new sound here run = elim run.3 [
   ]
 ]
 
-module _ (laws : FedLaws) (shape : Shape) (p : Parts) (sound : Sound shape p) (fresh : Fresh (world_of p))
+module _ (laws : FedLaws) (shape : Shape) (p : Cores) (sound : Sound shape p) (fresh : Fresh (world_of p))
     (lists : p.stopped ≡ false → PrimaryListsAreLegal p.primary) where
-  may-follow : (event : Event) (output : Output) (new : Parts) → MayStep p event output new → Happens shape p event output new
+  may-follow : (event : Event) (output : Output) (new : Cores) → MayStep p event output new → Happens shape p event output new
   may-follow events.Begin output new may =
       happens-served shape p _ _ output new sound (λ cut. cut) lists may refl (λ lists. transactions-begun shape p sound)
   may-follow (events.Insert transaction table row values) output new may =
@@ -340,21 +340,28 @@ module _ (laws : FedLaws) (shape : Shape) (p : Parts) (sound : Sound shape p) (f
       (λ draft. insert_answer (shape_of p.primary.schema) p.primary.durable draft table row.0 values)
       (open_transaction p.transactions transaction) sound
       (λ draft after h. reads_same _ _ draft _ after
-      (insert-added laws.steps (shape_of p.primary.schema) p.primary.durable draft table row.0 after values h).1) refl)
+      (insert-added (shape_of p.primary.schema) p.primary.durable draft table row.0 after values h).1) refl)
   may-follow (events.Set transaction table row column value) output new may =
       happens-served shape p _ _ output new sound (λ cut. cut) lists may refl
       (λ lists. change-sound shape p transaction
       (λ draft. set_answer (shape_of p.primary.schema) p.primary.durable draft table row.0 column value)
       (open_transaction p.transactions transaction) sound
       (λ draft after h. reads_same _ _ draft _ after
-      (set-added laws.steps (shape_of p.primary.schema) p.primary.durable draft table row.0 after column value h).1) refl)
+      (set-added (shape_of p.primary.schema) p.primary.durable draft table row.0 after column value h).1) refl)
   may-follow (events.Delete transaction table row) output new may =
       happens-served shape p _ _ output new sound (λ cut. cut) lists may refl
       (λ lists. change-sound shape p transaction
       (λ draft. delete_answer (shape_of p.primary.schema) p.primary.durable draft table row.0)
       (open_transaction p.transactions transaction) sound
       (λ draft after h. reads_same _ _ draft _ after
-      (delete-added laws.steps (shape_of p.primary.schema) p.primary.durable draft table row.0 after h).1) refl)
+      (delete-added (shape_of p.primary.schema) p.primary.durable draft table row.0 after h).1) refl)
+  may-follow (events.AddColumn transaction table default) output new may =
+      happens-served shape p _ _ output new sound (λ cut. cut) lists may refl
+      (λ lists. change-sound shape p transaction
+      (λ draft. add_column_answer (shape_of p.primary.schema) p.primary.durable draft table default)
+      (open_transaction p.transactions transaction) sound
+      (λ draft after h. reads_same _ _ draft _ after
+      (column-added (shape_of p.primary.schema) p.primary.durable draft after table default h).1) refl)
   may-follow (events.Get transaction table row column) output new may =
       happens-served shape p _ _ output new sound (λ cut. cut) lists may refl
       (λ lists. look-sound shape p (λ draft. get_answer (shape_of p.primary.schema) p.primary.durable draft table row.0 column)
@@ -422,18 +429,18 @@ module _ (laws : FedLaws) (shape : Shape) (p : Parts) (sound : Sound shape p) (f
 -- ---- the journal
 
 -- the journal's text, where the primary runs and has not failed
-abbrev pub HasText : Parts → Type 0
+abbrev pub HasText : Cores → Type 0
 HasText p =
     p.stopped ≡ false → p.primary.failed ≡ false
     → p.journal ≡ journal_text p.primary.workers (shape_of p.primary.schema) p.primary.durable
 
 -- what a stop leaves on the journal
-leaves-bytes : (p : Parts) (event : Event) (output : Output) (new : Parts) → MayStep p event output new → StopLeaves p event new
+leaves-bytes : (p : Cores) (event : Event) (output : Output) (new : Cores) → MayStep p event output new → StopLeaves p event new
 leaves-bytes p (events.Stop bytes) output new may = may.1
 leaves-bytes p other output new may = tt
 
 -- where the journal stands
-journal-stands : (p : Parts) → KeepsStopped p → HasText p → p.primary.failed ≡ false → JournalStands p
+journal-stands : (p : Cores) → KeepsStopped p → HasText p → p.primary.failed ≡ false → JournalStands p
 journal-stands p keeps text whole = by p.stopped refl
   where
     by : (stopped : Bool) → p.stopped ≡ stopped → JournalStandsAs p stopped
@@ -476,7 +483,7 @@ length-zeros zero = refl
 length-zeros (suc count) = ap suc (length-zeros count)
 
 parts-sound : (laws : FedLaws) (setup : Setup) → 0 < setup.workers → setup.workers ≤ WORKERS_MAX → setup.replicas ≤ REPLICAS_MAX
-    → Sound (shape_of setup.schema) (parts_started setup)
+    → Sound (shape_of setup.schema) (cores_started setup)
 parts-sound laws setup some workers few =
     let shape = shape_of setup.schema in
     let count = setup.replicas in
@@ -501,14 +508,14 @@ all-from-get P [] each = tt
 all-from-get P (x ∷ xs) each = (each 0 x refl, all-from-get P xs (λ i y here. each (suc i) y here))
 
 -- each replica of sound parts is fed from what is durable
-fed-sound : (p : Parts) → Sound (shape_of p.primary.schema) p → AreFed p
+fed-sound : (p : Cores) → Sound (shape_of p.primary.schema) p → AreFed p
 fed-sound p sound =
     all-from-get (IsFedFrom (shape_of p.primary.schema) p.primary.durable) p.replicas (λ i r here. (sound.fed i r here).feeding)
 
 -- ---- what every world keeps
 
 pub started-kept : (laws : FedLaws) (setup : Setup) → AreTables (shape_of setup.schema) → 0 < setup.workers → setup.workers ≤ WORKERS_MAX
-    → setup.replicas ≤ REPLICAS_MAX → PartsAreKept (parts_started setup)
+    → setup.replicas ≤ REPLICAS_MAX → CoresAreKept (cores_started setup)
 started-kept laws setup tables some workers few = record {
   journal = λ stopped. absurd (false≢true stopped);
   tables = tables;
@@ -519,12 +526,12 @@ started-kept laws setup tables some workers few = record {
 }
 
 -- an event of the cores that starts a replica again gives it a boot of 64 bits
-may-boot : (p : Parts) (event : Event) (output : Output) (new : Parts) → MayStep p event output new → HasBoot event
+may-boot : (p : Cores) (event : Event) (output : Output) (new : Cores) → MayStep p event output new → HasBoot event
 may-boot p (events.Restart replica boot) output new may = may.0
 may-boot p other output new may = tt
 
 -- what a step of the parts of a world is, and that it leaves the parts of one
-pub record IsKeptStep (old : Parts) (event : Event) (output : Output) (new : Parts) : Type 0 where
+pub record IsKeptStep (old : Cores) (event : Event) (output : Output) (new : Cores) : Type 0 where
   pub happens : MayHappen (world_of old) event output (world_of new)
   pub rows : SaysRows old.primary.durable (world_of old) event output
   pub durable : IsBeginning old.primary.durable new.primary.durable
@@ -535,9 +542,9 @@ pub record IsKeptStep (old : Parts) (event : Event) (output : Output) (new : Par
   pub schema : new.primary.schema ≡ old.primary.schema
   pub workers : new.primary.workers ≡ old.primary.workers
   pub replicas : length new.replicas ≡ length old.replicas
-  pub kept : PartsAreKept new
+  pub kept : CoresAreKept new
 
-pub step-keeps : (laws : FedLaws) (old : Parts) (event : Event) (output : Output) (new : Parts) → PartsAreKept old
+pub step-keeps : (laws : FedLaws) (old : Cores) (event : Event) (output : Output) (new : Cores) → CoresAreKept old
     → (old.stopped ≡ false → PrimaryListsAreLegal old.primary) → MayStep old event output new → IsKeptStep old event output new
 step-keeps laws old event output new kept lists may =
     let shape = shape_of old.primary.schema in

@@ -20,7 +20,7 @@ use Rattle.wire.specs.Reading.{reading}
 use Rattle.mvcc.specs.declared.faults.TxFault.{TxFault}
 use Rattle.mvcc.specs.declared.faults.TxFault.TheVariants as refusals
 use Rattle.mvcc.specs.Transaction.{Transaction}
-use Rattle.mvcc.specs.Transactions.{insert_answer, set_answer, delete_answer, get_answer}
+use Rattle.mvcc.specs.Transactions.{insert_answer, set_answer, delete_answer, add_column_answer, get_answer}
 use Rattle.intake.specs.declared.taken.Taken.{Taken}
 use Rattle.intake.specs.declared.taken.Taken.TheVariants as takens
 use Rattle.intake.specs.Steps.{taken, lacking}
@@ -28,9 +28,9 @@ use Rattle.primary.specs.declared.faults.CommitFault.{CommitFault}
 use Rattle.primary.specs.declared.faults.CommitFault.TheVariants as faults
 use Rattle.primary.specs.Steps.{commit_answer, committed, flushed}
 use Rattle.primary.specs.Sending.{answers}
-use Rattle.plans.specs.declared.plan.Plan.{Plan}
-use Rattle.plans.specs.declared.faults.PlanFault.{PlanFault}
-use Rattle.plans.specs.Checking.{checked}
+use Rattle.queries.specs.declared.plan.Plan.{Plan}
+use Rattle.queries.specs.declared.faults.PlanFault.{PlanFault}
+use Rattle.queries.specs.Checking.{checked}
 use Rattle.dispatcher.specs.declared.faults.AskFault.{AskFault}
 use Rattle.dispatcher.specs.declared.faults.AskFault.TheVariants as ask_faults
 use Rattle.dispatcher.specs.declared.faults.OpenFault.TheVariants as open_faults
@@ -133,6 +133,7 @@ IsChanged w draft new =
     ⊎ ((table row column : ℕ) × (value : Value)
     × (set_answer (shape_of w.primary.schema) w.primary.durable draft table row column value ≡ Ok new))
     ⊎ ((table row : ℕ) × (delete_answer (shape_of w.primary.schema) w.primary.durable draft table row ≡ Ok new))
+    ⊎ ((table : ℕ) × (default : Value) × (add_column_answer (shape_of w.primary.schema) w.primary.durable draft table default ≡ Ok new))
 
 -- datagrams that are sent: a frame, what the primary answers to bytes that were sent, the Ask of a batch again, a Want
 pub data AreSent (w : World) : List (List ℕ) → Type 0 where
@@ -440,7 +441,11 @@ happening w (events.Set transaction table row column value) =
 happening w (events.Delete transaction table row) =
     served w _ _ (λ runs. changing w _ transaction (open_transaction w.transactions transaction)
     (λ draft. delete_answer (shape_of w.primary.schema) w.primary.durable draft table row.0) refl
-    (λ draft new e. inr (inr (table, row.0, e))))
+    (λ draft new e. inr (inr (inl (table, row.0, e)))))
+happening w (events.AddColumn transaction table default) =
+    served w _ _ (λ runs. changing w _ transaction (open_transaction w.transactions transaction)
+    (λ draft. add_column_answer (shape_of w.primary.schema) w.primary.durable draft table default) refl
+    (λ draft new e. inr (inr (inr (table, default, e)))))
 happening w (events.Get transaction table row column) =
     served w _ _ (λ runs. looking w _ (open_transaction w.transactions transaction)
     (λ draft. get_answer (shape_of w.primary.schema) w.primary.durable draft table row.0 column))

@@ -7,21 +7,21 @@ use Rattle.intake.specs.Steps.{no_arrivals as none_came}
 use Rattle.rows.specs.declared.kind.Kind.{Kind}
 use Rattle.script.specs.declared.setup.Setup.{Setup}
 use Rattle.script.specs.declared.output.Output.{Output}
-use Rattle.world.specs.Parts.{Parts, replicas_from, zeros, parts_started}
+use Rattle.world.specs.Cores.{Cores, replicas_from, zeros, cores_started}
 use Rattle.world.specs.Inner.CoreSteps.{with_replica}
 use Rattle.world.specs.Standing.{member_of, members_of, boots_at, world_of}
 use Rattle.world.specs.Steps.{World, Member, known_in, fresh, fresh_from, opening_world, with_member}
 
 -- what a step of the parts is in the world
-abbrev pub seen : Output × Parts → Output × World
+abbrev pub seen : Output × Cores → Output × World
 seen answer = (answer.0, world_of answer.1)
 
 -- the parts with another primary, other transactions and other datagrams: those of a world
-abbrev pub beside_of : World → Parts → Parts
+abbrev pub beside_of : World → Cores → Cores
 beside_of w p = record p { primary = w.primary; stopped = w.stopped; transactions = w.transactions; sent = w.sent }
 
 -- the member of a replica of these parts
-abbrev pub member_at : Parts → ℕ → Replica → Member
+abbrev pub member_at : Cores → ℕ → Replica → Member
 member_at p i r = member_of (boots_at p.boots i) (slice_index p.asked_at i) r
 
 -- what is noted of a replica is that of the one before it, the first aside
@@ -90,7 +90,7 @@ members-asked (first ∷ replicas) boots (old ∷ asked_at) (suc i) r at h =
     (members-asked replicas (drop 1 boots) asked_at i r at (omega arith)
     ∙ ap (λ (had : List ℕ). slice_set others i (member_of had at r)) (boots-behind boots i))
 
-pub member-changes : (p : Parts) (i : ℕ) (r : Replica) → r.number ≡ i
+pub member-changes : (p : Cores) (i : ℕ) (r : Replica) → r.number ≡ i
     → with_member (world_of p) (member_at p i r) ≡ world_of (with_replica p i r)
 member-changes p i r h =
     let w = world_of p in
@@ -111,7 +111,7 @@ members-started schema workers number (suc count) =
     ap (λ (x : List (List ℕ) × List Member). record m { known = x.0 } ∷ x.1)
     (cc (known-started workers, members-started schema workers (suc number) count))
 
-pub world-started : (setup : Setup) → world_of (parts_started setup) ≡ opening_world setup
+pub world-started : (setup : Setup) → world_of (cores_started setup) ≡ opening_world setup
 world-started setup =
     let w = opening_world setup in
     ap (λ (members : List Member). record w { members = members }) (members-started setup.schema setup.workers 0 setup.replicas)

@@ -1,4 +1,4 @@
--- Only for proofs: what the calls of the parts are, and what every world keeps. No public clause rests on these.
+-- Only for proofs: what the calls of the cores are, and what every world keeps. No public clause rests on these.
 pub mod Naming
 pub mod Running
 pub mod Nodes

@@ -4,7 +4,7 @@ pub mod Steps
 pub mod Allowed
 pub mod Acknowledged
 pub mod Worked
-pub mod Parts
+pub mod Cores
 pub mod Standing
 pub mod Database
 pub mod Theorem

@@ -1,4 +1,4 @@
--- Where the cores stand: the world that the parts make, and that each replica there is fed from the one list of durable
+-- Where the cores stand: the world that the cores make, and that each replica there is fed from the one list of durable
 -- commits.
 use Rattle.std.specs.Prelude.{◌≡◌, ℕ, List, [], ◌∷◌, ◌++◌, length, take, drop, Bool, true, false, Some, slice_get}
 use Rattle.std.specs.Prelude.{slice_index, slice_index_or}
@@ -10,7 +10,7 @@ use Rattle.dispatcher.specs.State.{Replica, protocol_of}
 use Rattle.dispatcher.specs.Feeding.{IsFedFrom}
 use Rattle.script.specs.declared.event.Event.{Event}
 use Rattle.script.specs.declared.event.Event.TheVariants as events
-use Rattle.world.specs.Parts.{Parts}
+use Rattle.world.specs.Cores.{Cores}
 use Rattle.world.specs.Steps.{World, Member, known_in}
 
 -- a replica that had these boots, as the world has it: its tables are left out, and which frames it still keeps
@@ -27,8 +27,8 @@ members_of [] boots asked_at = []
 members_of (r ∷ replicas) boots asked_at =
     member_of (boots_at boots 0) (slice_index asked_at 0) r ∷ members_of replicas (drop 1 boots) (drop 1 asked_at)
 
--- the world that the parts make
-abbrev pub world_of : Parts → World
+-- the world that the cores make
+abbrev pub world_of : Cores → World
 world_of p = record {
   primary = p.primary;
   stopped = p.stopped;
@@ -38,32 +38,32 @@ world_of p = record {
 }
 
 -- two replicas at one version, at whatever two moments, hold the same tables; a broken one has no version
-abbrev pub TablesAgree : Parts → Parts → Type 0
+abbrev pub TablesAgree : Cores → Cores → Type 0
 TablesAgree p q =
     (i j : ℕ) (r other : Replica) → slice_get p.replicas i ≡ Some r → slice_get q.replicas j ≡ Some other → r.broken ≡ false
     → other.broken ≡ false
     → r.version ≡ other.version → r.tables ≡ other.tables
 
 -- each replica is fed from what is durable: its known frames and its tables are of that one list
-abbrev pub AreFed : Parts → Type 0
+abbrev pub AreFed : Cores → Type 0
 AreFed p = AllByRecursion (IsFedFrom (shape_of p.primary.schema) p.primary.durable) p.replicas
 
 -- what is durable is what the journal keeps of its bytes
-abbrev pub JournalKeeps : Parts → Type 0
+abbrev pub JournalKeeps : Cores → Type 0
 JournalKeeps p =
     (bytes_kept : ℕ) × IsRecovered p.primary.workers (shape_of p.primary.schema) p.journal p.primary.durable bytes_kept
 
 -- what a primary's journal contains, by whether it is stopped: then what is durable is what the journal keeps; otherwise its
 -- bytes are the text of what is durable
-abbrev pub JournalStandsAs : Parts → Bool → Type 0
+abbrev pub JournalStandsAs : Cores → Bool → Type 0
 JournalStandsAs p true = JournalKeeps p
 JournalStandsAs p false = p.journal ≡ journal_text p.primary.workers (shape_of p.primary.schema) p.primary.durable
 
-abbrev pub JournalStands : Parts → Type 0
+abbrev pub JournalStands : Cores → Type 0
 JournalStands p = JournalStandsAs p p.stopped
 
 -- what a stop leaves on the journal: the bytes that it acknowledged, and so many of the pending commits' records after them
-abbrev pub StopLeaves : Parts → Event → Parts → Type 0
+abbrev pub StopLeaves : Cores → Event → Cores → Type 0
 StopLeaves old (events.Stop bytes) new =
     old.stopped ≡ false → new.stopped ≡ true
     → new.journal ≡ old.journal ++ take bytes (records_from (length old.primary.durable) old.primary.pending)

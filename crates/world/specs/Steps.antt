@@ -15,7 +15,7 @@ use Rattle.wire.specs.declared.out.Out.{Out}
 use Rattle.wire.specs.Reading.{reading}
 use Rattle.mvcc.specs.declared.faults.TxFault.{TxFault}
 use Rattle.mvcc.specs.Transaction.{Transaction}
-use Rattle.mvcc.specs.Transactions.{insert_answer, set_answer, delete_answer, get_answer}
+use Rattle.mvcc.specs.Transactions.{insert_answer, set_answer, delete_answer, add_column_answer, get_answer}
 use Rattle.intake.specs.declared.taken.Taken.{Taken}
 use Rattle.intake.specs.State.{Arrivals}
 use Rattle.intake.specs.Steps.{taken, lacking}
@@ -23,7 +23,7 @@ use Rattle.primary.specs.declared.faults.CommitFault.{CommitFault}
 use Rattle.primary.specs.State.{Primary}
 use Rattle.primary.specs.Steps.{started_primary, commit_answer, committed, flushed}
 use Rattle.primary.specs.Sending.{pushed, answers}
-use Rattle.plans.specs.Checking.{checked}
+use Rattle.queries.specs.Checking.{checked}
 use Rattle.dispatcher.specs.declared.faults.AskFault.{AskFault}
 use Rattle.dispatcher.specs.declared.faults.OpenFault.{OpenFault}
 use Rattle.dispatcher.specs.declared.outcome.Got.{Got}
@@ -299,6 +299,9 @@ happens w (events.Set transaction table row column value) =
 happens w (events.Delete transaction table row) =
     unless_stopped w (on_transaction w (open_transaction w.transactions transaction)
     (λ draft. change_happens w transaction (delete_answer (shape_of w.primary.schema) w.primary.durable draft table row.0)))
+happens w (events.AddColumn transaction table default) =
+    unless_stopped w (on_transaction w (open_transaction w.transactions transaction)
+    (λ draft. change_happens w transaction (add_column_answer (shape_of w.primary.schema) w.primary.durable draft table default)))
 happens w (events.Get transaction table row column) =
     unless_stopped w (on_transaction w (open_transaction w.transactions transaction)
     (λ draft. (of_look (get_answer (shape_of w.primary.schema) w.primary.durable draft table row.0 column), w)))

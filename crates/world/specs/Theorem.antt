@@ -7,7 +7,7 @@ use Rattle.rows.specs.Limits.{replicas_max}
 use Rattle.rows.specs.Shape.{shape_of}
 use Rattle.rows.specs.Commits.{IsLegal, tables_after}
 use Rattle.journal.specs.Recovery.{IsBeginning}
-use Rattle.plans.specs.declared.plan.Plan.{Plan}
+use Rattle.queries.specs.declared.plan.Plan.{Plan}
 use Rattle.dispatcher.specs.State.{Batch, Fetched}
 use Rattle.dispatcher.specs.Report.{report_of}
 use Rattle.dispatcher.specs.TableText.{names_of, table_text}
@@ -18,7 +18,7 @@ use Rattle.script.specs.declared.output.Output.{Output}
 use Rattle.script.specs.declared.output.Output.TheVariants as outputs
 use Rattle.script.specs.declared.output.Output.TheVariants.{Dump}
 use Rattle.script.specs.declared.setup.Setup.{Setup}
-use Rattle.world.specs.Parts.{Parts, parts_started}
+use Rattle.world.specs.Cores.{Cores, cores_started}
 use Rattle.world.specs.Steps.{World, Member, opening_world}
 use Rattle.world.specs.Acknowledged.{KeepsAcknowledged}
 use Rattle.world.specs.Allowed.{Step, LeadsTo, events_in, outputs_in, Runs}
@@ -104,29 +104,29 @@ RunsAreOfDatabase =
 -- ---- a run of the cores
 
 -- a step of the cores, as one of the world that they make
-abbrev pub seen : Step Parts → Step World
+abbrev pub seen : Step Cores → Step World
 seen step = record { old = world_of step.old; event = step.event; output = step.output; new = world_of step.new }
 
 -- a run of the cores from their start on, by these events and with these outputs: the world that they make allows each step
 pub record IsRun (setup : Setup) (events : List Event) (outputs : List Output) : Type 0 where
-  pub steps : List (Step Parts)
-  pub end : Parts
+  pub steps : List (Step Cores)
+  pub end : Cores
   pub events_are : events_in steps ≡ events
   pub outputs_are : outputs_in steps ≡ outputs
-  pub leads : LeadsTo (parts_started setup) steps end
+  pub leads : LeadsTo (cores_started setup) steps end
   pub allowed : Runs (opening_world setup) (map seen steps) (world_of end)
 
 -- the cores through which a run goes: those at their start, and those that each step left
-abbrev pub cores_of : Setup → List (Step Parts) → List Parts
-cores_of setup steps = parts_started setup ∷ map (λ (step : Step Parts). step.new) steps
+abbrev pub cores_of : Setup → List (Step Cores) → List Cores
+cores_of setup steps = cores_started setup ∷ map (λ (step : Step Cores). step.new) steps
 
 -- the cores stand where the world does: each step leaves every replica fed from what is durable, and that on the journal; after a stop
 -- the very bytes that it names are there; and replicas at one version hold the same tables, at whatever two moments
-pub record CoresStand (setup : Setup) (steps : List (Step Parts)) : Type 0 where
-  pub fed : AllByRecursion (λ (step : Step Parts). AreFed step.new) steps
-  pub journal : AllByRecursion (λ (step : Step Parts). JournalStands step.new) steps
-  pub leaves : AllByRecursion (λ (step : Step Parts). StopLeaves step.old step.event step.new) steps
-  pub tables : AllByRecursion (λ (p : Parts). AllByRecursion (TablesAgree p) (cores_of setup steps)) (cores_of setup steps)
+pub record CoresStand (setup : Setup) (steps : List (Step Cores)) : Type 0 where
+  pub fed : AllByRecursion (λ (step : Step Cores). AreFed step.new) steps
+  pub journal : AllByRecursion (λ (step : Step Cores). JournalStands step.new) steps
+  pub leaves : AllByRecursion (λ (step : Step Cores). StopLeaves step.old step.event step.new) steps
+  pub tables : AllByRecursion (λ (p : Cores). AllByRecursion (TablesAgree p) (cores_of setup steps)) (cores_of setup steps)
 
 -- the outputs are those of one run of the cores, and of this run all of the following is so: it is exact by the one list that is
 -- durable at its end; that list is legal; the cores stand; and users see it as a run of the database

@@ -1,17 +1,17 @@
 -- Events with what they are to answer: three scripts, `examples/first-commit.script`, `examples/lost-frame.script` and
--- `examples/conflict.script`; write skew; each refusal of a transaction's calls; stops and starts; two queries of one batch; and
--- two workers. One table of two `int` columns; one worker and one replica but for the last.
+-- `examples/conflict.script`; write skew; each refusal of a transaction's calls; stops and starts; two queries of one batch; a column
+-- that is added; and two workers. One table of two `int` columns; one worker and one replica but for the last.
 use Rattle.std.specs.Prelude.{ℕ, ◌∷◌, [], List, None, Some, pos, negsuc, codes, ◌++◌}
 use Rattle.rows.specs.declared.kind.Kind.TheVariants.{Int as IntKind}
 use Rattle.rows.specs.declared.row_id.RowId.{RowId}
 use Rattle.rows.specs.declared.value.Value.TheVariants.{Int}
-use Rattle.plans.specs.declared.aggregate.Aggregate.TheVariants.{Count, Sum}
-use Rattle.plans.specs.declared.column.Column.TheVariants.{Joined}
-use Rattle.plans.specs.declared.faults.PlanFault.TheVariants.{NoColumn}
-use Rattle.plans.specs.declared.plan.Plan.{Plan}
+use Rattle.queries.specs.declared.aggregate.Aggregate.TheVariants.{Count, Sum}
+use Rattle.queries.specs.declared.column.Column.TheVariants.{Own, Joined}
+use Rattle.queries.specs.declared.faults.PlanFault.TheVariants.{NoColumn}
+use Rattle.queries.specs.declared.plan.Plan.{Plan}
 use Rattle.script.specs.declared.event.Event.{Event}
 use Rattle.script.specs.declared.event.Event.TheVariants.{Begin, Insert, Set, Delete, Get, Commit, Abort, Flush, Stop, Start}
-use Rattle.script.specs.declared.event.Event.TheVariants.{Push, Deliver, Show, Open, Ask, Run}
+use Rattle.script.specs.declared.event.Event.TheVariants.{AddColumn, Push, Deliver, Show, Open, Ask, Run, Dump}
 use Rattle.script.specs.declared.event.Node.TheVariants.{Primary, Replica}
 use Rattle.script.specs.declared.output.Output.{Output}
 use Rattle.script.specs.declared.output.Output.TheVariants as outputs
@@ -50,7 +50,7 @@ report = codes "version 1 queries 1\nquery 0 rows 1\n1\n"
 -- the bytes of the frame
 abbrev pub frame_bytes : List ℕ
 frame_bytes =
-    0x42 ∷ 0x44 ∷ 1 ∷ 1 ∷ 0 ∷ 0x36 ∷ 0 ∷ 0 ∷ 0 ∷ 0 ∷ 0 ∷ 0 ∷ 0 ∷ 0 ∷ 0 ∷ 0 ∷ 0 ∷ 0 ∷ 0 ∷ 0 ∷ 0 ∷ 0 ∷ 1 ∷ 1 ∷ 0 ∷ 1 ∷ 1 ∷ 0
+    0x42 ∷ 0x44 ∷ 2 ∷ 1 ∷ 0 ∷ 0x36 ∷ 0 ∷ 0 ∷ 0 ∷ 0 ∷ 0 ∷ 0 ∷ 0 ∷ 0 ∷ 0 ∷ 0 ∷ 0 ∷ 0 ∷ 0 ∷ 0 ∷ 0 ∷ 0 ∷ 1 ∷ 1 ∷ 0 ∷ 1 ∷ 1 ∷ 0
     ∷ 0 ∷ 0 ∷ 0 ∷ 0 ∷ 0 ∷ 0 ∷ 0 ∷ 7 ∷ 0 ∷ 0x10 ∷ 0 ∷ 0 ∷ 0 ∷ 0 ∷ 0 ∷ 0 ∷ 0 ∷ 5 ∷ 0xff ∷ 0xff ∷ 0xff ∷ 0xff ∷ 0xff ∷ 0xff ∷ 0xff ∷ 0xff ∷ []
 
 -- the frame arrives, and the batch is answered
@@ -180,6 +180,33 @@ two_queries_outputs =
     ∷ outputs.Stored ∷ outputs.Stored ∷ outputs.Opened 1 ∷ outputs.BadPlan NoColumn ∷ outputs.Opened 2
     ∷ outputs.Sent (record { index = 2; len = 23 } ∷ []) ∷ outputs.Sent (record { index = 3; len = 40 } ∷ []) ∷ outputs.Head 2
     ∷ outputs.Report (codes "version 2 queries 2\nquery 0 rows 1\n2\nquery 1 rows 1\n5 2 -2\n") ∷ []
+
+-- a query that sums the third column
+abbrev pub sum_third : Plan
+sum_third = record { table = 0; join = None; conditions = []; groups = []; aggregates = Sum (Own 2) ∷ [] }
+
+-- a column is added beside a transaction that changes a row of its table, and the two are in conflict. From then on the row has the
+-- column's value, and a row that is put in has one more. A replica refuses a query on the column until its own tables have it
+abbrev pub added_column : List Event
+added_column =
+    commit_and_push ++ Deliver 0 (Replica 0) ∷ open_and_fetch ++ Run 0
+    ∷ Begin ∷ Begin ∷ AddColumn 1 0 (Int (pos 3)) ∷ Set 2 0 account 0 (Int (pos 9)) ∷ Commit 1 0 ∷ Commit 2 0 ∷ Flush 1
+    ∷ Begin ∷ Get 3 0 account 2 ∷ Insert 3 0 other_account (Int (pos 1) ∷ Int (pos 2) ∷ [])
+    ∷ Insert 3 0 other_account (Int (pos 1) ∷ Int (pos 2) ∷ Int (pos 4) ∷ [])
+    ∷ Push 0 1 ∷ Deliver 3 (Replica 0) ∷ Open 0 sum_third ∷ Open 0 count_rows ∷ Ask 0 ∷ Deliver 4 Primary ∷ Deliver 5 (Replica 0) ∷ Run 0
+    ∷ Open 0 sum_third ∷ Ask 0 ∷ Deliver 6 Primary ∷ Deliver 7 (Replica 0) ∷ Run 0 ∷ Dump 0 ∷ []
+
+abbrev pub added_column_outputs : List Output
+added_column_outputs =
+    commit_and_push_outputs ++ outputs.Stored ∷ open_and_fetch_outputs ++ outputs.Report report
+    ∷ outputs.Tx 1 1 ∷ outputs.Tx 2 1 ∷ outputs.Accepted ∷ outputs.Accepted ∷ outputs.Ticket 2 ∷ outputs.Conflict 2 ∷ outputs.Durable 2
+    ∷ outputs.Tx 3 2 ∷ outputs.Value (Int (pos 3)) ∷ outputs.Unfit ∷ outputs.Accepted
+    ∷ outputs.Sent (record { index = 3; len = 37 } ∷ []) ∷ outputs.Stored ∷ outputs.BadPlan NoColumn ∷ outputs.Opened 1
+    ∷ outputs.Sent (record { index = 4; len = 23 } ∷ []) ∷ outputs.Sent (record { index = 5; len = 40 } ∷ []) ∷ outputs.Head 2
+    ∷ outputs.Report (codes "version 2 queries 1\nquery 0 rows 1\n1\n")
+    ∷ outputs.Opened 1 ∷ outputs.Sent (record { index = 6; len = 23 } ∷ []) ∷ outputs.Sent (record { index = 7; len = 40 } ∷ [])
+    ∷ outputs.Head 2 ∷ outputs.Report (codes "version 2 queries 1\nquery 0 rows 1\n3\n")
+    ∷ outputs.Dump (codes "version 2 rows 1\nacct 7 5 -1 3\n") ∷ []
 
 -- the world of two workers and two replicas
 abbrev pub wide_world : World

@@ -1,4 +1,4 @@
-//! The parts of a world: the cores, the open transactions, and what was sent.
+//! The cores of a world, with what is around them: the primary and the replicas, the open transactions, and what was sent.
 
 ghost use Rattle.std.specs.Prelude.{◌≡◌, ◌<◌, ◌≤◌, true, false, IfOk};
 ghost use Rattle.apply.specs.Partitions.{tables_in};
@@ -7,7 +7,7 @@ ghost use Rattle.rows.specs.Limits.{workers_max, replicas_max};
 ghost use Rattle.rows.specs.Shape.{shape_of};
 ghost use Rattle.rows.specs.Tables.{opening};
 ghost use Rattle.journal.specs.Text.{journal_text};
-ghost use Rattle.world.specs.Parts.{Parts, parts_started};
+ghost use Rattle.world.specs.Cores.{Cores, cores_started};
 ghost use Rattle.world.specs.Inner.CoreSteps.{KeepsStopped};
 ghost use Rattle.world.specs.Inner.Sound.{PrimaryListsAreLegal};
 
@@ -41,10 +41,10 @@ pub struct Cores {
 }
 
 impl Model for Cores {
-    ghost use Rattle.world.specs.Parts.{Parts};
+    ghost use Rattle.world.specs.Cores.{Cores as CoresOf};
     ghost use Rattle.world.specs.Inner.Nodes.{primary_in, is_stopped, journal_bytes_in};
 
-    ghost Value = { Parts };
+    ghost Value = { CoresOf };
 
     ghost view = { λ c. record {
       setup = c.setup;
@@ -66,7 +66,7 @@ impl Cores {
         requires some { 0 < setup.now.workers }
         requires workers { setup.now.workers ≤ workers_max }
         requires replicas { setup.now.replicas ≤ replicas_max }
-        ensures { IfOk result (λ cores. cores ≡ parts_started setup.now) }
+        ensures { IfOk result (λ cores. cores ≡ cores_started setup.now) }
     {
         let schema = &setup.schema;
         let workers = setup.workers;
@@ -135,7 +135,7 @@ pub fn store_of(
     schema: &Schema,
     partitions: usize,
 ) -> Result<ColumnStore, AllocError>
-    ensures tables { IfOk result (λ store. tables_in store.parts ≡ opening (shape_of schema.now)) }
+    ensures tables { IfOk result (λ store. tables_in store.partitions ≡ opening (shape_of schema.now)) }
     ensures whole { IfOk result (λ store. store.whole ≡ true) }
 {
     let partitions = if partitions == 0 {

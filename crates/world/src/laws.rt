@@ -7,7 +7,7 @@ ghost use Rattle.world.specs.Inner.StepLaws.{StepLaws};
 pub fn steps_are_told()
     ensures { StepLaws }
 {
-    rows::laws::changes_keep_kinds();
+    rows::laws::changes_tell_kinds();
     rows::laws::entries_are_defined_one_by_one();
     wire::one_spelling();
 }

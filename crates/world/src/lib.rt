@@ -7,8 +7,8 @@
 //! repeated and late datagrams, and whatever else may go wrong, are events.
 //!
 //! `specs/` defines what may happen: the world as its users see it (`Steps.antt`), what a crash of
-//! the primary leaves (`Stops.antt`) and which outputs are allowed (`Allowed.antt`), the cores as
-//! parts and the world that they make (`Parts.antt`, `Standing.antt`), what is acknowledged
+//! the primary leaves (`Stops.antt`) and which outputs are allowed (`Allowed.antt`), the cores
+//! and the world that they make (`Cores.antt`, `Standing.antt`), what is acknowledged
 //! (`Acknowledged.antt`), what a step and a run are (`Theorem.antt`), what a script's run reads and
 //! prints (`Scripts.antt`), and the promise to users on one page (`Database.antt`). `specs/Inner`
 //! only helps proofs.

@@ -8,7 +8,7 @@ use crate::cores::Cores;
 use crate::naming::{ask_output, dump_output, got_output, open_output};
 use crate::sending::is_forged;
 use dispatcher::Run;
-use plans::Plan;
+use queries::Plan;
 use rows::ByteList;
 use script::{Event, Node, Output, Sent, SentList};
 use std::alloc::AllocError;

@@ -26,6 +26,7 @@ impl Cores {
             Event::Insert { transaction, .. } => self.change(*transaction, event),
             Event::Set { transaction, .. } => self.change(*transaction, event),
             Event::Delete { transaction, .. } => self.change(*transaction, event),
+            Event::AddColumn { transaction, .. } => self.change(*transaction, event),
             Event::Get {
                 transaction,
                 table,

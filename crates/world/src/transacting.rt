@@ -33,7 +33,7 @@ impl Cores {
         }
     }
 
-    /// Changes a transaction: an event inserts a row, sets a column or deletes a row.
+    /// Changes a transaction: an event inserts a row, sets a column, deletes a row or adds a column.
     pub fn change(&mut self, number: u64, event: &Event) -> Output
         requires ready { IsReady self.old }
         requires changes { ChangesTransaction number event.now }
@@ -130,6 +130,9 @@ fn make_change(
             ..
         } => transaction.set(versions, *table, *row, *column as usize, *value),
         Event::Delete { table, row, .. } => transaction.delete(versions, *table, *row),
+        Event::AddColumn { table, default, .. } => {
+            transaction.add_column(versions, *table, *default)
+        }
         _ => unreachable!(),
     }
 }

@@ -5,7 +5,7 @@ ghost use Rattle.rows.specs.Shape.{shape_of};
 ghost use Rattle.rows.specs.Commits.{IsLegal};
 ghost use Rattle.journal.specs.Recovery.{IsBeginning};
 ghost use Rattle.script.specs.Events.{IsPossible};
-ghost use Rattle.world.specs.Parts.{parts_started};
+ghost use Rattle.world.specs.Cores.{cores_started};
 ghost use Rattle.world.specs.Allowed.{MayHappen};
 ghost use Rattle.world.specs.Standing.{world_of, AreFed, JournalStands, StopLeaves};
 ghost use Rattle.world.specs.Theorem.{SaysRows, IsFaultless};
@@ -30,14 +30,14 @@ pub struct World {
 }
 
 impl Model for World {
-    ghost use Rattle.world.specs.Parts.{Parts};
-    ghost use Rattle.world.specs.Inner.Invariant.{PartsAreKept};
+    ghost use Rattle.world.specs.Cores.{Cores as CoresOf};
+    ghost use Rattle.world.specs.Inner.Invariant.{CoresAreKept};
 
-    ghost Value = { Parts };
+    ghost Value = { CoresOf };
 
     ghost view = { λ w. w.cores };
 
-    ghost invariant = { λ w. PartsAreKept w.cores };
+    ghost invariant = { λ w. CoresAreKept w.cores };
 }
 
 impl World {
@@ -48,7 +48,7 @@ impl World {
         requires some { 0 < setup.now.workers }
         requires workers { setup.now.workers ≤ workers_max }
         requires replicas { setup.now.replicas ≤ replicas_max }
-        ensures { IfOk result (λ world. world ≡ parts_started setup.now) }
+        ensures { IfOk result (λ world. world ≡ cores_started setup.now) }
     {
         World::with_partitions(alloc, setup, PARTITIONS)
     }
@@ -63,7 +63,7 @@ impl World {
         requires some { 0 < setup.now.workers }
         requires workers { setup.now.workers ≤ workers_max }
         requires replicas { setup.now.replicas ≤ replicas_max }
-        ensures { IfOk result (λ world. world ≡ parts_started setup.now) }
+        ensures { IfOk result (λ world. world ≡ cores_started setup.now) }
     {
         fed_replicas_stay_fed();
         steps_are_told();

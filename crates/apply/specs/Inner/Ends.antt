@@ -4,7 +4,7 @@ use Rattle.rows.specs.declared.entry.Entry.{Entry}
 use Rattle.rows.specs.Tables.{Tables, Refusal, apply_entries}
 use Rattle.store.specs.Faults.{FailsAs}
 use Rattle.store.specs.declared.faults.ApplyFault.{ApplyFault}
-use Rattle.apply.specs.declared.part.Part.{Part}
+use Rattle.apply.specs.declared.partition.Partition.{Partition}
 
 -- all its changes were made, which leaves these tables; or why not, told of whether there is an entry
 abbrev pub EndsAs : Bool → Result Tables Refusal → Tables → Option ApplyFault → Type 0
@@ -17,5 +17,5 @@ GoesOnAs None entries old new fault = EndsAs (nat_lt 0 (length entries)) (apply_
 GoesOnAs (Some failed) entries old new fault = fault ≡ Some failed
 
 -- the same of a partition before and after
-abbrev pub GoesOn : List Entry → Part → Part → Type 0
+abbrev pub GoesOn : List Entry → Partition → Partition → Type 0
 GoesOn entries old new = GoesOnAs old.fault entries old.tables.items new.tables.items new.fault

@@ -3,17 +3,16 @@ use Rattle.std.specs.Prelude.{◌≡◌, ◌<◌, ◌≤◌, length, true}
 use Rattle.rows.specs.Tables.{RowsAreOfKinds}
 use Rattle.apply.specs.Limits.{partitions_max}
 use Rattle.apply.specs.Partitions.{ColumnState, tables_in}
-use Rattle.apply.specs.Inner.Gathered.{AreAlike, AreParts}
+use Rattle.apply.specs.Inner.Gathered.{ArePartitions}
 use Rattle.apply.specs.Inner.Views.{views}
 use Rattle.apply.specs.declared.column_store.ColumnStore.TheInside.{Inside}
 
 abbrev pub state_of : Inside → ColumnState
-state_of s = record { parts = views s.parts.items; whole = s.whole }
+state_of s = record { partitions = views s.partitions.items; whole = s.whole }
 
 pub record IsColumnStore (s : Inside) : Type 0 where
-  pub some : 0 < length s.parts.items
-  pub few : length s.parts.items ≤ partitions_max
-  pub alike : AreAlike (views s.parts.items)
+  pub some : 0 < length s.partitions.items
+  pub few : length s.partitions.items ≤ partitions_max
   -- while it is whole, each partition has the rows that are its own, with values of their columns' kinds
-  pub parts : s.whole ≡ true → AreParts (views s.parts.items)
-  pub kinds : s.whole ≡ true → RowsAreOfKinds (tables_in (views s.parts.items))
+  pub partitions : s.whole ≡ true → ArePartitions (views s.partitions.items)
+  pub kinds : s.whole ≡ true → RowsAreOfKinds (tables_in (views s.partitions.items))

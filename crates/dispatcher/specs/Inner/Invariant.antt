@@ -4,11 +4,11 @@ use Rattle.std.specs.Cmp.Lexicographic.{pointwise}
 use Rattle.std.specs.List.{AllByRecursion}
 use Rattle.std.specs.Option.{option_map}
 use Rattle.rows.specs.Limits.{workers_max, replicas_max}
-use Rattle.rows.specs.Shape.{Shape, shape_of}
+use Rattle.rows.specs.Shape.{Shape}
 use Rattle.rows.specs.Tables.{Tables, shape_in}
 use Rattle.intake.specs.Kept.{AreKeptFrom}
-use Rattle.plans.specs.declared.plan.Plan.{Plan}
-use Rattle.plans.specs.Checking.{checked}
+use Rattle.queries.specs.declared.plan.Plan.{Plan}
+use Rattle.queries.specs.Checking.{checked}
 use Rattle.dispatcher.specs.declared.batch.Batch.{Batch as HeldBatch}
 use Rattle.dispatcher.specs.declared.batch.Fetched.{Fetched as HeldFetched}
 use Rattle.dispatcher.specs.declared.replica_core.ReplicaCore.TheInside.{Inside}
@@ -67,7 +67,7 @@ pub record IsCore {S Place Fault : Type 0} (is_whole : S → Bool) (tables : S �
   pub others_kept : AreKeptFrom a.intake a.applied
   pub store_whole : a.broken ≡ false → is_whole a.store ≡ true
   pub fetched : BatchGoesOn a.version a.applied a.batch
-  -- the tables have the columns of the schema, for which each query was checked
-  pub kinds : shape_in (tables a.store) ≡ shape_of a.schema
-  pub waiting_checked : AreChecked (shape_of a.schema) a.waiting.items
-  pub batch_checked : BatchIsChecked (shape_of a.schema) a.batch
+  -- there are as many tables as names, and each query was checked for the columns that they have
+  pub many : a.broken ≡ false → length (tables a.store) ≡ length a.schema
+  pub waiting_checked : a.broken ≡ false → AreChecked (shape_in (tables a.store)) a.waiting.items
+  pub batch_checked : a.broken ≡ false → BatchIsChecked (shape_in (tables a.store)) a.batch

@@ -5,36 +5,42 @@ use Rattle.rows.specs.declared.commit.Commit.{Commit}
 use Rattle.rows.specs.Commits.{IsCommit, apply_commits}
 use Rattle.rows.specs.Shape.{Shape}
 use Rattle.rows.specs.Tables.{Tables, opening, apply_entries}
-use Rattle.store.specs.State.{StoreState}
 use Rattle.journal.specs.declared.faults.JournalFault.{JournalFault}
 use Rattle.journal.specs.declared.faults.JournalFault.TheVariants.{OtherHeader, Damaged, OutOfOrder, Illegal, Memory}
+use Rattle.journal.specs.Inner.Presence.{PresenceState, IsPresenceOf, IsApplied}
 use Rattle.journal.specs.Recovery.{HasRecord, IsRecordAt, IsDamaged, IsOutOfOrder}
 use Rattle.journal.specs.Text.{record_of, journal_text}
 
--- these commits were read, their text stands before the rest of the bytes, and they make the tables of the store
-pub record RecordsWereRead (workers : ℕ) (shape : Shape) (bytes : List ℕ) (commits : List Commit) (store : StoreState)
+-- these commits were read, their text stands before the rest of the bytes, and they make these tables
+pub record RecordsWereRead (workers : ℕ) (shape : Shape) (bytes : List ℕ) (commits : List Commit) (tables : Tables)
     (rest : List ℕ) : Type 0 where
   pub text : bytes ≡ journal_text workers shape commits ++ rest
   pub each : AllByRecursion (IsCommit workers) commits
   pub records : AllByRecursion HasRecord commits
-  pub defined : apply_commits (opening shape) commits ≡ Ok store.tables
-  pub whole : store.whole ≡ true
+  pub defined : apply_commits (opening shape) commits ≡ Ok tables
+
+-- these commits were read, and the rows of the tables that they make are those that are present
+pub record HasCome (workers : ℕ) (shape : Shape) (bytes : List ℕ) (commits : List Commit) (present : PresenceState)
+    (rest : List ℕ) : Type 0 where
+  pub tables : Tables
+  pub read : RecordsWereRead workers shape bytes commits tables rest
+  pub rows : IsPresenceOf tables present
 
 -- a commit whose worker is there and whose entries are defined on the tables
 abbrev pub IsDefinedOn : ℕ → Tables → Commit → Type 0
 IsDefinedOn workers tables commit = (commit.worker < workers) × IsOk (apply_entries tables commit.entries)
 
--- whether a commit is legal on the rows of a store, which then makes its changes
-abbrev pub IsAccepted : Bool → ℕ → StoreState → StoreState → Commit → Type 0
-IsAccepted true workers old new commit =
-    (commit.worker < workers) × (apply_entries old.tables commit.entries ≡ Ok new.tables) × (new.whole ≡ true)
-IsAccepted false workers old new commit = ¬ IsDefinedOn workers old.tables commit
+-- whether a commit is legal on the tables; if it is, the rows that are present are those after it
+abbrev pub IsAccepted : Bool → ℕ → Tables → PresenceState → Commit → Type 0
+IsAccepted true workers tables present commit = (commit.worker < workers) × IsApplied true (apply_entries tables commit.entries) present
+IsAccepted false workers tables present commit = ¬ IsDefinedOn workers tables commit
 
--- the next commit: its record stands before what is behind, and a store has made its changes
-pub record IsNextCommit (workers number : ℕ) (old new : StoreState) (rest : List ℕ) (commit : Commit) (behind : List ℕ) : Type 0 where
+-- the next commit on the tables: its record stands before what is behind, and the rows that are present are those after it
+pub record IsNextCommit (workers number : ℕ) (tables : Tables) (present : PresenceState) (rest : List ℕ) (commit : Commit)
+    (behind : List ℕ) : Type 0 where
   pub front : rest ≡ record_of number commit ++ behind
   pub held : HasRecord commit
-  pub accepted : IsAccepted true workers old new commit
+  pub accepted : IsAccepted true workers tables present commit
 
 -- a record by that number whose commit is not defined on the tables
 pub record IsUndefined (workers number : ℕ) (tables : Tables) (rest : List ℕ) : Type 0 where

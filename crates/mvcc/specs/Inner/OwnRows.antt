@@ -4,7 +4,7 @@ use Rattle.std.specs.Prelude.{◌≡◌, ℕ, ◌<◌, List, [], ◌∷◌, leng
 use Rattle.std.specs.List.{AllByRecursion, filter}
 use Rattle.std.specs.Map.{lookup}
 use Rattle.rows.specs.declared.entry.Entry.{Entry}
-use Rattle.rows.specs.declared.entry.Entry.TheVariants.{Insert, Patch, Delete}
+use Rattle.rows.specs.declared.entry.Entry.TheVariants.{Insert, Patch, Delete, AddColumn}
 use Rattle.rows.specs.declared.value.Value.{Value}
 use Rattle.rows.specs.Shape.{Shape}
 use Rattle.mvcc.specs.Inner.Keys.{is_key_of}
@@ -36,12 +36,14 @@ abbrev pub is_patch_of : Entry → ℕ → ℕ → Bool
 is_patch_of (Insert table row bytes) start size = false
 is_patch_of (Patch table row offset bytes) start size = (start == offset) && (size == length bytes)
 is_patch_of (Delete table row) start size = false
+is_patch_of (AddColumn table default) start size = false
 
 -- whether an entry leaves nothing of an earlier one of its row: a delete of any, a patch of a patch of the same bytes
 abbrev pub supersedes : Entry → Entry → Bool
 supersedes (Insert table row bytes) earlier = false
 supersedes (Patch table row offset bytes) earlier = is_patch_of earlier offset (length bytes)
 supersedes (Delete table row) earlier = true
+supersedes (AddColumn table default) earlier = false
 
 -- whether an entry leaves nothing of the one at that index
 abbrev pub is_superseded : List Entry → Entry → ℕ → Bool

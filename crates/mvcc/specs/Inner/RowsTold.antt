@@ -6,7 +6,7 @@ use Rattle.rows.specs.declared.entry.Entry.{Entry}
 use Rattle.rows.specs.Tables.{is_row_at}
 use Rattle.mvcc.specs.Inner.Keys.{is_key_of}
 use Rattle.rows.specs.Presence.{is_there_after}
-use Rattle.mvcc.specs.History.{History, tables_at}
+use Rattle.mvcc.specs.VersionList.{VersionList, tables_at}
 
 -- rows, by table and identifier, and whether each is there
 abbrev pub Told : Type 0
@@ -21,6 +21,6 @@ abbrev pub there_in : Told → ℕ → ℕ → Bool → Bool
 there_in told table row was = unwrap_or (told_of told table row) was
 
 -- each row is told as the entries leave it, on the rows at that version
-pub record IsToldAfter (versions : History) (version : ℕ) (entries : List Entry) (told : Told) : Type 0 where
+pub record IsToldAfter (versions : VersionList) (version : ℕ) (entries : List Entry) (told : Told) : Type 0 where
   pub each : (table row : ℕ) → there_in told table row (is_row_at (tables_at versions version) table row) ≡ is_there_after table row entries
       (is_row_at (tables_at versions version) table row)

@@ -5,7 +5,7 @@ use Rattle.rows.specs.declared.value.Value.{Value}
 use Rattle.rows.specs.Tables.{Rows, Tables, rows_of, row_at}
 use Rattle.store.specs.Lent.{rows_in, rows_from}
 use Rattle.plans.specs.declared.block.Block.{Block}
-use Rattle.plans.specs.Answers.{JoinedRow}
+use Rattle.queries.specs.Answers.{JoinedRow}
 
 -- the values of the row of an identifier
 abbrev pub values_by : Rows → ℕ → List Value

@@ -5,10 +5,10 @@ use Rattle.rows.specs.declared.value.Value.{Value}
 use Rattle.rows.specs.declared.value.Value.TheVariants.{Int}
 use Rattle.plans.specs.declared.cells.Cells.{Cells}
 use Rattle.plans.specs.declared.cells.Cells.TheVariants as cells
-use Rattle.plans.specs.declared.column.Column.{Column}
-use Rattle.plans.specs.declared.condition.Condition.{Condition}
-use Rattle.plans.specs.Order.{value_cmp}
-use Rattle.plans.specs.Answers.{JoinedRow, passes, values_in}
+use Rattle.queries.specs.declared.column.Column.{Column}
+use Rattle.queries.specs.declared.condition.Condition.{Condition}
+use Rattle.queries.specs.Order.{value_cmp}
+use Rattle.queries.specs.Answers.{JoinedRow, passes, values_in}
 
 -- the values, in the order of their rows
 abbrev pub values_of : Cells → List Value

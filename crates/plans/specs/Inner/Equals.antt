@@ -1,7 +1,7 @@
 -- Plans that are equal.
 use Rattle.std.specs.Prelude.{◌≡◌, ℕ, ◌<◌, ◌≤◌, List, length, slice_index_or}
-use Rattle.plans.specs.declared.field.Field.{Field}
-use Rattle.plans.specs.declared.plan.Plan.{Plan}
+use Rattle.queries.specs.declared.field.Field.{Field}
+use Rattle.queries.specs.declared.plan.Plan.{Plan}
 
 -- this plan stands there
 pub record IsAt (plans : List Plan) (plan : Plan) (place : ℕ) : Type 0 where

@@ -2,13 +2,13 @@
 use Rattle.std.specs.Prelude.{◌≡◌, List, map}
 use Rattle.rows.specs.declared.value.Value.{Value}
 use Rattle.rows.specs.declared.value.Value.TheVariants.{Int}
-use Rattle.plans.specs.declared.aggregate.Aggregate.{Aggregate}
-use Rattle.plans.specs.declared.aggregate.Aggregate.TheVariants.{Count, Sum, Min, Max}
+use Rattle.queries.specs.declared.aggregate.Aggregate.{Aggregate}
+use Rattle.queries.specs.declared.aggregate.Aggregate.TheVariants.{Count, Sum, Min, Max}
 use Rattle.plans.specs.declared.held_input.HeldInput.{HeldInput}
 use Rattle.plans.specs.declared.held_input.HeldInput.TheVariants as held
 use Rattle.plans.specs.declared.input.Input.{Input}
 use Rattle.plans.specs.declared.input.Input.TheVariants as inputs
-use Rattle.plans.specs.Answers.{integer_of}
+use Rattle.queries.specs.Answers.{integer_of}
 
 -- the integers of values
 abbrev pub AreIntegers : List Value → HeldInput → Type 0

@@ -9,16 +9,16 @@ use Rattle.std.specs.Ordering.{is_eq}
 use Rattle.rows.specs.declared.value.Value.{Value}
 use Rattle.rows.specs.declared.value.Value.TheVariants.{Int}
 use Rattle.rows.specs.Tables.{Rows, Tables, rows_of, row_at}
-use Rattle.plans.specs.declared.aggregate.Aggregate.{Aggregate}
-use Rattle.plans.specs.declared.aggregate.Aggregate.TheVariants.{Count, Sum, Min, Max}
-use Rattle.plans.specs.declared.column.Column.{Column}
-use Rattle.plans.specs.declared.field.Field.{Field}
-use Rattle.plans.specs.declared.field.Field.TheVariants.{Stored, Number, Absent}
-use Rattle.plans.specs.declared.plan.Join.{Join}
-use Rattle.plans.specs.declared.plan.Plan.{Plan}
-use Rattle.plans.specs.Order.{group_cmp}
-use Rattle.plans.specs.Answers.{JoinedRow, column_in, joined_value, integer_of, lesser, greater, group_of, groups_of, rows_in, rows_among}
-use Rattle.plans.specs.Answers.{aggregate_of}
+use Rattle.queries.specs.declared.aggregate.Aggregate.{Aggregate}
+use Rattle.queries.specs.declared.aggregate.Aggregate.TheVariants.{Count, Sum, Min, Max}
+use Rattle.queries.specs.declared.column.Column.{Column}
+use Rattle.queries.specs.declared.field.Field.{Field}
+use Rattle.queries.specs.declared.field.Field.TheVariants.{Stored, Number, Absent}
+use Rattle.queries.specs.declared.plan.Join.{Join}
+use Rattle.queries.specs.declared.plan.Plan.{Plan}
+use Rattle.queries.specs.Order.{group_cmp}
+use Rattle.queries.specs.Answers.{JoinedRow, column_in, joined_value, integer_of, lesser, greater, group_of, groups_of, rows_in, rows_among}
+use Rattle.queries.specs.Answers.{aggregate_of}
 
 -- each group's aggregates, in rising order of the groups
 abbrev pub GroupList : Type 0

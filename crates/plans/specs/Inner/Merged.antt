@@ -3,12 +3,12 @@ use Rattle.std.specs.Prelude.{◌≡◌, ℕ, ◌+ℤ◌, List, [], ◌∷◌, �
 use Rattle.std.specs.List.{filter}
 use Rattle.rows.specs.declared.value.Value.{Value}
 use Rattle.rows.specs.Tables.{Tables}
-use Rattle.plans.specs.declared.aggregate.Aggregate.{Aggregate}
-use Rattle.plans.specs.declared.aggregate.Aggregate.TheVariants.{Count, Sum, Min, Max}
-use Rattle.plans.specs.declared.field.Field.{Field}
-use Rattle.plans.specs.declared.field.Field.TheVariants.{Stored, Number, Absent}
-use Rattle.plans.specs.declared.plan.Plan.{Plan}
-use Rattle.plans.specs.Answers.{JoinedRow, lesser, greater, aggregate_of, rows_among}
+use Rattle.queries.specs.declared.aggregate.Aggregate.{Aggregate}
+use Rattle.queries.specs.declared.aggregate.Aggregate.TheVariants.{Count, Sum, Min, Max}
+use Rattle.queries.specs.declared.field.Field.{Field}
+use Rattle.queries.specs.declared.field.Field.TheVariants.{Stored, Number, Absent}
+use Rattle.queries.specs.declared.plan.Plan.{Plan}
+use Rattle.queries.specs.Answers.{JoinedRow, lesser, greater, aggregate_of, rows_among}
 use Rattle.plans.specs.Inner.Kept.{kept_at}
 
 -- two numbers, added

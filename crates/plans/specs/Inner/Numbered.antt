@@ -6,18 +6,18 @@ use Rattle.plans.specs.Inner.Picked.{picked, folded, AreWithin}
 use Rattle.plans.specs.Inner.Picked.{total as number_total}
 use Rattle.rows.specs.declared.value.Value.{Value}
 use Rattle.rows.specs.declared.value.Value.TheVariants.{Int}
-use Rattle.plans.specs.declared.aggregate.Aggregate.{Aggregate}
-use Rattle.plans.specs.declared.aggregate.Aggregate.TheVariants.{Count, Sum, Min, Max}
-use Rattle.plans.specs.declared.column.Column.{Column}
-use Rattle.plans.specs.declared.field.Field.{Field}
-use Rattle.plans.specs.declared.field.Field.TheVariants.{Number, Absent}
+use Rattle.queries.specs.declared.aggregate.Aggregate.{Aggregate}
+use Rattle.queries.specs.declared.aggregate.Aggregate.TheVariants.{Count, Sum, Min, Max}
+use Rattle.queries.specs.declared.column.Column.{Column}
+use Rattle.queries.specs.declared.field.Field.{Field}
+use Rattle.queries.specs.declared.field.Field.TheVariants.{Number, Absent}
 use Rattle.plans.specs.declared.input.Input.{Input}
 use Rattle.plans.specs.declared.input.Input.TheVariants as inputs
 use Rattle.plans.specs.declared.tallies.Tally.{Tally}
 use Rattle.plans.specs.declared.tallies.Tally.TheVariants as tallies
 use Rattle.plans.specs.declared.tallies.Tallies.{Tallies}
-use Rattle.plans.specs.Order.{group_cmp}
-use Rattle.plans.specs.Answers.{JoinedRow, integer_of, total, lesser, greater, values_in, group_of, rows_in, aggregate_of}
+use Rattle.queries.specs.Order.{group_cmp}
+use Rattle.queries.specs.Answers.{JoinedRow, integer_of, total, lesser, greater, values_in, group_of, rows_in, aggregate_of}
 use Rattle.plans.specs.Inner.Kept.{extreme}
 
 -- rows have these numbers: each is the place of its group's values among the keys

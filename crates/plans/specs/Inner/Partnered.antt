@@ -11,11 +11,11 @@ use Rattle.store.specs.Changes.{column_of}
 use Rattle.plans.specs.declared.block.Block.{Block}
 use Rattle.plans.specs.declared.cells.Cells.{Cells}
 use Rattle.plans.specs.declared.filled.Filled.{Filled}
-use Rattle.plans.specs.declared.column.Column.{Column}
-use Rattle.plans.specs.declared.column.Column.TheVariants.{Own, Joined}
+use Rattle.queries.specs.declared.column.Column.{Column}
+use Rattle.queries.specs.declared.column.Column.TheVariants.{Own, Joined}
 use Rattle.plans.specs.declared.partners.Partners.{Partners}
-use Rattle.plans.specs.declared.plan.Join.{Join}
-use Rattle.plans.specs.Answers.{JoinedRow, id_of, joined_with, values_in}
+use Rattle.queries.specs.declared.plan.Join.{Join}
+use Rattle.queries.specs.Answers.{JoinedRow, id_of, joined_with, values_in}
 use Rattle.plans.specs.Inner.BlockRows.{rows_of_block, own_rows}
 use Rattle.plans.specs.Inner.Cells.{values_at}
 use Rattle.plans.specs.Inner.Picked.{ArePlaces}

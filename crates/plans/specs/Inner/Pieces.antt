@@ -3,7 +3,7 @@ use Rattle.std.specs.Prelude.{◌≡◌, ℕ, zero, suc, ◌<◌, ◌≤◌, [],
 use Rattle.rows.specs.Tables.{Rows, Tables, rows_of}
 use Rattle.store.specs.Changes.{id_in}
 use Rattle.store.specs.Lent.{rows_in}
-use Rattle.plans.specs.declared.plan.Plan.{Plan}
+use Rattle.queries.specs.declared.plan.Plan.{Plan}
 use Rattle.plans.specs.Inner.Kept.{GroupList, AreKept}
 
 -- the rows of the pieces before one, one piece after the other

@@ -3,7 +3,7 @@ use Rattle.std.specs.Prelude.{ℕ, List, [], Option, None, Some}
 use Rattle.std.specs.Option.{unwrap_or}
 use Rattle.rows.specs.declared.value.Value.{Value}
 use Rattle.plans.specs.declared.row_place.RowPlace.{RowPlace}
-use Rattle.plans.specs.Answers.{JoinedRow}
+use Rattle.queries.specs.Answers.{JoinedRow}
 
 module _ {P : Type 0} where
   -- the values of the row that is joined, by what a store has at each place

@@ -4,12 +4,12 @@ use Rattle.std.specs.BTreeMap.{is_at}
 use Rattle.std.specs.Map.{lookup}
 use Rattle.rows.specs.declared.value.Value.{Value}
 use Rattle.rows.specs.Tables.{Tables}
-use Rattle.plans.specs.declared.aggregate.Aggregate.{Aggregate}
-use Rattle.plans.specs.declared.field.Field.{Field}
-use Rattle.plans.specs.declared.field.Field.TheVariants.{Stored}
-use Rattle.plans.specs.declared.plan.Plan.{Plan}
-use Rattle.plans.specs.Order.{group_cmp}
-use Rattle.plans.specs.Answers.{JoinedRow}
+use Rattle.queries.specs.declared.aggregate.Aggregate.{Aggregate}
+use Rattle.queries.specs.declared.field.Field.{Field}
+use Rattle.queries.specs.declared.field.Field.TheVariants.{Stored}
+use Rattle.queries.specs.declared.plan.Plan.{Plan}
+use Rattle.queries.specs.Order.{group_cmp}
+use Rattle.queries.specs.Answers.{JoinedRow}
 use Rattle.plans.specs.Inner.Merged.{merged_at}
 use Rattle.plans.specs.Partials.{rows_between}
 use Rattle.plans.specs.Inner.Kept.{GroupList, GroupsAreKept, row_among, opening_groups}

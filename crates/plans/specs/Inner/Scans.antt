@@ -4,10 +4,10 @@ use Rattle.rows.specs.declared.value.Value.{Value}
 use Rattle.rows.specs.Tables.{Rows, Tables}
 use Rattle.plans.specs.declared.block.Block.{Block}
 use Rattle.plans.specs.declared.numbering.Numbering.{Numbering}
-use Rattle.plans.specs.declared.plan.Plan.{Plan}
+use Rattle.queries.specs.declared.plan.Plan.{Plan}
 use Rattle.plans.specs.declared.scan.Scan.{Scan}
 use Rattle.plans.specs.declared.tallies.Tallies.{Tallies}
-use Rattle.plans.specs.Answers.{rows_among}
+use Rattle.queries.specs.Answers.{rows_among}
 use Rattle.plans.specs.Inner.BlockRows.{rows_of_block}
 use Rattle.plans.specs.Inner.Blocks.{IsNumbering}
 use Rattle.plans.specs.Inner.Kept.{GroupList, AreKept}

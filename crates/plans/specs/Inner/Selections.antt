@@ -1,14 +1,14 @@
 -- What a plan takes of rows: those that meet its conditions.
 use Rattle.std.specs.Prelude.{◌≡◌, ℕ, ◌<◌, List, [], length, map, Option, None, Some, IfSome, slice_index_or}
 use Rattle.rows.specs.declared.value.Value.{Value}
-use Rattle.plans.specs.declared.aggregate.Aggregate.{Aggregate}
-use Rattle.plans.specs.declared.aggregate.Aggregate.TheVariants.{Count, Sum, Min, Max}
+use Rattle.queries.specs.declared.aggregate.Aggregate.{Aggregate}
+use Rattle.queries.specs.declared.aggregate.Aggregate.TheVariants.{Count, Sum, Min, Max}
 use Rattle.plans.specs.declared.cells.Cells.{Cells}
-use Rattle.plans.specs.declared.column.Column.{Column}
-use Rattle.plans.specs.declared.condition.Condition.{Condition}
+use Rattle.queries.specs.declared.column.Column.{Column}
+use Rattle.queries.specs.declared.condition.Condition.{Condition}
 use Rattle.plans.specs.declared.held_input.HeldInput.{HeldInput}
 use Rattle.plans.specs.declared.input.Input.{Input}
-use Rattle.plans.specs.Answers.{JoinedRow, values_in}
+use Rattle.queries.specs.Answers.{JoinedRow, values_in}
 use Rattle.plans.specs.Inner.Cells.{values_at}
 use Rattle.plans.specs.Inner.Held.{IsHeld, IsTaken}
 

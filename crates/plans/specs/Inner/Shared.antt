@@ -4,13 +4,13 @@ use Rattle.std.specs.List.{filter_map}
 use Rattle.std.specs.Option.{option_map}
 use Rattle.rows.specs.declared.value.Value.{Value}
 use Rattle.rows.specs.Tables.{Tables}
-use Rattle.plans.specs.declared.aggregate.Aggregate.{Aggregate}
+use Rattle.queries.specs.declared.aggregate.Aggregate.{Aggregate}
 use Rattle.plans.specs.declared.block.Block.{Block}
 use Rattle.plans.specs.declared.cells.Cells.{Cells}
-use Rattle.plans.specs.declared.plan.Join.{Join}
-use Rattle.plans.specs.declared.plan.Plan.{Plan}
+use Rattle.queries.specs.declared.plan.Join.{Join}
+use Rattle.queries.specs.declared.plan.Plan.{Plan}
 use Rattle.plans.specs.declared.shared_rows.SharedRows.{SharedRows}
-use Rattle.plans.specs.Answers.{JoinedRow, joined_with, values_in}
+use Rattle.queries.specs.Answers.{JoinedRow, joined_with, values_in}
 use Rattle.plans.specs.Inner.BlockRows.{rows_of_block}
 use Rattle.plans.specs.Inner.Numbered.{AreNumbers}
 use Rattle.plans.specs.Inner.Partnered.{joined_rows, joined_table, AreSound, AreFilled, HasKind, IsColumnAt}

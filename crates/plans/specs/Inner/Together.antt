@@ -4,7 +4,7 @@ use Rattle.std.specs.declared.alloc.AllocError.{AllocError}
 use Rattle.rows.specs.Tables.{Tables, rows_of}
 use Rattle.store.specs.Lent.{rows_in}
 use Rattle.plans.specs.declared.piecewise.PieceGroups.{PieceGroups}
-use Rattle.plans.specs.declared.plan.Plan.{Plan}
+use Rattle.queries.specs.declared.plan.Plan.{Plan}
 use Rattle.plans.specs.Inner.Kept.{GroupList, AreWithin}
 use Rattle.plans.specs.Inner.Ranges.{AreMerged}
 use Rattle.plans.specs.Inner.Scans.{AreKeptFor}

@@ -8,7 +8,7 @@ use Rattle.std.specs.Ordering.{ordering_reverse, is_lt, is_eq}
 use Rattle.std.specs.declared.cmp.Ordering.TheVariants.{Less, Equal, Greater}
 use Rattle.rows.specs.declared.value.Value.{Value}
 use Rattle.rows.specs.declared.value.Value.TheVariants.{Int, Octets}
-use Rattle.plans.specs.Order.{value_cmp, group_cmp}
+use Rattle.queries.specs.Order.{value_cmp, group_cmp}
 
 not_less : Greater ≡ Less → ⊥
 not_less e = false≢true (ap is_lt e)

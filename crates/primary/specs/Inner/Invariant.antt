@@ -4,7 +4,7 @@ use Rattle.std.specs.Prelude.{◌≡◌, ℕ, ◌<◌, ◌≤◌, List, [], leng
 use Rattle.std.specs.List.{AllByRecursion}
 use Rattle.rows.specs.Commits.{IsCommit}
 use Rattle.rows.specs.Limits.{workers_max}
-use Rattle.mvcc.specs.History.{History}
+use Rattle.mvcc.specs.VersionList.{VersionList}
 use Rattle.update_log.specs.declared.span.Span.{Span}
 use Rattle.update_log.specs.Streams.{AreStreamsOf}
 use Rattle.journal.specs.Recovery.{HasRecord}
@@ -13,7 +13,7 @@ use Rattle.primary.specs.Journaling.{AreNumbered}
 use Rattle.primary.specs.State.{Core, faults_in}
 use Rattle.primary.specs.Lending.{Lent}
 
-pub record AreLists (versions : History) (streams : List (List Span)) (durable workers : ℕ) : Type 0 where
+pub record AreLists (versions : VersionList) (streams : List (List Span)) (durable workers : ℕ) : Type 0 where
   pub some_workers : 0 < workers
   pub few_workers : workers ≤ workers_max
   pub within : durable ≤ length versions.commits

@@ -11,12 +11,12 @@ IsOfStore (starts.Journal fault) = ⊥
 IsOfStore starts.Memory = Unit {0}
 
 -- the bytes with what is missing of the header, or without what is torn behind the kept ones
-abbrev pub settled : List ℕ → List ℕ → ℕ → List ℕ
-settled header bytes bytes_kept =
+abbrev pub repaired : List ℕ → List ℕ → ℕ → List ℕ
+repaired header bytes bytes_kept =
     if nat_lt (length bytes) (length header) then bytes ++ drop (length bytes) header else take bytes_kept bytes
 
 -- some beginning of what was missing was added, or not all was truncated
-abbrev pub IsPartlySettled : List ℕ → List ℕ → ℕ → List ℕ → Type 0
-IsPartlySettled header bytes bytes_kept new =
+abbrev pub IsPartlyRepaired : List ℕ → List ℕ → ℕ → List ℕ → Type 0
+IsPartlyRepaired header bytes bytes_kept new =
     ((length bytes < length header) × IsPartlyAppended bytes (drop (length bytes) header) new)
     ⊎ ((length header ≤ length bytes) × IsPartlyCut bytes_kept bytes new)

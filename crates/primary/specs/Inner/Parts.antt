@@ -1,10 +1,10 @@
 -- What callers see of a primary, made of its parts.
 use Rattle.std.specs.Prelude.{ℕ, take, drop, Bool}
-use Rattle.mvcc.specs.History.{History}
+use Rattle.mvcc.specs.VersionList.{VersionList}
 use Rattle.primary.specs.State.{Primary}
 
 -- the primary of these versions, the first `durable` of them durable and the others pending
-abbrev pub primary_of : History → ℕ → ℕ → Bool → Primary
+abbrev pub primary_of : VersionList → ℕ → ℕ → Bool → Primary
 primary_of versions durable workers failed = record {
   schema = versions.schema;
   workers = workers;

@@ -3,7 +3,7 @@ use Rattle.std.specs.Prelude.{ℕ, List, [], ◌∷◌, Bool, if◌then◌else�
 use Rattle.rows.specs.declared.commit.Commit.{Commit}
 use Rattle.rows.specs.declared.entry.Entry.{Entry}
 use Rattle.rows.specs.Shape.{Shape}
-use Rattle.rows.specs.Entries.{fitting}
+use Rattle.rows.specs.Entries.{fitting, shape_after_one}
 use Rattle.rows.specs.Presence.{is_there_after_one, is_there_after}
 
 -- whether a row is there after the commits of a list
@@ -16,4 +16,5 @@ is_there_after_commits table row (commit ∷ commits) there =
 abbrev pub is_there_after_fit : Shape → ℕ → ℕ → List Entry → Bool → Bool
 is_there_after_fit shape table row [] there = there
 is_there_after_fit shape table row (entry ∷ entries) there =
-    is_there_after_fit shape table row entries (if is_ok (fitting shape entry) then is_there_after_one table row entry there else there)
+    is_there_after_fit (shape_after_one shape entry) table row entries
+    (if is_ok (fitting shape entry) then is_there_after_one table row entry there else there)

@@ -6,14 +6,14 @@ use Rattle.std.specs.List.{list_any}
 use Rattle.std.specs.Str.{bytes_eq}
 use Rattle.rows.specs.declared.kind.Kind.{Kind}
 use Rattle.rows.specs.declared.row_id.RowId.{RowId}
-use Rattle.plans.specs.declared.plan.Plan.{Plan}
+use Rattle.queries.specs.declared.plan.Plan.{Plan}
 use Rattle.script.specs.declared.faults.Reason.{Reason}
 use Rattle.script.specs.declared.faults.Reason.TheVariants.{BadSetting, UnknownEvent, BadWords}
 use Rattle.script.specs.Inner.WordReading.{number_of, below_of, value_of, values_in_words, hex_of, table_of, both, two, made}
 use Rattle.script.specs.Inner.PlanReading.{plan_of}
 use Rattle.script.specs.declared.event.Event.{Event}
 use Rattle.script.specs.declared.event.Event.TheVariants.{Begin, Insert, Set, Delete, Get, Commit, Abort, Flush, Push, Deliver, Show, Open}
-use Rattle.script.specs.declared.event.Event.TheVariants.{Ask, Run, Stop, Start, Version, Dump, Restart, Raw}
+use Rattle.script.specs.declared.event.Event.TheVariants.{Ask, Run, Stop, Start, Version, Dump, Restart, Raw, AddColumn}
 use Rattle.script.specs.declared.event.Node.{Node}
 use Rattle.script.specs.declared.event.Node.TheVariants.{Primary, Replica}
 use Rattle.script.specs.declared.setup.Setup.{Setup}
@@ -121,6 +121,11 @@ unfoldable pub delete_of : List (List ℕ × List Kind) → List (List ℕ) → 
 delete_of schema words =
     given_or_bad (three_of words) (λ it. on_table (row_of it.0 it.2) (table_of schema it.1) (λ at table. Delete at.0 table at.1))
 
+unfoldable pub add_column_of : List (List ℕ × List Kind) → List (List ℕ) → Result Event Reason
+add_column_of schema words =
+    given_or_bad (three_of words) (λ it. on_table (two (number_of it.0) (value_of it.2)) (table_of schema it.1)
+    (λ parts table. AddColumn parts.0 table parts.1))
+
 unfoldable pub get_of : List (List ℕ × List Kind) → List (List ℕ) → Result Event Reason
 get_of schema words =
     given_or_bad (four_of words) (λ it. on_table (two (row_of it.0 it.2) (below_of (2 ^ 8) it.3)) (table_of schema it.1)
@@ -178,6 +183,7 @@ event_of setup first words =
     if bytes_eq first (codes "insert") then insert_of setup.schema words else
     if bytes_eq first (codes "set") then set_of setup.schema words else
     if bytes_eq first (codes "delete") then delete_of setup.schema words else
+    if bytes_eq first (codes "column") then add_column_of setup.schema words else
     if bytes_eq first (codes "get") then get_of setup.schema words else
     if bytes_eq first (codes "open") then open_of setup.schema setup.replicas words else
     if bytes_eq first (codes "raw") then or_bad_words (raw_of setup.replicas words) else primary_event setup first words

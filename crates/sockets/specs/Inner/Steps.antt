@@ -5,7 +5,7 @@ use Rattle.wire.specs.declared.datagram.Datagram.{Datagram}
 use Rattle.wire.specs.declared.datagram.Datagram.TheVariants as datagrams
 use Rattle.wire.specs.declared.faults.WireFault.{WireFault}
 use Rattle.wire.specs.declared.out.Out.{Out}
-use Rattle.plans.specs.declared.plan.Plan.{Plan}
+use Rattle.queries.specs.declared.plan.Plan.{Plan}
 use Rattle.dispatcher.specs.State.{Replica}
 use Rattle.queue.specs.declared.moves.Moves.{Moves}
 use Rattle.sockets.specs.Serving.{Act, DoesAll, Serves, heard_in, sendings_in}

@@ -4,7 +4,7 @@ use Rattle.std.specs.List.{AllByRecursion}
 use Rattle.rows.specs.declared.limits.TheConstants.{REPLICAS_MAX, WORKERS_MAX}
 use Rattle.rows.specs.Shape.{AreTables, shape_of}
 use Rattle.dispatcher.specs.State.{Replica}
-use Rattle.world.specs.Parts.{Parts}
+use Rattle.world.specs.Cores.{Cores}
 use Rattle.world.specs.Steps.{World, Member}
 use Rattle.world.specs.Standing.{world_of}
 use Rattle.world.specs.Inner.CoreSteps.{KeepsStopped}
@@ -12,9 +12,9 @@ use Rattle.world.specs.Inner.Sound.{Sound}
 use Rattle.world.specs.Inner.Undamaged.{IsUndamaged}
 use Rattle.world.specs.Inner.Fresh.{Fresh}
 
--- what the program needs of its parts to call the cores: each open transaction reads a durable version, and each
+-- what the program needs of its cores to call them: each open transaction reads a durable version, and each
 -- request was sent
-pub record IsReady (p : Parts) : Type 0 where
+pub record IsReady (p : Cores) : Type 0 where
   pub setup_is : (p.setup.schema ≡ p.primary.schema) × (p.setup.workers ≡ p.primary.workers)
   pub workers_some : 0 < p.primary.workers
   pub workers_few : p.primary.workers ≤ WORKERS_MAX
@@ -30,9 +30,9 @@ pub record IsReady (p : Parts) : Type 0 where
 abbrev pub IsRequested : World → Type 0
 IsRequested w = AllByRecursion (λ (m : Member). m.protocol.request ≤ length w.sent) w.members
 
--- the parts of every world: its journal keeps what is durable, its tables are in their limits, the cores are sound, each request
+-- the cores of every world: its journal keeps what is durable, its tables are in their limits, the cores are sound, each request
 -- was sent, nothing is damaged, and what was fetched is no older than its batch
-pub record PartsAreKept (p : Parts) : Type 0 where
+pub record CoresAreKept (p : Cores) : Type 0 where
   pub journal : KeepsStopped p
   pub tables : AreTables (shape_of p.primary.schema)
   pub sound : Sound (shape_of p.primary.schema) p

@@ -1,4 +1,4 @@
--- Only for proofs: what the primary's node is in the parts.
+-- Only for proofs: what the primary's node is among the cores.
 use Rattle.std.specs.Prelude.{ℕ, List, [], Bool, true, false}
 use Rattle.rows.specs.declared.commit.Commit.{Commit}
 use Rattle.primary.specs.State.{Primary}

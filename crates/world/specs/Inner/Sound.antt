@@ -1,4 +1,4 @@
--- Only for proofs: what is true of the parts at each step, and what makes them a world.
+-- Only for proofs: what is true of the cores at each step, and what makes them a world.
 use Rattle.std.specs.Prelude.{◌≡◌, ℕ, ◌<◌, ◌≤◌, List, ◌++◌, length, Some, slice_get}
 use Rattle.std.specs.List.{AllByRecursion}
 use Rattle.rows.specs.declared.commit.Commit.{Commit}
@@ -14,7 +14,7 @@ use Rattle.primary.specs.State.{Primary}
 use Rattle.dispatcher.specs.Feeding.{IsFedFrom, Tells}
 use Rattle.dispatcher.specs.State.{Replica}
 use Rattle.dispatcher.specs.TableText.{names_of}
-use Rattle.world.specs.Parts.{Parts}
+use Rattle.world.specs.Cores.{Cores}
 use Rattle.world.specs.Standing.{boots_at}
 use Rattle.world.specs.Inner.Boots.{IsInBoot}
 
@@ -38,7 +38,7 @@ pub record IsFed (shape : Shape) (names : List (List ℕ)) (workers : ℕ) (dura
   pub number_is : r.number ≡ number
   pub boot_is : IsInBoot boots r.boot
 
-pub record Sound (shape : Shape) (p : Parts) : Type 0 where
+pub record Sound (shape : Shape) (p : Cores) : Type 0 where
   pub setup_is : (p.setup.schema ≡ p.primary.schema) × (p.setup.workers ≡ p.primary.workers)
   pub primary_is : IsSoundPrimary shape p.primary
   pub transactions_are : (i : ℕ) (draft : Transaction) → slice_get p.transactions i ≡ Some (Some draft)

@@ -4,22 +4,26 @@ use Rattle.std.specs.Option.{is_some, option_map}
 use Rattle.rows.specs.Tables.{Tables, rows_of, row_at}
 use Rattle.apply.specs.Partitions.{tables_in}
 use Rattle.apply.specs.Inner.Views.{views}
-use Rattle.apply.proofs.Splits.{parts-row}
+use Rattle.apply.proofs.Splits.{partitions-row}
 use Rattle.apply.proofs.Viewed.{views-get, views-length}
 use Rattle.apply.proofs.partitions.find.Goals as goal
 use Rattle.apply.proofs.partitions.find.Goals.{After-find}
 
-own : (c : After-find) → get_or (views c.args.parts.now) c.home_of-part.result [] ≡ c.index-parts-part.result.tables.items
-own c = views-get c.args.parts.now c.home_of-part.result c.index-parts-part.result [] c.home_of-part.ensures.within c.index-parts-part.is
+own : (c : After-find)
+    → get_or (views c.args.partitions.now) c.home_of-partition.result [] ≡ c.index-partitions-partition.result.tables.items
+own c =
+    views-get c.args.partitions.now c.home_of-partition.result c.index-partitions-partition.result [] c.home_of-partition.ensures.within
+    c.index-partitions-partition.is
 
-same : (c : After-find) → row_at (rows_of (tables_in (views c.args.parts.now)) c.args.table) c.args.row
-    ≡ row_at (rows_of c.index-parts-part.result.tables.items c.args.table) c.args.row
+same : (c : After-find) → row_at (rows_of (tables_in (views c.args.partitions.now)) c.args.table) c.args.row
+    ≡ row_at (rows_of c.index-partitions-partition.result.tables.items c.args.table) c.args.row
 same c =
-    let parts = c.args.parts.now in
-    let k = c.home_of-part.result in
-    let many = views-length parts in
-    let of : c.args.row % length (views parts) ≡ k = ap (λ n. c.args.row % n) many ∙ sym c.home_of-part.ensures.value in
-    parts-row (views parts) c.args.table c.args.row k [] c.requires.parts of (omega (arith, c.home_of-part.ensures.within, many))
+    let partitions = c.args.partitions.now in
+    let k = c.home_of-partition.result in
+    let many = views-length partitions in
+    let of : c.args.row % length (views partitions) ≡ k = ap (λ n. c.args.row % n) many ∙ sym c.home_of-partition.ensures.value in
+    partitions-row (views partitions) c.args.table c.args.row k [] c.requires.partitions of
+    (omega (arith, c.home_of-partition.ensures.within, many))
     ∙ ap (λ (tables : Tables). row_at (rows_of tables c.args.table) c.args.row) (own c)
 
 pub returns-in-Some-clause-found : goal.returns-in-Some-clause-found

@@ -5,5 +5,6 @@ use Rattle.apply.specs.Orders.{AllUnder}
 use Rattle.apply.specs.Inner.Views.{views}
 use Rattle.apply.proofs.partitions.greatest.Given as goal
 
-abbrev pub invariant-loop-part : goal.invariant-loop-part
-invariant-loop-part l = (k : ℕ) (d : Tables) → k < l.part-index → AllUnder (l.most + 1) (rows_of (get_or (views l.parts) k d) l.table)
+abbrev pub invariant-loop-partition : goal.invariant-loop-partition
+invariant-loop-partition l =
+    (k : ℕ) (d : Tables) → k < l.partition-index → AllUnder (l.most + 1) (rows_of (get_or (views l.partitions) k d) l.table)

@@ -8,8 +8,8 @@ use Rattle.apply.proofs.partitions.id_at.Given as goal
 
 abbrev pub invariant-loop-low : goal.invariant-loop-low
 invariant-loop-low l = record {
-  below : place_in (rows_of (tables_in (views l.parts)) l.table) l.low ≤ l.i;
-  within : l.i < place_in (rows_of (tables_in (views l.parts)) l.table) (l.high + 1);
+  below : place_in (rows_of (tables_in (views l.partitions)) l.table) l.low ≤ l.i;
+  within : l.i < place_in (rows_of (tables_in (views l.partitions)) l.table) (l.high + 1);
   order : l.low ≤ l.high;
 }
 

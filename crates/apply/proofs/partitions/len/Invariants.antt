@@ -6,8 +6,8 @@ use Rattle.apply.specs.Inner.Views.{views}
 use Rattle.apply.specs.Limits.{rows_max}
 use Rattle.apply.proofs.partitions.len.Given as goal
 
-abbrev pub invariant-loop-part : goal.invariant-loop-part
-invariant-loop-part l = record {
-  value : l.rows ≡ sum_by (λ (part : Tables). length (rows_of part l.table)) (take l.part-index (views l.parts));
-  few : l.rows ≤ l.part-index * rows_max;
+abbrev pub invariant-loop-partition : goal.invariant-loop-partition
+invariant-loop-partition l = record {
+  value : l.rows ≡ sum_by (λ (partition : Tables). length (rows_of partition l.table)) (take l.partition-index (views l.partitions));
+  few : l.rows ≤ l.partition-index * rows_max;
 }

@@ -5,25 +5,25 @@ use Rattle.apply.specs.Orders.{place_in}
 use Rattle.apply.specs.Partitions.{tables_in}
 use Rattle.apply.specs.Inner.Views.{views}
 use Rattle.apply.proofs.Gathered.{place-tables}
-use Rattle.apply.proofs.Splits.{from-parts}
+use Rattle.apply.proofs.Splits.{from-partitions}
 use Rattle.apply.proofs.Viewed.{sum-more, sum-whole}
 use Rattle.apply.proofs.partitions.place.Goals as goal
 
-pub loop-part-preserved : goal.loop-part-preserved
-loop-part-preserved c =
-    let more = sum-more (λ (part : Tables). place_in (rows_of part c.args.table) c.args.row) c.args.parts.now
-    c.loop-part.part-index c.part-item.result
-    c.loop-part-test.true c.part-item.is in
+pub loop-partition-preserved : goal.loop-partition-preserved
+loop-partition-preserved c =
+    let more = sum-more (λ (partition : Tables). place_in (rows_of partition c.args.table) c.args.row) c.args.partitions.now
+    c.loop-partition.partition-index c.partition-item.result
+    c.loop-partition-test.true c.partition-item.is in
     record {
-      value = omega (arith, more, c.loop-part.invariant.value, c.place-rows.ensures.value);
-      few = omega (arith, c.loop-part.invariant.few, c.place-rows.ensures.few);
+      value = omega (arith, more, c.loop-partition.invariant.value, c.place-rows.ensures.value);
+      few = omega (arith, c.loop-partition.invariant.few, c.place-rows.ensures.few);
     }
 
 pub returns : goal.returns
 returns c =
-    let parts = views c.args.parts.now in
-    c.loop-part.invariant.value
-    ∙ sum-whole (λ (part : Tables). place_in (rows_of part c.args.table) c.args.row) c.args.parts.now
-    c.loop-part.part-index c.loop-part-test.false
-    ∙ sym (place-tables (λ row. row % length parts) (length (tables_in parts)) 0 parts c.args.table c.args.row
-    (from-parts parts c.requires.parts))
+    let partitions = views c.args.partitions.now in
+    c.loop-partition.invariant.value
+    ∙ sum-whole (λ (partition : Tables). place_in (rows_of partition c.args.table) c.args.row) c.args.partitions.now
+    c.loop-partition.partition-index c.loop-partition-test.false
+    ∙ sym (place-tables (λ row. row % length partitions) (length (tables_in partitions)) 0 partitions c.args.table c.args.row
+    (from-partitions partitions c.requires.partitions))

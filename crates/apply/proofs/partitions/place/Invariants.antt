@@ -7,8 +7,9 @@ use Rattle.apply.specs.Limits.{rows_max}
 use Rattle.apply.specs.Orders.{place_in}
 use Rattle.apply.proofs.partitions.place.Given as goal
 
-abbrev pub invariant-loop-part : goal.invariant-loop-part
-invariant-loop-part l = record {
-  value : l.rows ≡ sum_by (λ (part : Tables). place_in (rows_of part l.table) l.row) (take l.part-index (views l.parts));
-  few : l.rows ≤ l.part-index * rows_max;
+abbrev pub invariant-loop-partition : goal.invariant-loop-partition
+invariant-loop-partition l = record {
+  value : l.rows ≡ sum_by (λ (partition : Tables). place_in (rows_of partition l.table) l.row)
+      (take l.partition-index (views l.partitions));
+  few : l.rows ≤ l.partition-index * rows_max;
 }

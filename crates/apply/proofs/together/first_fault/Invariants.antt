@@ -2,5 +2,5 @@
 use Rattle.std.proofs.Common.{◌≡◌, ℕ, ◌<◌, None, slice_index_or}
 use Rattle.apply.proofs.together.first_fault.Given as goal
 
-abbrev pub invariant-loop-part : goal.invariant-loop-part
-invariant-loop-part l = (k : ℕ) (d : _) → k < l.part-index → (slice_index_or l.parts k d).fault ≡ None
+abbrev pub invariant-loop-partition : goal.invariant-loop-partition
+invariant-loop-partition l = (k : ℕ) (d : _) → k < l.partition-index → (slice_index_or l.partitions k d).fault ≡ None

@@ -73,8 +73,9 @@ returns-clause-head c = head-goes-on
 
 pub returns-clause-frame : goal.returns-clause-frame
 returns-clause-frame c =
-    let keep = c.changes_keep_kinds.ensures in
-    let kinds : Kinds = record { entry = keep.entry; entries = keep.entries; versions = keep.versions } in
+    let tell = c.changes_tell_kinds.ensures in
+    let kinds : Kinds =
+    record { have_table = c.commits_are_defined_one_by_one.ensures.tables; versions = tell.versions; stay = tell.tables } in
     frame-taken kinds
 
 pub returns-clause-open : goal.returns-clause-open

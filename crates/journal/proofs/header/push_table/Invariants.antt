@@ -1,6 +1,6 @@
 -- The codes of the kinds so far.
 use Rattle.std.proofs.Common.{◌≡◌, ◌+◌, ◌∷◌, ◌++◌, length, map, take}
-use Rattle.journal.specs.Text.{kind_code}
+use Rattle.rows.specs.Spelling.{kind_code}
 use Rattle.journal.proofs.header.push_table.Given as goal
 
 abbrev pub invariant-loop-kind : goal.invariant-loop-kind

@@ -7,20 +7,20 @@ use Rattle.journal.proofs.RecordLaws.{read_here, record_at-there, record_at-dama
 use Rattle.journal.proofs.recovery.next_commit.Goals as goal
 
 pub returns-in-Ok-None-clause-err : goal.returns-in-Ok-None-clause-err
-returns-in-Ok-None-clause-err c = (
+returns-in-Ok-None-clause-err c tables is = (
   refl,
-  record_at-damaged c.entries_are_read_as_spelled.ensures.spelled c.args.rest.now c.requires.some
+  record_at-damaged c.entries_are_read_as_spelled.ensures.spelled c.args.rest.now c.requires
       (sym c.in-Ok-None.ensures ∙ c.in-Ok-None.field-0-is),
 )
 
 pub returns-then-found-number-clause-err : goal.returns-then-found-number-clause-err
-returns-then-found-number-clause-err c =
+returns-then-found-number-clause-err c tables is =
     let rest = c.args.rest.now in
     let found = c.in-Ok-Some.found in
     let read =
     read_here c.numbers_are_read_as_spelled.ensures.spelled c.numbers_are_read_as_spelled.ensures.below
     c.entries_are_read_as_spelled.ensures.found rest found c.in-Ok-Some.field-0 (λ i. omega (arith, c.type_inv.rest i))
-    c.requires.some c.in-Ok-Some.ensures c.in-Ok-Some.field-0-is in (
+    c.requires c.in-Ok-Some.ensures c.in-Ok-Some.field-0-is in (
       refl,
       record {
         number = found.number;
@@ -31,31 +31,31 @@ returns-then-found-number-clause-err c =
     )
 
 pub returns-in-Ok-false-clause-err : goal.returns-in-Ok-false-clause-err
-returns-in-Ok-false-clause-err c =
+returns-in-Ok-false-clause-err c tables is =
     let rest = c.args.rest.now in
     let found = c.in-Ok-Some.found in
     let read =
     read_here c.numbers_are_read_as_spelled.ensures.spelled c.numbers_are_read_as_spelled.ensures.below
     c.entries_are_read_as_spelled.ensures.found rest found c.in-Ok-Some.field-0 (λ i. omega (arith, c.type_inv.rest i))
-    c.requires.some c.in-Ok-Some.ensures c.in-Ok-Some.field-0-is in (
+    c.requires c.in-Ok-Some.ensures c.in-Ok-Some.field-0-is in (
       refl,
       record {
         commit = found.commit;
         there = subst (λ (n : ℕ). IsRecordAt rest n found.commit) c.if-found-number.false (record_at-there rest found read);
         undefined =
-            subst (λ (b : Bool). IsAccepted b c.args.workers c.args.store.now c.accepts.new.store found.commit)
-            c.in-Ok-false.field-0-test c.in-Ok-false.ensures;
+            subst (λ (b : Bool). IsAccepted b c.args.workers tables c.accepts.new.present found.commit)
+            c.in-Ok-false.field-0-test (c.in-Ok-false.ensures tables is);
       },
     )
 
 pub returns-clause-ok : goal.returns-clause-ok
-returns-clause-ok c =
+returns-clause-ok c tables is =
     let rest = c.args.rest.now in
     let found = c.in-Ok-Some.found in
     let read =
     read_here c.numbers_are_read_as_spelled.ensures.spelled c.numbers_are_read_as_spelled.ensures.below
     c.entries_are_read_as_spelled.ensures.found rest found c.in-Ok-Some.field-0 (λ i. omega (arith, c.type_inv.rest i))
-    c.requires.some c.in-Ok-Some.ensures c.in-Ok-Some.field-0-is in
+    c.requires c.in-Ok-Some.ensures c.in-Ok-Some.field-0-is in
     record {
       front =
           read.spelled
@@ -64,6 +64,6 @@ returns-clause-ok c =
           ∙ ap (λ (n : ℕ). record_of n found.commit ++ c.split_at.result.1.now) c.if-found-number.false;
       held = read.held;
       accepted =
-          subst (λ (b : Bool). IsAccepted b c.args.workers c.args.store.now c.accepts.new.store found.commit)
-          c.in-Ok-true.field-0-test c.in-Ok-true.ensures;
+          subst (λ (b : Bool). IsAccepted b c.args.workers tables c.accepts.new.present found.commit)
+          c.in-Ok-true.field-0-test (c.in-Ok-true.ensures tables is);
     }

@@ -14,6 +14,9 @@ returns-clause-insert c = refl
 pub returns-clause-delete_and_patch : goal.returns-clause-delete_and_patch
 returns-clause-delete_and_patch c = refl
 
+pub returns-clause-add_byte : goal.returns-clause-add_byte
+returns-clause-add_byte c = refl
+
 pub returns-clause-journal : goal.returns-clause-journal
 returns-clause-journal c = refl
 

@@ -6,7 +6,7 @@ use Rattle.std.proofs.lemmas.List.{length-drop}
 use Rattle.std.proofs.lemmas.Option.{slice_get_read, slice_get_past}
 use Rattle.rows.specs.Shape.{row_width}
 use Rattle.rows.specs.Values.{value_of}
-use Rattle.mvcc.proofs.Columns.{value-at, column-within}
+use Rattle.mvcc.proofs.ColumnPlaces.{value-at, column-within}
 use Rattle.mvcc.proofs.cells.value_in_row.Goals as goal
 
 pub returns-in_err-kind : goal.returns-in_err-kind

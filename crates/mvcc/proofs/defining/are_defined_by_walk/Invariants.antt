@@ -2,7 +2,7 @@
 use Rattle.std.proofs.Common.{◌≡◌, true, take}
 use Rattle.std.specs.List.{AllByRecursion}
 use Rattle.rows.specs.Spelling.{HasSpelling}
-use Rattle.mvcc.specs.History.{defined_at}
+use Rattle.mvcc.specs.VersionList.{defined_at}
 use Rattle.mvcc.proofs.defining.are_defined_by_walk.Given as goal
 
 abbrev pub invariant-loop-index : goal.invariant-loop-index

@@ -2,9 +2,9 @@
 use Rattle.std.proofs.Common.{◌≡◌, ◌+◌, ◌++◌, ◌∙◌, ℕ, List, [], length, map, get_or, sym, ap, subst, arith}
 use Rattle.std.specs.List.{filter, list_all}
 use Rattle.std.proofs.lemmas.List.{length-map}
-use Rattle.plans.specs.declared.aggregate.Aggregate.{Aggregate}
-use Rattle.plans.specs.declared.condition.Condition.{Condition}
-use Rattle.plans.specs.Answers.{JoinedRow, meets}
+use Rattle.queries.specs.declared.aggregate.Aggregate.{Aggregate}
+use Rattle.queries.specs.declared.condition.Condition.{Condition}
+use Rattle.queries.specs.Answers.{JoinedRow, meets}
 use Rattle.plans.specs.Inner.Cells.{value_at, AreColumnsOf}
 use Rattle.plans.specs.Inner.Numbered.{AreNumbers, IsShaped, IsTallied}
 use Rattle.plans.specs.Inner.Picked.{ArePlaces}

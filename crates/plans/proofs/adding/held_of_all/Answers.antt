@@ -2,7 +2,7 @@
 use Rattle.std.proofs.Common.{ℕ, ◌+◌, ◌∙◌, get_or, List, ap, subst, arith}
 use Rattle.std.proofs.lemmas.List.{get_or_default, length_push}
 use Rattle.rows.specs.declared.value.Value.{Value}
-use Rattle.plans.specs.declared.aggregate.Aggregate.{Aggregate}
+use Rattle.queries.specs.declared.aggregate.Aggregate.{Aggregate}
 use Rattle.plans.specs.Inner.Cells.{values_at}
 use Rattle.plans.specs.Inner.Held.{IsHeld}
 use Rattle.plans.proofs.Tallied.{pushed}

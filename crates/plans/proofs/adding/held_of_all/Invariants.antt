@@ -1,6 +1,6 @@
 -- What the aggregates before the index take.
 use Rattle.std.proofs.Common.{◌≡◌, ℕ, ◌<◌, length, get_or}
-use Rattle.plans.specs.declared.aggregate.Aggregate.{Aggregate}
+use Rattle.queries.specs.declared.aggregate.Aggregate.{Aggregate}
 use Rattle.plans.specs.declared.held_input.HeldInput.{HeldInput}
 use Rattle.plans.specs.Inner.Cells.{values_at}
 use Rattle.plans.specs.Inner.Held.{IsHeld}

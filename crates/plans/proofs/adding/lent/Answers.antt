@@ -1,7 +1,7 @@
 -- One input more; and at the end all are there.
 use Rattle.std.proofs.Common.{◌+◌, ◌∙◌, get_or, sym, ap, subst, arith}
 use Rattle.std.proofs.lemmas.List.{length_push}
-use Rattle.plans.specs.declared.aggregate.Aggregate.{Aggregate}
+use Rattle.queries.specs.declared.aggregate.Aggregate.{Aggregate}
 use Rattle.plans.specs.Inner.Held.{IsHeld, IsTaken}
 use Rattle.plans.proofs.Tallied.{pushed}
 use Rattle.plans.proofs.adding.lent.Goals as goal

@@ -1,6 +1,6 @@
 -- What is lent of the inputs before the index.
 use Rattle.std.proofs.Common.{◌≡◌, ℕ, ◌<◌, List, length, get_or}
-use Rattle.plans.specs.declared.aggregate.Aggregate.{Aggregate}
+use Rattle.queries.specs.declared.aggregate.Aggregate.{Aggregate}
 use Rattle.plans.specs.declared.input.Input.{Input}
 use Rattle.plans.specs.Inner.Held.{IsTaken}
 use Rattle.plans.specs.Inner.Selections.{ValuesBy, AreHeldBy}

@@ -3,9 +3,9 @@ use Rattle.std.proofs.Common.{◌≡◌, ◌<◌, ℕ, List, Ok, length, map, ge
 use Rattle.std.specs.List.{AllByRecursion}
 use Rattle.std.proofs.lemmas.List.{length-map}
 use Rattle.rows.specs.Tables.{shape_in}
-use Rattle.plans.specs.declared.plan.Plan.{Plan}
-use Rattle.plans.specs.Answers.{plain_answer}
-use Rattle.plans.specs.Checking.{checked}
+use Rattle.queries.specs.declared.plan.Plan.{Plan}
+use Rattle.queries.specs.Answers.{plain_answer}
+use Rattle.queries.specs.Checking.{checked}
 use Rattle.plans.specs.Inner.Equals.{AreAt}
 use Rattle.plans.proofs.Equal.{checked-once, answers-once}
 use Rattle.plans.proofs.answering.answer_batch.Goals as goal

@@ -1,7 +1,7 @@
 -- What is left decides for all, and the row has the columns of the conditions that are left.
 use Rattle.std.proofs.Common.{◌≡◌, drop, IsSome}
 use Rattle.std.specs.List.{AllByRecursion, list_all}
-use Rattle.plans.specs.Answers.{column_in, meets}
+use Rattle.queries.specs.Answers.{column_in, meets}
 use Rattle.plans.specs.Inner.Places.{row_at_place}
 use Rattle.plans.proofs.answering.meets_all.Given as goal
 

@@ -3,8 +3,8 @@ use Rattle.std.proofs.Common.{◌≡◌, List, [], Option, None, Some, IsSome, r
 use Rattle.std.specs.List.{AllByRecursion, list_all}
 use Rattle.std.specs.Option.{option_map, unwrap_or}
 use Rattle.rows.specs.declared.value.Value.{Value}
-use Rattle.rows.specs.Tables.{rows_of, row_at}
-use Rattle.plans.specs.Answers.{column_in, joined_with, meets}
+use Rattle.rows.specs.Tables.{shape_in, rows_of, row_at}
+use Rattle.queries.specs.Answers.{column_in, joined_with, meets}
 use Rattle.plans.specs.Inner.Kept.{HasJoin, row_among}
 use Rattle.plans.specs.Inner.Places.{row_at_place}
 use Rattle.plans.proofs.Keeping.{kept-skip, kept-one, among-none, among-not, among-one}
@@ -24,7 +24,8 @@ joined_row-requires-clause-there g c = λ _ _.
     let found = row_at (rows_of tables plan.table) id in
     let own = ap (λ (values : Option (List Value)). unwrap_or values []) (c.in-Some.ensures.place c.requires.whole) in
     subst (HasJoin plan.join) (sym own)
-    (row-has-join tables plan id (unwrap_or found []) c.requires.checked (c.keeps_kinds.ensures c.requires.whole)
+    (row-has-join tables plan id (unwrap_or found []) (c.each_part_fits.ensures (shape_in tables) plan c.requires.checked)
+    (c.keeps_kinds.ensures c.requires.whole)
     (is-there found c.requires.there))
 
 pub returns-in_default-joined_row : goal.returns-in_default-joined_row
@@ -52,7 +53,8 @@ meets_all-requires-clause-there g c = λ _ _.
     ap (joined_with tables plan.join) (sym own) ∙ sym c.joined_row.ensures
     ∙ ap (option_map (row_at_place (g.S.Store.values_at c.args.store.now))) c.in-Some-joined_row.is in
     let has =
-    row-has-columns tables plan id (unwrap_or found []) c.requires.checked (c.keeps_kinds.ensures c.requires.whole)
+    row-has-columns tables plan id (unwrap_or found []) (c.each_part_fits.ensures (shape_in tables) plan c.requires.checked)
+    (c.keeps_kinds.ensures c.requires.whole)
     (is-there found c.requires.there) row some in
     subst (AllByRecursion (λ condition. IsSome (column_in row condition.column))) (sym c.as_slice.ensures) has.conditions
 
@@ -83,7 +85,8 @@ add-requires-clause-there g c = λ _ _.
     let some =
     ap (joined_with tables plan.join) (sym own) ∙ sym c.joined_row.ensures
     ∙ ap (option_map (row_at_place (g.S.Store.values_at c.args.store.now))) c.in-Some-joined_row.is in
-    row-has-columns tables plan id (unwrap_or found []) c.requires.checked (c.keeps_kinds.ensures c.requires.whole)
+    row-has-columns tables plan id (unwrap_or found []) (c.each_part_fits.ensures (shape_in tables) plan c.requires.checked)
+    (c.keeps_kinds.ensures c.requires.whole)
     (is-there found c.requires.there) row some
 
 pub returns : goal.returns

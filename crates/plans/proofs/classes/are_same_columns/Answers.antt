@@ -1,8 +1,8 @@
 -- One column more is the same; and at the end all are.
 use Rattle.std.proofs.Common.{◌<◌, ◌≤◌, ◌∙◌, length, sym, arith}
 use Rattle.std.proofs.lemmas.List.{take_more_same, take_all, get_or_default}
-use Rattle.plans.specs.declared.column.Column.{Column}
-use Rattle.plans.specs.declared.column.Column.TheVariants.{Own}
+use Rattle.queries.specs.declared.column.Column.{Column}
+use Rattle.queries.specs.declared.column.Column.TheVariants.{Own}
 use Rattle.plans.proofs.classes.are_same_columns.Goals as goal
 
 pub loop-index-preserved : goal.loop-index-preserved

@@ -1,7 +1,7 @@
 -- One plan more has its class; and at the end all have.
 use Rattle.std.proofs.Common.{◌+◌, ◌<◌, ◌∙◌, length, get_or, ap, arith}
 use Rattle.std.proofs.lemmas.List.{length_push}
-use Rattle.plans.specs.declared.plan.Plan.{Plan}
+use Rattle.queries.specs.declared.plan.Plan.{Plan}
 use Rattle.plans.specs.Inner.Scans.{AreAlike}
 use Rattle.plans.proofs.Tallied.{pushed}
 use Rattle.plans.proofs.classes.classes_of.Goals as goal

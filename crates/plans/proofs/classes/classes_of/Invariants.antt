@@ -1,6 +1,6 @@
 -- The plans before the index have their classes.
 use Rattle.std.proofs.Common.{◌≡◌, ℕ, ◌<◌, length, slice_index_or}
-use Rattle.plans.specs.declared.plan.Plan.{Plan}
+use Rattle.queries.specs.declared.plan.Plan.{Plan}
 use Rattle.plans.specs.Inner.Scans.{AreAlike}
 use Rattle.plans.proofs.classes.classes_of.Given as goal
 

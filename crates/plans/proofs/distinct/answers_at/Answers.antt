@@ -1,7 +1,7 @@
 -- One answer more is copied.
 use Rattle.std.proofs.Common.{◌≡◌, ◌+◌, ◌<◌, List, length, get_or, ap, ◌∙◌, arith}
 use Rattle.std.proofs.lemmas.List.{length_push, get_or_default}
-use Rattle.plans.specs.declared.field.Field.{Field}
+use Rattle.queries.specs.declared.field.Field.{Field}
 use Rattle.plans.proofs.Tallied.{pushed}
 use Rattle.plans.proofs.distinct.answers_at.Goals as goal
 

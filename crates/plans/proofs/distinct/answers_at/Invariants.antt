@@ -1,6 +1,6 @@
 -- These are the answers at the places before the index.
 use Rattle.std.proofs.Common.{◌≡◌, ℕ, ◌<◌, List, length, get_or}
-use Rattle.plans.specs.declared.field.Field.{Field}
+use Rattle.queries.specs.declared.field.Field.{Field}
 use Rattle.plans.proofs.distinct.answers_at.Given as goal
 
 abbrev pub invariant-loop-index : goal.invariant-loop-index

@@ -1,8 +1,8 @@
 -- One aggregate more is the same; and at the end all are.
 use Rattle.std.proofs.Common.{◌<◌, ◌≤◌, ◌∙◌, length, sym, arith}
 use Rattle.std.proofs.lemmas.List.{take_more_same, take_all, get_or_default}
-use Rattle.plans.specs.declared.aggregate.Aggregate.{Aggregate}
-use Rattle.plans.specs.declared.aggregate.Aggregate.TheVariants.{Count}
+use Rattle.queries.specs.declared.aggregate.Aggregate.{Aggregate}
+use Rattle.queries.specs.declared.aggregate.Aggregate.TheVariants.{Count}
 use Rattle.plans.proofs.distinct.are_same_aggregates.Goals as goal
 
 pub loop-index-preserved : goal.loop-index-preserved

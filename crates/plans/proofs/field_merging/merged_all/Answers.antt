@@ -2,7 +2,7 @@
 use Rattle.std.proofs.Common.{◌≡◌, ◌+◌, Some, slice_get, set, get_or, sym, ap, subst, ◌∙◌, arith}
 use Rattle.std.proofs.lemmas.List.Elements.{All-same, All-set}
 use Rattle.std.proofs.lemmas.Option.{slice_get_within, get_or_from_slice_get}
-use Rattle.plans.specs.declared.aggregate.Aggregate.TheVariants.{Count}
+use Rattle.queries.specs.declared.aggregate.Aggregate.TheVariants.{Count}
 use Rattle.plans.specs.Inner.Merged.{merged}
 use Rattle.plans.specs.Inner.Kept.{IsWithin}
 use Rattle.plans.proofs.Aggregates.{past, rest-left}

@@ -1,7 +1,7 @@
 -- The fields before the index are merged, and those from it on are to be; so far each is within its rows, or all.
 use Rattle.std.proofs.Common.{◌≡◌, ℕ, ◌+◌, ◌<◌, ◌≤◌, ◌++◌, length, take, drop, get_or}
 use Rattle.std.specs.List.{All}
-use Rattle.plans.specs.declared.field.Field.{Field}
+use Rattle.queries.specs.declared.field.Field.{Field}
 use Rattle.plans.specs.Inner.Kept.{IsWithin}
 use Rattle.plans.specs.Inner.Merged.{merged_all}
 use Rattle.plans.proofs.field_merging.merged_all.Given as goal

@@ -4,7 +4,7 @@ use Rattle.std.proofs.lemmas.Iterator.{items_from_collect, YieldsList-from_map, 
 use Rattle.std.proofs.lemmas.Iterator.Consumers.{YieldsList-at}
 use Rattle.std.proofs.lemmas.Result.{IfOk-at_ok}
 use borrow.Author.Tests.{tests}
-use Rattle.plans.specs.Answers.{aggregate_of}
+use Rattle.queries.specs.Answers.{aggregate_of}
 use Rattle.plans.proofs.groups.empty_fields.Goals as goal
 
 pub returns : goal.returns

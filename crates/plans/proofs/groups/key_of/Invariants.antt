@@ -1,7 +1,7 @@
 -- The values so far are those of the columns before the index, and the row has the columns that are left.
 use Rattle.std.proofs.Common.{◌≡◌, take, drop, IsSome}
 use Rattle.std.specs.List.{AllByRecursion}
-use Rattle.plans.specs.Answers.{column_in, group_of}
+use Rattle.queries.specs.Answers.{column_in, group_of}
 use Rattle.plans.specs.Inner.Places.{row_at_place}
 use Rattle.plans.proofs.groups.key_of.Given as goal
 

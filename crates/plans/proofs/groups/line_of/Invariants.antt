@@ -1,6 +1,6 @@
 -- The line so far has the values before the index.
 use Rattle.std.proofs.Common.{◌≡◌, map, take}
-use Rattle.plans.specs.declared.field.Field.TheVariants.{Stored}
+use Rattle.queries.specs.declared.field.Field.TheVariants.{Stored}
 use Rattle.plans.proofs.groups.line_of.Given as goal
 
 abbrev pub invariant-loop-value : goal.invariant-loop-value

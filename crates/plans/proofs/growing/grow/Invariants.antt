@@ -1,7 +1,7 @@
 -- The fields before the index have grown, and those from it on are to grow; so far each is within its rows, or one more.
 use Rattle.std.proofs.Common.{◌≡◌, ℕ, ◌+◌, ◌<◌, ◌≤◌, ◌++◌, length, take, drop, get_or}
 use Rattle.std.specs.List.{All, AllByRecursion}
-use Rattle.plans.specs.declared.field.Field.{Field}
+use Rattle.queries.specs.declared.field.Field.{Field}
 use Rattle.plans.specs.Inner.Kept.{grown_all, HasInput, IsWithin}
 use Rattle.plans.specs.Inner.Places.{row_at_place}
 use Rattle.plans.proofs.growing.grow.Given as goal

@@ -1,6 +1,6 @@
 -- Numbers are the integers of themselves.
 use Rattle.std.proofs.Common.{map, sym, ap, ◌∙◌}
-use Rattle.plans.specs.Answers.{integer_of}
+use Rattle.queries.specs.Answers.{integer_of}
 use Rattle.plans.specs.Inner.Cells.{values_of}
 use Rattle.plans.proofs.ColumnValues.{integers-int}
 use Rattle.plans.proofs.held_input.integers_in.Goals as goal

@@ -1,6 +1,6 @@
 -- The integers of the values so far.
 use Rattle.std.proofs.Common.{◌≡◌, map, take}
-use Rattle.plans.specs.Answers.{integer_of}
+use Rattle.queries.specs.Answers.{integer_of}
 use Rattle.plans.proofs.held_input.integers_of.Given as goal
 
 abbrev pub invariant-loop-value : goal.invariant-loop-value

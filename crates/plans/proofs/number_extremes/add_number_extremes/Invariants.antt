@@ -2,7 +2,7 @@
 use Rattle.std.proofs.Common.{◌≡◌, ℕ, ◌<◌, length, map, drop, slice_index_or}
 use Rattle.rows.specs.declared.value.Value.TheVariants.{Int}
 use Rattle.plans.specs.Inner.Picked.{picked, folded}
-use Rattle.plans.specs.declared.field.Field.{Field}
+use Rattle.queries.specs.declared.field.Field.{Field}
 use Rattle.plans.specs.Inner.Numbered.{with_extreme}
 use Rattle.plans.proofs.number_extremes.add_number_extremes.Given as goal
 

@@ -4,7 +4,7 @@ use Rattle.std.proofs.lemmas.List.{map_more}
 use Rattle.std.proofs.lemmas.List.Elements.{All-more}
 use Rattle.std.specs.List.Sorted.{IsStrictlySortedBy}
 use Rattle.std.specs.Map.{keys_of}
-use Rattle.plans.specs.Order.{group_cmp}
+use Rattle.queries.specs.Order.{group_cmp}
 use Rattle.plans.specs.Inner.Ranges.{lines_of}
 use Rattle.plans.proofs.partials.answers_of.Goals as goal
 

@@ -3,7 +3,7 @@ use Rattle.std.proofs.Common.{◌≡◌, map, take}
 use Rattle.std.specs.List.{All}
 use Rattle.std.specs.List.Sorted.{IsStrictlySortedBy}
 use Rattle.std.specs.Map.{keys_of}
-use Rattle.plans.specs.Order.{group_cmp}
+use Rattle.queries.specs.Order.{group_cmp}
 use Rattle.plans.specs.Inner.Ranges.{lines_of}
 use Rattle.plans.proofs.partials.answers_of.Given as goal
 

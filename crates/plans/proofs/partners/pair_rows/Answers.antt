@@ -3,8 +3,8 @@ use Rattle.std.proofs.Common.{◌≡◌, ℕ, ◌+◌, ◌<◌, List, [], ◌∷
 use Rattle.std.specs.List.{filter_map, All}
 use Rattle.std.proofs.lemmas.List.{take_all, length_push, length-map}
 use Rattle.std.proofs.lemmas.List.Elements.{All-push}
-use Rattle.plans.specs.declared.column.Column.TheVariants.{Own}
-use Rattle.plans.specs.Answers.{joined_value, joined_with}
+use Rattle.queries.specs.declared.column.Column.TheVariants.{Own}
+use Rattle.queries.specs.Answers.{joined_value, joined_with}
 use Rattle.plans.specs.Inner.BlockRows.{rows_of_block, own_rows}
 use Rattle.plans.specs.Inner.Cells.{values_of}
 use Rattle.plans.specs.Inner.Partnered.{paired, row_in, IsOfTable}

@@ -1,7 +1,7 @@
 -- Those of the rows so far that have a partner.
 use Rattle.std.proofs.Common.{◌≤◌, ◌≡◌, Some, length, take}
 use Rattle.std.specs.List.{filter_map, All}
-use Rattle.plans.specs.Answers.{joined_with}
+use Rattle.queries.specs.Answers.{joined_with}
 use Rattle.plans.specs.Inner.BlockRows.{rows_of_block}
 use Rattle.plans.specs.Inner.Partnered.{paired, IsOfTable}
 use Rattle.plans.specs.Inner.Picked.{ArePlaces}

@@ -1,8 +1,8 @@
 -- Without a join each row is joined with none.
 use Rattle.std.proofs.Common.{sym, ap, ◌∙◌, Option}
 use Rattle.std.specs.List.{filter_map}
-use Rattle.plans.specs.declared.plan.Join.{Join}
-use Rattle.plans.specs.Answers.{joined_with}
+use Rattle.queries.specs.declared.plan.Join.{Join}
+use Rattle.queries.specs.Answers.{joined_with}
 use Rattle.plans.specs.Inner.BlockRows.{rows_of_block}
 use Rattle.plans.proofs.Pairs.{joined-alone}
 use Rattle.plans.proofs.partners.partners_if_joined.Goals as goal

@@ -3,8 +3,8 @@ use Rattle.std.proofs.Common.{◌≡◌, pos, true, false, sym, ap, ◌∙◌}
 use Rattle.std.specs.List.{filter}
 use Rattle.std.proofs.lemmas.Result.{IfOk-weaker}
 use Rattle.rows.specs.declared.value.Value.TheVariants.{Int}
-use Rattle.plans.specs.Answers.{passes}
-use Rattle.plans.specs.Order.{value_cmp}
+use Rattle.queries.specs.Answers.{passes}
+use Rattle.queries.specs.Order.{value_cmp}
 use Rattle.plans.proofs.ColumnValues.{filter-all, filter-none}
 use Rattle.plans.proofs.passing.select_any.Goals as goal
 

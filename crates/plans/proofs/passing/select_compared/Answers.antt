@@ -3,8 +3,8 @@ use mir.Syntax.{w64}
 use Rattle.std.proofs.Common.{ℕ, ℤ, map, to_z, of_z, FitsSigned, sym, ap, ◌∙◌, rules}
 use Rattle.rows.specs.declared.value.Value.{Value}
 use Rattle.rows.specs.declared.value.Value.TheVariants.{Int}
-use Rattle.plans.specs.Answers.{passes}
-use Rattle.plans.specs.Order.{value_cmp}
+use Rattle.queries.specs.Answers.{passes}
+use Rattle.queries.specs.Order.{value_cmp}
 use Rattle.plans.specs.Inner.Cells.{value_at}
 use Rattle.plans.specs.Inner.Selected.{is_selected, number_at}
 use Rattle.std.proofs.lemmas.List.Elements.{filter_agree}

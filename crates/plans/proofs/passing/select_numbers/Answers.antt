@@ -6,8 +6,8 @@ use Rattle.std.proofs.lemmas.List.Elements.{filter_agree}
 use Rattle.std.proofs.lemmas.Result.{IfOk-weaker}
 use Rattle.rows.specs.declared.value.Value.{Value}
 use Rattle.rows.specs.declared.value.Value.TheVariants.{Int}
-use Rattle.plans.specs.Answers.{passes}
-use Rattle.plans.specs.Order.{value_cmp}
+use Rattle.queries.specs.Answers.{passes}
+use Rattle.queries.specs.Order.{value_cmp}
 use Rattle.plans.specs.Inner.Cells.{value_at, does_pass}
 use Rattle.plans.proofs.Picking.{held}
 use Rattle.plans.proofs.ColumnValues.{octets-pass}

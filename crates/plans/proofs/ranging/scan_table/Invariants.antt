@@ -1,6 +1,6 @@
 -- The plans on the table have looked at the rows before the position.
 use Rattle.std.proofs.Common.{ℕ, ◌<◌, ◌≤◌, get_or, length}
-use Rattle.plans.specs.declared.plan.Plan.{Plan}
+use Rattle.queries.specs.declared.plan.Plan.{Plan}
 use Rattle.plans.specs.Inner.Kept.{GroupList}
 use Rattle.plans.specs.Inner.Ranges.{LooksAt}
 use Rattle.plans.proofs.ranging.scan_table.Given as goal

@@ -4,9 +4,9 @@ use Rattle.std.proofs.lemmas.List.{get_or_default, length-set}
 use Rattle.rows.specs.declared.value.Value.{Value}
 use Rattle.rows.specs.Tables.{shape_in}
 use Rattle.plans.specs.declared.numbering.Numbering.{Numbering}
-use Rattle.plans.specs.declared.plan.Plan.{Plan}
+use Rattle.queries.specs.declared.plan.Plan.{Plan}
 use Rattle.plans.specs.declared.shared_rows.SharedRows.{SharedRows}
-use Rattle.plans.specs.Checking.{checked}
+use Rattle.queries.specs.Checking.{checked}
 use Rattle.plans.specs.Inner.Blocks.{Extends, StaysIfKnown}
 use Rattle.plans.specs.Inner.BlockRows.{rows_of_block}
 use Rattle.plans.specs.Inner.Scans.{IsScanned}

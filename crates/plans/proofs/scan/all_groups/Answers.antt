@@ -1,7 +1,7 @@
 -- Each key has a place, so the groups are those of the rows.
 use Rattle.std.proofs.Common.{ℕ, List, length, sym, ap, subst}
 use Rattle.rows.specs.declared.value.Value.{Value}
-use Rattle.plans.specs.Answers.{rows_among}
+use Rattle.queries.specs.Answers.{rows_among}
 use Rattle.plans.specs.Inner.Numbered.{AreDistinct, IsShaped, IsTallied}
 use Rattle.plans.proofs.scan.all_groups.Goals as goal
 

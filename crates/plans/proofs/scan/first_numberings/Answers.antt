@@ -2,7 +2,7 @@
 use Rattle.std.proofs.Common.{◌≡◌, ◌+◌, ◌∙◌, [], ◌∷◌, get_or, ap, arith}
 use Rattle.std.proofs.lemmas.List.{get_or_default, length_push}
 use Rattle.plans.specs.declared.numbering.Numbering.{Numbering}
-use Rattle.plans.specs.declared.plan.Plan.{Plan}
+use Rattle.queries.specs.declared.plan.Plan.{Plan}
 use Rattle.plans.specs.Inner.Blocks.{IsNumbering}
 use Rattle.plans.proofs.Tallied.{pushed}
 use Rattle.plans.proofs.scan.first_numberings.Goals as goal

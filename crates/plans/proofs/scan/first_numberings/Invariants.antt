@@ -1,7 +1,7 @@
 -- The plans before the index have their numbers.
 use Rattle.std.proofs.Common.{◌≡◌, ℕ, ◌<◌, [], ◌∷◌, length, get_or}
 use Rattle.plans.specs.declared.numbering.Numbering.{Numbering}
-use Rattle.plans.specs.declared.plan.Plan.{Plan}
+use Rattle.queries.specs.declared.plan.Plan.{Plan}
 use Rattle.plans.specs.Inner.Blocks.{IsNumbering}
 use Rattle.plans.proofs.scan.first_numberings.Given as goal
 

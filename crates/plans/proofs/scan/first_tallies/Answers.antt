@@ -1,8 +1,8 @@
 -- One plan more has its tallies.
 use Rattle.std.proofs.Common.{◌+◌, ◌∙◌, [], List, get_or, ap, subst, arith}
 use Rattle.std.proofs.lemmas.List.{get_or_default, length_push}
-use Rattle.plans.specs.declared.aggregate.Aggregate.{Aggregate}
-use Rattle.plans.specs.declared.plan.Plan.{Plan}
+use Rattle.queries.specs.declared.aggregate.Aggregate.{Aggregate}
+use Rattle.queries.specs.declared.plan.Plan.{Plan}
 use Rattle.plans.specs.declared.tallies.Tallies.{Tallies}
 use Rattle.plans.specs.Inner.Numbered.{IsShaped, IsTallied}
 use Rattle.plans.specs.Inner.Scans.{AreFirst}

@@ -1,6 +1,6 @@
 -- The plans before the index have their tallies.
 use Rattle.std.proofs.Common.{◌≡◌, ℕ, ◌<◌, length, get_or}
-use Rattle.plans.specs.declared.plan.Plan.{Plan}
+use Rattle.queries.specs.declared.plan.Plan.{Plan}
 use Rattle.plans.specs.declared.tallies.Tallies.{Tallies}
 use Rattle.plans.specs.Inner.Scans.{AreFirst}
 use Rattle.plans.proofs.scan.first_tallies.Given as goal

@@ -3,7 +3,7 @@ use Rattle.std.proofs.Common.{◌≡◌, ◌+◌, ◌<◌, List, length, get_or,
 use Rattle.std.proofs.lemmas.List.{get_or_default, get_or-set_other, length_push, length-set}
 use Rattle.rows.specs.declared.value.Value.{Value}
 use Rattle.plans.specs.declared.numbering.Numbering.{Numbering}
-use Rattle.plans.specs.declared.plan.Plan.{Plan}
+use Rattle.queries.specs.declared.plan.Plan.{Plan}
 use Rattle.plans.specs.declared.tallies.Tallies.{Tallies as AnyTallies}
 use Rattle.plans.specs.Inner.Kept.{GroupList, AreKept}
 use Rattle.plans.specs.Inner.Numbered.{AreDistinct}

@@ -1,7 +1,7 @@
 -- The plans before the index have their groups.
 use Rattle.std.proofs.Common.{◌≡◌, ℕ, ◌<◌, ◌≤◌, length, get_or}
 use Rattle.rows.specs.Tables.{Rows, Tables}
-use Rattle.plans.specs.declared.plan.Plan.{Plan}
+use Rattle.queries.specs.declared.plan.Plan.{Plan}
 use Rattle.plans.specs.declared.tallies.Tallies.{Tallies as AnyTallies}
 use Rattle.plans.specs.Inner.Kept.{GroupList, AreKept}
 use Rattle.plans.specs.Inner.Scans.{AreScanned}

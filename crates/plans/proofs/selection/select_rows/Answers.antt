@@ -6,8 +6,8 @@ use Rattle.std.proofs.lemmas.List.{get_or_default, take_all}
 use Rattle.std.proofs.lemmas.List.Filters.{length-filter_both}
 use Rattle.std.proofs.lemmas.List.FromFn.{length-range_with_len}
 use Rattle.std.proofs.lemmas.Result.{IfOk-weaker}
-use Rattle.plans.specs.declared.condition.Condition.{Condition}
-use Rattle.plans.specs.Answers.{JoinedRow, meets}
+use Rattle.queries.specs.declared.condition.Condition.{Condition}
+use Rattle.queries.specs.Answers.{JoinedRow, meets}
 use Rattle.plans.specs.Inner.Picked.{ArePlaces}
 use Rattle.plans.specs.Inner.Cells.{values_of, values_at, does_pass, AreColumnsOf}
 use Rattle.plans.specs.Inner.Selections.{joined_at, columns_of}

@@ -1,7 +1,7 @@
 -- The positions are those of the rows that meet the conditions before the index.
 use Rattle.std.proofs.Common.{◌≡◌, ◌≤◌, List, length, map, take}
 use Rattle.std.specs.List.{filter, list_all}
-use Rattle.plans.specs.Answers.{JoinedRow, meets}
+use Rattle.queries.specs.Answers.{JoinedRow, meets}
 use Rattle.plans.specs.Inner.Picked.{ArePlaces}
 use Rattle.plans.specs.Inner.Cells.{AreColumnsOf}
 use Rattle.plans.specs.Inner.Selections.{joined_at, columns_of}

@@ -3,11 +3,12 @@ use Rattle.std.proofs.Common.{◌≡◌, ℕ, ◌+◌, ◌≤◌, List, [], ◌+
 use Rattle.std.specs.List.{filter, list_all}
 use Rattle.std.proofs.lemmas.List.{append-nil, length-map}
 use Rattle.rows.specs.declared.value.Value.{Value}
-use Rattle.plans.specs.declared.aggregate.Aggregate.{Aggregate}
+use Rattle.rows.specs.Tables.{shape_in}
+use Rattle.queries.specs.declared.aggregate.Aggregate.{Aggregate}
 use Rattle.plans.specs.declared.cells.Cells.{Cells}
-use Rattle.plans.specs.declared.column.Column.{Column}
-use Rattle.plans.specs.declared.condition.Condition.{Condition}
-use Rattle.plans.specs.Answers.{JoinedRow, meets, joined_with, rows_among}
+use Rattle.queries.specs.declared.column.Column.{Column}
+use Rattle.queries.specs.declared.condition.Condition.{Condition}
+use Rattle.queries.specs.Answers.{JoinedRow, meets, joined_with, rows_among}
 use Rattle.plans.specs.Inner.BlockRows.{rows_of_block}
 use Rattle.plans.specs.Inner.Cells.{HaveColumns, AreColumnsOf}
 use Rattle.plans.specs.Inner.Numbered.{AreNumbers, AreDistinct, IsShaped, IsTallied}
@@ -43,7 +44,7 @@ places-requires-clause-columns g c = λ _ _.
     (sym (c.as_slice-2.ensures.value ∙ c.in_ok-named.ensures ∙ ap columns_of c.as_slice.ensures))
     (subst (λ (o : Option ℕ). HaveKinds tables table o (columns_of plan.conditions)) (sym c.requires.shared.table)
     (subst (λ (t : ℕ). HaveKinds tables t (other_table plan) (columns_of plan.conditions)) (sym c.requires.table)
-    (condition-kinds tables plan c.requires.checked)))
+    (condition-kinds tables plan (c.each_part_fits.ensures (shape_in tables) plan c.requires.checked))))
 
 pub places-requires-clause-filled : goal.places-requires-clause-filled
 places-requires-clause-filled g c = λ _ _. c.requires.shared.filled
@@ -60,7 +61,7 @@ input_places-requires-clause-columns g c = λ _ _.
     subst (λ (list : List Aggregate). HaveInputKinds tables table other list) (sym c.as_slice-3.ensures)
     (subst (λ (o : Option ℕ). HaveInputKinds tables table o plan.aggregates) (sym c.requires.shared.table)
     (subst (λ (t : ℕ). HaveInputKinds tables t (other_table plan) plan.aggregates) (sym c.requires.table)
-    (input-kinds tables plan c.requires.checked)))
+    (input-kinds tables plan (c.each_part_fits.ensures (shape_in tables) plan c.requires.checked))))
 
 pub input_places-requires-clause-filled : goal.input_places-requires-clause-filled
 input_places-requires-clause-filled g c = λ _ _. c.in_ok-conditions.ensures.filled

@@ -1,8 +1,8 @@
 -- One aggregate more has its place; and at the end all have.
 use Rattle.std.proofs.Common.{ℕ, ◌+◌, ◌∙◌, List, length, get_or, ap, subst, arith}
 use Rattle.std.proofs.lemmas.List.{get_or_default, length_push}
-use Rattle.plans.specs.declared.aggregate.Aggregate.{Aggregate}
-use Rattle.plans.specs.Answers.{JoinedRow}
+use Rattle.queries.specs.declared.aggregate.Aggregate.{Aggregate}
+use Rattle.queries.specs.Answers.{JoinedRow}
 use Rattle.plans.specs.Inner.Partnered.{joined_rows}
 use Rattle.plans.specs.Inner.Shared.{IsInputOfRows}
 use Rattle.plans.proofs.Fills.{grows-none, grows-more}

@@ -1,6 +1,6 @@
 -- The places of the aggregates before the index.
 use Rattle.std.proofs.Common.{◌≡◌, ℕ, ◌<◌, length, get_or}
-use Rattle.plans.specs.declared.aggregate.Aggregate.{Aggregate}
+use Rattle.queries.specs.declared.aggregate.Aggregate.{Aggregate}
 use Rattle.plans.specs.Inner.Partnered.{joined_rows, AreFilled, Grows}
 use Rattle.plans.specs.Inner.Shared.{IsInputOfRows}
 use Rattle.plans.proofs.shared_rows.input_places.Given as goal

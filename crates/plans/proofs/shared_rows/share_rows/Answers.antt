@@ -1,8 +1,9 @@
 -- The columns to group by are there, and what is shared is of the block's rows.
 use Rattle.std.proofs.Common.{ℕ, List, Option, sym, subst, ◌∙◌}
+use Rattle.rows.specs.Tables.{shape_in}
 use Rattle.plans.specs.declared.cells.Cells.{Cells}
-use Rattle.plans.specs.declared.column.Column.{Column}
-use Rattle.plans.specs.Answers.{JoinedRow}
+use Rattle.queries.specs.declared.column.Column.{Column}
+use Rattle.queries.specs.Answers.{JoinedRow}
 use Rattle.plans.specs.Inner.Cells.{AreColumnsOf}
 use Rattle.plans.specs.Inner.Partnered.{HasLink, HaveKinds, joined_rows, joined_table}
 use Rattle.plans.specs.Inner.Shared.{other_table}
@@ -14,7 +15,8 @@ pub partners_if_joined-requires-clause-column : goal.partners_if_joined-requires
 partners_if_joined-requires-clause-column g c = λ _ _.
     let tables = g.S.Store.tables c.args.store.now in
     let plan = c.args.plan.now in
-    subst (λ (table : ℕ). HasLink tables table plan.join) (sym c.requires.table) (link tables plan c.requires.checked)
+    subst (λ (table : ℕ). HasLink tables table plan.join) (sym c.requires.table)
+    (link tables plan (c.each_part_fits.ensures (shape_in tables) plan c.requires.checked))
 
 pub places-requires-clause-columns : goal.places-requires-clause-columns
 places-requires-clause-columns g c = λ _ _.
@@ -25,7 +27,7 @@ places-requires-clause-columns g c = λ _ _.
     subst (λ (list : List Column). HaveKinds tables table other list) (sym c.as_slice.ensures)
     (subst (λ (o : Option ℕ). HaveKinds tables table o plan.groups) (sym c.in_ok-partners.ensures.table)
     (subst (λ (t : ℕ). HaveKinds tables t (other_table plan) plan.groups) (sym c.requires.table)
-    (group-kinds tables plan c.requires.checked)))
+    (group-kinds tables plan (c.each_part_fits.ensures (shape_in tables) plan c.requires.checked))))
 
 pub places-requires-clause-filled : goal.places-requires-clause-filled
 places-requires-clause-filled g c = λ _ _.

@@ -1,6 +1,6 @@
 -- The tallies before the index have grown, and the others are as they were.
 use Rattle.std.proofs.Common.{◌≡◌, ℕ, ◌+◌, ◌<◌, ◌≤◌, length, slice_index_or}
-use Rattle.plans.specs.declared.aggregate.Aggregate.{Aggregate}
+use Rattle.queries.specs.declared.aggregate.Aggregate.{Aggregate}
 use Rattle.plans.specs.declared.input.Input.{Input}
 use Rattle.plans.specs.declared.tallies.Tally.{Tally}
 use Rattle.plans.specs.Inner.Numbered.{IsColumn, IsGrown}

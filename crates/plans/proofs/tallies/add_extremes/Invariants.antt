@@ -1,7 +1,7 @@
 -- With the rows that are left, each value is what it is to be.
 use Rattle.std.proofs.Common.{◌≡◌, ℕ, ◌<◌, length, drop, slice_index_or}
 use Rattle.plans.specs.Inner.Picked.{picked, folded}
-use Rattle.plans.specs.declared.field.Field.{Field}
+use Rattle.queries.specs.declared.field.Field.{Field}
 use Rattle.plans.specs.Inner.Numbered.{with_extreme}
 use Rattle.plans.proofs.tallies.add_extremes.Given as goal
 

@@ -1,7 +1,7 @@
 -- The last of the others that are left is merged, if its plan is on the table.
 use Rattle.std.proofs.Common.{◌≡◌, ◌+◌, ◌<◌, length, get_or, set, sym, ap, subst, ◌∙◌, arith}
 use Rattle.std.proofs.lemmas.List.{get_or_default, length_push}
-use Rattle.plans.specs.declared.plan.Plan.{Plan}
+use Rattle.queries.specs.declared.plan.Plan.{Plan}
 use Rattle.plans.specs.Inner.Kept.{AreWithin}
 use Rattle.plans.specs.Inner.Ranges.{AreMerged}
 use Rattle.plans.proofs.MergedPieces.{PlansMerge, plans-init, plans-skip, plans-next, last-is}

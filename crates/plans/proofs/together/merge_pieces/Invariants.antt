@@ -1,7 +1,7 @@
 -- The plans on the table have the groups of the pieces so far, and the others are left.
 use Rattle.std.proofs.Common.{◌≡◌, ℕ, ◌<◌, ◌++◌, get_or, length}
 use Rattle.rows.specs.Tables.{rows_of}
-use Rattle.plans.specs.declared.plan.Plan.{Plan}
+use Rattle.queries.specs.declared.plan.Plan.{Plan}
 use Rattle.plans.specs.Inner.Kept.{GroupList}
 use Rattle.plans.specs.Inner.Pieces.{rows_of_pieces}
 use Rattle.plans.proofs.MergedPieces.{Merges}

@@ -1,6 +1,6 @@
 -- The tables of the plans before the index were scanned, and so were all that are marked.
 use Rattle.std.proofs.Common.{◌≡◌, ℕ, ◌<◌, true, false, get_or, length}
-use Rattle.plans.specs.declared.plan.Plan.{Plan}
+use Rattle.queries.specs.declared.plan.Plan.{Plan}
 use Rattle.plans.proofs.Ranged.{AreScanned}
 use Rattle.plans.proofs.together.scan_tables.Given as goal
 

@@ -2,7 +2,7 @@
 use Rattle.std.proofs.Common.{◌≡◌, ◌+◌, [], ◌∷◌, ◌++◌, length, take, ap, subst, sym, ◌∙◌, arith}
 use Rattle.std.proofs.lemmas.List.{take_more}
 use Rattle.rows.specs.Shape.{shape_of}
-use Rattle.mvcc.specs.History.{History}
+use Rattle.mvcc.specs.VersionList.{VersionList}
 use Rattle.update_log.specs.Streams.{AreStreamsOf}
 use Rattle.primary.proofs.Rebuilding.{defined-next, cuttable-next}
 use Rattle.primary.proofs.keeping.rebuild.Goals as goal
@@ -34,9 +34,9 @@ loop-commit-preserved c =
     take_more commits i commit c.loop-commit-test.true ∙ ap (λ c. take i commits ++ c ∷ []) (sym c.commit-item.is) in
     let absorbed : c.absorb.new.self ≡ _ = c.in_ok-absorb.ensures.ok in
     record {
-      schema = ap (λ (h : History). h.schema) absorbed ∙ so_far.schema;
+      schema = ap (λ (h : VersionList). h.schema) absorbed ∙ so_far.schema;
       commits =
-          ap (λ (h : History). h.commits) absorbed
+          ap (λ (h : VersionList). h.commits) absorbed
           ∙ ap (λ entries. c.loop-commit.versions.commits ++ record { worker = commit.worker; entries = entries } ∷ []) c.as_slice.ensures
           ∙ ap (λ cs. cs ++ commit ∷ []) so_far.commits ∙ sym next;
       framed =

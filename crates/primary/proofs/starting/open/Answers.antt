@@ -5,7 +5,7 @@ use Rattle.journal.specs.Recovery.{IsRecovered}
 use Rattle.journal.specs.Text.{header, journal_text}
 use Rattle.primary.specs.Journaling.{KeepsSame}
 use Rattle.primary.specs.State.{Primary}
-use Rattle.primary.proofs.Opening.{same-bytes, kept-within, settled-is_text, partly-keeps_same}
+use Rattle.primary.proofs.Opening.{same-bytes, kept-within, repaired-is_text, partly-keeps_same}
 use Rattle.primary.proofs.Wanting.{on-err}
 use Rattle.primary.proofs.starting.open.Goals as goal
 
@@ -29,8 +29,8 @@ returns-in_default-header_bytes-clause-same g c honest =
     same-bytes c.args.workers (shape_of c.args.schema.now) (stands c.args.journal.now) (stands c.standing.new.journal)
     (c.standing.ensures.same honest)
 
-pub settle-requires-clause-within : goal.settle-requires-clause-within
-settle-requires-clause-within g c =
+pub repair-requires-clause-within : goal.repair-requires-clause-within
+repair-requires-clause-within g c =
     let found = c.in_ok-recovered.recovered in
     omega (
       arith,
@@ -40,8 +40,8 @@ settle-requires-clause-within g c =
       ap length c.deref-3.ensures.value,
     )
 
-pub returns-in_err-settle-clause-same : goal.returns-in_err-settle-clause-same
-returns-in_err-settle-clause-same g c honest =
+pub returns-in_err-repair-clause-same : goal.returns-in_err-repair-clause-same
+returns-in_err-repair-clause-same g c honest =
     let store = g.J.JournalStore in
     let found = c.in_ok-recovered.recovered in
     let shape = shape_of c.args.schema.now in
@@ -50,11 +50,11 @@ returns-in_err-settle-clause-same g c honest =
     subst (λ bytes. IsRecovered c.args.workers shape bytes found.commits.items found.bytes_kept)
     (c.deref.ensures.value ∙ sym c.deref-3.ensures.value) c.in_ok-recovered.ensures.kept in
     let head : c.deref-4.result.now ≡ header c.args.workers shape = c.deref-4.ensures.value ∙ c.in-Ok-header_bytes.ensures in
-    on-err _ c.from_residual-in_err-settle.result
-    (subst (λ bytes. KeepsSame c.args.workers shape bytes (store.standing c.settle.new.journal)) stood
-    (partly-keeps_same c.args.workers shape c.deref-3.result.now c.deref-4.result.now (store.standing c.settle.new.journal)
+    on-err _ c.from_residual-in_err-repair.result
+    (subst (λ bytes. KeepsSame c.args.workers shape bytes (store.standing c.repair.new.journal)) stood
+    (partly-keeps_same c.args.workers shape c.deref-3.result.now c.deref-4.result.now (store.standing c.repair.new.journal)
     found.commits.items found.bytes_kept c.stops_are_recovered.ensures.once c.stops_are_recovered.ensures.not_refused recovered head
-    (c.in_err-settle.ensures.partly (c.standing.ensures.honest ∙ honest))))
+    (c.in_err-repair.ensures.partly (c.standing.ensures.honest ∙ honest))))
 
 pub returns-clause-text : goal.returns-clause-text
 returns-clause-text g c honest =
@@ -65,7 +65,7 @@ returns-clause-text g c honest =
     subst (λ bytes. IsRecovered c.args.workers shape bytes found.commits.items found.bytes_kept)
     (c.deref.ensures.value ∙ sym c.deref-3.ensures.value) c.in_ok-recovered.ensures.kept in
     let head : c.deref-4.result.now ≡ header c.args.workers shape = c.deref-4.ensures.value ∙ c.in-Ok-header_bytes.ensures in
-    settled-is_text c.args.workers shape c.deref-3.result.now c.deref-4.result.now (store.standing c.settle.new.journal)
-    found.commits.items found.bytes_kept recovered head (c.in_ok-settle.ensures.ok (c.standing.ensures.honest ∙ honest))
+    repaired-is_text c.args.workers shape c.deref-3.result.now c.deref-4.result.now (store.standing c.repair.new.journal)
+    found.commits.items found.bytes_kept recovered head (c.in_ok-repair.ensures.ok (c.standing.ensures.honest ∙ honest))
     ∙ ap (journal_text c.args.workers shape)
     (sym (ap (λ (p : Primary). p.durable) c.in-Ok.ensures ∙ c.deref-2.ensures.value))

@@ -1,9 +1,9 @@
 -- One more plan that fits.
 use Rattle.std.proofs.Common.{◌≡◌, List, [], ◌∷◌, ◌++◌, Ok, sym, ◌∙◌}
 use Rattle.std.specs.List.{AllByRecursion}
-use Rattle.plans.specs.declared.plan.Plan.{Plan}
+use Rattle.queries.specs.declared.plan.Plan.{Plan}
 use Rattle.rows.specs.Shape.{shape_of}
-use Rattle.plans.specs.Checking.{checked}
+use Rattle.queries.specs.Checking.{checked}
 use Rattle.scenarios_plans_common.proofs.wishes.plans_of.Goals as goal
 
 push-fits : (P : Plan → Type 0) (plans : List Plan) (plan : Plan) → AllByRecursion P plans → P plan → AllByRecursion P (plans ++ plan ∷ [])

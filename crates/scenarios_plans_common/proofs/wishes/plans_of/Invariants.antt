@@ -2,7 +2,7 @@
 use Rattle.std.proofs.Common.{◌≡◌, Ok}
 use Rattle.std.specs.List.{AllByRecursion}
 use Rattle.rows.specs.Shape.{shape_of}
-use Rattle.plans.specs.Checking.{checked}
+use Rattle.queries.specs.Checking.{checked}
 use Rattle.scenarios_plans_common.proofs.wishes.plans_of.Given as goal
 
 abbrev pub invariant-loop-wish : goal.invariant-loop-wish

@@ -1,8 +1,19 @@
--- What the words give is said of their line.
-use Rattle.std.proofs.Common.{◌∙◌, ◌<◌, ◌^◌, sym, ap, arith, rules}
+-- A line has a first word, and what its words give is said of it.
+use Rattle.std.proofs.Common.{◌≡◌, ◌∙◌, ◌<◌, ◌^◌, ℕ, suc, List, length, sym, ap, arith, rules, Bor}
+use Rattle.std.proofs.Math.ListN.{length-map}
 use Rattle.script.proofs.Arity.{shown}
 use Rattle.script.proofs.ReadLines.{answered}
+use Rattle.script.proofs.WordSplitting.{split-first}
 use Rattle.script.proofs.event_reading.read_event.Goals as goal
+
+pub returns-in_default-split_first : goal.returns-in_default-split_first
+returns-in_default-split_first c =
+    let words = c.in-Ok.words.items in
+    let parts = split-first c.args.line.now in
+    let some : length (shown words) ≡ suc (length parts.0) = ap (λ (it : List (List ℕ)). length it) (c.in-Ok.ensures ∙ parts.1) in
+    let none : length words ≡ 0 =
+    ap (λ (it : List (Bor (List ℕ))). length it) (sym c.as_slice.ensures.value) ∙ c.in_default-split_first.ensures.cases in
+    absurd (omega (arith, some, none, length-map words (λ (word : Bor (List ℕ)). word.now)))
 
 pub returns : goal.returns
 returns c =

@@ -1,6 +1,6 @@
 -- The plan of the words is that of their text.
 use Rattle.std.proofs.Common.{◌≡◌, ◌∙◌, Ok, Err, sym, ap}
-use Rattle.plans.specs.declared.plan.Plan.{Plan}
+use Rattle.queries.specs.declared.plan.Plan.{Plan}
 use Rattle.script.specs.declared.faults.Reason.{Reason}
 use Rattle.script.specs.Inner.PlanReading.{plan_of}
 use Rattle.script.proofs.WordSplitting.{line_words}

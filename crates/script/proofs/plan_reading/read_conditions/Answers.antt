@@ -1,7 +1,7 @@
 -- A condition more is read, or the words that are left are none.
 use Rattle.std.proofs.Common.{◌∙◌, ◌-◌, ◌+◌, List, ℕ, ◌∷◌, ◌++◌, [], length, sym, ap, codes, arith}
 use Rattle.std.proofs.lemmas.List.{length-map}
-use Rattle.plans.specs.declared.condition.Condition.{Condition}
+use Rattle.queries.specs.declared.condition.Condition.{Condition}
 use Rattle.script.specs.Inner.PlanParts.{lent_lists}
 use Rattle.script.specs.Inner.PlanReading.{condition_behind, conditions_of}
 use Rattle.script.proofs.PlanSeries.{series-none, series-begun, many-step, many-stopped, many-done}

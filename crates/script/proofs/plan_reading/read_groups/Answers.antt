@@ -1,7 +1,7 @@
 -- One more is read, or the words that are left are none.
 use Rattle.std.proofs.Common.{◌∙◌, ◌-◌, ◌+◌, List, ◌∷◌, ◌++◌, [], length, sym, ap, arith}
 use Rattle.std.proofs.lemmas.List.{length-map}
-use Rattle.plans.specs.declared.column.Column.{Column}
+use Rattle.queries.specs.declared.column.Column.{Column}
 use Rattle.script.specs.Inner.PlanParts.{lent_lists}
 use Rattle.script.specs.Inner.PlanReading.{by_first, column_first, groups_of}
 use Rattle.script.proofs.PlanSeries.{series-none, series-begun, many-step, many-stopped, many-done}

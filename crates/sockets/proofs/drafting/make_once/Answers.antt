@@ -9,3 +9,6 @@ returns-in-Set-clause-answer g c = rw c.in-Set.is c.set.ensures.answer
 
 pub returns-in-Delete-clause-answer : goal.returns-in-Delete-clause-answer
 returns-in-Delete-clause-answer g c = rw c.in-Delete.is c.delete.ensures.answer
+
+pub returns-in-AddColumn-clause-answer : goal.returns-in-AddColumn-clause-answer
+returns-in-AddColumn-clause-answer g c = rw c.in-AddColumn.is c.add_column.ensures.answer

@@ -1,8 +1,8 @@
 -- The queries so far were offered, each as the replica takes or drops it.
 use Rattle.std.proofs.Common.{◌≡◌, [], ◌++◌, List, refl, sym, ap, ◌∙◌, arith}
 use Rattle.std.proofs.lemmas.List.{append-nil}
-use Rattle.plans.specs.declared.plan.Plan.{Plan}
-use Rattle.plans.specs.declared.faults.PlanFault.{PlanFault}
+use Rattle.queries.specs.declared.plan.Plan.{Plan}
+use Rattle.queries.specs.declared.faults.PlanFault.{PlanFault}
 use Rattle.dispatcher.specs.declared.faults.OpenFault.TheVariants as opens
 use Rattle.sockets.proofs.Stepping.{opens_nothing, opens_then, offer_opens, opened_is_offer}
 use Rattle.sockets.proofs.Stepping.{dropped_is_offer, opens_as, own_fault, none_left, left_behind}

@@ -1,6 +1,6 @@
 -- The entries before the index made the tables; a store that is not whole refused the first.
 use Rattle.std.proofs.Common.{◌≡◌, take, false, Ok}
-use Rattle.rows.specs.Tables.{shape_in, apply_entries}
+use Rattle.rows.specs.Tables.{apply_entries}
 use Rattle.store.proofs.running.run.Given as goal
 
 abbrev pub invariant-loop-i : goal.invariant-loop-i
@@ -9,5 +9,4 @@ invariant-loop-i g l = record {
       (g.S.Store.tables l.store);
   first : g.S.Store.is_whole l.initial.store ≡ false → l.i ≡ 0;
   whole : g.S.Store.is_whole l.store ≡ g.S.Store.is_whole l.initial.store;
-  kinds : shape_in (g.S.Store.tables l.store) ≡ shape_in (g.S.Store.tables l.initial.store);
 }

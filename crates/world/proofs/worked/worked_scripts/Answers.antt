@@ -27,6 +27,10 @@ pub returns-clause-two_queries : goal.returns-clause-two_queries
 unfolding digits
 returns-clause-two_queries c = refl
 
+pub returns-clause-added_column : goal.returns-clause-added_column
+unfolding digits
+returns-clause-added_column c = refl
+
 pub returns-clause-two_workers : goal.returns-clause-two_workers
 unfolding digits
 returns-clause-two_workers c = refl

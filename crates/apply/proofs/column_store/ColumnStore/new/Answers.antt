@@ -8,24 +8,23 @@ use Rattle.apply.proofs.column_store.ColumnStore.new.Goals as goal
 
 pub invariant_of-result : goal.invariant_of-result
 invariant_of-result c =
-    let parts = c.in_ok-empty_parts.field-0.items in
+    let partitions = c.in_ok-empty_partitions.field-0.items in
     let shape = shape_of c.args.schema.now in
-    let at = opens (views parts) shape c.args.partitions c.requires.some c.in_ok-empty_parts.ensures in
-    let many : length parts ≡ c.args.partitions = omega (arith, at.0, views-length parts) in
+    let at = opens (views partitions) shape c.args.partitions c.requires.some c.in_ok-empty_partitions.ensures in
+    let many : length partitions ≡ c.args.partitions = omega (arith, at.0, views-length partitions) in
     record {
       some = omega (arith, many, c.requires.some);
       few = omega (arith, many, c.requires.few);
-      alike = at.2.alike;
-      parts = λ whole. at.2;
+      partitions = λ whole. at.2;
       kinds = λ whole. subst RowsAreOfKinds (sym at.1) (c.rows_are_of_kinds.ensures.versions shape [] 0);
     }
 
 pub returns-clause-tables : goal.returns-clause-tables
 returns-clause-tables c =
-    (opens (views c.in_ok-empty_parts.field-0.items) (shape_of c.args.schema.now) c.args.partitions c.requires.some
-    c.in_ok-empty_parts.ensures).1
+    (opens (views c.in_ok-empty_partitions.field-0.items) (shape_of c.args.schema.now) c.args.partitions c.requires.some
+    c.in_ok-empty_partitions.ensures).1
 
-pub returns-clause-parts : goal.returns-clause-parts
-returns-clause-parts c =
-    (opens (views c.in_ok-empty_parts.field-0.items) (shape_of c.args.schema.now) c.args.partitions c.requires.some
-    c.in_ok-empty_parts.ensures).0
+pub returns-clause-partitions : goal.returns-clause-partitions
+returns-clause-partitions c =
+    (opens (views c.in_ok-empty_partitions.field-0.items) (shape_of c.args.schema.now) c.args.partitions c.requires.some
+    c.in_ok-empty_partitions.ensures).0

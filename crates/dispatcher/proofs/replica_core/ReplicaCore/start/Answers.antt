@@ -1,8 +1,9 @@
 -- Nothing has come, and tables without rows have the columns of the schema.
 use Rattle.std.proofs.Common.{◌≡◌, ℕ, List, [], length, ap, sym, subst, ◌∙◌, rules}
-use Rattle.std.proofs.lemmas.List.{length-replicate}
+use Rattle.std.proofs.lemmas.List.{length-replicate, length-map}
 use Rattle.rows.specs.Shape.{shape_of}
-use Rattle.rows.specs.Tables.{Tables, opening, shape_in}
+use Rattle.rows.specs.declared.kind.Kind.{Kind}
+use Rattle.rows.specs.Tables.{Tables}
 use Rattle.intake.specs.Kept.{AreKeptFrom}
 use Rattle.intake.specs.State.{Arrivals, nothing}
 use Rattle.dispatcher.proofs.Beginning.{none-lost}
@@ -10,9 +11,8 @@ use Rattle.dispatcher.proofs.replica_core.ReplicaCore.start.Goals as goal
 
 pub invariant_of-result : goal.invariant_of-result
 invariant_of-result g c =
-    let shape = shape_of c.args.schema.now in
-    let cloned : shape_of c.in_ok-clone.field-0 ≡ shape = search rules in
-    let opens : shape_in (opening shape) ≡ shape = c.changes_keep_kinds.ensures.versions shape [] 0 in
+    let schema = c.args.schema.now in
+    let cloned : c.in_ok-clone.field-0 ≡ schema = search rules in
     record {
       few_workers = search rules;
       number_below = search rules;
@@ -23,7 +23,11 @@ invariant_of-result g c =
           (none-lost c.args.workers c.no_counts.result);
       store_whole = search rules;
       fetched = tt;
-      kinds = ap (λ (tables : Tables). shape_in tables) c.requires.tables ∙ opens ∙ sym cloned;
-      waiting_checked = search rules;
-      batch_checked = tt;
+      many = λ whole.
+          ap (λ (tables : Tables). length tables) c.requires.tables
+          ∙ length-map (shape_of schema) (λ (kinds : List Kind). record { kinds = kinds; rows = [] })
+          ∙ length-map schema (λ (table : List ℕ × List Kind). table.1)
+          ∙ sym (ap (λ (schema : List (List ℕ × List Kind)). length schema) cloned);
+      waiting_checked = λ whole. search rules;
+      batch_checked = λ whole. tt;
     }

@@ -6,5 +6,6 @@ use Rattle.mvcc.proofs.chains.Chains.link_commit.Goals as goal
 pub returns-then-is_err-clause-err : goal.returns-then-is_err-clause-err
 returns-then-is_err-clause-err c =
     on_err_weaker c.link_entries-linked.result
-    (λ left. kept-taken_back c.args.commits.now c.link_entries-linked.new.self _ c.args.entries.now left c.take_back_entries.ensures)
+    (λ left shape may. kept-taken_back shape c.args.commits.now c.link_entries-linked.new.self _ c.args.entries.now (left shape may)
+    c.take_back_entries.ensures)
     c.link_entries-linked.ensures.err

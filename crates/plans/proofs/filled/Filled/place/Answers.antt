@@ -1,6 +1,6 @@
 -- A column that is there has its place; one more is filled behind the others.
 use Rattle.std.proofs.Common.{◌≡◌, length, rules}
-use Rattle.plans.specs.Answers.{values_in}
+use Rattle.queries.specs.Answers.{values_in}
 use Rattle.plans.specs.Inner.Partnered.{joined_rows}
 use Rattle.plans.proofs.Fills.{filled-place, filled-more, filled-last}
 use Rattle.plans.proofs.filled.Filled.place.Goals as goal

@@ -1,6 +1,6 @@
 -- The lines so far and those of the groups that are left are those of all.
 use Rattle.std.proofs.Common.{◌≡◌, ◌++◌, map}
-use Rattle.plans.specs.declared.field.Field.TheVariants.{Stored}
+use Rattle.queries.specs.declared.field.Field.TheVariants.{Stored}
 use Rattle.plans.proofs.groups.Groups.answer.Given as goal
 
 abbrev pub invariant-loop-group : goal.invariant-loop-group

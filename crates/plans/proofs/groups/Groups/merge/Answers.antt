@@ -5,7 +5,7 @@ use Rattle.std.specs.BTreeMap.{is_at}
 use Rattle.std.specs.List.{All}
 use Rattle.std.specs.Map.{lookup}
 use Rattle.std.specs.Option.{option_copied}
-use Rattle.plans.specs.Order.{group_cmp}
+use Rattle.queries.specs.Order.{group_cmp}
 use Rattle.plans.specs.Inner.Merged.{merged_at}
 use Rattle.plans.specs.Inner.Kept.{IsWithin}
 use Rattle.plans.proofs.Parts.{at, IsMerging, held-within, fields-within, merging-next}

@@ -2,7 +2,7 @@
 use Rattle.std.proofs.Common.{◌≡◌, None, Some, [], ◌∷◌, ◌++◌, length, sym, ap, ◌∙◌, rules}
 use Rattle.std.specs.BTreeMap.{is_at}
 use Rattle.std.specs.Map.{lookup}
-use Rattle.plans.specs.Order.{group_cmp}
+use Rattle.queries.specs.Order.{group_cmp}
 use Rattle.plans.specs.Inner.Blocks.{number_kept}
 use Rattle.plans.proofs.Numbers.{get-last, known-next, there-next, none-some, other-others}
 use Rattle.plans.proofs.numbering.Numbering.number_other.Goals as goal

@@ -5,8 +5,8 @@ use Rattle.std.specs.List.{list_any}
 use Rattle.std.specs.Map.{lookup}
 use Rattle.std.specs.Ordering.{is_eq}
 use Rattle.rows.specs.declared.value.Value.{Value}
-use Rattle.plans.specs.Order.{group_cmp}
-use Rattle.plans.specs.Answers.{JoinedRow}
+use Rattle.queries.specs.Order.{group_cmp}
+use Rattle.queries.specs.Answers.{JoinedRow}
 use Rattle.plans.specs.Inner.Kept.{AreWithin, kept_at}
 use Rattle.plans.specs.Inner.Numbered.{IsShaped, IsTallied}
 use Rattle.plans.proofs.tallies.Tallies.groups.Given as goal

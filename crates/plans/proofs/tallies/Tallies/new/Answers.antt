@@ -2,8 +2,8 @@
 use Rattle.std.proofs.Common.{◌+◌, [], List, length, get_or, refl, ap, subst, ◌∙◌, arith}
 use Rattle.std.proofs.lemmas.List.{get_or_default, length_push}
 use Rattle.std.proofs.lemmas.Option.{none-some}
-use Rattle.plans.specs.declared.aggregate.Aggregate.{Aggregate}
-use Rattle.plans.specs.declared.column.Column.{Column}
+use Rattle.queries.specs.declared.aggregate.Aggregate.{Aggregate}
+use Rattle.queries.specs.declared.column.Column.{Column}
 use Rattle.plans.specs.Inner.Numbered.{IsColumn, IsTold}
 use Rattle.plans.proofs.Tallied.{pushed}
 use Rattle.plans.proofs.tallies.Tallies.new.Goals as goal

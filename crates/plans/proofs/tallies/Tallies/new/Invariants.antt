@@ -1,7 +1,7 @@
 -- There is a tally of no rows for each aggregate before the index.
 use Rattle.std.proofs.Common.{◌≡◌, ℕ, ◌<◌, [], length, List, slice_index_or}
-use Rattle.plans.specs.declared.aggregate.Aggregate.{Aggregate}
-use Rattle.plans.specs.declared.column.Column.{Column}
+use Rattle.queries.specs.declared.aggregate.Aggregate.{Aggregate}
+use Rattle.queries.specs.declared.column.Column.{Column}
 use Rattle.plans.specs.declared.tallies.Tally.{Tally}
 use Rattle.plans.specs.Inner.Numbered.{IsColumn, IsTold}
 use Rattle.plans.proofs.tallies.Tallies.new.Given as goal

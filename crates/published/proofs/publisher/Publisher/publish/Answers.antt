@@ -1,6 +1,6 @@
 -- What is shown after a publication.
 use Rattle.std.proofs.Common.{drop, ap, sym}
-use Rattle.published.proofs.Stepping.{published}
+use Rattle.published.proofs.Publications.{published}
 use Rattle.published.proofs.publisher.Publisher.publish.Goals as goal
 
 pub invariant_of-self : goal.invariant_of-self

@@ -1,8 +1,0 @@
--- The first tables, without rows, as many as the index says.
-use Rattle.std.proofs.Common.{◌≡◌, take}
-use Rattle.rows.specs.Shape.{shape_of}
-use Rattle.rows.specs.Tables.{opening}
-use Rattle.apply.proofs.changing.empty_tables.Given as goal
-
-abbrev pub invariant-loop-table : goal.invariant-loop-table
-invariant-loop-table l = l.tables.items ≡ take l.table (opening (shape_of l.schema))

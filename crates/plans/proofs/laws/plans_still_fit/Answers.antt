@@ -1,6 +1,0 @@
--- Each column that the plan names is there, of the same kind.
-use Rattle.plans.proofs.Widening.{still-fits}
-use Rattle.plans.proofs.laws.plans_still_fit.Goals as goal
-
-pub returns : goal.returns
-returns c = still-fits

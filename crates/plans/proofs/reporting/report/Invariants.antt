@@ -1,7 +1,0 @@
--- The text so far and the parts of the answers from the index on are the report's.
-use Rattle.std.proofs.Common.{◌≡◌, ◌++◌, drop}
-use Rattle.plans.specs.Report.{report_text, queries_text}
-use Rattle.plans.proofs.reporting.report.Given as goal
-
-abbrev pub invariant-loop-index : goal.invariant-loop-index
-invariant-loop-index l = l.text.items ++ queries_text l.index (drop l.index l.answers) ≡ report_text l.fn.version l.answers

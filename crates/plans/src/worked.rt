@@ -1,9 +1,0 @@
-//! Worked answers.
-
-ghost use Rattle.plans.specs.Worked.{WorkedAnswers};
-
-/// The definition of the plain answer gives the answers of worked plans. It does nothing: its
-/// contract is what the checker computes.
-pub fn worked_answers()
-    ensures { WorkedAnswers }
-{}
