@@ -12,8 +12,9 @@
 //! column, it goes over all of them.
 //!
 //! Promised: a value at a version is that of the tables after so many commits; the newest version
-//! of a row is the last commit that wrote it or added a column to its table; a commit is absorbed wholly or not at all; each call
-//! of a transaction answers what `specs/Transactions.antt` specifies for what the transaction sees.
+//! of a row is the last commit that wrote it or added a column to its table; a commit is absorbed
+//! wholly or not at all; each call of a transaction answers what `specs/Transactions.antt` specifies
+//! for what the transaction sees.
 //!
 //! It uses only `rows`. If a call fails for lack of memory, its value is unchanged unless the call
 //! says otherwise.

@@ -22,7 +22,7 @@ abbrev pub EntryTellsKinds : Type 0
 EntryTellsKinds =
     (tables after : Tables) (entry : Entry) → apply_entry tables entry ≡ Ok after → shape_in after ≡ shape_after_one (shape_in tables) entry
 
--- and so do entries, whether each must be defined or one that is refused changes nothing
+-- and after entries those that the entries make of them, whether each must be defined or one that is refused changes nothing
 abbrev pub EntriesTellKinds : Type 0
 EntriesTellKinds =
     (tables after : Tables) (entries : List Entry) → apply_entries tables entries ≡ Ok after
@@ -31,7 +31,7 @@ EntriesTellKinds =
 abbrev pub AppliedTellKinds : Type 0
 AppliedTellKinds = (tables : Tables) (entries : List Entry) → shape_in (applied tables entries) ≡ shape_after (shape_in tables) entries
 
--- and so do commits
+-- and after commits those that the commits make of them
 abbrev pub CommitsTellKinds : Type 0
 CommitsTellKinds =
     (tables after : Tables) (commits : List Commit) → apply_commits tables commits ≡ Ok after

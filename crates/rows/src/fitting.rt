@@ -26,8 +26,8 @@ pub fn fits(schema: &Schema, entry: &Entry) -> Result<(), EntryFault>
     fits_lent(schema, &entry.lend())
 }
 
-/// Whether a lent entry fits the schema, as `fits` does for an entry. Takes no memory.
-pub fn fits_lent(schema: &Schema, lent: &EntryRef<'_>) -> Result<(), EntryFault>
+/// Whether a lent entry fits the schema, as `fits` does for an entry.
+fn fits_lent(schema: &Schema, lent: &EntryRef<'_>) -> Result<(), EntryFault>
     ensures exact { result ≡ fitting (shape_of schema.now) (entry_of lent.now) }
     ensures spelled { OnOk result (HasSpelling (entry_of lent.now)) }
 {

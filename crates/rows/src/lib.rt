@@ -45,7 +45,7 @@ pub use entry_list::EntryList;
 pub use entry_ref::EntryRef;
 pub use faults::{EntryFault, SchemaFault};
 pub use filling::{ENTRY_LEN_MIN, entries_fill, entries_have_table, read_entries};
-pub use fitting::{fits, fits_columns, fits_lent, fits_table};
+pub use fitting::{fits, fits_columns, fits_table};
 pub use kind::Kind;
 pub use kind_list::KindList;
 pub use octets::Octets;

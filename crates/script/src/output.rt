@@ -24,7 +24,7 @@ pub enum Output {
     /// The transaction was committed under that number.
     Ticket(u64),
     /// The commit of that number touches a row of the transaction, or one of the two adds a column to
-    /// a table of the other's.
+    /// a table in which the other has an entry.
     Conflict(u64),
     /// The transaction changes nothing.
     ReadOnly,
