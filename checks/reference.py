@@ -14,7 +14,10 @@ FRAME_OVERHEAD = 26
 WANTED_MAX = 16
 WINDOW = 4096
 ENTRIES_MAX = 4096
-RECORD_MIN, RECORD_MAX = 15, 2146315
+# The least length of a record, by the version of the part in which it is: that of a delete, and that of a column of one byte.
+RECORD_MIN, RECORD_MAX = {1: 21, 2: 15}, 2146315
+# Between the parts of a journal that was begun in version 1: a length that no record has.
+MARK = bytes(4)
 WAITING_MAX = 64
 U64_MAX = 2**64 - 1
 
@@ -204,8 +207,9 @@ def behind(schema, rows, entries):
     return schema
 
 
-def header(schema):
-    return b"BDJ2" + bytes([schema.workers, len(schema.kinds)]) + b"".join(bytes([len(kinds), *kinds]) for kinds in schema.kinds)
+def header(schema, version=2):
+    tables = b"".join(bytes([len(kinds), *kinds]) for kinds in schema.kinds)
+    return b"BDJ%d" % version + bytes([schema.workers, len(schema.kinds)]) + tables
 
 
 def record(number, commit):
@@ -213,33 +217,50 @@ def record(number, commit):
     return struct.pack(">I", len(body)) + body
 
 
+def records(commits, before=0):
+    """The records of commits, of which so many stand before."""
+    return b"".join(record(before + number + 1, commit) for number, commit in enumerate(commits))
+
+
 def journal(schema, commits):
-    return header(schema) + b"".join(record(number + 1, commit) for number, commit in enumerate(commits))
+    return header(schema) + records(commits)
 
 
-Kept = namedtuple("Kept", "commits bytes")
+def old_journal(schema, commits, before=None):
+    """A journal that was begun in version 1, with the mark behind so many of its commits; without one if that is not given."""
+    if before is None:
+        return header(schema, 1) + records(commits)
+    return header(schema, 1) + records(commits[:before]) + MARK + records(commits[before:], before)
+
+
+# The version is that of what may be appended.
+Kept = namedtuple("Kept", "commits bytes version")
 Refused = namedtuple("Refused", "fault at")
 
 
 def recover(schema, data):
     """What a journal keeps, or why it is refused."""
-    start = header(schema)
-    if len(data) < len(start) and start.startswith(data):
-        return Kept([], 0)
-    if not data.startswith(start):
+    headers = {version: header(schema, version) for version in (1, 2)}
+    if any(len(data) < len(it) and it.startswith(data) for it in headers.values()):
+        return Kept([], 0, 2)
+    version = next((version for version, it in headers.items() if data.startswith(it)), None)
+    if version is None:
         return Refused("OtherHeader", None)
-    now, rows, commits, at = schema, [{} for _ in schema.kinds], [], len(start)
+    now, rows, commits, at = schema, [{} for _ in schema.kinds], [], len(headers[version])
     while True:
         if len(data) - at < 4:
-            return Kept(commits, at)
+            return Kept(commits, at, version)
+        if version == 1 and data[at:at + 4] == MARK:
+            version, at = 2, at + 4
+            continue
         length = int.from_bytes(data[at:at + 4], "big")
-        if not RECORD_MIN <= length <= RECORD_MAX:
+        if not RECORD_MIN[version] <= length <= RECORD_MAX:
             return Refused("Damaged", at)
         if len(data) - at - 4 < length:
-            return Kept(commits, at)
+            return Kept(commits, at, version)
         worker, number, count = struct.unpack_from(">BQH", data, at + 4)
         entries = read_entries(data[at + 15:at + 4 + length], count) if 1 <= count <= ENTRIES_MAX else None
-        if entries is None:
+        if entries is None or version == 1 and any(it.operation == ADD_COLUMN for it in entries):
             return Refused("Damaged", at)
         if number != len(commits) + 1:
             return Refused("OutOfOrder", at)
@@ -248,6 +269,14 @@ def recover(schema, data):
             return Refused("Illegal", at)
         commits.append(Commit(worker, entries))
         at += 4 + length
+
+
+def started(schema, data):
+    """What a start leaves of a journal that it does not refuse."""
+    kept = recover(schema, data)
+    if kept.bytes == 0:
+        return header(schema)
+    return data[:kept.bytes] + (MARK if kept.version == 1 else b"")
 
 
 FAULT_LINES = {

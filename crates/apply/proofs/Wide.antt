@@ -67,7 +67,8 @@ module _ (width : ℕ) where
   few : (rows at : ℕ) (bytes : List ℕ) → length bytes ≡ rows * width → at ≤ rows → at * width ≤ length bytes
   few rows at bytes h le = subst (λ n. at * width ≤ n) (sym h) (mul-le-mul_right width le)
 
-  within-bytes : (rows at : ℕ) (bytes : List ℕ) → length bytes ≡ rows * width → at ≤ rows → length (take (at * width) bytes) ≡ at * width
+  pub within-bytes : (rows at : ℕ) (bytes : List ℕ) → length bytes ≡ rows * width → at ≤ rows
+      → length (take (at * width) bytes) ≡ at * width
   within-bytes rows at bytes h le = length-take-le (at * width) bytes (few rows at bytes h le)
 
   pub octets-insert : (rows at all : ℕ) (bytes value : List ℕ) → length bytes ≡ rows * width → length value ≡ width

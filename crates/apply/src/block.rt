@@ -13,6 +13,7 @@ ghost use Rattle.rows.specs.Tables.{is_present, with_row, with_patch, without_ro
 ghost use Rattle.store.specs.Lent.{rows_from, column_in, AreLent};
 ghost use Rattle.apply.specs.Orders.{Rising, place_in};
 ghost use Rattle.apply.specs.Blocks.{cell_in, wider, narrower};
+ghost use Rattle.apply.specs.Columns.{IsFilled};
 
 use crate::cells::Cells;
 use crate::edits::{empty_columns, insert_row, remove_row, reserve_row, rows_from, truncate_rows};
@@ -178,6 +179,25 @@ impl Block {
         ensures err { OnErr result (self.new ≡ self.old) }
     {
         let column = Cells::filled(alloc, self.ids.len(), default)?;
+        self.columns.push(column)?;
+        Ok(())
+    }
+
+    /// Adds a column with this value in each row, as a copy of one that has it in so many rows, as
+    /// many as here or more. Fails only if out of memory.
+    pub(crate) fn add_copy(
+        &mut self,
+        alloc: Global,
+        default: &Value,
+        rows: usize,
+        filled: &Cells,
+    ) -> Result<(), AllocError>
+        requires filled { IsFilled rows default.now filled.now }
+        requires within { length self.old.rows ≤ rows }
+        ensures ok { OnOk result (self.new ≡ wider default.now self.old) }
+        ensures err { OnErr result (self.new ≡ self.old) }
+    {
+        let column = filled.copy_filled(alloc, default, rows, self.ids.len())?;
         self.columns.push(column)?;
         Ok(())
     }

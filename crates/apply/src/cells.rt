@@ -59,6 +59,36 @@ impl Cells {
         }
     }
 
+    /// A copy of a column that has this value in each of so many rows, for fewer rows or as many.
+    /// Fails only if out of memory.
+    pub(crate) fn copy_filled(
+        &self,
+        alloc: Global,
+        value: &Value,
+        rows: usize,
+        fewer: usize,
+    ) -> Result<Cells, AllocError>
+        requires filled { IsFilled rows value.now self.now }
+        requires within { fewer ≤ rows }
+        ensures { IfOk result (IsFilled fewer value.now) }
+    {
+        let _ = value;
+        let _ = rows;
+        match self {
+            Cells::Numbers(numbers) => {
+                let (front, _) = numbers.as_slice().split_at(fewer);
+                Ok(Cells::Numbers(Vec::from_slice(alloc, front)?))
+            }
+            Cells::Octets { width, bytes } => {
+                let (front, _) = bytes.as_slice().split_at(fewer * *width as usize);
+                Ok(Cells::Octets {
+                    width: *width,
+                    bytes: Vec::from_slice(alloc, front)?,
+                })
+            }
+        }
+    }
+
     /// The kind of its values.
     pub fn kind(&self) -> Kind
         ensures { result ≡ kind_of self.now }

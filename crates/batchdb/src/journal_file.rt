@@ -31,7 +31,7 @@ pub fn run_journal<T: Files<File = File>, W: Write>(
         None if words.dumps => dump(alloc, words.journal, &setup, bytes.as_slice(), writer),
         None => {
             let kept = kept_of(alloc, words.journal, &setup, bytes.as_slice())?;
-            tell(alloc, "", &kept, bytes.len(), writer)
+            tell(alloc, &kept, bytes.len(), writer)
         }
     }
 }
@@ -45,24 +45,49 @@ fn kept_of(alloc: Global, path: &str, setup: &Setup, bytes: &[u8]) -> Result<Rec
     }
 }
 
-/// Tells what a journal of so many bytes keeps, behind some text.
+/// Tells what a journal of so many bytes keeps.
 fn tell<W: Write>(
     alloc: Global,
-    before: &str,
     kept: &Recovered,
     len: usize,
     writer: &mut W,
 ) -> Result<(), Failure> {
-    let torn = (len as u64).saturating_sub(kept.bytes_kept);
     let text = format!(in alloc;
-        "{before}kept {} commits, {} bytes, torn {torn}\n",
+        "kept {} commits, {} bytes, torn {}\n",
         kept.commits.len(),
-        kept.bytes_kept
+        kept.bytes_kept,
+        torn(kept, len)
     );
     match text {
         Ok(text) => print(alloc, writer, text.as_bytes()),
         Err(_) => Err(Failure::Memory),
     }
+}
+
+/// Tells the same before a dump, and the version of the journal at its end, in a comment to whoever reads
+/// the jobs.
+fn tell_dumped<W: Write>(
+    alloc: Global,
+    kept: &Recovered,
+    len: usize,
+    writer: &mut W,
+) -> Result<(), Failure> {
+    let text = format!(in alloc;
+        "# kept {} commits, {} bytes, torn {}, version {}\n",
+        kept.commits.len(),
+        kept.bytes_kept,
+        torn(kept, len),
+        kept.form.version()
+    );
+    match text {
+        Ok(text) => print(alloc, writer, text.as_bytes()),
+        Err(_) => Err(Failure::Memory),
+    }
+}
+
+/// How many of so many bytes are torn.
+fn torn(kept: &Recovered, len: usize) -> u64 {
+    (len as u64).saturating_sub(kept.bytes_kept)
 }
 
 /// Cuts a journal to so many bytes if that is sure, and tells what it keeps then. It is cut at the end of a
@@ -101,7 +126,7 @@ fn cut<T: Files<File = File>, W: Write>(
         return Err(unsure(alloc, path, setup, bytes, behind.len(), count));
     }
     cut_file(rt, alloc, path, bytes.len() as u64, len)?;
-    tell(alloc, "", &left, front.len(), writer)
+    tell(alloc, &left, front.len(), writer)
 }
 
 /// What is said before a journal is cut: what that would drop, and how many commits it would leave.
@@ -191,8 +216,7 @@ fn dump<W: Write>(
     writer: &mut W,
 ) -> Result<(), Failure> {
     let recovered = kept_of(alloc, path, setup, bytes)?;
-    // A comment to whoever reads the jobs.
-    tell(alloc, "# ", &recovered, bytes.len(), writer)?;
+    tell_dumped(alloc, &recovered, bytes.len(), writer)?;
     let Ok(mut kinds) = opening_kinds(alloc, &setup.schema) else {
         return Err(Failure::Memory);
     };

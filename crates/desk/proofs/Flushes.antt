@@ -5,7 +5,7 @@ use Rattle.std.specs.Prelude.{is_some}
 use Rattle.std.proofs.lemmas.List.{take-append-drop}
 use Rattle.primary.specs.State.{Primary, Core}
 use Rattle.primary.specs.Steps.{flushed, failed_primary}
-use Rattle.primary.specs.Lending.{Returned, ended, end_answer}
+use Rattle.primary.specs.Lending.{Returned, ended}
 use Rattle.primary.specs.declared.faults.FlushFault.{FlushFault}
 use Rattle.primary.specs.declared.faults.FlushFault.TheVariants.{NotLent, Journal}
 use Rattle.desk.specs.State.{OnDesk}
@@ -20,14 +20,18 @@ was_lent (Some journal) result durable not_lent is = absurd (cc (is, (not_lent r
 
 -- a desk stays one as a flush ends
 pub kept_ended : {J : Type 0} (first : Primary) (seats : ℕ) (desk : OnDesk J) (done : Returned J) (core : Core J)
-    → IsKept first seats desk → core ≡ ended desk.core.primary done → IsKept first seats (record desk { core = core })
+    → IsKept first seats desk → core ≡ ended desk.core done → IsKept first seats (record desk { core = core })
 kept_ended {J = J} first seats desk done core kept is = rw is (by done.taken)
   where
     p : Primary
     p = desk.core.primary
 
     after : Bool → Core J
-    after taken = record { primary = (if taken then flushed p done.count else failed_primary p); journal = Some done.journal }
+    after taken = record {
+      primary = (if taken then flushed p done.count else failed_primary p);
+      journal = Some done.journal;
+      form = desk.core.form;
+    }
 
     by : (taken : Bool) → IsKept first seats (record desk { core = after taken })
     by true =
@@ -59,15 +63,3 @@ kept_ended {J = J} first seats desk done core kept is = rw is (by done.taken)
           lasts = kept.lasts;
           free = kept.free;
         }
-
--- a flush that is answered tells how many commits are durable
-pub counts_durable : {J : Type 0} (p : Primary) (done : Returned J) (result : Result ℕ FlushFault) (durable : ℕ) (core : Core J)
-    → result ≡ end_answer p done → core ≡ ended p done → result ≡ Ok durable → durable ≡ length core.primary.durable
-counts_durable p done result durable core answer is ok = by done.taken refl
-  where
-    by : (taken : Bool) → done.taken ≡ taken → durable ≡ length core.primary.durable
-    by true e =
-        let a : Ok (length (flushed p done.count).durable) ≡ Ok durable =
-        sym (ap (λ b. if b then Ok (length (flushed p done.count).durable) else Err Journal) e) ∙ (sym answer ∙ ok) in
-        cc (a, is, e)
-    by false e = absurd (cc (e, answer, ok))

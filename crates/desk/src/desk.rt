@@ -422,10 +422,10 @@ impl<L: Origin, J: JournalStore + Drop, R: Wait + Drop> Desk<L, J, R> {
         ensures legal { IsJournaled L.workers (shape_of L.schema) seat.new.list }
         ensures not_lent { is_some self.old.core.journal ≡ true
             → (result ≡ Err FlushFault.NotLent) × (self.new ≡ self.old) }
-        ensures ended { self.old.core.journal ≡ None → self.new.core ≡ ended self.old.core.primary done }
+        ensures ended { self.old.core.journal ≡ None → self.new.core ≡ ended self.old.core done }
         ensures answer { self.old.core.journal ≡ None → MatchBool done.taken (IsOk result) (result ≡ Err FlushFault.Journal) }
         ensures written { self.old.core.journal ≡ None
-            → EndsWritten J.is_honest J.standing J.fault_count self.old.core.primary done self.new.core }
+            → EndsWritten J.is_honest J.standing J.fault_count self.old.core done self.new.core }
         ensures flushed { IfOk result (IsFlushed seat.old.list seat.new.list) }
         ensures all { IfOk result (TellsDurable self.new.core.primary.durable seat.new.list) }
         ensures kept { self.new ≡ record self.old { core = self.new.core; told = self.new.told; shown = self.new.shown } }

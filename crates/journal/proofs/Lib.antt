@@ -1,9 +1,13 @@
 pub mod Presence
+pub mod Slots
 pub mod Settling
 pub mod Texts
 pub mod RecordLaws
+pub mod Headers
+pub mod Items
 pub mod Nesting
 pub mod Recovering
 pub mod Journaled
 pub mod Stops
+pub mod Starts
 pub mod Determined

@@ -2,5 +2,6 @@
 -- in a journal's file. No public clause names these.
 pub mod Reading
 pub mod Presence
+pub mod Slots
 pub mod Progress
 pub mod Settling

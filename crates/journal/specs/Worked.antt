@@ -23,6 +23,10 @@ accounts = (kinds.Int ∷ kinds.Int ∷ []) ∷ []
 abbrev pub accounts_header : List ℕ
 accounts_header = 0x42 ∷ 0x44 ∷ 0x4a ∷ 0x32 ∷ 2 ∷ 1 ∷ 2 ∷ 0 ∷ 0 ∷ []
 
+-- the header of version 1
+abbrev pub old_accounts_header : List ℕ
+old_accounts_header = 0x42 ∷ 0x44 ∷ 0x4a ∷ 0x31 ∷ 2 ∷ 1 ∷ 2 ∷ 0 ∷ 0 ∷ []
+
 -- commit 1, of worker 0: it inserts row 7 with the values 5 and -1 into table 0
 abbrev pub one_insert : Commit
 one_insert = record { worker = 0; entries = Insert 0 (record { 0 = 7 }) (bytes_of (Int (pos 5) ∷ Int (negsuc 0) ∷ [])) ∷ [] }
@@ -57,3 +61,13 @@ abbrev pub add_byte_record : List ℕ
 add_byte_record =
     0 ∷ 0 ∷ 0 ∷ 0xf ∷ 0 ∷ 0 ∷ 0 ∷ 0 ∷ 0 ∷ 0 ∷ 0 ∷ 0 ∷ 2 ∷ 0 ∷ 1
     ∷ 4 ∷ 0 ∷ 1 ∷ 0x61 ∷ []
+
+-- commit 1, of worker 0: it adds a column of numbers to table 0, which is 3 in each row
+abbrev pub add_number : Commit
+add_number = record { worker = 0; entries = AddColumn 0 (Int (pos 3)) ∷ [] }
+
+-- its record
+abbrev pub add_number_record : List ℕ
+add_number_record =
+    0 ∷ 0 ∷ 0 ∷ 0x16 ∷ 0 ∷ 0 ∷ 0 ∷ 0 ∷ 0 ∷ 0 ∷ 0 ∷ 0 ∷ 1 ∷ 0 ∷ 1
+    ∷ 4 ∷ 0 ∷ 0 ∷ 0 ∷ 0 ∷ 0 ∷ 0 ∷ 0 ∷ 0 ∷ 0 ∷ 3 ∷ []

@@ -57,12 +57,14 @@ pub trait JournalStore {
         ensures honest { is_honest self.new ≡ is_honest self.old };
 
     /// Keeps the first `len` of the bytes that stand, and no others. If it fails, some beginning of
-    /// the bytes is left, which is not shorter than `len`. Takes no memory.
+    /// the bytes is left, which is not shorter than `len`. The room does not become less. Takes no
+    /// memory.
     fn cut_to(&mut self, len: u64) -> Result<(), Self::Fault>
         requires within { is_honest self.old ≡ true → len ≤ length (standing self.old) }
         requires countable { fault_count self.old < faults_max }
         ensures ok { is_honest self.old ≡ true → OnOk result (standing self.new ≡ take len (standing self.old)) }
         ensures err { is_honest self.old ≡ true → OnErr result (IsPartlyCut len (standing self.old) (standing self.new)) }
+        ensures room { room self.old ≤ room self.new }
         ensures settled { is_honest self.old ≡ true → OnOk result (left_behind self.new ≡ []) }
         ensures faults { CountsFault result (fault_count self.old) (fault_count self.new) }
         ensures honest { is_honest self.new ≡ is_honest self.old };

@@ -18,6 +18,9 @@ pub const RECORD_FRONT_LEN: usize = 1 + 8 + 2;
 /// Bytes of an entry, at most: those of an insert of the widest row.
 pub const ENTRY_LEN_MAX: usize = 1 + 1 + 8 + 2 + ROW_WIDTH_MAX;
 
+/// The mark behind which a journal of version 1 goes on as version 2: a length of 0.
+pub const MARK: [u8; 4] = [0; 4];
+
 /// The records of commits, numbered from `first`, which is at least 1. Each commit has 1 to 4096
 /// entries, each with a spelling. Fails only if out of memory.
 pub fn records(alloc: Global, commits: &[Commit], first: u64) -> Result<Vec<u8>, AllocError>

@@ -5,15 +5,17 @@ use Rattle.std.proofs.lemmas.List.{append_assoc, take_min, drop_min, drop-drop, 
 use Rattle.rows.specs.declared.commit.Commit.{Commit}
 use Rattle.rows.specs.Shape.{Shape}
 use Rattle.mvcc.specs.VersionList.{VersionList}
-use Rattle.journal.specs.Recovery.{IsBeginning}
-use Rattle.journal.specs.Text.{header, record_of, records_from, journal_text}
+use Rattle.journal.specs.declared.form.Form.{Form}
+use Rattle.journal.specs.Laws.{TextGrows}
+use Rattle.journal.specs.Recovery.{IsBeginning, HasForm}
+use Rattle.journal.specs.Text.{record_of, records_from, journal_text}
 use Rattle.primary.specs.Journaling.{offered}
 use Rattle.primary.specs.State.{Primary}
 use Rattle.primary.specs.Steps.{flushed}
 use Rattle.primary.specs.Inner.Parts.{primary_of}
 
 -- records behind others
-records_from_append : (before : ℕ) (xs ys : List Commit)
+pub records_from_append : (before : ℕ) (xs ys : List Commit)
     → records_from before (xs ++ ys) ≡ records_from before xs ++ records_from (before + length xs) ys
 records_from_append before [] ys = ap (λ n. records_from n ys) (omega arith)
 records_from_append before (x ∷ xs) ys =
@@ -23,16 +25,11 @@ records_from_append before (x ∷ xs) ys =
     ∙ sym (append_assoc (record_of (before + 1) x) (records_from (before + 1) xs) (records_from (before + suc (length xs)) ys))
 
 -- the text with the records of the commits that are moved
-pub moved_text : (workers : ℕ) (shape : Shape) (durable moved : List Commit) (old new : List ℕ)
-    → old ≡ journal_text workers shape durable → new ≡ old ++ records_from (length durable) moved
-    → new ≡ journal_text workers shape (durable ++ moved)
-moved_text workers shape durable moved old new text appended =
-    let counted : length durable ≡ 0 + length durable = omega arith in
-    appended
-    ∙ ap (λ text. text ++ records_from (length durable) moved) text
-    ∙ append_assoc (header workers shape) (records_from 0 durable) (records_from (length durable) moved)
-    ∙ ap (λ n. header workers shape ++ (records_from 0 durable ++ records_from n moved)) counted
-    ∙ ap (λ records. header workers shape ++ records) (sym (records_from_append 0 durable moved))
+pub moved_text : (grows : TextGrows) (form : Form) (workers : ℕ) (shape : Shape) (durable moved : List Commit) (old new : List ℕ)
+    → HasForm form durable → old ≡ journal_text form workers shape durable → new ≡ old ++ records_from (length durable) moved
+    → new ≡ journal_text form workers shape (durable ++ moved)
+moved_text grows form workers shape durable moved old new formed text appended =
+    appended ∙ ap (λ text. text ++ records_from (length durable) moved) text ∙ sym (grows form workers shape durable moved formed)
 
 -- how many are moved
 moved_many : (commits : List Commit) (durable count moved : ℕ) → moved ≡ min count (length (drop durable commits))

@@ -2,9 +2,9 @@
 use Rattle.std.proofs.Common.{◌≡◌, ◌+◌, ◌^◌, ◌<◌, ◌≤◌, ℕ, Bool, true, false, List, [], ◌∷◌, ◌++◌, length, take, drop, nat_lt, cond}
 use Rattle.std.proofs.Common.{◌||◌, ◌&&◌}
 use Rattle.std.proofs.Common.{refl, sym, ap, subst, ◌∙◌, inl, inr, arith, append_assoc, append-nil, length-append}
-use Rattle.std.proofs.lemmas.Bool.{cases_lt, lt-ltb, ltb-true, le-ltb, or_left, or_right, and_from, and_parts}
-use Rattle.std.proofs.Math.Seq.{drop-append_seam, drop-length}
-use Rattle.std.proofs.lemmas.List.{take-append-drop, take-append-le, drop-append-le, take_at, nil_from_length}
+use Rattle.std.specs.Prelude.{◌==◌}
+use Rattle.std.proofs.lemmas.Bool.{cases_lt, lt-ltb, ltb-true, le-ltb, or_left, or_right, and_from, and_parts, ne_eqb}
+use Rattle.std.proofs.lemmas.List.{take-append-drop, take-append-le, drop-append-le, take_at, length-take-le}
 use Rattle.byteorder.specs.Endian.{big_number}
 use Rattle.byteorder.specs.Numbers.{big_from-append}
 use Rattle.rows.specs.declared.commit.Commit.{Commit}
@@ -12,28 +12,52 @@ use Rattle.rows.specs.Shape.{Shape}
 use Rattle.update_log.specs.Laws.{CutIsShort}
 use Rattle.journal.specs.declared.faults.JournalFault.{JournalFault}
 use Rattle.journal.specs.declared.faults.JournalFault.TheVariants.{OtherHeader, Damaged, OutOfOrder, Illegal, Memory}
-use Rattle.journal.specs.Laws.{IsRecoveredOnce, IsNotRefused, IsRefusedOnce}
-use Rattle.journal.specs.Recovery.{IsBeginning, IsKept, IsRecovered, IsRefusal, is_torn, is_record_len}
-use Rattle.journal.specs.Text.{header, record_of, records_from, journal_text}
+use Rattle.journal.specs.declared.form.Form.{Form}
+use Rattle.journal.specs.declared.form.Form.TheVariants.{New, Old, Marked}
+use Rattle.journal.specs.Laws.{IsRecoveredOnce, IsNotRefused, IsRefusedOnce, StartMarks, StartedGoesOn, StartsAgain, HeaderStartsAgain}
+use Rattle.journal.specs.Recovery.{IsBeginning, HasForm, IsKept, IsKeptUpTo, IsRecovered, IsRefusal, HasHeader, is_torn, is_record_len}
+use Rattle.journal.specs.Text.{header, mark, records_from, marked_records, journal_text, started, start_writes, missing_text}
 use Rattle.primary.specs.declared.faults.StartFault.{StartFault}
 use Rattle.primary.specs.declared.faults.StartFault.TheVariants as starts
-use Rattle.primary.specs.Inner.Opening.{repaired, IsPartlyRepaired}
-use Rattle.primary.specs.Journaling.{IsStartRefusal, TellsFault, KeepsSame, AreNumbered}
+use Rattle.primary.specs.Inner.Opening.{IsPartlyRepaired}
+use Rattle.primary.specs.Journaling.{IsFormOf, IsStartRefusal, TellsFault, KeepsSame, AreNumbered}
+use Rattle.primary.proofs.Flushing.{records_from_append}
 use Rattle.primary.proofs.Streams.{numbered-short}
 
+-- the records alone are no longer than with the mark
+records-within : (form : Form) (commits : List Commit) → HasForm form commits
+    → length (records_from 0 commits) ≤ length (marked_records form commits)
+records-within New commits formed = omega arith
+records-within Old commits formed = omega arith
+records-within (Marked count) commits formed =
+    let front = take count commits in
+    let back = drop count commits in
+    let counted : 0 + length front ≡ count = omega (arith, length-take-le count commits formed.0) in
+    let records : records_from 0 commits ≡ records_from 0 front ++ records_from count back =
+    ap (records_from 0) (sym (take-append-drop count commits)) ∙ records_from_append 0 front back
+    ∙ ap (λ n. records_from 0 front ++ records_from n back) counted in
+    omega (
+      arith,
+      ap length records,
+      length-append (records_from 0 front) (records_from count back),
+      length-append (records_from 0 front) (mark ++ records_from count back),
+      length-append mark (records_from count back),
+    )
+
 -- what is recovered of bytes is numbered within 64 bits, as there are no more bytes
-pub numbered-recovered : (law : CutIsShort) (workers : ℕ) (shape : Shape) (bytes : List ℕ) (commits : List Commit) (bytes_kept : ℕ)
-    → IsRecovered workers shape bytes commits bytes_kept → length bytes < 2 ^ 64 → AreNumbered commits
-numbered-recovered law workers shape bytes commits bytes_kept recovered short = elim recovered [
-  | inl ends ↦ subst AreNumbered (sym ends.1) (numbered-short law [] (omega arith))
+pub numbered-recovered : (law : CutIsShort) (workers : ℕ) (shape : Shape) (bytes : List ℕ) (form : Form) (commits : List Commit)
+    (bytes_kept : ℕ) → IsRecovered workers shape bytes form commits bytes_kept → length bytes < 2 ^ 64 → AreNumbered commits
+numbered-recovered law workers shape bytes form commits bytes_kept recovered short = elim recovered [
+  | inl ends ↦ subst AreNumbered (sym ends.2) (numbered-short law [] (omega arith))
   | inr kept ↦
-      let begins = kept.0.0.text in
+      let begins = kept.0.0.is.text in
       numbered-short law commits
       (omega (
         arith,
         ap length begins.1,
-        length-append (journal_text workers shape commits) begins.0,
-        length-append (header workers shape) (records_from 0 commits),
+        length-append (journal_text form workers shape commits) begins.0,
+        length-append (header form workers shape) (marked_records form commits),
+        records-within form commits kept.0.0.is.formed,
       ))
 ]
 
@@ -56,10 +80,10 @@ longer-front front list all begins begins' =
 front-length : {X : Type 0} (front list : List X) → IsBeginning front list → length front ≤ length list
 front-length front list begins = omega (arith, ap length begins.1, length-append front begins.0)
 
--- ---- a torn end that was truncated
+-- ---- a torn end that was truncated, or truncated in part
 
-torn-front : (front bytes : List ℕ) → IsBeginning front bytes → is_torn bytes ≡ true → is_torn front ≡ true
-torn-front front bytes begins torn =
+torn-front : (form : Form) (front bytes : List ℕ) → IsBeginning front bytes → is_torn form bytes ≡ true → is_torn form front ≡ true
+torn-front form front bytes begins torn =
     elim (cases_lt (length front) 4) [
       | inl few ↦ or_left _ _ (lt-ltb _ _ few)
       | inr enough ↦
@@ -68,215 +92,210 @@ torn-front front bytes begins torn =
           let long : nat_lt (length bytes) 4 ≡ false =
           le-ltb (length bytes) 4 (omega (arith, front-length front bytes begins)) in
           let parts =
-          and_parts (is_record_len (big_number 4 bytes)) (nat_lt (length bytes) (4 + big_number 4 bytes))
-          (ap (λ b. b || (is_record_len (big_number 4 bytes) && nat_lt (length bytes) (4 + big_number 4 bytes))) (sym long) ∙ torn) in
+          and_parts (is_record_len form (big_number 4 bytes)) (nat_lt (length bytes) (4 + big_number 4 bytes))
+          (ap (λ b. b || (is_record_len form (big_number 4 bytes) && nat_lt (length bytes) (4 + big_number 4 bytes))) (sym long) ∙ torn) in
           let below = ltb-true (length bytes) (4 + big_number 4 bytes) parts.1 in
           or_right (nat_lt (length front) 4) _
-          (and_from _ _ (ap is_record_len (sym same) ∙ parts.0)
+          (and_from _ _ (ap (is_record_len form) (sym same) ∙ parts.0)
           (lt-ltb (length front) (4 + big_number 4 front) (omega (arith, front-length front bytes begins))))
     ]
 
--- ---- a torn end that was truncated in part
-
 -- where bytes keep commits, so do their beginnings that hold the text
-kept-truncated : (workers : ℕ) (shape : Shape) (old new : List ℕ) (commits : List Commit) → IsKept workers shape old commits
-    → IsBeginning new old → length (journal_text workers shape commits) ≤ length new → IsKept workers shape new commits
-kept-truncated workers shape old new commits kept begins long = record {
-  journaled = kept.journaled;
-  text = shorter-front (journal_text workers shape commits) new old kept.text begins long;
-  longest = λ others journaled text.
-      kept.longest others journaled (longer-front (journal_text workers shape others) new old text begins);
+kept-truncated : (form : Form) (workers : ℕ) (shape : Shape) (old new : List ℕ) (commits : List Commit)
+    → IsKept form workers shape old commits
+    → IsBeginning new old → length (journal_text form workers shape commits) ≤ length new → IsKept form workers shape new commits
+kept-truncated form workers shape old new commits kept begins long = record {
+  is =
+      record {
+        journaled = kept.is.journaled;
+        formed = kept.is.formed;
+        text = shorter-front (journal_text form workers shape commits) new old kept.is.text begins long;
+      };
+  longest = λ other others is.
+      kept.longest other others (record {
+        journaled = is.journaled;
+        formed = is.formed;
+        text = longer-front (journal_text other workers shape others) new old is.text begins;
+      });
 }
 
 -- what stands behind as many bytes
 drop-front : (n : ℕ) (new old : List ℕ) → IsBeginning new old → n ≤ length new → IsBeginning (drop n new) (drop n old)
 drop-front n new old begins within = (begins.0, ap (drop n) begins.1 ∙ drop-append-le n new begins.0 within)
 
-truncated-recovered : (workers : ℕ) (shape : Shape) (old new : List ℕ) (commits : List Commit) (bytes_kept : ℕ)
-    → IsRecovered workers shape old commits bytes_kept → length (header workers shape) ≤ length old → IsBeginning new old
-    → bytes_kept ≤ length new → IsRecovered workers shape new commits bytes_kept
-truncated-recovered workers shape old new commits bytes_kept recovered long begins enough = elim recovered [
-  | inl ends ↦ absurd (omega (arith, ends.0.1))
+truncated-recovered : (workers : ℕ) (shape : Shape) (old new : List ℕ) (form : Form) (commits : List Commit) (bytes_kept : ℕ)
+    → IsRecovered workers shape old form commits bytes_kept → IsBeginning new old → bytes_kept ≤ length new
+    → IsRecovered workers shape new form commits bytes_kept
+truncated-recovered workers shape old new form commits bytes_kept recovered begins enough = elim recovered [
+  | inl ends ↦
+      let one = ends.0.0 in
+      inl (
+        (
+          one,
+          longer-front new old (header one workers shape) begins ends.0.1,
+          omega (arith, ends.0.2, front-length new old begins),
+        ),
+        ends.1,
+        ends.2,
+        ends.3,
+      )
   | inr kept ↦
       inr (
-        (kept-truncated workers shape old new commits kept.0.0 begins (omega (arith, kept.0.1)), kept.0.1),
-        torn-front (drop bytes_kept new) (drop bytes_kept old) (drop-front bytes_kept new old begins enough) kept.1,
+        (kept-truncated form workers shape old new commits kept.0.0 begins (omega (arith, kept.0.1)), kept.0.1),
+        torn-front form (drop bytes_kept new) (drop bytes_kept old) (drop-front bytes_kept new old begins enough) kept.1,
       )
 ]
 
--- bytes that are recovered are refused only out of memory, where they begin with the header
-only-memory : (workers : ℕ) (shape : Shape) (old new : List ℕ) (commits : List Commit) (bytes_kept : ℕ) → IsNotRefused
-    → IsRecovered workers shape old commits bytes_kept
-    → (IsBeginning (header workers shape) old → IsBeginning (header workers shape) new)
+-- bytes that are recovered are refused only out of memory, where they begin with a header
+only-memory : (workers : ℕ) (shape : Shape) (old new : List ℕ) (form : Form) (commits : List Commit) (bytes_kept : ℕ) → IsNotRefused
+    → IsRecovered workers shape old form commits bytes_kept → (HasHeader workers shape old → HasHeader workers shape new)
     → (fault : JournalFault) → IsRefusal workers shape old fault → IsRefusal workers shape new fault
-only-memory workers shape old new commits bytes_kept law recovered front Memory refused = front refused
-only-memory workers shape old new commits bytes_kept law recovered front OtherHeader refused =
-    absurd (law workers shape old commits bytes_kept OtherHeader recovered (λ e. cc) refused)
-only-memory workers shape old new commits bytes_kept law recovered front (Damaged at) refused =
-    absurd (law workers shape old commits bytes_kept (Damaged at) recovered (λ e. cc) refused)
-only-memory workers shape old new commits bytes_kept law recovered front (OutOfOrder at) refused =
-    absurd (law workers shape old commits bytes_kept (OutOfOrder at) recovered (λ e. cc) refused)
-only-memory workers shape old new commits bytes_kept law recovered front (Illegal at) refused =
-    absurd (law workers shape old commits bytes_kept (Illegal at) recovered (λ e. cc) refused)
+only-memory workers shape old new form commits bytes_kept law recovered front Memory refused = front refused
+only-memory workers shape old new form commits bytes_kept law recovered front OtherHeader refused =
+    absurd (law form workers shape old commits bytes_kept OtherHeader recovered (λ e. cc) refused)
+only-memory workers shape old new form commits bytes_kept law recovered front (Damaged at) refused =
+    absurd (law form workers shape old commits bytes_kept (Damaged at) recovered (λ e. cc) refused)
+only-memory workers shape old new form commits bytes_kept law recovered front (OutOfOrder at) refused =
+    absurd (law form workers shape old commits bytes_kept (OutOfOrder at) recovered (λ e. cc) refused)
+only-memory workers shape old new form commits bytes_kept law recovered front (Illegal at) refused =
+    absurd (law form workers shape old commits bytes_kept (Illegal at) recovered (λ e. cc) refused)
 
--- bytes that keep the commits of recovered ones, and begin with the header where those do, keep the same
-same-recovered : (workers : ℕ) (shape : Shape) (old new : List ℕ) (commits : List Commit) (bytes_kept new_kept : ℕ) → IsRecoveredOnce
-    → IsNotRefused → IsRecovered workers shape old commits bytes_kept → IsRecovered workers shape new commits new_kept
-    → (IsBeginning (header workers shape) old → IsBeginning (header workers shape) new) → KeepsSame workers shape old new
-same-recovered workers shape old new commits bytes_kept new_kept once law recovered recovered' front = record {
-  kept = λ others kept.
-      let same = once workers shape old commits others bytes_kept kept.0 recovered kept.1 in
-      (new_kept, subst (λ cs. IsRecovered workers shape new cs new_kept) same.0 recovered');
-  refused = only-memory workers shape old new commits bytes_kept law recovered front;
+-- bytes of which the commits of others are recovered, and of which a start makes the same form, keep the same
+same-recovered : (workers : ℕ) (shape : Shape) (old new : List ℕ) (form kept : Form) (commits : List Commit) (bytes_kept new_kept : ℕ)
+    → IsRecoveredOnce → IsNotRefused → IsRecovered workers shape old form commits bytes_kept
+    → IsRecovered workers shape new kept commits new_kept → started kept (length commits) ≡ started form (length commits)
+    → (HasHeader workers shape old → HasHeader workers shape new) → KeepsSame workers shape old new
+same-recovered workers shape old new form kept commits bytes_kept new_kept once law recovered recovered' starts front = record {
+  kept = λ others left found.
+      let same = once form found.0 workers shape old commits others bytes_kept found.1 recovered found.2 in (
+        kept,
+        new_kept,
+        subst (λ cs. IsRecovered workers shape new kept cs new_kept) same.1 recovered',
+        found.3 ∙ ap (λ f. started f (length others)) (sym same.0)
+            ∙ ap (λ (cs : List Commit). started form (length cs)) (sym same.1) ∙ sym starts
+            ∙ ap (λ (cs : List Commit). started kept (length cs)) same.1,
+      );
+  refused = only-memory workers shape old new form commits bytes_kept law recovered front;
 }
 
 pub same-bytes : (workers : ℕ) (shape : Shape) (bytes new : List ℕ) → new ≡ bytes → KeepsSame workers shape bytes new
 same-bytes workers shape bytes new e = record {
-  kept = λ commits kept. rw e kept;
+  kept = λ commits form kept. rw e kept;
   refused = λ fault refused. rw e refused;
 }
 
--- ---- a header that was completed in part
+-- ---- repairing
 
-some-record : (number : ℕ) (commit : Commit) (more : List ℕ) → record_of number commit ++ more ≡ [] → ⊥
-some-record number commit more e =
-    let len : length (record_of number commit ++ more) ≡ 0 = ap length e in
-    absurd (omega (arith, length-append (record_of number commit) more))
+pub kept-within : (workers : ℕ) (shape : Shape) (bytes : List ℕ) (form : Form) (commits : List Commit) (bytes_kept : ℕ)
+    → IsRecovered workers shape bytes form commits bytes_kept → bytes_kept ≤ length bytes
+kept-within workers shape bytes form commits bytes_kept recovered = elim recovered [
+  | inl ends ↦ omega (arith, ends.3)
+  | inr kept ↦ omega (arith, kept.0.1, front-length (journal_text form workers shape commits) bytes kept.0.0.is.text)
+]
 
--- a list whose text begins the header is empty
-none-in-header : (workers : ℕ) (shape : Shape) (commits : List Commit)
-    → IsBeginning (journal_text workers shape commits) (header workers shape) → length commits ≤ 0
-none-in-header workers shape [] begins = omega arith
-none-in-header workers shape (commit ∷ commits) begins =
-    absurd (omega (
-      arith,
-      front-length (journal_text workers shape (commit ∷ commits)) (header workers shape) begins,
-      length-append (header workers shape) (records_from 0 (commit ∷ commits)),
-      length-append (record_of (0 + 1) commit) (records_from (0 + 1) commits),
-    ))
+-- the text that is kept, and what a start writes behind it
+record TextIsKept (workers : ℕ) (shape : Shape) (bytes : List ℕ) (form : Form) (commits : List Commit) (bytes_kept : ℕ) : Type 0 where
+  text : take bytes_kept bytes ≡ journal_text form workers shape commits
+  missing : missing_text workers shape form bytes_kept ≡ start_writes form
 
--- the header alone keeps nothing
-header-recovered : (workers : ℕ) (shape : Shape) (bytes : List ℕ) → bytes ≡ header workers shape
-    → IsRecovered workers shape bytes [] (length (header workers shape))
-header-recovered workers shape bytes e =
-    let text : header workers shape ++ [] ≡ header workers shape = append-nil (header workers shape) in
-    let none : drop (length (header workers shape)) bytes ≡ [] =
-    ap (drop (length (header workers shape))) e ∙ drop-length (header workers shape) in
-    inr (
-      (
-        record {
-          journaled = record { legal = record { each = tt; defined = refl }; records = tt };
-          text = ([], e ∙ sym text ∙ sym (append-nil (header workers shape ++ [])));
-          longest = λ others journaled begins.
-              none-in-header workers shape others (subst (IsBeginning (journal_text workers shape others)) e begins);
-        },
-        ap length (sym text),
-      ),
-      ap is_torn none,
-    )
+text-kept : (workers : ℕ) (shape : Shape) (bytes : List ℕ) (form : Form) (commits : List Commit) (bytes_kept : ℕ)
+    → IsKeptUpTo form workers shape bytes commits bytes_kept → TextIsKept workers shape bytes form commits bytes_kept
+text-kept workers shape bytes form commits bytes_kept kept =
+    let text = journal_text form workers shape commits in
+    let begins = kept.0.is.text in
+    let some : (bytes_kept == 0) ≡ false =
+    ne_eqb _ _ (λ none. absurd (omega (arith, none, kept.1, length-append (header form workers shape) (marked_records form commits)))) in
+    record {
+      text = ap (take bytes_kept) begins.1 ∙ take_at text begins.0 bytes_kept (sym kept.1);
+      missing = ap (λ b. cond b (header New workers shape) (start_writes form)) some;
+    }
 
--- a beginning of the header keeps nothing
-front-recovered : (workers : ℕ) (shape : Shape) (bytes : List ℕ) → IsBeginning bytes (header workers shape)
-    → (bytes_kept : ℕ) × IsRecovered workers shape bytes [] bytes_kept
-front-recovered workers shape bytes begins =
-    elim (cases_lt (length bytes) (length (header workers shape))) [
-      | inl short ↦ (0, inl ((begins, short), refl, refl))
-      | inr long ↦
-          let none : begins.0 ≡ [] =
-          nil_from_length begins.0 (omega (arith, ap length begins.1, length-append bytes begins.0)) in
-          let whole : bytes ≡ header workers shape =
-          sym (append-nil bytes) ∙ ap (λ more. bytes ++ more) (sym none) ∙ sym begins.1 in
-          (length (header workers shape), header-recovered workers shape bytes whole)
-    ]
-
--- ---- settling
-
--- where bytes that are recovered end within the header, they are a beginning of it, and keep nothing
-ends-in-header : (workers : ℕ) (shape : Shape) (bytes : List ℕ) (commits : List Commit) (bytes_kept : ℕ)
-    → IsRecovered workers shape bytes commits bytes_kept → length bytes < length (header workers shape)
-    → IsBeginning bytes (header workers shape) × (commits ≡ [])
-ends-in-header workers shape bytes commits bytes_kept recovered short = elim recovered [
-  | inl ends ↦ (ends.0.0, ends.1)
+-- what was repaired is the text of what is kept, in the form that a start makes
+pub repaired-is_text : (workers : ℕ) (shape : Shape) (bytes missing new : List ℕ) (form : Form) (commits : List Commit) (bytes_kept : ℕ)
+    → StartMarks → IsRecovered workers shape bytes form commits bytes_kept → missing ≡ missing_text workers shape form bytes_kept
+    → new ≡ take bytes_kept bytes ++ missing → new ≡ journal_text (started form (length commits)) workers shape commits
+repaired-is_text workers shape bytes missing new form commits bytes_kept marks recovered is done = elim recovered [
+  | inl ends ↦
+      done ∙ ap (λ m. take bytes_kept bytes ++ m) is
+      ∙ ap (λ n. take n bytes ++ missing_text workers shape form n) ends.3
+      ∙ sym (append-nil (header New workers shape))
+      ∙ new-text form commits ends.1 ends.2
   | inr kept ↦
-      absurd (omega (
-        arith,
-        front-length (journal_text workers shape commits) bytes kept.0.0.text,
-        length-append (header workers shape) (records_from 0 commits),
-      ))
+      let parts = text-kept workers shape bytes form commits bytes_kept kept.0 in
+      done ∙ ap (λ m. take bytes_kept bytes ++ m) (is ∙ parts.missing)
+      ∙ ap (λ t. t ++ start_writes form) parts.text ∙ marks form workers shape commits
 ]
+  where
+    new-text : (one : Form) (cs : List Commit) → one ≡ New → cs ≡ []
+        → header New workers shape ++ [] ≡ journal_text (started one (length cs)) workers shape cs
+    new-text one cs e e' = rw (e, e') refl
 
--- and otherwise they begin with the text
-begins-with-text : (workers : ℕ) (shape : Shape) (bytes : List ℕ) (commits : List Commit) (bytes_kept : ℕ)
-    → IsRecovered workers shape bytes commits bytes_kept → length (header workers shape) ≤ length bytes
-    → IsBeginning (journal_text workers shape commits) bytes × (bytes_kept ≡ length (journal_text workers shape commits))
-begins-with-text workers shape bytes commits bytes_kept recovered long = elim recovered [
-  | inl ends ↦ absurd (omega (arith, ends.0.1))
-  | inr kept ↦ (kept.0.0.text, kept.0.1)
-]
+-- and of that form the text of what is kept may be
+pub started-form : (workers : ℕ) (shape : Shape) (bytes : List ℕ) (form : Form) (commits : List Commit) (bytes_kept : ℕ) → StartedGoesOn
+    → IsRecovered workers shape bytes form commits bytes_kept → IsFormOf (started form (length commits)) commits
+started-form workers shape bytes form commits bytes_kept goes_on recovered = record { new = new form; has = has }
+  where
+    new : (one : Form) → ¬ (started one (length commits) ≡ Old)
+    new New e = absurd cc
+    new Old e = absurd cc
+    new (Marked count) e = absurd cc
 
-pub kept-within : (workers : ℕ) (shape : Shape) (bytes : List ℕ) (commits : List Commit) (bytes_kept : ℕ)
-    → IsRecovered workers shape bytes commits bytes_kept → bytes_kept ≤ length bytes
-kept-within workers shape bytes commits bytes_kept recovered = elim recovered [
-  | inl ends ↦ omega (arith, ends.2)
-  | inr kept ↦ omega (arith, kept.0.1, front-length (journal_text workers shape commits) bytes kept.0.0.text)
-]
-
--- the missing part of the header
-missing : (bytes head : List ℕ) → IsBeginning bytes head → bytes ++ drop (length bytes) head ≡ head
-missing bytes head begins =
-    ap (λ h. bytes ++ drop (length bytes) h) begins.1
-    ∙ ap (λ more. bytes ++ more) (drop-append_seam bytes begins.0)
-    ∙ sym begins.1
-
--- what was repaired is the text of what is kept
-pub repaired-is_text : (workers : ℕ) (shape : Shape) (bytes head new : List ℕ) (commits : List Commit) (bytes_kept : ℕ)
-    → IsRecovered workers shape bytes commits bytes_kept → head ≡ header workers shape → new ≡ repaired head bytes bytes_kept
-    → new ≡ journal_text workers shape commits
-repaired-is_text workers shape bytes head new commits bytes_kept recovered is done =
-    done ∙ ap (λ h. repaired h bytes bytes_kept) is ∙ elim (cases_lt (length bytes) (length (header workers shape))) [
-      | inl short ↦
-          let ends = ends-in-header workers shape bytes commits bytes_kept recovered short in
-          ap (λ b. cond b (bytes ++ drop (length bytes) (header workers shape)) (take bytes_kept bytes)) (lt-ltb _ _ short)
-          ∙ missing bytes (header workers shape) ends.0
-          ∙ sym (append-nil (header workers shape))
-          ∙ ap (journal_text workers shape) (sym ends.1)
-      | inr long ↦
-          let begins = begins-with-text workers shape bytes commits bytes_kept recovered long in
-          ap (λ b. cond b (bytes ++ drop (length bytes) (header workers shape)) (take bytes_kept bytes)) (le-ltb _ _ long)
-          ∙ ap (λ n. take n bytes) begins.1
-          ∙ ap (take (length (journal_text workers shape commits))) begins.0.1
-          ∙ take_at (journal_text workers shape commits) begins.0.0 (length (journal_text workers shape commits)) refl
+    formed : HasForm form commits
+    formed = elim recovered [
+      | inl ends ↦ subst (λ f. HasForm f commits) (sym ends.1) tt
+      | inr kept ↦ kept.0.0.is.formed
     ]
+
+    has : HasForm (started form (length commits)) commits
+    has = subst (HasForm (started form (length commits))) (append-nil commits) (goes_on form commits [] formed)
 
 -- what was repaired in part keeps the same
-pub partly-keeps_same : (workers : ℕ) (shape : Shape) (bytes head new : List ℕ) (commits : List Commit) (bytes_kept : ℕ)
-    → IsRecoveredOnce → IsNotRefused → IsRecovered workers shape bytes commits bytes_kept → head ≡ header workers shape
-    → IsPartlyRepaired head bytes bytes_kept new → KeepsSame workers shape bytes new
-partly-keeps_same workers shape bytes head new commits bytes_kept once law recovered is partly = elim partly [
-  | inl added ↦
-      let short : length bytes < length (header workers shape) = subst (λ h. length bytes < length h) is added.0 in
-      let ends = ends-in-header workers shape bytes commits bytes_kept recovered short in
-      let part = added.1 in
-      let more = drop (length bytes) head in
-      let whole : bytes ++ more ≡ header workers shape =
-      ap (λ h. bytes ++ drop (length bytes) h) is ∙ missing bytes (header workers shape) ends.0 in
-      let begins : IsBeginning new (header workers shape) = (
-        part.1.0,
-        sym whole ∙ ap (λ m. bytes ++ m) part.1.1 ∙ sym (append_assoc bytes part.0 part.1.0)
-            ∙ ap (λ n. n ++ part.1.0) (sym part.2),
-      ) in
-      let now = front-recovered workers shape new begins in
-      same-recovered workers shape bytes new commits bytes_kept now.0 once law recovered
-      (subst (λ cs. IsRecovered workers shape new cs now.0) (sym ends.1) now.1)
-      (λ front. absurd (omega (arith, front-length (header workers shape) bytes front)))
-  | inr cut ↦
-      let long : length (header workers shape) ≤ length bytes = subst (λ h. length h ≤ length bytes) is cut.0 in
-      let text = begins-with-text workers shape bytes commits bytes_kept recovered long in
-      same-recovered workers shape bytes new commits bytes_kept bytes_kept once law recovered
-      (truncated-recovered workers shape bytes new commits bytes_kept recovered long cut.1.0 cut.1.1)
-      (λ front. shorter-front (header workers shape) new bytes front cut.1.0
-      (omega (arith, length-append (header workers shape) (records_from 0 commits), text.1, cut.1.1)))
-]
+pub partly-keeps_same : (workers : ℕ) (shape : Shape) (bytes missing new : List ℕ) (form : Form) (commits : List Commit) (bytes_kept : ℕ)
+    → IsRecoveredOnce → IsNotRefused → StartsAgain → HeaderStartsAgain → IsRecovered workers shape bytes form commits bytes_kept
+    → missing ≡ missing_text workers shape form bytes_kept → IsPartlyRepaired missing bytes bytes_kept new
+    → KeepsSame workers shape bytes new
+partly-keeps_same workers shape bytes missing new form commits bytes_kept once law again header-again recovered is (inl cut) =
+    same-recovered workers shape bytes new form form commits bytes_kept bytes_kept once law recovered
+    (truncated-recovered workers shape bytes new form commits bytes_kept recovered cut.0 cut.1) refl (by recovered)
+  where
+    by : IsRecovered workers shape bytes form commits bytes_kept → HasHeader workers shape bytes → HasHeader workers shape new
+    by (inl ends) found =
+        absurd (omega (arith, ends.0.2, front-length (header found.0 workers shape) bytes found.1))
+    by (inr kept) found = (
+      form,
+      longer-front (header form workers shape) (journal_text form workers shape commits) new (marked_records form commits, refl)
+          (shorter-front (journal_text form workers shape commits) new bytes kept.0.0.is.text cut.0 (omega (arith, kept.0.1, cut.1))),
+    )
+partly-keeps_same workers shape bytes missing new form commits bytes_kept once law again header-again recovered is (inr part) =
+    by recovered
+  where
+    by : IsRecovered workers shape bytes form commits bytes_kept → KeepsSame workers shape bytes new
+    by (inl ends) =
+        let none : take bytes_kept bytes ≡ [] = ap (λ n. take n bytes) ends.3 in
+        let stands : new ≡ part.0 = part.2 ∙ ap (λ t. t ++ part.0) none in
+        let head : missing ≡ header New workers shape = is ∙ ap (missing_text workers shape form) ends.3 in
+        let begins : IsBeginning new (header New workers shape) =
+        (part.1.0, sym head ∙ part.1.1 ∙ ap (λ t. t ++ part.1.0) (sym stands)) in
+        let found = header-again workers shape new begins in
+        same-recovered workers shape bytes new form New commits bytes_kept found.0 once law recovered
+        (subst (λ cs. IsRecovered workers shape new New cs found.0) (sym ends.2) found.1)
+        (ap (λ f. started f (length commits)) (sym ends.1))
+        (λ front. absurd (omega (arith, ends.0.2, front-length (header front.0 workers shape) bytes front.1)))
+    by (inr kept) =
+        let parts = text-kept workers shape bytes form commits bytes_kept kept.0 in
+        let text = journal_text form workers shape commits in
+        let stands : new ≡ text ++ part.0 = part.2 ∙ ap (λ t. t ++ part.0) parts.text in
+        let begins : IsBeginning part.0 (start_writes form) = (part.1.0, sym (is ∙ parts.missing) ∙ part.1.1) in
+        let found = again form workers shape commits part.0 kept.0.0.is.journaled kept.0.0.is.formed begins in
+        same-recovered workers shape bytes new form found.0 commits bytes_kept found.1 once law recovered
+        (subst (λ b. IsRecovered workers shape b found.0 commits found.1) (sym stands) found.2) found.3
+        (λ front. (
+          form,
+          (
+            marked_records form commits ++ part.0,
+            stands ∙ append_assoc (header form workers shape) (marked_records form commits) part.0,
+          ),
+        ))
 
 -- bytes that are refused with a fault are refused with no other, so a start tells it
 pub tells-fault : {F : Type 0} (workers : ℕ) (shape : Shape) (is_honest : Bool) (bytes : List ℕ) (fault : JournalFault)

@@ -6,8 +6,10 @@ use Rattle.rows.specs.Shape.{Shape, shape_of}
 use Rattle.update_log.specs.Streams.{stream_of}
 use Rattle.journal.specs.declared.faults.JournalFault.{JournalFault}
 use Rattle.journal.specs.declared.faults.JournalFault.TheVariants as journals
-use Rattle.journal.specs.Text.{journal_text, records_from}
-use Rattle.journal.specs.Recovery.{IsRecovered, IsRefusal}
+use Rattle.journal.specs.declared.form.Form.{Form}
+use Rattle.journal.specs.declared.form.Form.TheVariants.{Old}
+use Rattle.journal.specs.Text.{journal_text, records_from, started}
+use Rattle.journal.specs.Recovery.{HasForm, IsRecovered, IsRefusal}
 use Rattle.journal.specs.Storing.{IsPartlyAppended}
 use Rattle.primary.specs.declared.faults.FlushFault.{FlushFault}
 use Rattle.primary.specs.declared.faults.FlushFault.TheVariants as flushes
@@ -16,11 +18,16 @@ use Rattle.primary.specs.declared.faults.StartFault.TheVariants as starts
 use Rattle.primary.specs.State.{Primary, Core, is_honest_in, standing_in, faults_in}
 use Rattle.primary.specs.Steps.{failed_primary}
 
--- while it is there and honest and has not failed, the journal's bytes are the text of the durable list
+-- while it is there and honest and has not failed, the journal's bytes are the text of the durable list, in the journal's form
 abbrev pub IsWritten : {J : Type 0} → (J → Bool) → (J → List ℕ) → Core J → Type 0
 IsWritten is_honest standing core =
     is_honest_in is_honest core.journal ≡ true → core.primary.failed ≡ false
-    → standing_in standing core.journal ≡ journal_text core.primary.workers (shape_of core.primary.schema) core.primary.durable
+    → standing_in standing core.journal ≡ journal_text core.form core.primary.workers (shape_of core.primary.schema) core.primary.durable
+
+-- the form of a primary's journal: of version 2 at its end, and one that the text of the durable list may have
+pub record IsFormOf (form : Form) (durable : List Commit) : Type 0 where
+  pub new : ¬ (form ≡ Old)
+  pub has : HasForm form durable
 
 -- the records that a flush of so many commits offers to the journal
 abbrev pub offered : Primary → ℕ → List ℕ
@@ -56,13 +63,14 @@ abbrev pub CountsFlushFault : {A : Type 0} → Result A FlushFault → ℕ → �
 CountsFlushFault (Err flushes.Journal) old new = new ≡ old + 1
 CountsFlushFault other old new = new ≡ old
 
--- the commits that these bytes keep for the workers and the shape
-abbrev pub IsKeptOf : ℕ → Shape → List ℕ → List Commit → Type 0
-IsKeptOf workers shape bytes commits = (bytes_kept : ℕ) × IsRecovered workers shape bytes commits bytes_kept
+-- the commits that these bytes keep for the workers and the shape, and the form that a start makes of their text
+abbrev pub IsKeptOf : ℕ → Shape → List ℕ → List Commit → Form → Type 0
+IsKeptOf workers shape bytes commits form =
+    (found : Form) × (bytes_kept : ℕ) × IsRecovered workers shape bytes found commits bytes_kept × (form ≡ started found (length commits))
 
 -- the new bytes keep what the old ones keep, and are refused as they are
 pub record KeepsSame (workers : ℕ) (shape : Shape) (old new : List ℕ) : Type 0 where
-  pub kept : (commits : List Commit) → IsKeptOf workers shape old commits → IsKeptOf workers shape new commits
+  pub kept : (commits : List Commit) (form : Form) → IsKeptOf workers shape old commits form → IsKeptOf workers shape new commits form
   pub refused : (fault : JournalFault) → IsRefusal workers shape old fault → IsRefusal workers shape new fault
 
 -- why a start is refused: these bytes are refused, if they are the ones that stand; or the start is out of memory

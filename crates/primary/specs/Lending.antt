@@ -3,6 +3,7 @@ use Rattle.std.specs.Prelude.{◌≡◌, ℕ, ◌+◌, List, ◌++◌, length, t
 use Rattle.std.specs.Prelude.{is_some, if◌then◌else◌}
 use Rattle.rows.specs.declared.commit.Commit.{Commit}
 use Rattle.rows.specs.Shape.{shape_of}
+use Rattle.journal.specs.declared.form.Form.{Form}
 use Rattle.journal.specs.Recovery.{IsBeginning}
 use Rattle.journal.specs.Storing.{IsPartlyAppended}
 use Rattle.journal.specs.Text.{journal_text, records_from}
@@ -49,9 +50,9 @@ pub record IsWriteOf {J : Type 0} (is_honest : J → Bool) (standing : J → Lis
   pub nothing : lent.count ≡ 0 → (done.taken ≡ true) × (done.journal ≡ lent.journal)
 
 -- a primary whose journal comes back: the commits that were offered are durable, or it has failed
-abbrev pub ended : {J : Type 0} → Primary → Returned J → Core J
-ended p done = record {
-  primary = if done.taken then flushed p done.count else failed_primary p;
+abbrev pub ended : {J : Type 0} → Core J → Returned J → Core J
+ended core done = record core {
+  primary = if done.taken then flushed core.primary done.count else failed_primary core.primary;
   journal = Some done.journal;
 }
 
@@ -65,16 +66,17 @@ HasMorePending old new = (more : List Commit) × (new ≡ record old { pending =
 
 -- a journal that was written before its flush began is written after it, whatever came between, if what comes back is what the
 -- write left of this very flush
-abbrev pub EndsWritten : {J : Type 0} → (J → Bool) → (J → List ℕ) → (J → ℕ) → Primary → Returned J → Core J → Type 0
+abbrev pub EndsWritten : {J : Type 0} → (J → Bool) → (J → List ℕ) → (J → ℕ) → Core J → Returned J → Core J → Type 0
 EndsWritten {J = J} is_honest standing fault_count now done new =
     (begun : Core J) (count : ℕ) (lent : Lent J) → IsLentBy is_honest standing fault_count begun count lent
-    → IsWriteOf is_honest standing fault_count lent done → HasMorePending begun.primary now
+    → IsWriteOf is_honest standing fault_count lent done → HasMorePending begun.primary now.primary → begun.form ≡ now.form
     → IsWritten is_honest standing begun → IsWritten is_honest standing new
 
 -- bytes that a stop may leave: the text of what is durable, and after it the first bytes of the pending commits' records
-abbrev pub IsLeftByStop : Primary → List ℕ → Type 0
-IsLeftByStop p bytes =
-    (count : ℕ) × (bytes ≡ journal_text p.workers (shape_of p.schema) p.durable ++ take count (records_from (length p.durable) p.pending))
+abbrev pub IsLeftByStop : Form → Primary → List ℕ → Type 0
+IsLeftByStop form p bytes =
+    (count : ℕ)
+    × (bytes ≡ journal_text form p.workers (shape_of p.schema) p.durable ++ take count (records_from (length p.durable) p.pending))
 
 -- a journal that was written when its flush began is what a stop may leave, whatever was committed meanwhile: before its write; within
 -- it, when some beginning of the records stands after what stood; and after it
@@ -82,6 +84,6 @@ abbrev pub StopsAreAllowed : {J : Type 0} → (J → Bool) → (J → List ℕ) 
 StopsAreAllowed {J = J} is_honest standing fault_count lent done =
     (begun : Core J) (count : ℕ) (now : Primary) → IsLentBy is_honest standing fault_count begun count lent
     → IsWritten is_honest standing begun → HasMorePending begun.primary now → is_honest lent.journal ≡ true
-    → IsLeftByStop now (standing lent.journal)
-    × ((front : List ℕ) → IsBeginning front lent.records → IsLeftByStop now (standing lent.journal ++ front))
-    × IsLeftByStop now (standing done.journal)
+    → IsLeftByStop begun.form now (standing lent.journal)
+    × ((front : List ℕ) → IsBeginning front lent.records → IsLeftByStop begun.form now (standing lent.journal ++ front))
+    × IsLeftByStop begun.form now (standing done.journal)

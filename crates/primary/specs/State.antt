@@ -3,6 +3,7 @@
 use Rattle.std.specs.Prelude.{ℕ, List, [], Bool, false, Option, None, Some}
 use Rattle.rows.specs.declared.commit.Commit.{Commit}
 use Rattle.rows.specs.declared.kind.Kind.{Kind}
+use Rattle.journal.specs.declared.form.Form.{Form}
 
 -- a primary: its schema, its number of workers, its durable and its pending commits, and whether its journal has failed
 pub record Primary : Type 0 where
@@ -12,10 +13,11 @@ pub record Primary : Type 0 where
   pub pending : List Commit
   pub failed : Bool
 
--- a primary with its journal, which is not there while it is lent out for a write
+-- a primary with its journal, which is not there while it is lent out for a write, and the form of the journal's text
 pub record Core (J : Type 0) : Type 0 where
   pub primary : Primary
   pub journal : Option J
+  pub form : Form
 
 -- whether the journal is there and honest
 abbrev pub is_honest_in : {J : Type 0} → (J → Bool) → Option J → Bool

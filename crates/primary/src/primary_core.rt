@@ -10,7 +10,7 @@ ghost use Rattle.update_log.specs.Streams.{stream_of};
 ghost use Rattle.journal.specs.Recovery.{IsJournaled};
 ghost use Rattle.journal.specs.Storing.{faults_max};
 ghost use Rattle.journal.specs.Text.{records_from};
-ghost use Rattle.primary.specs.Journaling.{IsWritten, IsUnchanged, offered, IsFlushRefusal, StandsAfterFlush, CountsFlushFault};
+ghost use Rattle.primary.specs.Journaling.{IsWritten, IsFormOf, IsUnchanged, offered, IsFlushRefusal, StandsAfterFlush, CountsFlushFault};
 ghost use Rattle.primary.specs.Journaling.{IsKeptOf, KeepsSame, IsStartRefusal, TellsRefusal, LeavesBytes, CountsStartFault, AreNumbered};
 ghost use Rattle.primary.specs.Lending.{IsLentBy, EndsWritten, ended, end_answer};
 ghost use Rattle.primary.specs.Sending.{pushed, answers};
@@ -23,7 +23,7 @@ use crate::lists::Lists;
 use crate::starting::open;
 use crate::ticket::Ticket;
 use crate::work::Work;
-use journal::JournalStore;
+use journal::{Form, JournalStore};
 use mvcc::{Transaction, Versions};
 use rows::Schema;
 use std::alloc::{AllocError, Global};
@@ -41,6 +41,7 @@ use wire::{Out, Packet};
 pub struct PrimaryCore<J: JournalStore> {
     lists: Lists,
     journal: Option<J>,
+    form: Form,
 }
 
 impl<J: JournalStore> Model for PrimaryCore<J> {
@@ -49,15 +50,16 @@ impl<J: JournalStore> Model for PrimaryCore<J> {
 
     ghost Value = { Core J };
 
-    ghost view = { λ p. record { primary = p.lists; journal = p.journal } };
+    ghost view = { λ p. record { primary = p.lists; journal = p.journal; form = p.form } };
 
-    ghost invariant = { λ p. KeepsJournal J.fault_count (record { primary = p.lists; journal = p.journal }) };
+    ghost invariant = { λ p. KeepsJournal J.fault_count (record { primary = p.lists; journal = p.journal; form = p.form }) };
 }
 
 impl<J: JournalStore> PrimaryCore<J> {
     /// A primary for a schema and 1 to 16 workers, on a journal: the commits that the journal keeps
-    /// are durable. Before anything else, a torn record is truncated, or a header that a crash left
-    /// incomplete is completed.
+    /// are durable. Before anything else, what a crash left behind them is truncated; then a header
+    /// is written where nothing is kept, and the mark behind a journal of version 1, which goes on
+    /// as version 2 from there.
     ///
     /// Fails with `Store` if the journal could not be read, truncated or written, which it has
     /// counted as a fault; with `Journal` if its bytes are refused, and then with their fault; with
@@ -74,7 +76,7 @@ impl<J: JournalStore> PrimaryCore<J> {
         requires countable { J.fault_count journal < faults_max }
         ensures ok { IfOk result (λ core. core.primary ≡ started_primary schema.now workers core.primary.durable) }
         ensures kept { J.is_honest journal ≡ true
-            → IfOk result (λ core. IsKeptOf workers (shape_of schema.now) (J.standing journal) core.primary.durable) }
+            → IfOk result (λ core. IsKeptOf workers (shape_of schema.now) (J.standing journal) core.primary.durable core.form) }
         ensures written { IfOk result (IsWritten J.is_honest J.standing) }
         ensures journal { IfOk result (λ core. (is_some core.journal ≡ true)
             × (is_honest_in J.is_honest core.journal ≡ J.is_honest journal)
@@ -92,9 +94,10 @@ impl<J: JournalStore> PrimaryCore<J> {
         journal::laws::stops_are_recovered();
         let mut journal = journal;
         match open(alloc, &mut journal, schema, workers) {
-            Ok(lists) => Ok(PrimaryCore {
-                lists,
+            Ok(opened) => Ok(PrimaryCore {
+                lists: opened.lists,
                 journal: Some(journal),
+                form: opened.form,
             }),
             Err(fault) => Err((journal, fault)),
         }
@@ -102,7 +105,8 @@ impl<J: JournalStore> PrimaryCore<J> {
 
     /// The durable list followed by the pending one is legal for the primary's schema and workers,
     /// and a journal may be of it, and also of the durable list alone. A datagram spells each frame
-    /// of the durable list. It does nothing: its contract is the law.
+    /// of the durable list. The journal's form is one that the text of the durable list may have,
+    /// and of version 2 at its end. It does nothing: its contract is the law.
     pub fn keeps_legal(&self)
         ensures all { IsJournaled self.now.primary.workers (shape_of self.now.primary.schema)
             (self.now.primary.durable ++ self.now.primary.pending) }
@@ -111,6 +115,7 @@ impl<J: JournalStore> PrimaryCore<J> {
         ensures sendable { (worker : ℕ) → AllByRecursion IsSendable (stream_of self.now.primary.durable worker) }
         ensures some_workers { 0 < self.now.primary.workers }
         ensures few_workers { self.now.primary.workers ≤ workers_max }
+        ensures form { IsFormOf self.now.form self.now.primary.durable }
     {
         self.lists.keeps_legal();
     }
@@ -172,7 +177,11 @@ impl<J: JournalStore> PrimaryCore<J> {
         requires { is_some self.journal ≡ true }
         ensures { self.journal ≡ Some result }
     {
-        let PrimaryCore { lists: _, journal } = self;
+        let PrimaryCore {
+            lists: _,
+            journal,
+            form: _,
+        } = self;
         match journal {
             Some(journal) => journal,
             None => unreachable!(),
@@ -209,6 +218,7 @@ impl<J: JournalStore> PrimaryCore<J> {
         ensures refused { IfErr result (λ refusal. (refusal.0 ≡ transaction) × (self.new.primary ≡ self.old.primary)
             × IsFaultOf (commit_answer self.old.primary worker transaction) CommitFault.Memory refusal.1) }
         ensures journal { self.new.journal ≡ self.old.journal }
+        ensures form { self.new.form ≡ self.old.form }
         ensures written { IsWritten J.is_honest J.standing self.old → IsWritten J.is_honest J.standing self.new }
     {
         self.lists.commit(transaction, worker)
@@ -224,6 +234,7 @@ impl<J: JournalStore> PrimaryCore<J> {
         ensures ok { IfOk result (IsLentBy J.is_honest J.standing J.fault_count self.old count) }
         ensures lent { OnOk result (self.new ≡ record self.old { journal = None }) }
         ensures refused { IfErr result (λ fault. IsFlushRefusal self.old count fault self.new.primary × ¬ (fault ≡ FlushFault.Journal)) }
+        ensures form { self.new.form ≡ self.old.form }
         ensures same { OnErr result (IsUnchanged J.is_honest J.standing J.fault_count self.old.journal self.new.journal) }
         ensures nothing { OnErr result (take count self.old.primary.pending ≡ [] → self.new ≡ self.old) }
     {
@@ -278,10 +289,11 @@ impl<J: JournalStore + Drop> PrimaryCore<J> {
     /// the primary is restarted.
     pub fn end_flush(&mut self, done: Done<J>) -> Result<u64, FlushFault>
         ensures not_lent { is_some self.old.journal ≡ true → (result ≡ Err FlushFault.NotLent) × (self.new ≡ self.old) }
-        ensures ended { self.old.journal ≡ None → self.new ≡ ended self.old.primary done }
+        ensures ended { self.old.journal ≡ None → self.new ≡ ended self.old done }
         ensures answer { self.old.journal ≡ None → result ≡ end_answer self.old.primary done }
-        ensures written { self.old.journal ≡ None → EndsWritten J.is_honest J.standing J.fault_count self.old.primary done self.new }
+        ensures written { self.old.journal ≡ None → EndsWritten J.is_honest J.standing J.fault_count self.old done self.new }
     {
+        journal::laws::texts_grow();
         let (journal, count, taken) = done.into_parts();
         if self.journal.is_some() {
             return Err(FlushFault::NotLent);
@@ -309,6 +321,7 @@ impl<J: JournalStore + Drop> PrimaryCore<J> {
         ensures ok { IfOk result (λ durable. (self.old.primary.failed ≡ false) × (self.new.primary ≡ flushed self.old.primary count)
             × (durable ≡ length self.new.primary.durable)) }
         ensures refused { IfErr result (λ fault. IsFlushRefusal self.old count fault self.new.primary) }
+        ensures form { self.new.form ≡ self.old.form }
         ensures written { IsWritten J.is_honest J.standing self.old → IsWritten J.is_honest J.standing self.new }
         ensures left { is_honest_in J.is_honest self.old.journal ≡ true → IfErr result (λ fault.
             StandsAfterFlush fault (offered self.old.primary count)

@@ -1,39 +1,48 @@
 //! Starting on a journal: recovery, and truncating or completing what a crash left.
 
-ghost use Rattle.std.specs.Prelude.{◌≡◌, ◌<◌, ◌≤◌, ◌++◌, ℕ, length, true, IfOk, IfErr, OnOk, OnErr};
+ghost use Rattle.std.specs.Prelude.{◌≡◌, ◌<◌, ◌≤◌, ◌++◌, ℕ, length, take, true, IfOk, IfErr, OnOk, OnErr};
 ghost use Rattle.rows.specs.Limits.{workers_max};
 ghost use Rattle.rows.specs.Shape.{shape_of};
 ghost use Rattle.journal.specs.Recovery.{IsRecovered};
-ghost use Rattle.journal.specs.Storing.{IsPartlyAppended, faults_max};
+ghost use Rattle.journal.specs.Storing.{IsPartlyAppended, IsPartlyCut, faults_max};
 ghost use Rattle.journal.specs.Text.{journal_text};
-ghost use Rattle.primary.specs.Inner.Opening.{IsOfStore, repaired, IsPartlyRepaired};
-ghost use Rattle.primary.specs.Journaling.{IsKeptOf, KeepsSame, IsStartRefusal, LeavesBytes, CountsStartFault, AreNumbered};
+ghost use Rattle.primary.specs.Inner.Opening.{IsOfStore, IsPartlyRepaired};
+ghost use Rattle.primary.specs.Journaling.{IsKeptOf, IsFormOf, KeepsSame, IsStartRefusal, LeavesBytes, CountsStartFault, AreNumbered};
 ghost use Rattle.primary.specs.Steps.{started_primary};
 
 use crate::faults::StartFault;
 use crate::lists::Lists;
-use journal::{JournalFault, JournalStore, Recovered, header_bytes, recover};
+use journal::{Form, JournalFault, JournalStore, Recovered, recover};
 use rows::Schema;
 use std::alloc::Global;
 use update_log::one_cut;
 
-/// The lists of the commits that a journal keeps. A torn record is truncated, or an incomplete
-/// header completed; all memory is taken before that. If it fails, the journal keeps the same
-/// commits, and its bytes are changed only if it could not be truncated or written.
+/// What a start makes of a journal: the lists of the commits that it keeps, and the form of its text.
+#[derive(Drop)]
+pub struct Opened {
+    pub lists: Lists,
+    pub form: Form,
+}
+
+/// The lists of the commits that a journal keeps. What is torn after them is truncated; then a new
+/// header is written where nothing is kept, and the mark behind a text of version 1. All memory is
+/// taken before that. If it fails, the journal keeps the same commits, and its bytes are changed
+/// only if it could not be truncated or written.
 pub fn open<J: JournalStore>(
     alloc: Global,
     journal: &mut J,
     schema: &Schema,
     workers: u8,
-) -> Result<Lists, StartFault<J::Fault>>
+) -> Result<Opened, StartFault<J::Fault>>
     requires some { 0 < workers }
     requires few { workers ≤ workers_max }
     requires countable { J.fault_count journal.old < faults_max }
-    ensures ok { IfOk result (λ lists. lists ≡ started_primary schema.now workers lists.durable) }
-    ensures kept { J.is_honest journal.old ≡ true
-        → IfOk result (λ lists. IsKeptOf workers (shape_of schema.now) (J.standing journal.old) lists.durable) }
-    ensures text { J.is_honest journal.old ≡ true
-        → IfOk result (λ lists. J.standing journal.new ≡ journal_text workers (shape_of schema.now) lists.durable) }
+    ensures ok { IfOk result (λ opened. opened.lists ≡ started_primary schema.now workers opened.lists.durable) }
+    ensures form { IfOk result (λ opened. IsFormOf opened.form opened.lists.durable) }
+    ensures kept { J.is_honest journal.old ≡ true → IfOk result (λ opened.
+        IsKeptOf workers (shape_of schema.now) (J.standing journal.old) opened.lists.durable opened.form) }
+    ensures text { J.is_honest journal.old ≡ true → IfOk result (λ opened.
+        J.standing journal.new ≡ journal_text opened.form workers (shape_of schema.now) opened.lists.durable) }
     ensures refused { IfErr result
         (IsStartRefusal workers (shape_of schema.now) (J.is_honest journal.old) (J.standing journal.old)) }
     ensures same { J.is_honest journal.old ≡ true
@@ -45,16 +54,19 @@ pub fn open<J: JournalStore>(
     ensures honest { J.is_honest journal.new ≡ J.is_honest journal.old }
 {
     journal::laws::stops_are_recovered();
+    journal::laws::starts_go_on();
+    journal::laws::texts_grow();
     let bytes = standing(alloc, journal)?;
     let recovered = kept(alloc, &bytes, schema, workers)?;
     let Ok(lists) = Lists::of(alloc, schema, workers, &recovered.commits) else {
         return Err(StartFault::Memory);
     };
-    let Ok(header) = header_bytes(alloc, workers, schema) else {
+    let Ok(missing) = recovered.missing_text(alloc, schema, workers) else {
         return Err(StartFault::Memory);
     };
-    repair(journal, &bytes, &header, recovered.bytes_kept)?;
-    Ok(lists)
+    repair(journal, &bytes, &missing, recovered.bytes_kept)?;
+    let form = recovered.form.started(recovered.commits.len() as u64);
+    Ok(Opened { lists, form })
 }
 
 /// The bytes on a journal. They do not change.
@@ -86,7 +98,7 @@ fn kept<F>(
     workers: u8,
 ) -> Result<Recovered, StartFault<F>>
     ensures kept { IfOk result (λ recovered.
-        IsRecovered workers (shape_of schema.now) bytes.now recovered.commits.items recovered.bytes_kept) }
+        IsRecovered workers (shape_of schema.now) bytes.now recovered.form recovered.commits.items recovered.bytes_kept) }
     ensures numbered { IfOk result (λ recovered. AreNumbered recovered.commits.items) }
     ensures refused { IfErr result (IsStartRefusal workers (shape_of schema.now) true bytes.now) }
     ensures no_fault { (count : ℕ) → IfErr result (λ fault. CountsStartFault fault count count) }
@@ -101,20 +113,20 @@ fn kept<F>(
     }
 }
 
-/// Makes a journal of these bytes contain the text of the commits that it keeps: completes a header
-/// that is cut short, or else truncates what is torn after the kept ones.
+/// Truncates a journal of these bytes behind the kept ones, and appends what is missing. Room for
+/// that is taken first.
 fn repair<J: JournalStore>(
     journal: &mut J,
     bytes: &[u8],
-    header: &[u8],
+    missing: &[u8],
     bytes_kept: u64,
 ) -> Result<(), StartFault<J::Fault>>
     requires standing { J.is_honest journal.old ≡ true → bytes.now ≡ J.standing journal.old }
     requires within { bytes_kept ≤ length bytes.now }
     requires countable { J.fault_count journal.old < faults_max }
-    ensures ok { J.is_honest journal.old ≡ true → OnOk result (J.standing journal.new ≡ repaired header.now bytes.now bytes_kept) }
+    ensures ok { J.is_honest journal.old ≡ true → OnOk result (J.standing journal.new ≡ take bytes_kept bytes.now ++ missing.now) }
     ensures partly { J.is_honest journal.old ≡ true
-        → OnErr result (IsPartlyRepaired header.now bytes.now bytes_kept (J.standing journal.new)) }
+        → OnErr result (IsPartlyRepaired missing.now bytes.now bytes_kept (J.standing journal.new)) }
     ensures leaves { J.is_honest journal.old ≡ true
         → IfErr result (λ fault. LeavesBytes fault (J.standing journal.old) (J.standing journal.new)) }
     ensures err { IfErr result IsOfStore }
@@ -122,31 +134,14 @@ fn repair<J: JournalStore>(
     ensures faults { IfErr result (λ fault. CountsStartFault fault (J.fault_count journal.old) (J.fault_count journal.new)) }
     ensures honest { J.is_honest journal.new ≡ J.is_honest journal.old }
 {
-    if bytes.len() < header.len() {
-        let (_, missing) = header.split_at(bytes.len());
-        return add(journal, missing);
-    }
-    if bytes_kept < bytes.len() as u64 {
-        return journal.cut_to(bytes_kept).map_err(StartFault::Store);
-    }
-    Ok(())
-}
-
-/// Appends bytes to the journal.
-fn add<J: JournalStore>(journal: &mut J, bytes: &[u8]) -> Result<(), StartFault<J::Fault>>
-    requires { J.fault_count journal.old < faults_max }
-    ensures ok { J.is_honest journal.old ≡ true → OnOk result (J.standing journal.new ≡ J.standing journal.old ++ bytes.now) }
-    ensures partly { J.is_honest journal.old ≡ true
-        → OnErr result (IsPartlyAppended (J.standing journal.old) bytes.now (J.standing journal.new)) }
-    ensures leaves { J.is_honest journal.old ≡ true
-        → IfErr result (λ fault. LeavesBytes fault (J.standing journal.old) (J.standing journal.new)) }
-    ensures err { IfErr result IsOfStore }
-    ensures no_fault { OnOk result (J.fault_count journal.new ≡ J.fault_count journal.old) }
-    ensures faults { IfErr result (λ fault. CountsStartFault fault (J.fault_count journal.old) (J.fault_count journal.new)) }
-    ensures honest { J.is_honest journal.new ≡ J.is_honest journal.old }
-{
-    if journal.reserve(bytes.len()).is_err() {
+    if journal.reserve(missing.len()).is_err() {
         return Err(StartFault::Memory);
     }
-    journal.append(bytes).map_err(StartFault::Store)
+    if bytes_kept < bytes.len() as u64 {
+        journal.cut_to(bytes_kept).map_err(StartFault::Store)?;
+    }
+    if missing.is_empty() {
+        return Ok(());
+    }
+    journal.append(missing).map_err(StartFault::Store)
 }

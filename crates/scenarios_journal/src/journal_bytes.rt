@@ -3,23 +3,39 @@
 ghost use Rattle.std.specs.Prelude.{IfOk};
 ghost use Rattle.journal.specs.Recovery.{HasRecord};
 
-use journal::{JournalFault, Recovered, header_bytes, laws, records, recover, worked_journal};
+use journal::{
+    Form, JournalFault, Recovered, header_bytes, laws, records, recover, worked_journal,
+};
 use rows::{Commit, Entry, EntryList, RowId, Schema, fits};
 use scenarios_common::wanted::{FIVE, NUMBERS, Wanted, made};
 use scenarios_journal_common::journal_cases::{
     ADD_BYTE, CASES, Case, HEADER_LEN, JOURNAL, Outcome, bytes_of,
 };
+use scenarios_journal_common::old_journal_cases::Formed;
 use std::alloc::Global;
 use std::slice::from_ref;
 use std::test::Fail;
 
-/// What is recovered of bytes, of two workers and of accounts.
-pub fn outcome(alloc: Global, bytes: &[u8]) -> Result<Outcome, Fail> {
+/// What is recovered of bytes, of two workers and of accounts, and the form of their text.
+pub fn formed(alloc: Global, bytes: &[u8]) -> Result<Formed, Fail> {
     let schema = Schema::new(alloc, &NUMBERS)?;
     Ok(match recover(alloc, bytes, &schema, 2) {
-        Ok(recovered) => Ok((recovered.commits.len(), recovered.bytes_kept)),
+        Ok(recovered) => Ok((
+            recovered.commits.len(),
+            recovered.bytes_kept,
+            recovered.form,
+        )),
         Err(fault) => Err(fault),
     })
+}
+
+/// The same of a text that is of version 2 from the beginning.
+pub fn outcome(alloc: Global, bytes: &[u8]) -> Result<Outcome, Fail> {
+    match formed(alloc, bytes)? {
+        Ok((count, kept, Form::New)) => Ok(Ok((count, kept))),
+        Ok(_) => Err("a text of another form".into()),
+        Err(fault) => Ok(Err(fault)),
+    }
 }
 
 /// Whether that is recovered of a case.

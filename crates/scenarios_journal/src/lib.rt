@@ -14,3 +14,5 @@ mod journal_files;
 mod journal_stores;
 #[cfg(test)]
 mod long_journals;
+#[cfg(test)]
+mod old_journals;

@@ -23,8 +23,11 @@ pub const JOURNAL_RECORD: [u8; 43] = [
     0x00, 0x00, 0x05, 0xff, 0xff, 0xff, 0xff, 0xff, 0xff, 0xff, 0xff,
 ];
 
-/// How many commits and how many bytes are kept, or why the bytes are refused.
+/// How many commits and how many bytes are kept, of version 2, or why the bytes are refused.
 pub type Outcome = Result<(usize, u64), JournalFault>;
+
+/// The mark behind which a journal of version 1 goes on as version 2.
+pub const MARK: [u8; 4] = [0; 4];
 
 /// The record of commit 2: worker 0 deletes row 7 of table 0.
 pub const DELETE_7: [u8; 25] = [
@@ -32,7 +35,7 @@ pub const DELETE_7: [u8; 25] = [
 ];
 
 /// The same of row 8, which is not there.
-const DELETE_8: [u8; 25] = [
+pub const DELETE_8: [u8; 25] = [
     0, 0, 0, 0x15, 0, 0, 0, 0, 0, 0, 0, 0, 2, 0, 1, 3, 0, 0, 0, 0, 0, 0, 0, 0, 8,
 ];
 
@@ -55,7 +58,7 @@ pub const ADD_BYTE: [u8; 19] = [
 ];
 
 /// The same as commit 1.
-const ADD_BYTE_FIRST: [u8; 19] = [
+pub const ADD_BYTE_FIRST: [u8; 19] = [
     0, 0, 0, 0x0f, 0, 0, 0, 0, 0, 0, 0, 0, 1, 0, 1, 4, 0, 1, 0x61,
 ];
 
@@ -95,7 +98,7 @@ const ADD_BYTE_AND_SET: [u8; 49] = [
 ];
 
 /// The same in one commit.
-const ADD_BYTE_AND_SET_AT_ONCE: [u8; 34] = [
+pub const ADD_BYTE_AND_SET_AT_ONCE: [u8; 34] = [
     0, 0, 0, 0x1e, 0, 0, 0, 0, 0, 0, 0, 0, 2, 0, 2, 4, 0, 1, 0x61, // the column
     2, 0, 0, 0, 0, 0, 0, 0, 0, 7, 0, 16, 0, 1, 0x62,
 ];
@@ -129,8 +132,8 @@ pub type Bytes = (usize, &'static [(usize, u8)], &'static [u8]);
 /// The same, and what is recovered of them.
 pub type Case = (usize, &'static [(usize, u8)], &'static [u8], Outcome);
 
-/// Bytes of all kinds that `recover` tells apart.
-pub const CASES: [Case; 49] = [
+/// Bytes of all kinds that `recover` tells apart, of version 2.
+pub const CASES: [Case; 50] = [
     (52, &[], &[], Ok((1, 52))),
     // What a stop leaves of the record, and of the header.
     (51, &[], &[], Ok((0, 9))),
@@ -139,10 +142,9 @@ pub const CASES: [Case; 49] = [
     (3, &[], &[], Ok((0, 0))),
     (0, &[], &[], Ok((0, 0))),
     // Other versions, and another number of workers.
-    (4, &[(3, 0x31)], &[], Err(JournalFault::OtherHeader)),
-    (9, &[(3, 0x31)], &[], Err(JournalFault::OtherHeader)),
-    (52, &[(3, 0x31)], &[], Err(JournalFault::OtherHeader)),
     (4, &[(3, 0x33)], &[], Err(JournalFault::OtherHeader)),
+    (52, &[(3, 0x33)], &[], Err(JournalFault::OtherHeader)),
+    (52, &[(3, 0x30)], &[], Err(JournalFault::OtherHeader)),
     (52, &[(4, 1)], &[], Err(JournalFault::OtherHeader)),
     (0, &[], &[0], Err(JournalFault::OtherHeader)),
     // The commit number 2, the worker 2, the operations 05 and 00; the first of them that is looked for.
@@ -165,6 +167,8 @@ pub const CASES: [Case; 49] = [
         &[0xff, 0xff, 0xff, 0xff],
         Err(JournalFault::Damaged(9)),
     ),
+    (9, &[], &MARK, Err(JournalFault::Damaged(9))),
+    (52, &[], &MARK, Err(JournalFault::Damaged(52))),
     (9, &[], &[0, 0, 0, 0x0e], Err(JournalFault::Damaged(9))),
     (9, &[], &[0, 0, 0, 0x0f], Ok((0, 9))),
     (9, &[], &[0, 0, 0, 0x14], Ok((0, 9))),

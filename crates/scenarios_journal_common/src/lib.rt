@@ -4,3 +4,4 @@
 
 pub mod failing_journal;
 pub mod journal_cases;
+pub mod old_journal_cases;

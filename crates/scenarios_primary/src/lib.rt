@@ -11,6 +11,8 @@ mod lending;
 #[cfg(test)]
 mod many_rows;
 #[cfg(test)]
+mod old_journals;
+#[cfg(test)]
 mod primary_starts;
 #[cfg(test)]
 mod primary_steps;

@@ -14,12 +14,13 @@ use scenarios_journal_common::failing_journal::{Failing, FailingJournal, Failure
 use scenarios_journal_common::journal_cases::{
     Bytes, CASES, Case, DELETE_7, HEADER_LEN, JOURNAL, JOURNAL_RECORD, bytes_of,
 };
+use scenarios_journal_common::old_journal_cases::OLD;
 use std::alloc::Global;
 use std::test::Fail;
 
 /// What a start answers.
 #[derive(Clone, Copy, PartialEq)]
-enum Started {
+pub enum Started {
     /// So many commits are durable.
     Durable(u64),
     /// The store failed.
@@ -30,11 +31,11 @@ enum Started {
 
 /// A life of a primary: what its start answers, its steps, and the bytes that stand in its journal
 /// when it ends.
-type Life = (Started, &'static [Line], Bytes);
+pub type Life = (Started, &'static [Line], Bytes);
 
 /// The bytes of a journal, the failure that it has, and the lives of primaries on it, one behind the
 /// other.
-type History = (Bytes, Failure, &'static [Life]);
+pub type History = (Bytes, Failure, &'static [Life]);
 
 /// A primary on a journal, or the journal and why there is none.
 type Outcome = Result<PrimaryCore<FailingJournal>, (FailingJournal, StartFault<Refused>)>;
@@ -61,7 +62,7 @@ fn start_once(alloc: Global, journal: FailingJournal, schema: &Schema) -> Result
 }
 
 /// The journal behind a life on it, and whether that went so.
-fn live(
+pub fn live(
     alloc: Global,
     journal: FailingJournal,
     started: Started,
@@ -115,7 +116,7 @@ fn other_life(alloc: Global, history: &History) -> Result<Option<usize>, Fail> {
 }
 
 /// The first of these histories that goes otherwise, and the index of its life.
-fn other_history(alloc: Global, histories: &[History]) -> Result<Option<(usize, usize)>, Fail> {
+pub fn other_history(alloc: Global, histories: &[History]) -> Result<Option<(usize, usize)>, Fail> {
     for (number, history) in histories.iter().enumerate() {
         if let Some(index) = other_life(alloc, history)? {
             return Ok(Some((number, index)));
@@ -125,7 +126,7 @@ fn other_history(alloc: Global, histories: &[History]) -> Result<Option<(usize, 
 }
 
 /// No call fails: the failure comes behind more calls than are made.
-const NONE: Failure = Failure {
+pub const NONE: Failure = Failure {
     call: Failing::Any,
     calls_before: 1000,
     bytes_left: 0,
@@ -176,14 +177,14 @@ fn a_primary_starts_on_what_its_journal_keeps(rt: HostRuntime) -> Result<(), Fai
 }
 
 /// The first read fails.
-const READ: Failure = Failure {
+pub const READ: Failure = Failure {
     call: Failing::ReadAll,
     calls_before: 0,
     bytes_left: 0,
 };
 
 /// The first cut fails, and leaves two bytes more than it was to.
-const CUT: Failure = Failure {
+pub const CUT: Failure = Failure {
     call: Failing::CutTo,
     calls_before: 0,
     bytes_left: 2,
@@ -197,15 +198,15 @@ const LONGER_CUT: Failure = Failure {
 };
 
 /// The first append fails, and leaves two of its bytes.
-const FIRST_APPEND: Failure = Failure {
+pub const FIRST_APPEND: Failure = Failure {
     call: Failing::Append,
     calls_before: 0,
     bytes_left: 2,
 };
 
-/// The header is written again where its write failed, also behind the three bytes that a stop left
-/// of it.
-static HEADER_LOST: [History; 2] = [
+/// The header is written again where its write failed, also in place of the three bytes that a stop
+/// left of it, or of the five of one of version 1.
+static HEADER_LOST: [History; 3] = [
     (
         (0, &[], &[]),
         FIRST_APPEND,
@@ -218,7 +219,15 @@ static HEADER_LOST: [History; 2] = [
         (3, &[], &[]),
         FIRST_APPEND,
         &[
-            (Started::Store, &[], (5, &[], &[])),
+            (Started::Store, &[], (2, &[], &[])),
+            (Started::Durable(0), &[], (9, &[], &[])),
+        ],
+    ),
+    (
+        (5, &OLD, &[]),
+        FIRST_APPEND,
+        &[
+            (Started::Store, &[], (2, &[], &[])),
             (Started::Durable(0), &[], (9, &[], &[])),
         ],
     ),
@@ -299,7 +308,7 @@ const INSERT_7: Line = (Step::Commit(0, 0, &[Change::Insert(7)], Ok(1)), 0, 1);
 
 /// Once the journal has failed each commit and flush is refused for that, first of all; what was
 /// durable is sent, and nothing else.
-const FAILED: [Line; 11] = [
+pub const FAILED: [Line; 11] = [
     (Step::Flush(0, 0), 0, 0),
     (Step::Flush(usize::MAX, 0), 0, 0),
     INSERT_7,
@@ -329,7 +338,7 @@ const MADE_AGAIN: [Line; 7] = [
 ];
 
 /// Both are recovered: the row may be put in again, and the frames are there.
-const RECOVERED: [Line; 3] = [
+pub const RECOVERED: [Line; 3] = [
     (Step::Push(0, 0, Some(&FRAME)), 2, 0),
     (Step::Push(0, 2, None), 2, 0),
     (Step::Commit(0, 2, &[Change::Insert(7)], Ok(3)), 2, 1),
@@ -431,7 +440,7 @@ static FLUSHES: [History; 5] = [
 ];
 
 /// The first append fails and leaves nothing: on a journal with a header that is the first flush.
-const FIRST_FLUSH: Failure = Failure {
+pub const FIRST_FLUSH: Failure = Failure {
     call: Failing::Append,
     calls_before: 0,
     bytes_left: 0,
@@ -463,7 +472,7 @@ fn a_commit_is_recovered_with_its_worker(rt: HostRuntime) -> Result<(), Fail> {
 }
 
 /// A commit is made on a journal with a torn end, and is recovered.
-const DELETED: [Line; 3] = [
+pub const DELETED: [Line; 3] = [
     (Step::Commit(0, 1, &[Change::Delete(7)], Ok(2)), 1, 1),
     (Step::PendingText(&DELETE_7), 1, 1),
     (Step::Flush(1, 2), 2, 0),

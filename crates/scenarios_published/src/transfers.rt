@@ -68,6 +68,7 @@ fn kept(alloc: Global, text: &[u8], schema: &Schema) -> Result<Vec<Commit>, Jour
     beginnings_are_journaled();
     let Recovered {
         commits,
+        form: _,
         bytes_kept: _,
     } = recover(alloc, text, schema, 1)?;
     Ok(commits)

@@ -2,6 +2,8 @@
 #![tactic(auto)]
 
 #[cfg(test)]
+mod old_journals;
+#[cfg(test)]
 mod script_ends;
 #[cfg(test)]
 mod script_long_texts;

@@ -206,12 +206,12 @@ stop-sound laws shape p bytes lists sound =
     (legal-taken shape p count lists sound) ended in
     Sound-apart shape
     (record p { primary = record (stopped_at p.primary bytes) { failed = p.primary.failed }; transactions = closed p.transactions })
-    false true p.journal grown
+    false true p.journal p.form grown
 
 pub start-sound : (shape : Shape) (p : Cores) (stopped : Bool) → Sound shape p
     → Sound shape (beside_of (cond {A = Output × World} stopped
     (outputs.Durable (length p.primary.durable), record (world_of p) { stopped = false }) (outputs.Running, world_of p)).1 p)
-start-sound shape p true sound = Sound-apart shape p p.primary.failed false p.journal sound
+start-sound shape p true sound = Sound-apart shape p p.primary.failed false p.journal p.form sound
 start-sound shape p false sound = sound
 
 -- ---- what the primary sends

@@ -1,5 +1,5 @@
 -- A run of the cores so far, one more step of it, and what is so of it at its end.
-use Rattle.std.proofs.Common.{◌≡◌, ◌≤◌, List, [], ◌∷◌, ◌++◌, length, map, refl, sym, ap, subst, ◌∙◌}
+use Rattle.std.proofs.Common.{◌≡◌, ◌^◌, ◌<◌, ◌≤◌, List, [], ◌∷◌, ◌++◌, length, map, refl, sym, ap, subst, ◌∙◌}
 use Rattle.std.specs.List.{AllByRecursion}
 use Rattle.std.proofs.lemmas.List.{map-append, length-map}
 use Rattle.journal.specs.Recovery.{IsBeginning}
@@ -8,9 +8,8 @@ use Rattle.rows.specs.Limits.{replicas_max}
 use Rattle.rows.specs.Shape.{shape_of}
 use Rattle.script.specs.declared.event.Event.{Event}
 use Rattle.script.specs.declared.output.Output.{Output}
-use Rattle.script.specs.declared.setup.Setup.{Setup}
 use Rattle.script.specs.Events.{IsPossible}
-use Rattle.world.specs.Cores.{Cores, cores_started}
+use Rattle.world.specs.Cores.{Cores, Opening, cores_started}
 use Rattle.world.specs.Steps.{World, opening_world}
 use Rattle.world.specs.Allowed.{Step, LeadsTo, events_in, outputs_in, IsAllowed, Runs}
 use Rattle.world.specs.Database.{IsDatabaseRun, new_database}
@@ -32,25 +31,25 @@ abbrev pub KeepsStanding : Step Cores → Type 0
 KeepsStanding step = IsAllowed (seen step) × AreFed step.new × JournalStands step.new × StopLeaves step.old step.event step.new
 
 -- the steps by these events and with these outputs, from the cores' start to where they are now
-pub record RunsSoFar (setup : Setup) (events : List Event) (outputs : List Output) (now : Cores) : Type 0 where
+pub record RunsSoFar (opening : Opening) (events : List Event) (outputs : List Output) (now : Cores) : Type 0 where
   pub steps : List (Step Cores)
   pub events_are : events_in steps ≡ events
   pub outputs_are : outputs_in steps ≡ outputs
-  pub leads : LeadsTo (cores_started setup) steps now
+  pub leads : LeadsTo (cores_started opening) steps now
   pub kept : AllByRecursion KeepsStanding steps
 
-pub none_yet : (setup : Setup) → RunsSoFar setup [] [] (cores_started setup)
-none_yet setup = record { steps = []; events_are = refl; outputs_are = refl; leads = refl; kept = tt }
+pub none_yet : (opening : Opening) → RunsSoFar opening [] [] (cores_started opening)
+none_yet opening = record { steps = []; events_are = refl; outputs_are = refl; leads = refl; kept = tt }
 
 leads-push : (old : Cores) (steps : List (Step Cores)) (step : Step Cores) → LeadsTo old steps step.old
     → LeadsTo old (steps ++ step ∷ []) step.new
 leads-push old [] step leads = (leads, refl)
 leads-push old (first ∷ steps) step leads = (leads.0, leads-push first.new steps step leads.1)
 
-pub one_more : (setup : Setup) (events : List Event) (outputs : List Output) (step : Step Cores)
-    → RunsSoFar setup events outputs step.old → KeepsStanding step
-    → RunsSoFar setup (events ++ step.event ∷ []) (outputs ++ step.output ∷ []) step.new
-one_more setup events outputs step run kept = record {
+pub one_more : (opening : Opening) (events : List Event) (outputs : List Output) (step : Step Cores)
+    → RunsSoFar opening events outputs step.old → KeepsStanding step
+    → RunsSoFar opening (events ++ step.event ∷ []) (outputs ++ step.output ∷ []) step.new
+one_more opening events outputs step run kept = record {
   steps = run.steps ++ step ∷ [];
   events_are =
       map-append (λ (s : Step Cores). s.event) run.steps (step ∷ [])
@@ -58,7 +57,7 @@ one_more setup events outputs step run kept = record {
   outputs_are =
       map-append (λ (s : Step Cores). s.output) run.steps (step ∷ [])
       ∙ ap (λ (l : List Output). l ++ step.output ∷ []) run.outputs_are;
-  leads = leads-push (cores_started setup) run.steps step run.leads;
+  leads = leads-push (cores_started opening) run.steps step run.leads;
   kept = all_push KeepsStanding run.steps step kept run.kept;
 }
 
@@ -76,11 +75,15 @@ seen-outputs : (steps : List (Step Cores)) → outputs_in (map seen steps) ≡ o
 seen-outputs [] = refl
 seen-outputs (step ∷ steps) = ap (λ (l : List Output). step.output ∷ l) (seen-outputs steps)
 
-pub keeps_promises : (laws : StepLaws) (setup : Setup) (events : List Event) (outputs : List Output) (end : Cores)
-    → setup.replicas ≤ replicas_max → AllByRecursion (IsPossible setup.workers setup.replicas) events
-    → IsLegal (shape_of setup.schema) setup.workers end.primary.durable → RunsSoFar setup events outputs end
-    → KeepsPromises setup events outputs
-keeps_promises laws setup events outputs end few possible legal run =
+pub keeps_promises : (laws : StepLaws) (opening : Opening) (events : List Event) (outputs : List Output) (end : Cores)
+    → length opening.durable < 2 ^ 64 → opening.setup.replicas ≤ replicas_max
+    → AllByRecursion (IsPossible opening.setup.workers opening.setup.replicas) events
+    → IsLegal (shape_of opening.setup.schema) opening.setup.workers end.primary.durable → RunsSoFar opening events outputs end
+    → KeepsPromises opening events outputs
+keeps_promises laws opening events outputs end numbered few possible legal run =
+    let setup = opening.setup in
+    let durable = opening.durable in
+    let stopped = opening.stopped in
     let worlds = map seen run.steps in
     let commits = end.primary.durable in
     let told = seen-outputs run.steps ∙ run.outputs_are in
@@ -91,19 +94,19 @@ keeps_promises laws setup events outputs end few possible legal run =
     all_weaker (λ (step : Step Cores). IsAllowed (seen step))
     (λ (step : Step Cores). IsBeginning step.old.primary.durable step.new.primary.durable) run.steps
     (λ step may. (step-fine laws (world_of step.old) step.event step.output (world_of step.new) may).grows) allowed in
-    let runs : Runs (opening_world setup) worlds (world_of end) = record {
+    let runs : Runs (opening_world setup durable stopped) worlds (world_of end) = record {
       leads =
-          subst (λ (w : World). LeadsTo w worlds (world_of end)) (world-started setup)
-          (seen-leads (cores_started setup) end run.steps run.leads);
+          subst (λ (w : World). LeadsTo w worlds (world_of end)) (world-started opening)
+          (seen-leads (cores_started opening) end run.steps run.leads);
       allowed = all_map seen IsAllowed run.steps allowed;
     } in
     let can =
     subst (AllByRecursion (IsPossible setup.workers setup.replicas)) (sym (seen-events run.steps ∙ run.events_are)) possible in
-    let exact = allowed-exact laws setup worlds (world_of end) few can runs in
+    let exact = allowed-exact laws setup durable stopped worlds (world_of end) numbered few can runs in
     let database =
-    subst (λ (l : List Output). IsDatabaseRun setup.schema (new_database setup.replicas) l (database_of (world_of end))) told
-    (runs-of-database laws setup worlds (world_of end) few can runs) in
-    let has : AreOfOneRun setup events outputs = record {
+    subst (λ (l : List Output). IsDatabaseRun setup.schema (new_database durable setup.replicas) l (database_of (world_of end))) told
+    (runs-of-database laws setup durable stopped worlds (world_of end) numbered few can runs) in
+    let has : AreOfOneRun opening events outputs = record {
       run = record {
         steps = run.steps;
         end = end;
@@ -120,7 +123,7 @@ keeps_promises laws setup events outputs end few possible legal run =
         leaves =
             all_weaker KeepsStanding (λ (step : Step Cores). StopLeaves step.old step.event step.new) run.steps (λ step kept. kept.3)
             run.kept;
-        tables = run-stands setup end run.steps run.leads allowed grow fed;
+        tables = run-stands opening end run.steps run.leads allowed grow fed;
       };
       database = database;
     } in
@@ -130,6 +133,6 @@ keeps_promises laws setup events outputs end few possible legal run =
           ap length (sym run.outputs_are) ∙ length-map run.steps (λ (step : Step Cores). step.output)
           ∙ sym (length-map run.steps (λ (step : Step Cores). step.event)) ∙ ap length run.events_are;
       run = has;
-      dumps = subst HasOneDumpOfVersion told (run-dumps setup worlds (world_of end) commits runs exact.reports);
+      dumps = subst HasOneDumpOfVersion told (run-dumps setup durable stopped worlds (world_of end) commits runs exact.reports);
       faultless = subst (AllByRecursion IsFaultless) told exact.faultless;
     }

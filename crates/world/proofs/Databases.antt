@@ -160,8 +160,9 @@ runs-tell laws schema old end (step ∷ steps) boots fresh same leads allowed =
     )
 
 pub runs-of-database : (laws : StepLaws) → RunsAreOfDatabase
-runs-of-database laws setup steps end few possible run =
+runs-of-database laws setup durable stopped steps end numbered few possible run =
     subst (λ (d : Database). IsDatabaseRun setup.schema d (outputs_in steps) (database_of end))
-    (ap (λ (readers : List Reader). record { commits = []; readers = readers }) (readers-started setup.workers 0 setup.replicas))
-    (runs-tell laws setup.schema (opening_world setup) end steps
-    (possible-boots setup.workers setup.replicas (events_in steps) possible) (opening-fresh setup few) refl run.leads run.allowed)
+    (ap (λ (readers : List Reader). record { commits = durable; readers = readers }) (readers-started setup.workers 0 setup.replicas))
+    (runs-tell laws setup.schema (opening_world setup durable stopped) end steps
+    (possible-boots setup.workers setup.replicas (events_in steps) possible) (opening-fresh setup durable stopped numbered few) refl
+    run.leads run.allowed)

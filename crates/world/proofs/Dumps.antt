@@ -1,5 +1,5 @@
 -- Two dumps of a run that tell one version are equal.
-use Rattle.std.proofs.Common.{◌≡◌, ℕ, ◌^◌, ◌<◌, List, [], ◌∷◌, ◌++◌, codes, decimal, refl, sym, ap, subst, ◌∙◌, arith}
+use Rattle.std.proofs.Common.{Bool, ◌≡◌, ℕ, ◌^◌, ◌<◌, List, [], ◌∷◌, ◌++◌, codes, decimal, refl, sym, ap, subst, ◌∙◌, arith}
 use Rattle.std.specs.List.{AllByRecursion}
 use Rattle.std.specs.Str.Parse.{AllDigits}
 use Rattle.std.proofs.lemmas.Fmt.{decimal_is_IsNumeral, decimal_injective}
@@ -78,13 +78,14 @@ dumps-by schema commits old end (step ∷ steps) same leads allowed says =
       dumps-by schema commits step.new end steps (stays.schema ∙ here) leads.1 allowed.1 says.1,
     )
 
-pub run-dumps : (setup : Setup) (steps : List (Step World)) (end : World) (commits : List Commit) → Runs (opening_world setup) steps end
+pub run-dumps : (setup : Setup) (durable : List Commit) (stopped : Bool) (steps : List (Step World)) (end : World) (commits : List Commit)
+    → Runs (opening_world setup durable stopped) steps end
     → AllByRecursion (λ (step : Step World). SaysRows commits step.old step.event step.output) steps
     → HasOneDumpOfVersion (outputs_in steps)
-run-dumps setup steps end commits run says version i j text other fits here there one two =
+run-dumps setup durable stopped steps end commits run says version i j text other fits here there one two =
     let schema = setup.schema in
     let done = outputs_in steps in
-    let all = dumps-by schema commits (opening_world setup) end steps refl run.leads run.allowed says in
+    let all = dumps-by schema commits (opening_world setup durable stopped) end steps refl run.leads run.allowed says in
     let first = All-get (IsDumpBy schema commits) done all i (outputs.Dump text) here in
     let second = All-get (IsDumpBy schema commits) done all j (outputs.Dump other) there in
     let same =

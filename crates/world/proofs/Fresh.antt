@@ -225,32 +225,33 @@ Fresh-member w i old new h here follows =
 
 -- ---- the beginning
 
-started-fresh : (workers number count i : ℕ) (m : Member) → slice_get (fresh_from workers number count) i ≡ Some m
-    → IsFreshMember [] (number + i) m
-started-fresh workers number zero i m here = absurd (none-some m here)
-started-fresh workers number (suc count) zero m here =
+started-fresh : (durable : List Commit) (workers number count i : ℕ) (m : Member) → slice_get (fresh_from workers number count) i ≡ Some m
+    → IsFreshMember durable (number + i) m
+started-fresh durable workers number zero i m here = absurd (none-some m here)
+started-fresh durable workers number (suc count) zero m here =
     let same : fresh workers number ≡ m = same_Some (fresh workers number) m here in
     let index : number ≡ number + 0 = omega arith in
-    subst (IsFreshMember [] (number + 0)) same
+    subst (IsFreshMember durable (number + 0)) same
     (record {
       number_is = index;
       below = omega arith;
       boot_is = record { had = Contains-push [] 1; below = omega arith };
       batch_is = λ batch has. absurd (none-some batch has);
     })
-started-fresh workers number (suc count) (suc i) m here =
+started-fresh durable workers number (suc count) (suc i) m here =
     let index : suc number + i ≡ number + suc i = omega arith in
-    subst (λ (n : ℕ). IsFreshMember [] n m) index (started-fresh workers (suc number) count i m here)
+    subst (λ (n : ℕ). IsFreshMember durable n m) index (started-fresh durable workers (suc number) count i m here)
 
 length-fresh : (workers number count : ℕ) → length (fresh_from workers number count) ≡ count
 length-fresh workers number zero = refl
 length-fresh workers number (suc count) = ap suc (length-fresh workers (suc number) count)
 
-pub opening-fresh : (setup : Setup) → setup.replicas ≤ REPLICAS_MAX → Fresh (opening_world setup)
-opening-fresh setup few = record {
-  numbered = omega arith;
+pub opening-fresh : (setup : Setup) (durable : List Commit) (stopped : Bool) → length durable < 2 ^ 64 → setup.replicas ≤ REPLICAS_MAX
+    → Fresh (opening_world setup durable stopped)
+opening-fresh setup durable stopped numbered few = record {
+  numbered = omega (arith, numbered);
   few = omega (arith, length-fresh setup.workers 0 setup.replicas);
   members_are = λ i m here. let index : 0 + i ≡ i =
-      omega arith in subst (λ (n : ℕ). IsFreshMember [] n m) index (started-fresh setup.workers 0 setup.replicas i m here);
+      omega arith in subst (λ (n : ℕ). IsFreshMember durable n m) index (started-fresh durable setup.workers 0 setup.replicas i m here);
   sent_is = λ i bytes here. absurd (none-some bytes here);
 }

@@ -11,7 +11,7 @@ use Rattle.journal.specs.Recovery.{IsBeginning}
 use Rattle.dispatcher.specs.Feeding.{IsFedFrom}
 use Rattle.dispatcher.specs.State.{Replica}
 use Rattle.script.specs.declared.setup.Setup.{Setup}
-use Rattle.world.specs.Cores.{Cores, replicas_from, cores_started}
+use Rattle.world.specs.Cores.{Cores, Opening, replicas_from, cores_started}
 use Rattle.world.specs.Allowed.{Step, LeadsTo, IsAllowed}
 use Rattle.world.specs.Standing.{world_of, AreFed, TablesAgree}
 use Rattle.world.specs.Theorem.{seen, cores_of}
@@ -69,11 +69,12 @@ steps-told schema old end (step ∷ steps) same leads allowed grow fed =
       steps-told schema step.new end steps here leads.1 allowed.1 grow.1 fed.1,
     )
 
--- replicas at the beginning have no rows, and none are durable
-started-hold : (schema : List (List ℕ × List Kind)) (workers number count : ℕ)
-    → AllByRecursion (Holds (shape_of schema) []) (replicas_from schema workers number count)
-started-hold schema workers number zero = tt
-started-hold schema workers number (suc count) = (λ whole. (omega arith, refl), started-hold schema workers (suc number) count)
+-- replicas at the beginning have no rows, whatever is durable
+started-hold : (schema : List (List ℕ × List Kind)) (workers number count : ℕ) (durable : List Commit)
+    → AllByRecursion (Holds (shape_of schema) durable) (replicas_from schema workers number count)
+started-hold schema workers number zero durable = tt
+started-hold schema workers number (suc count) durable =
+    (λ whole. (omega arith, refl), started-hold schema workers (suc number) count durable)
 
 told-agree : (schema : List (List ℕ × List Kind)) (commits : List Commit) (p q : Cores) → Told schema commits p → Told schema commits q
     → TablesAgree p q
@@ -82,19 +83,22 @@ told-agree schema commits p q one two i j r other here there whole sound same =
     ∙ ap (tables_after (shape_of schema) commits) same
     ∙ sym (All-get (Holds (shape_of schema) commits) q.replicas two.1 j other there sound).1
 
-pub run-stands : (setup : Setup) (end : Cores) (steps : List (Step Cores)) → LeadsTo (cores_started setup) steps end
+pub run-stands : (opening : Opening) (end : Cores) (steps : List (Step Cores)) → LeadsTo (cores_started opening) steps end
     → AllByRecursion (λ (step : Step Cores). IsAllowed (seen step)) steps
     → AllByRecursion (λ (step : Step Cores). IsBeginning step.old.primary.durable step.new.primary.durable) steps
     → AllByRecursion (λ (step : Step Cores). AreFed step.new) steps
-    → AllByRecursion (λ (p : Cores). AllByRecursion (TablesAgree p) (cores_of setup steps)) (cores_of setup steps)
-run-stands setup end steps leads allowed grow fed =
-    let schema = setup.schema in
+    → AllByRecursion (λ (p : Cores). AllByRecursion (TablesAgree p) (cores_of opening steps)) (cores_of opening steps)
+run-stands opening end steps leads allowed grow fed =
+    let schema = opening.setup.schema in
     let commits = end.primary.durable in
-    let cores = cores_of setup steps in
-    let start : Told schema [] (cores_started setup) = (refl, started-hold schema setup.workers 0 setup.replicas) in
+    let cores = cores_of opening steps in
+    let start = cores_started opening in
+    let at_start : Told schema opening.durable start =
+    (refl, started-hold schema opening.setup.workers 0 opening.setup.replicas opening.durable) in
+    let later = run-grows (λ (p : Cores). p.primary.durable) start end steps leads grow in
     let told : AllByRecursion (Told schema commits) cores = (
-      told-later schema [] commits (cores_started setup) (commits, refl) start,
-      steps-told schema (cores_started setup) end steps refl leads allowed grow fed,
+      told-later schema opening.durable commits start later at_start,
+      steps-told schema start end steps refl leads allowed grow fed,
     ) in
     all_weaker (Told schema commits) (λ (p : Cores). AllByRecursion (TablesAgree p) cores) cores
     (λ p one. all_weaker (Told schema commits) (TablesAgree p) cores (λ q two. told-agree schema commits p q one two) told) told

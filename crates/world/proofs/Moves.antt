@@ -6,6 +6,7 @@ use Rattle.std.proofs.lemmas.List.{length-append, length-set}
 use Rattle.rows.specs.declared.commit.Commit.{Commit}
 use Rattle.rows.specs.Shape.{Shape}
 use Rattle.rows.specs.Commits.{IsLegal}
+use Rattle.journal.specs.declared.form.Form.{Form}
 use Rattle.wire.specs.declared.datagram.Datagram.{Datagram}
 use Rattle.wire.specs.declared.datagram.Datagram.TheVariants as datagrams
 use Rattle.wire.specs.declared.faults.WireFault.{WireFault}
@@ -201,9 +202,9 @@ Sound-grown laws shape p more pending legal sound =
     }
 
 -- the primary fails, stops or starts, or its journal changes
-pub Sound-apart : (shape : Shape) (p : Cores) (failed stopped : Bool) (journal : List ℕ) → Sound shape p
-    → Sound shape (record p { primary = record p.primary { failed = failed }; stopped = stopped; journal = journal })
-Sound-apart shape p failed stopped journal sound = record {
+pub Sound-apart : (shape : Shape) (p : Cores) (failed stopped : Bool) (journal : List ℕ) (form : Form) → Sound shape p
+    → Sound shape (record p { primary = record p.primary { failed = failed }; stopped = stopped; journal = journal; form = form })
+Sound-apart shape p failed stopped journal form sound = record {
   setup_is = sound.setup_is;
   primary_is = record {
     shape_is = sound.primary_is.shape_is;

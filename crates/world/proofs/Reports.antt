@@ -102,17 +102,17 @@ run-told laws old end (step ∷ steps) boots undamaged fresh leads allowed =
     )
 
 pub allowed-exact : (laws : StepLaws) → AllowedRunsAreExact
-allowed-exact laws setup steps end few possible run =
+allowed-exact laws setup durable stopped steps end numbered few possible run =
     let told =
-    run-told laws (opening_world setup) end steps (possible-boots setup.workers setup.replicas (events_in steps) possible)
-    (opening-undamaged setup) (opening-fresh setup few) run.leads run.allowed in
+    run-told laws (opening_world setup durable stopped) end steps (possible-boots setup.workers setup.replicas (events_in steps) possible)
+    (opening-undamaged setup durable stopped) (opening-fresh setup durable stopped numbered few) run.leads run.allowed in
     record {
       reports =
           all_weaker (IsTold end.primary.durable)
           (λ (step : Step World). SaysRows end.primary.durable step.old step.event step.output) steps
           (λ step says. says.0) told;
       durable = allowed-grow laws steps run.allowed;
-      acknowledged = acknowledged-stands laws (opening_world setup) end steps run.leads run.allowed;
+      acknowledged = acknowledged-stands laws (opening_world setup durable stopped) end steps run.leads run.allowed;
       faultless =
           all_map (λ (step : Step World). step.output) IsFaultless steps
           (all_weaker (IsTold end.primary.durable) (λ (step : Step World). IsFaultless step.output) steps (λ step says. says.1) told);

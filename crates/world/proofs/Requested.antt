@@ -1,8 +1,9 @@
 -- A step of the world leaves as many workers and replicas, and no replica makes more requests than datagrams are sent.
-use Rattle.std.proofs.Common.{◌≡◌, ℕ, zero, suc, ◌+◌, ◌≤◌, List, [], ◌∷◌, ◌++◌, length, drop, Option, None, Some, IfSome}
+use Rattle.std.proofs.Common.{Bool, ◌≡◌, ℕ, zero, suc, ◌+◌, ◌≤◌, List, [], ◌∷◌, ◌++◌, length, drop, Option, None, Some, IfSome}
 use Rattle.std.proofs.Common.{refl, sym, ap, subst, ◌∙◌, arith}
 use Rattle.std.specs.List.{slice_get, AllByRecursion}
 use Rattle.std.proofs.lemmas.List.{append-nil, length-append, length-set}
+use Rattle.rows.specs.declared.commit.Commit.{Commit}
 use Rattle.mvcc.specs.Transaction.{Transaction}
 use Rattle.dispatcher.specs.State.{Replica}
 use Rattle.script.specs.declared.event.Event.{Event}
@@ -88,8 +89,8 @@ none_asked : (workers number count : ℕ) → AllByRecursion (λ (m : Member). m
 none_asked workers number zero = tt
 none_asked workers number (suc count) = (omega arith, none_asked workers (suc number) count)
 
-pub opening-requested : (setup : Setup) → IsRequested (opening_world setup)
-opening-requested setup = none_asked setup.workers 0 setup.replicas
+pub opening-requested : (setup : Setup) (durable : List Commit) (stopped : Bool) → IsRequested (opening_world setup durable stopped)
+opening-requested setup durable stopped = none_asked setup.workers 0 setup.replicas
 
 -- ---- the parts
 

@@ -3,7 +3,7 @@ use Rattle.std.proofs.Common.{◌≡◌, ℕ, zero, suc, ◌+◌, ◌-◌, ◌<�
 use Rattle.rows.specs.declared.kind.Kind.{Kind}
 use Rattle.script.specs.declared.setup.Setup.{Setup}
 use Rattle.dispatcher.specs.Steps.{started_replica}
-use Rattle.world.specs.Cores.{replicas_from, zeros, cores_started}
+use Rattle.world.specs.Cores.{Opening, replicas_from, zeros, cores_started}
 
 pub replicas_left : (schema : List (List ℕ × List Kind)) (workers number count : ℕ) → number < count
     → replicas_from schema workers number (count - number) ≡ started_replica schema workers number 1
@@ -29,5 +29,5 @@ length-replicas_from : (schema : List (List ℕ × List Kind)) (workers number c
 length-replicas_from schema workers number zero = refl
 length-replicas_from schema workers number (suc count) = ap suc (length-replicas_from schema workers (suc number) count)
 
-pub as_many : (setup : Setup) → length (cores_started setup).replicas ≡ setup.replicas
-as_many setup = length-replicas_from setup.schema setup.workers 0 setup.replicas
+pub as_many : (opening : Opening) → length (cores_started opening).replicas ≡ opening.setup.replicas
+as_many opening = length-replicas_from opening.setup.schema opening.setup.workers 0 opening.setup.replicas

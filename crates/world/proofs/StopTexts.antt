@@ -7,9 +7,8 @@ use Rattle.std.proofs.lemmas.Bool.{leb-true, leb-false}
 use Rattle.std.proofs.lemmas.List.{length-append}
 use Rattle.std.proofs.Math.Seq.{take-append-add}
 use Rattle.rows.specs.declared.commit.Commit.{Commit}
-use Rattle.rows.specs.Shape.{Shape}
 use Rattle.journal.specs.Recovery.{IsBeginning}
-use Rattle.journal.specs.Text.{header, record_of, records_from, journal_text}
+use Rattle.journal.specs.Text.{record_of, records_from}
 use Rattle.world.specs.Stops.{whole_in}
 
 -- ---- beginnings of lists
@@ -34,7 +33,7 @@ take-same (x ∷ xs) (suc count) (suc other) same = ap (λ (t : List _). x ∷ t
 -- ---- texts
 
 -- records with others behind
-records-append : (before : ℕ) (xs ys : List Commit)
+pub records-append : (before : ℕ) (xs ys : List Commit)
     → records_from before (xs ++ ys) ≡ records_from before xs ++ records_from (before + length xs) ys
 records-append before [] ys = ap (λ (n : ℕ). records_from n ys) (omega arith)
 records-append before (x ∷ xs) ys =
@@ -42,15 +41,6 @@ records-append before (x ∷ xs) ys =
     ap (λ (rest : List ℕ). record_of (before + 1) x ++ rest)
     (records-append (before + 1) xs ys ∙ ap (λ (n : ℕ). records_from (before + 1) xs ++ records_from n ys) same)
     ∙ sym (append_assoc (record_of (before + 1) x) (records_from (before + 1) xs) (records_from (before + suc (length xs)) ys))
-
--- the text of a list with others behind
-pub text-append : (workers : ℕ) (shape : Shape) (xs ys : List Commit)
-    → journal_text workers shape (xs ++ ys) ≡ journal_text workers shape xs ++ records_from (length xs) ys
-text-append workers shape xs ys =
-    let same : 0 + length xs ≡ length xs = omega arith in
-    ap (λ (t : List ℕ). header workers shape ++ t)
-    (records-append 0 xs ys ∙ ap (λ (n : ℕ). records_from 0 xs ++ records_from n ys) same)
-    ∙ sym (append_assoc (header workers shape) (records_from 0 xs) (records_from (length xs) ys))
 
 -- ---- whole records
 

@@ -10,6 +10,7 @@ use Rattle.rows.specs.declared.entry.Entry.{Entry}
 use Rattle.rows.specs.Shape.{shape_of}
 use Rattle.rows.specs.Tables.{apply_entries}
 use Rattle.rows.specs.Commits.{tables_after, last_touching}
+use Rattle.rows.specs.declared.commit.Commit.{Commit}
 use Rattle.primary.specs.declared.faults.CommitFault.{CommitFault}
 use Rattle.primary.specs.declared.faults.CommitFault.TheVariants as faults
 use Rattle.mvcc.specs.Transaction.{Transaction}
@@ -231,5 +232,5 @@ step-fine laws old event output new may = move-fine laws old event output new (s
 
 -- ---- the beginning
 
-pub opening-undamaged : (setup : Setup) → IsUndamaged (opening_world setup)
-opening-undamaged setup = record { whole = refl; begun = λ i draft here. absurd (none-some (Some draft) here) }
+pub opening-undamaged : (setup : Setup) (durable : List Commit) (stopped : Bool) → IsUndamaged (opening_world setup durable stopped)
+opening-undamaged setup durable stopped = record { whole = refl; begun = λ i draft here. absurd (none-some (Some draft) here) }

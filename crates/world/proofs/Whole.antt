@@ -12,8 +12,11 @@ use Rattle.rows.specs.declared.limits.TheConstants.{REPLICAS_MAX, WORKERS_MAX}
 use Rattle.rows.specs.declared.kind.Kind.{Kind}
 use Rattle.rows.specs.Shape.{Shape, AreTables, shape_of}
 use Rattle.rows.specs.Commits.{tables_after}
+use Rattle.rows.specs.declared.commit.Commit.{Commit}
+use Rattle.rows.specs.Commits.{IsLegal}
 use Rattle.update_log.specs.Streams.{stream_of}
 use Rattle.wire.specs.declared.out.Out.{Out}
+use Rattle.journal.specs.declared.form.Form.{Form}
 use Rattle.journal.specs.Recovery.{IsBeginning, IsRecovered}
 use Rattle.journal.specs.Text.{journal_text}
 use Rattle.primary.specs.State.{Primary}
@@ -36,7 +39,9 @@ use Rattle.script.specs.declared.event.Node.TheVariants as nodes
 use Rattle.script.specs.declared.output.Output.{Output}
 use Rattle.script.specs.declared.output.Output.TheVariants as outputs
 use Rattle.script.specs.declared.setup.Setup.{Setup}
-use Rattle.world.specs.Cores.{Cores, cores_started, replicas_from, zeros}
+use Rattle.world.specs.declared.primary_node.PrimaryNode.{PrimaryNode}
+use Rattle.world.specs.Cores.{Cores, Opening, new_opening, IsOpeningOn, cores_started, replicas_from, zeros}
+use Rattle.world.specs.Inner.Nodes.{IsStoppedOn, opening_of}
 use Rattle.world.specs.Inner.CoreSteps.{HappensBeside, KeepsStopped, MayAnswer, MayStep, ReplicaRunsBy, come_by, to_replica, open_by}
 use Rattle.world.specs.Inner.CoreSteps.{opening_query}
 use Rattle.world.specs.Inner.CoreSteps.{ask_by, asking, run_output, raw_by, version_by, dump_by, of_dumped, restart_by}
@@ -149,22 +154,23 @@ record Leaves (p new : Cores) : Type 0 where
   primary : new.primary ≡ p.primary
   stopped : new.stopped ≡ p.stopped
   journal : new.journal ≡ p.journal
+  form : new.form ≡ p.form
 
 leaves-same : (p : Cores) → Leaves p p
-leaves-same p = record { primary = refl; stopped = refl; journal = refl }
+leaves-same p = record { primary = refl; stopped = refl; journal = refl; form = refl }
 
 leaves-keeps : (p new : Cores) → Leaves p new → KeepsStopped p → KeepsStopped new
 leaves-keeps p new leaves keeps stopped =
-    let pair : (new.primary, new.journal) ≡ (p.primary, p.journal) = cc (leaves.primary, leaves.journal) in
+    let parts : (new.primary, new.journal, new.form) ≡ (p.primary, p.journal, p.form) = cc (leaves.primary, leaves.journal, leaves.form) in
     let kept = keeps (sym leaves.stopped ∙ stopped) in (
       kept.0,
-      subst (λ (x : Primary × List ℕ). IsRecovered x.0.workers (shape_of x.0.schema) x.1 x.0.durable kept.0)
-          (sym pair) kept.1,
+      subst (λ (x : Primary × List ℕ × Form). IsRecovered x.0.workers (shape_of x.0.schema) x.1 x.2 x.0.durable kept.0)
+          (sym parts) kept.1,
     )
 
 bytes-leave : (p : Cores) (number : ℕ) (bytes : List ℕ) (found : Option Replica) → Leaves p (to_replica p number bytes found).1
 bytes-leave p number bytes None = leaves-same p
-bytes-leave p number bytes (Some r) = record { primary = refl; stopped = refl; journal = refl }
+bytes-leave p number bytes (Some r) = record { primary = refl; stopped = refl; journal = refl; form = refl }
 
 come-leaves : (p : Cores) (number : ℕ) (found : Option (List ℕ)) → Leaves p (come_by p number found).1
 come-leaves p number None = leaves-same p
@@ -184,7 +190,7 @@ restart-leaves p number boot (Some r) = by (had_boot (boots_at p.boots number) b
   where
     by : (used : Bool) → Leaves p (cond {A = Output × Cores} used (outputs.BootUsed, p) (outputs.Boot boot, with_restarted p number boot)).1
     by true = leaves-same p
-    by false = record { primary = refl; stopped = refl; journal = refl }
+    by false = record { primary = refl; stopped = refl; journal = refl; form = refl }
 
 version-leaves : (p : Cores) (found : Option Replica) → Leaves p (version_by p found).1
 version-leaves p None = leaves-same p
@@ -199,7 +205,7 @@ open-leaves p number plan None = leaves-same p
 open-leaves p number plan (Some r) = by (opened r plan)
   where
     by : (answer : Result (ℕ × Replica) OpenFault) → Leaves p (opening_query p number answer).1
-    by (Ok done) = record { primary = refl; stopped = refl; journal = refl }
+    by (Ok done) = record { primary = refl; stopped = refl; journal = refl; form = refl }
     by (Err fault) = leaves-same p
 
 ask-leaves : (p : Cores) (number : ℕ) (found : Option Replica) → Leaves p (ask_by p number found).1
@@ -207,17 +213,17 @@ ask-leaves p number None = leaves-same p
 ask-leaves p number (Some r) = by (asked r)
   where
     by : (answer : Result (Out × Replica) AskFault) → Leaves p (asking p number r.batch answer).1
-    by (Ok done) = record { primary = refl; stopped = refl; journal = refl }
+    by (Ok done) = record { primary = refl; stopped = refl; journal = refl; form = refl }
     by (Err fault) = leaves-same p
 
 run-leaves : (p : Cores) (number : ℕ) (answer : Run) (after : Replica) → Leaves p (run_output p number (answer, after)).1
-run-leaves p number runs.NoBatch after = record { primary = refl; stopped = refl; journal = refl }
-run-leaves p number runs.WaitingHead after = record { primary = refl; stopped = refl; journal = refl }
-run-leaves p number (runs.Waiting worker seq want) after = record { primary = refl; stopped = refl; journal = refl }
-run-leaves p number (runs.Answered report) after = record { primary = refl; stopped = refl; journal = refl }
-run-leaves p number runs.Inconsistent after = record { primary = refl; stopped = refl; journal = refl }
-run-leaves p number runs.Broken after = record { primary = refl; stopped = refl; journal = refl }
-run-leaves p number runs.Memory after = record { primary = refl; stopped = refl; journal = refl }
+run-leaves p number runs.NoBatch after = record { primary = refl; stopped = refl; journal = refl; form = refl }
+run-leaves p number runs.WaitingHead after = record { primary = refl; stopped = refl; journal = refl; form = refl }
+run-leaves p number (runs.Waiting worker seq want) after = record { primary = refl; stopped = refl; journal = refl; form = refl }
+run-leaves p number (runs.Answered report) after = record { primary = refl; stopped = refl; journal = refl; form = refl }
+run-leaves p number runs.Inconsistent after = record { primary = refl; stopped = refl; journal = refl; form = refl }
+run-leaves p number runs.Broken after = record { primary = refl; stopped = refl; journal = refl; form = refl }
+run-leaves p number runs.Memory after = record { primary = refl; stopped = refl; journal = refl; form = refl }
 
 -- ---- what may happen
 
@@ -232,12 +238,12 @@ happens-beside : (shape : Shape) (p : Cores) (event : Event) (output : Output) (
     → Sound shape (beside_of (happens (world_of p) event).1 p)
     → Happens shape p event output new
 happens-beside shape p event output new sound uncut may after =
-    let left : record (beside_of (world_of new) p) { journal = new.journal } ≡ new =
+    let left : record (beside_of (world_of new) p) { journal = new.journal; form = new.form } ≡ new =
     ap (λ (x : Setup × List Replica × List (List ℕ) × List ℕ). record new { setup = x.0; replicas = x.1; boots = x.2; asked_at = x.3 })
     (cc (may.setup, may.replicas, may.boots, may.asked_at)) in
     let before = beside_of (world_of new) p in (
       may.happens,
-      subst (Sound shape) left (Sound-apart shape before before.primary.failed before.stopped new.journal (by may.happens)),
+      subst (Sound shape) left (Sound-apart shape before before.primary.failed before.stopped new.journal new.form (by may.happens)),
       may.kept,
     )
   where
@@ -432,7 +438,7 @@ module _ (laws : FedLaws) (shape : Shape) (p : Cores) (sound : Sound shape p) (f
 abbrev pub HasText : Cores → Type 0
 HasText p =
     p.stopped ≡ false → p.primary.failed ≡ false
-    → p.journal ≡ journal_text p.primary.workers (shape_of p.primary.schema) p.primary.durable
+    → p.journal ≡ journal_text p.form p.primary.workers (shape_of p.primary.schema) p.primary.durable
 
 -- what a stop leaves on the journal
 leaves-bytes : (p : Cores) (event : Event) (output : Output) (new : Cores) → MayStep p event output new → StopLeaves p event new
@@ -449,29 +455,31 @@ journal-stands p keeps text whole = by p.stopped refl
 
 -- ---- the beginning
 
-started-fed : (laws : FedLaws) (schema : List (List ℕ × List Kind)) (workers number : ℕ)
-    → IsFed (shape_of schema) (names_of schema) workers [] (1 ∷ []) number (started_replica schema workers number 1)
-started-fed laws schema workers number = record {
-  feeding = laws.fresh schema [] workers number 1 (record { each = tt; defined = refl });
+started-fed : (laws : FedLaws) (schema : List (List ℕ × List Kind)) (workers number : ℕ) (durable : List Commit)
+    → IsLegal (shape_of schema) workers durable
+    → IsFed (shape_of schema) (names_of schema) workers durable (1 ∷ []) number (started_replica schema workers number 1)
+started-fed laws schema workers number durable legal = record {
+  feeding = laws.fresh schema durable workers number 1 legal;
   names_are = refl;
   workers_are = refl;
   number_is = refl;
   boot_is = record { had = Contains-push [] 1; below = omega arith };
 }
 
-replicas-fed : (laws : FedLaws) (schema : List (List ℕ × List Kind)) (workers number count i : ℕ) (r : Replica)
-    → slice_get (replicas_from schema workers number count) i ≡ Some r
-    → IsFed (shape_of schema) (names_of schema) workers [] (boots_at (replicate count (1 ∷ [])) i) (number + i) r
-replicas-fed laws schema workers number zero i r h = absurd (none-some r h)
-replicas-fed laws schema workers number (suc count) zero r h =
+replicas-fed : (laws : FedLaws) (schema : List (List ℕ × List Kind)) (workers number count i : ℕ) (r : Replica) (durable : List Commit)
+    → IsLegal (shape_of schema) workers durable → slice_get (replicas_from schema workers number count) i ≡ Some r
+    → IsFed (shape_of schema) (names_of schema) workers durable (boots_at (replicate count (1 ∷ [])) i) (number + i) r
+replicas-fed laws schema workers number zero i r durable legal h = absurd (none-some r h)
+replicas-fed laws schema workers number (suc count) zero r durable legal h =
     let same : started_replica schema workers number 1 ≡ r = cc in
     let index : number ≡ number + 0 = omega arith in
-    subst (λ (n : ℕ). IsFed (shape_of schema) (names_of schema) workers [] (1 ∷ []) n r) index
-    (subst (IsFed (shape_of schema) (names_of schema) workers [] (1 ∷ []) number) same (started-fed laws schema workers number))
-replicas-fed laws schema workers number (suc count) (suc i) r h =
+    subst (λ (n : ℕ). IsFed (shape_of schema) (names_of schema) workers durable (1 ∷ []) n r) index
+    (subst (IsFed (shape_of schema) (names_of schema) workers durable (1 ∷ []) number) same
+    (started-fed laws schema workers number durable legal))
+replicas-fed laws schema workers number (suc count) (suc i) r durable legal h =
     let index : suc number + i ≡ number + suc i = omega arith in
-    subst (λ (n : ℕ). IsFed (shape_of schema) (names_of schema) workers [] (boots_at (replicate count (1 ∷ [])) i) n r) index
-    (replicas-fed laws schema workers (suc number) count i r h)
+    subst (λ (n : ℕ). IsFed (shape_of schema) (names_of schema) workers durable (boots_at (replicate count (1 ∷ [])) i) n r) index
+    (replicas-fed laws schema workers (suc number) count i r durable legal h)
 
 length-replicas : (schema : List (List ℕ × List Kind)) (workers number count : ℕ)
     → length (replicas_from schema workers number count) ≡ count
@@ -482,9 +490,11 @@ length-zeros : (count : ℕ) → length (zeros count) ≡ count
 length-zeros zero = refl
 length-zeros (suc count) = ap suc (length-zeros count)
 
-parts-sound : (laws : FedLaws) (setup : Setup) → 0 < setup.workers → setup.workers ≤ WORKERS_MAX → setup.replicas ≤ REPLICAS_MAX
-    → Sound (shape_of setup.schema) (cores_started setup)
-parts-sound laws setup some workers few =
+parts-sound : (laws : FedLaws) (opening : Opening) → 0 < opening.setup.workers → opening.setup.workers ≤ WORKERS_MAX
+    → opening.setup.replicas ≤ REPLICAS_MAX → IsLegal (shape_of opening.setup.schema) opening.setup.workers opening.durable
+    → Sound (shape_of opening.setup.schema) (cores_started opening)
+parts-sound laws opening some workers few legal =
+    let setup = opening.setup in
     let shape = shape_of setup.schema in
     let count = setup.replicas in
     record {
@@ -496,8 +506,9 @@ parts-sound laws setup some workers few =
       few = omega (arith, length-replicas setup.schema setup.workers 0 count);
       fed = λ i r here. let index : 0 + i ≡ i =
           omega arith in
-          subst (λ (n : ℕ). IsFed shape (names_of setup.schema) setup.workers [] (boots_at (replicate count (1 ∷ [])) i) n r) index
-          (replicas-fed laws setup.schema setup.workers 0 count i r here);
+          subst (λ (n : ℕ). IsFed shape (names_of setup.schema) setup.workers opening.durable (boots_at (replicate count (1 ∷ [])) i) n r)
+          index
+          (replicas-fed laws setup.schema setup.workers 0 count i r opening.durable legal here);
       sent_is = λ i bytes here. absurd (none-some bytes here);
     }
 
@@ -514,16 +525,50 @@ fed-sound p sound =
 
 -- ---- what every world keeps
 
-pub started-kept : (laws : FedLaws) (setup : Setup) → AreTables (shape_of setup.schema) → 0 < setup.workers → setup.workers ≤ WORKERS_MAX
-    → setup.replicas ≤ REPLICAS_MAX → CoresAreKept (cores_started setup)
-started-kept laws setup tables some workers few = record {
-  journal = λ stopped. absurd (false≢true stopped);
+pub started-kept : (laws : FedLaws) (opening : Opening) → AreTables (shape_of opening.setup.schema) → 0 < opening.setup.workers
+    → opening.setup.workers ≤ WORKERS_MAX → opening.setup.replicas ≤ REPLICAS_MAX
+    → IsLegal (shape_of opening.setup.schema) opening.setup.workers opening.durable → length opening.durable < 2 ^ 64
+    → KeepsStopped (cores_started opening) → CoresAreKept (cores_started opening)
+started-kept laws opening tables some workers few legal numbered kept = record {
+  journal = kept;
   tables = tables;
-  sound = parts-sound laws setup some workers few;
-  requested = subst IsRequested (sym (world-started setup)) (opening-requested setup);
-  undamaged = subst IsUndamaged (sym (world-started setup)) (opening-undamaged setup);
-  fresh = subst Fresh (sym (world-started setup)) (opening-fresh setup few);
+  sound = parts-sound laws opening some workers few legal;
+  requested = subst IsRequested (sym (world-started opening)) (opening-requested opening.setup opening.durable opening.stopped);
+  undamaged = subst IsUndamaged (sym (world-started opening)) (opening-undamaged opening.setup opening.durable opening.stopped);
+  fresh = subst Fresh (sym (world-started opening)) (opening-fresh opening.setup opening.durable opening.stopped numbered few);
 }
+
+-- the cores of a new world
+pub new-kept : (laws : FedLaws) (setup : Setup) → AreTables (shape_of setup.schema) → 0 < setup.workers → setup.workers ≤ WORKERS_MAX
+    → setup.replicas ≤ REPLICAS_MAX → CoresAreKept (cores_started (new_opening setup))
+new-kept laws setup tables some workers few =
+    started-kept laws (new_opening setup) tables some workers few (record { each = tt; defined = refl }) (omega arith)
+    (λ stopped. absurd (false≢true stopped))
+
+-- what is recovered is legal
+recovered-legal : (workers : ℕ) (shape : Shape) (bytes : List ℕ) (form : Form) (commits : List Commit) (bytes_kept : ℕ)
+    → IsRecovered workers shape bytes form commits bytes_kept → IsLegal shape workers commits
+recovered-legal workers shape bytes form commits bytes_kept (inl ends) =
+    subst (IsLegal shape workers) (sym ends.2) (record { each = tt; defined = refl })
+recovered-legal workers shape bytes form commits bytes_kept (inr kept) = kept.0.0.is.journaled.legal
+
+-- a world that is opened on a journal
+pub opening_on : (setup : Setup) (bytes : List ℕ) (node : PrimaryNode) → IsStoppedOn setup bytes node
+    → IsOpeningOn setup bytes (opening_of setup node)
+opening_on setup bytes node on = record { setup_is = refl; stopped_is = on.0; journal_is = on.1; kept = on.2; numbered = on.3 }
+
+pub opened-kept : (laws : FedLaws) (setup : Setup) (bytes : List ℕ) (node : PrimaryNode) → AreTables (shape_of setup.schema)
+    → 0 < setup.workers → setup.workers ≤ WORKERS_MAX → setup.replicas ≤ REPLICAS_MAX → IsStoppedOn setup bytes node
+    → CoresAreKept (cores_started (opening_of setup node))
+opened-kept laws setup bytes node tables some workers few on =
+    let opening = opening_of setup node in
+    let shape = shape_of setup.schema in
+    started-kept laws opening tables some workers few
+    (recovered-legal setup.workers shape bytes opening.form opening.durable on.2.0 on.2.1) on.3
+    (λ stopped. (
+      on.2.0,
+      subst (λ (b : List ℕ). IsRecovered setup.workers shape b opening.form opening.durable on.2.0) (sym on.1) on.2.1,
+    ))
 
 -- an event of the cores that starts a replica again gives it a boot of 64 bits
 may-boot : (p : Cores) (event : Event) (output : Output) (new : Cores) → MayStep p event output new → HasBoot event

@@ -7,7 +7,7 @@ use Rattle.intake.specs.Steps.{no_arrivals as none_came}
 use Rattle.rows.specs.declared.kind.Kind.{Kind}
 use Rattle.script.specs.declared.setup.Setup.{Setup}
 use Rattle.script.specs.declared.output.Output.{Output}
-use Rattle.world.specs.Cores.{Cores, replicas_from, zeros, cores_started}
+use Rattle.world.specs.Cores.{Cores, Opening, replicas_from, zeros, cores_started}
 use Rattle.world.specs.Inner.CoreSteps.{with_replica}
 use Rattle.world.specs.Standing.{member_of, members_of, boots_at, world_of}
 use Rattle.world.specs.Steps.{World, Member, known_in, fresh, fresh_from, opening_world, with_member}
@@ -111,7 +111,9 @@ members-started schema workers number (suc count) =
     ap (λ (x : List (List ℕ) × List Member). record m { known = x.0 } ∷ x.1)
     (cc (known-started workers, members-started schema workers (suc number) count))
 
-pub world-started : (setup : Setup) → world_of (cores_started setup) ≡ opening_world setup
-world-started setup =
-    let w = opening_world setup in
+pub world-started : (opening : Opening)
+    → world_of (cores_started opening) ≡ opening_world opening.setup opening.durable opening.stopped
+world-started opening =
+    let setup = opening.setup in
+    let w = opening_world setup opening.durable opening.stopped in
     ap (λ (members : List Member). record w { members = members }) (members-started setup.schema setup.workers 0 setup.replicas)

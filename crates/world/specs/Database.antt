@@ -27,9 +27,9 @@ pub record Database : Type 0 where
 abbrev pub new_reader : Reader
 new_reader = record { version = 0; batch = None }
 
--- the database at its start, with so many replicas
-abbrev pub new_database : ℕ → Database
-new_database replicas = record { commits = []; readers = replicate replicas new_reader }
+-- the database at its start, with what is durable then, and with so many replicas
+abbrev pub new_database : List Commit → ℕ → Database
+new_database commits replicas = record { commits = commits; readers = replicate replicas new_reader }
 
 -- a version at which a batch may be answered: no older than the replica's, at least as new as the list was when the batch asked,
 -- and one of the list
@@ -98,6 +98,6 @@ IsDatabaseRun schema old [] new = new ≡ old
 IsDatabaseRun schema old (output ∷ outputs) new =
     (mid : Database) × IsDatabaseStep schema old output mid × IsDatabaseRun schema mid outputs new
 
--- the promise: the outputs are those of a run of a new database with so many replicas
-abbrev pub IsPromised : List (List ℕ × List Kind) → ℕ → List Output → Type 0
-IsPromised schema replicas outputs = (end : Database) × IsDatabaseRun schema (new_database replicas) outputs end
+-- the promise: the outputs are those of a run of a database that has these commits at its start, and so many replicas
+abbrev pub IsPromised : List (List ℕ × List Kind) → List Commit → ℕ → List Output → Type 0
+IsPromised schema commits replicas outputs = (end : Database) × IsDatabaseRun schema (new_database commits replicas) outputs end

@@ -12,6 +12,7 @@ use Rattle.world.specs.declared.faults.RunFault.{RunFault}
 use Rattle.world.specs.declared.faults.RunFault.TheVariants as faults
 use Rattle.world.specs.declared.script_running.Echo.{Echo}
 use Rattle.world.specs.declared.script_running.Echo.TheVariants as echoes
+use Rattle.world.specs.Cores.{new_opening}
 use Rattle.world.specs.Theorem.{KeepsPromises}
 
 -- a reader gave these bytes, and has no more: if it is known what it had, they are all of that
@@ -29,7 +30,7 @@ pub record IsPrinted (echo : Echo) (script : List ℕ) (text : List ℕ) : Type 
   pub events : List Event
   pub outputs : List Output
   pub read : IsScript script setup events
-  pub kept : KeepsPromises setup events outputs
+  pub kept : KeepsPromises (new_opening setup) events outputs
   pub text_is : text ≡ run_text echo setup events outputs
 
 -- the words for a fault: of a script that does not read, its line and the reason

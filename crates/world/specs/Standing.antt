@@ -51,13 +51,13 @@ AreFed p = AllByRecursion (IsFedFrom (shape_of p.primary.schema) p.primary.durab
 -- what is durable is what the journal keeps of its bytes
 abbrev pub JournalKeeps : Cores → Type 0
 JournalKeeps p =
-    (bytes_kept : ℕ) × IsRecovered p.primary.workers (shape_of p.primary.schema) p.journal p.primary.durable bytes_kept
+    (bytes_kept : ℕ) × IsRecovered p.primary.workers (shape_of p.primary.schema) p.journal p.form p.primary.durable bytes_kept
 
 -- what a primary's journal contains, by whether it is stopped: then what is durable is what the journal keeps; otherwise its
 -- bytes are the text of what is durable
 abbrev pub JournalStandsAs : Cores → Bool → Type 0
 JournalStandsAs p true = JournalKeeps p
-JournalStandsAs p false = p.journal ≡ journal_text p.primary.workers (shape_of p.primary.schema) p.primary.durable
+JournalStandsAs p false = p.journal ≡ journal_text p.form p.primary.workers (shape_of p.primary.schema) p.primary.durable
 
 abbrev pub JournalStands : Cores → Type 0
 JournalStands p = JournalStandsAs p p.stopped
@@ -66,5 +66,6 @@ JournalStands p = JournalStandsAs p p.stopped
 abbrev pub StopLeaves : Cores → Event → Cores → Type 0
 StopLeaves old (events.Stop bytes) new =
     old.stopped ≡ false → new.stopped ≡ true
-    → new.journal ≡ old.journal ++ take bytes (records_from (length old.primary.durable) old.primary.pending)
+    → (new.journal ≡ old.journal ++ take bytes (records_from (length old.primary.durable) old.primary.pending))
+    × (new.form ≡ old.form)
 StopLeaves old other new = Unit {0}

@@ -5,6 +5,7 @@ use Rattle.std.specs.Prelude.{slice_get, slice_set, replicate, map, ◌==◌, �
 use Rattle.std.specs.List.{list_any}
 use Rattle.std.specs.Option.{option_and_then}
 use Rattle.std.specs.Str.{bytes_eq}
+use Rattle.rows.specs.declared.commit.Commit.{Commit}
 use Rattle.rows.specs.Shape.{shape_of}
 use Rattle.rows.specs.Commits.{tables_after}
 use Rattle.rows.specs.Tables.{Tables, shape_in}
@@ -88,11 +89,11 @@ abbrev pub fresh_from : ℕ → ℕ → ℕ → List Member
 fresh_from workers number zero = []
 fresh_from workers number (suc count) = fresh workers number ∷ fresh_from workers (suc number) count
 
--- the world at its beginning
-abbrev pub opening_world : Setup → World
-opening_world setup = record {
-  primary = started_primary setup.schema setup.workers [];
-  stopped = false;
+-- the world at its beginning, with what is durable then, and with a primary that is stopped or not
+abbrev pub opening_world : Setup → List Commit → Bool → World
+opening_world setup durable stopped = record {
+  primary = started_primary setup.schema setup.workers durable;
+  stopped = stopped;
   transactions = [];
   sent = [];
   members = fresh_from setup.workers 0 setup.replicas;

@@ -4,9 +4,11 @@ use Rattle.std.specs.Prelude.{if◌then◌else◌, slice_get}
 use Rattle.std.specs.Option.{option_and_then}
 use Rattle.rows.specs.declared.commit.Commit.{Commit}
 use Rattle.rows.specs.Shape.{Shape}
+use Rattle.journal.specs.declared.form.Form.{Form}
 use Rattle.journal.specs.Text.{record_of, records_from, journal_text}
 use Rattle.journal.specs.Recovery.{IsBeginning, IsJournaled, IsRecovered}
 use Rattle.mvcc.specs.Transaction.{Transaction}
+use Rattle.primary.specs.Journaling.{IsFormOf}
 use Rattle.primary.specs.State.{Primary}
 
 -- how many of these commits, which stand after `before` others, have their whole records among so many bytes
@@ -32,14 +34,15 @@ closed transactions = map (λ transaction. None) transactions
 
 -- ---- laws
 
--- what is durable after a stop is what the journal keeps of the bytes that stand then: the text of what was durable, and the
--- first bytes of the pending commits' records
+-- what is durable after a stop is what the journal keeps of the bytes that stand then, in the same form: the text of what was
+-- durable, and the first bytes of the pending commits' records
 abbrev pub StopIsRecovered : Type 0
 StopIsRecovered =
-    (shape : Shape) (p : Primary) (bytes : ℕ) → IsJournaled p.workers shape (p.durable ++ p.pending)
+    (form : Form) (shape : Shape) (p : Primary) (bytes : ℕ) → IsJournaled p.workers shape (p.durable ++ p.pending)
+    → IsFormOf form p.durable
     → (bytes_kept : ℕ)
-    × IsRecovered p.workers shape (journal_text p.workers shape p.durable ++ take bytes (records_from (length p.durable) p.pending))
-    (stopped_at p bytes).durable bytes_kept
+    × IsRecovered p.workers shape (journal_text form p.workers shape p.durable ++ take bytes (records_from (length p.durable) p.pending))
+    form (stopped_at p bytes).durable bytes_kept
 
 -- a stop keeps what was durable
 abbrev pub StopKeepsDurable : Type 0

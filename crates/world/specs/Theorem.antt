@@ -1,5 +1,5 @@
 -- The theorem: what is so of each run of the world; and that the outputs are those of one run of the cores, of which this and more is so.
-use Rattle.std.specs.Prelude.{◌≡◌, ℕ, ◌^◌, ◌<◌, ◌≤◌, List, ◌∷◌, ◌++◌, length, map, Option, Some, slice_get, codes, decimal}
+use Rattle.std.specs.Prelude.{◌≡◌, ℕ, ◌^◌, ◌<◌, ◌≤◌, List, ◌∷◌, ◌++◌, length, map, Bool, Option, Some, slice_get, codes, decimal}
 use Rattle.std.specs.Option.{option_map}
 use Rattle.std.specs.List.{AllByRecursion}
 use Rattle.rows.specs.declared.commit.Commit.{Commit}
@@ -18,7 +18,7 @@ use Rattle.script.specs.declared.output.Output.{Output}
 use Rattle.script.specs.declared.output.Output.TheVariants as outputs
 use Rattle.script.specs.declared.output.Output.TheVariants.{Dump}
 use Rattle.script.specs.declared.setup.Setup.{Setup}
-use Rattle.world.specs.Cores.{Cores, cores_started}
+use Rattle.world.specs.Cores.{Cores, Opening, cores_started}
 use Rattle.world.specs.Steps.{World, Member, opening_world}
 use Rattle.world.specs.Acknowledged.{KeepsAcknowledged}
 use Rattle.world.specs.Allowed.{Step, LeadsTo, events_in, outputs_in, Runs}
@@ -73,11 +73,12 @@ pub record IsExact (commits : List Commit) (steps : List (Step World)) : Type 0 
   pub acknowledged : KeepsAcknowledged steps
   pub faultless : AllByRecursion IsFaultless (outputs_in steps)
 
--- what is so of each run of the world by events that are possible, whoever makes it
+-- what is so of each run of the world by events that are possible, whoever makes it, and whatever is durable at its beginning
 abbrev pub AllowedRunsAreExact : Type 0
 AllowedRunsAreExact =
-    (setup : Setup) (steps : List (Step World)) (end : World) → setup.replicas ≤ replicas_max
-    → AllByRecursion (IsPossible setup.workers setup.replicas) (events_in steps) → Runs (opening_world setup) steps end
+    (setup : Setup) (durable : List Commit) (stopped : Bool) (steps : List (Step World)) (end : World) → length durable < 2 ^ 64
+    → setup.replicas ≤ replicas_max → AllByRecursion (IsPossible setup.workers setup.replicas) (events_in steps)
+    → Runs (opening_world setup durable stopped) steps end
     → IsExact end.primary.durable steps
 
 -- ---- the database that users see
@@ -97,9 +98,10 @@ database_of w = record { commits = w.primary.durable; readers = map reader_of w.
 -- each run of the world by events that are possible, whoever makes it, is one of the database
 abbrev pub RunsAreOfDatabase : Type 0
 RunsAreOfDatabase =
-    (setup : Setup) (steps : List (Step World)) (end : World) → setup.replicas ≤ replicas_max
-    → AllByRecursion (IsPossible setup.workers setup.replicas) (events_in steps) → Runs (opening_world setup) steps end
-    → IsDatabaseRun setup.schema (new_database setup.replicas) (outputs_in steps) (database_of end)
+    (setup : Setup) (durable : List Commit) (stopped : Bool) (steps : List (Step World)) (end : World) → length durable < 2 ^ 64
+    → setup.replicas ≤ replicas_max → AllByRecursion (IsPossible setup.workers setup.replicas) (events_in steps)
+    → Runs (opening_world setup durable stopped) steps end
+    → IsDatabaseRun setup.schema (new_database durable setup.replicas) (outputs_in steps) (database_of end)
 
 -- ---- a run of the cores
 
@@ -108,34 +110,35 @@ abbrev pub seen : Step Cores → Step World
 seen step = record { old = world_of step.old; event = step.event; output = step.output; new = world_of step.new }
 
 -- a run of the cores from their start on, by these events and with these outputs: the world that they make allows each step
-pub record IsRun (setup : Setup) (events : List Event) (outputs : List Output) : Type 0 where
+pub record IsRun (opening : Opening) (events : List Event) (outputs : List Output) : Type 0 where
   pub steps : List (Step Cores)
   pub end : Cores
   pub events_are : events_in steps ≡ events
   pub outputs_are : outputs_in steps ≡ outputs
-  pub leads : LeadsTo (cores_started setup) steps end
-  pub allowed : Runs (opening_world setup) (map seen steps) (world_of end)
+  pub leads : LeadsTo (cores_started opening) steps end
+  pub allowed : Runs (opening_world opening.setup opening.durable opening.stopped) (map seen steps) (world_of end)
 
 -- the cores through which a run goes: those at their start, and those that each step left
-abbrev pub cores_of : Setup → List (Step Cores) → List Cores
-cores_of setup steps = cores_started setup ∷ map (λ (step : Step Cores). step.new) steps
+abbrev pub cores_of : Opening → List (Step Cores) → List Cores
+cores_of opening steps = cores_started opening ∷ map (λ (step : Step Cores). step.new) steps
 
 -- the cores stand where the world does: each step leaves every replica fed from what is durable, and that on the journal; after a stop
 -- the very bytes that it names are there; and replicas at one version hold the same tables, at whatever two moments
-pub record CoresStand (setup : Setup) (steps : List (Step Cores)) : Type 0 where
+pub record CoresStand (opening : Opening) (steps : List (Step Cores)) : Type 0 where
   pub fed : AllByRecursion (λ (step : Step Cores). AreFed step.new) steps
   pub journal : AllByRecursion (λ (step : Step Cores). JournalStands step.new) steps
   pub leaves : AllByRecursion (λ (step : Step Cores). StopLeaves step.old step.event step.new) steps
-  pub tables : AllByRecursion (λ (p : Cores). AllByRecursion (TablesAgree p) (cores_of setup steps)) (cores_of setup steps)
+  pub tables : AllByRecursion (λ (p : Cores). AllByRecursion (TablesAgree p) (cores_of opening steps)) (cores_of opening steps)
 
 -- the outputs are those of one run of the cores, and of this run all of the following is so: it is exact by the one list that is
 -- durable at its end; that list is legal; the cores stand; and users see it as a run of the database
-pub record AreOfOneRun (setup : Setup) (events : List Event) (outputs : List Output) : Type 0 where
-  pub run : IsRun setup events outputs
+pub record AreOfOneRun (opening : Opening) (events : List Event) (outputs : List Output) : Type 0 where
+  pub run : IsRun opening events outputs
   pub exact : IsExact run.end.primary.durable (map seen run.steps)
-  pub legal : IsLegal (shape_of setup.schema) setup.workers run.end.primary.durable
-  pub cores : CoresStand setup run.steps
-  pub database : IsDatabaseRun setup.schema (new_database setup.replicas) outputs (database_of (world_of run.end))
+  pub legal : IsLegal (shape_of opening.setup.schema) opening.setup.workers run.end.primary.durable
+  pub cores : CoresStand opening run.steps
+  pub database : IsDatabaseRun opening.setup.schema (new_database opening.durable opening.setup.replicas) outputs
+      (database_of (world_of run.end))
 
 -- ---- what is promised of outputs
 
@@ -151,9 +154,9 @@ HasOneDumpOfVersion outputs =
     → TellsVersion version text → TellsVersion version other → text ≡ other
 
 -- all that is promised of the outputs of events
-pub record KeepsPromises (setup : Setup) (events : List Event) (outputs : List Output) : Type 0 where
-  pub promise : IsPromised setup.schema setup.replicas outputs
+pub record KeepsPromises (opening : Opening) (events : List Event) (outputs : List Output) : Type 0 where
+  pub promise : IsPromised opening.setup.schema opening.durable opening.setup.replicas outputs
   pub each : length outputs ≡ length events
-  pub run : AreOfOneRun setup events outputs
+  pub run : AreOfOneRun opening events outputs
   pub dumps : HasOneDumpOfVersion outputs
   pub faultless : AllByRecursion IsFaultless outputs

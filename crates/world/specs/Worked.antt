@@ -1,7 +1,7 @@
 -- Events with what they are to answer: three scripts, `examples/first-commit.script`, `examples/lost-frame.script` and
 -- `examples/conflict.script`; write skew; each refusal of a transaction's calls; stops and starts; two queries of one batch; a column
 -- that is added; and two workers. One table of two `int` columns; one worker and one replica but for the last.
-use Rattle.std.specs.Prelude.{ℕ, ◌∷◌, [], List, None, Some, pos, negsuc, codes, ◌++◌}
+use Rattle.std.specs.Prelude.{ℕ, false, ◌∷◌, [], List, None, Some, pos, negsuc, codes, ◌++◌}
 use Rattle.rows.specs.declared.kind.Kind.TheVariants.{Int as IntKind}
 use Rattle.rows.specs.declared.row_id.RowId.{RowId}
 use Rattle.rows.specs.declared.value.Value.TheVariants.{Int}
@@ -19,7 +19,7 @@ use Rattle.world.specs.Steps.{World, opening_world}
 
 -- the world of the scripts: one worker, one replica, `table acct int int`
 abbrev pub worked_world : World
-worked_world = opening_world (record { schema = (codes "acct", IntKind ∷ IntKind ∷ []) ∷ []; workers = 1; replicas = 1 })
+worked_world = opening_world (record { schema = (codes "acct", IntKind ∷ IntKind ∷ []) ∷ []; workers = 1; replicas = 1 }) [] false
 
 -- row 7 with the values 5 and -1 is committed, made durable, and pushed
 abbrev pub commit_and_push : List Event
@@ -210,7 +210,7 @@ added_column_outputs =
 
 -- the world of two workers and two replicas
 abbrev pub wide_world : World
-wide_world = opening_world (record { schema = (codes "acct", IntKind ∷ IntKind ∷ []) ∷ []; workers = 2; replicas = 2 })
+wide_world = opening_world (record { schema = (codes "acct", IntKind ∷ IntKind ∷ []) ∷ []; workers = 2; replicas = 2 }) [] false
 
 -- each worker commits, and their frames come in the other order: the batch waits for the one that is missing, asks for it,
 -- and counts both

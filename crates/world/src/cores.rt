@@ -7,7 +7,10 @@ ghost use Rattle.rows.specs.Limits.{workers_max, replicas_max};
 ghost use Rattle.rows.specs.Shape.{shape_of};
 ghost use Rattle.rows.specs.Tables.{opening};
 ghost use Rattle.journal.specs.Text.{journal_text};
-ghost use Rattle.world.specs.Cores.{Cores, cores_started};
+ghost use Rattle.primary.specs.Journaling.{IsFormOf};
+ghost use Rattle.primary.specs.Steps.{started_primary};
+ghost use Rattle.world.specs.Cores.{Cores, new_opening, cores_started};
+ghost use Rattle.world.specs.Inner.Nodes.{primary_in, durable_in, opening_of, AreNewReplicas};
 ghost use Rattle.world.specs.Inner.CoreSteps.{KeepsStopped};
 ghost use Rattle.world.specs.Inner.Sound.{PrimaryListsAreLegal};
 
@@ -42,7 +45,7 @@ pub struct Cores {
 
 impl Model for Cores {
     ghost use Rattle.world.specs.Cores.{Cores as CoresOf};
-    ghost use Rattle.world.specs.Inner.Nodes.{primary_in, is_stopped, journal_bytes_in};
+    ghost use Rattle.world.specs.Inner.Nodes.{primary_in, is_stopped, journal_bytes_in, form_in};
 
     ghost Value = { CoresOf };
 
@@ -51,6 +54,7 @@ impl Model for Cores {
       primary = primary_in c.setup c.primary;
       stopped = is_stopped c.primary;
       journal = journal_bytes_in c.primary;
+      form = form_in c.primary;
       transactions = c.transactions.items;
       sent = c.sent.items;
       replicas = c.replicas.items;
@@ -60,39 +64,47 @@ impl Model for Cores {
 }
 
 impl Cores {
-    /// A primary without commits, and replicas without frames, each with boot 1, whose stores have
-    /// so many partitions. Fails only if out of memory.
+    /// A primary without commits, on a new journal, and replicas without frames, each with boot 1,
+    /// whose stores have so many partitions. Fails only if out of memory.
     pub fn start(alloc: Global, setup: &Setup, partitions: usize) -> Result<Cores, AllocError>
         requires some { 0 < setup.now.workers }
         requires workers { setup.now.workers ≤ workers_max }
         requires replicas { setup.now.replicas ≤ replicas_max }
-        ensures { IfOk result (λ cores. cores ≡ cores_started setup.now) }
+        ensures { IfOk result (λ cores. cores ≡ cores_started (new_opening setup.now)) }
     {
-        let schema = &setup.schema;
-        let workers = setup.workers;
-        let mut cores = Vec::new(alloc);
-        let mut asked_at = Vec::new(alloc);
-        let mut boots = Vec::new(alloc);
-        for number in 0..setup.replicas {
-            let store = store_of(alloc, schema, partitions)?;
-            cores.push(ReplicaCore::start(alloc, store, schema, workers, number, 1)?)?;
-            asked_at.push(0)?;
-            boots.push(BootList::of_one(alloc, 1)?)?;
-        }
-        let Ok(primary) = start_on(alloc, MemJournal::new(alloc), schema, workers) else {
+        let replicas = new_replicas(alloc, setup, partitions)?;
+        let journal = MemJournal::new(alloc);
+        let Ok(primary) = start_on(alloc, journal, &setup.schema, setup.workers) else {
             return Err(AllocError);
         };
-        Ok(Cores {
+        Ok(Cores::around(alloc, PrimaryNode::Running(primary), replicas))
+    }
+
+    /// This primary, of which nothing is pending, with new replicas. Takes no memory.
+    pub fn around(alloc: Global, primary: PrimaryNode, replicas: NewReplicas) -> Cores
+        requires new { AreNewReplicas replicas.setup replicas.cores.items replicas.boots.items replicas.asked_at.items }
+        requires still { primary_in replicas.setup primary
+            ≡ started_primary replicas.setup.schema replicas.setup.workers (durable_in primary) }
+        ensures { result ≡ cores_started (opening_of replicas.setup primary) }
+    {
+        let NewReplicas {
+            setup,
+            cores,
+            partitions,
+            boots,
+            asked_at,
+        } = replicas;
+        Cores {
             alloc,
-            setup: copy_of(setup)?,
-            primary: PrimaryNode::Running(primary),
+            setup,
+            primary,
             transactions: Vec::new(alloc),
             sent: Vec::new(alloc),
             replicas: cores,
             partitions,
             boots,
             asked_at,
-        })
+        }
     }
 
     /// What is durable is a legal list. It does nothing: its contract is the law.
@@ -109,13 +121,58 @@ impl Cores {
     /// failed. It does nothing: its contract is the law.
     pub fn keeps_core(&self)
         ensures lists { self.now.stopped ≡ false → PrimaryListsAreLegal self.now.primary }
+        ensures form { self.now.stopped ≡ false → IsFormOf self.now.form self.now.primary.durable }
         ensures text { self.now.stopped ≡ false → self.now.primary.failed ≡ false
-            → self.now.journal ≡ journal_text self.now.primary.workers (shape_of self.now.primary.schema) self.now.primary.durable }
+            → self.now.journal ≡ journal_text self.now.form self.now.primary.workers (shape_of self.now.primary.schema)
+            self.now.primary.durable }
     {
         if let PrimaryNode::Running(primary) = &self.primary {
             primary.keeps_legal();
         }
     }
+}
+
+/// The replicas of a world at its beginning, with what is noted of them, and its setup.
+#[derive(Drop)]
+pub struct NewReplicas {
+    pub setup: Setup,
+    pub cores: Vec<ReplicaCore<ColumnStore>>,
+    pub partitions: usize,
+    pub boots: Vec<BootList>,
+    pub asked_at: Vec<u64>,
+}
+
+/// Replicas without frames, each with boot 1, whose stores have so many partitions. Fails only if
+/// out of memory.
+pub fn new_replicas(
+    alloc: Global,
+    setup: &Setup,
+    partitions: usize,
+) -> Result<NewReplicas, AllocError>
+    requires some { 0 < setup.now.workers }
+    requires workers { setup.now.workers ≤ workers_max }
+    requires replicas { setup.now.replicas ≤ replicas_max }
+    ensures setup { IfOk result (λ made. made.setup ≡ setup.now) }
+    ensures new { IfOk result (λ made. AreNewReplicas setup.now made.cores.items made.boots.items made.asked_at.items) }
+{
+    let schema = &setup.schema;
+    let workers = setup.workers;
+    let mut cores = Vec::new(alloc);
+    let mut asked_at = Vec::new(alloc);
+    let mut boots = Vec::new(alloc);
+    for number in 0..setup.replicas {
+        let store = store_of(alloc, schema, partitions)?;
+        cores.push(ReplicaCore::start(alloc, store, schema, workers, number, 1)?)?;
+        asked_at.push(0)?;
+        boots.push(BootList::of_one(alloc, 1)?)?;
+    }
+    Ok(NewReplicas {
+        setup: copy_of(setup)?,
+        cores,
+        partitions,
+        boots,
+        asked_at,
+    })
 }
 
 /// A copy of the setup. Fails only if out of memory.

@@ -3,8 +3,9 @@
 //!
 //! A `World` has one step, which uses only the public calls of the cores; its contract specifies
 //! what each event may answer and leave. `run` steps a new world through a list of events, and its
-//! contract is the main theorem; `run_script` does the same with the events of a script. Lost,
-//! repeated and late datagrams, and whatever else may go wrong, are events.
+//! contract is the main theorem; `run_on_journal` begins on the bytes of a journal, and `run_script`
+//! takes the events of a script. Lost, repeated and late datagrams, and whatever else may go wrong,
+//! are events.
 //!
 //! `specs/` defines what may happen: the world as its users see it (`Steps.antt`), what a crash of
 //! the primary leaves (`Stops.antt`) and which outputs are allowed (`Allowed.antt`), the cores
@@ -44,7 +45,7 @@ pub use script::{
     read_settings, read_value,
 };
 pub use script_running::{Echo, run_script};
-pub use simulator::{run, run_on};
+pub use simulator::{run, run_on, run_on_journal};
 pub use theorem::{allowed_runs_are_exact, runs_are_of_database, stops_keep_what_stands};
 pub use worked::worked_scripts;
 pub use world::World;

@@ -9,7 +9,7 @@ ghost use Rattle.update_log.specs.Frames.{IsSendable};
 ghost use Rattle.update_log.specs.Streams.{stream_of};
 ghost use Rattle.journal.specs.Recovery.{IsJournaled};
 ghost use Rattle.journal.specs.Text.{journal_text, records_from};
-ghost use Rattle.primary.specs.Journaling.{IsFlushRefusal, CountsFlushFault, AreNumbered};
+ghost use Rattle.primary.specs.Journaling.{IsFormOf, IsFlushRefusal, CountsFlushFault, AreNumbered};
 ghost use Rattle.primary.specs.Sending.{pushed, answers};
 ghost use Rattle.primary.specs.Steps.{commit_answer, committed, flushed};
 ghost use Rattle.world.specs.Inner.Running.{IsAtHome, core_of, journal_in};
@@ -33,7 +33,7 @@ impl Model for RunningPrimary {
 
     ghost Value = { Running };
 
-    ghost view = { λ p. record { primary = p.core.primary; journal = journal_in p.core.journal } };
+    ghost view = { λ p. record { primary = p.core.primary; journal = journal_in p.core.journal; form = p.core.form } };
 
     ghost invariant = { λ p. IsAtHome p.core };
 }
@@ -42,7 +42,7 @@ impl RunningPrimary {
     /// The primary of this core.
     pub fn of(core: PrimaryCore<MemJournal>) -> RunningPrimary
         requires { IsAtHome core }
-        ensures { result ≡ record { primary = core.primary; journal = journal_in core.journal } }
+        ensures { result ≡ record { primary = core.primary; journal = journal_in core.journal; form = core.form } }
     {
         RunningPrimary { core }
     }
@@ -57,8 +57,9 @@ impl RunningPrimary {
         ensures sendable { (worker : ℕ) → AllByRecursion IsSendable (stream_of self.now.primary.durable worker) }
         ensures some_workers { 0 < self.now.primary.workers }
         ensures few_workers { self.now.primary.workers ≤ workers_max }
+        ensures form { IsFormOf self.now.form self.now.primary.durable }
         ensures written { self.now.primary.failed ≡ false → self.now.journal.bytes
-            ≡ journal_text self.now.primary.workers (shape_of self.now.primary.schema) self.now.primary.durable }
+            ≡ journal_text self.now.form self.now.primary.workers (shape_of self.now.primary.schema) self.now.primary.durable }
     {
         self.core.keeps_legal();
     }
@@ -107,6 +108,7 @@ impl RunningPrimary {
         ensures refused { IfErr result (λ refusal. (refusal.0 ≡ transaction) × (self.new.primary ≡ self.old.primary)
             × IsFaultOf (commit_answer self.old.primary worker transaction) CommitFault.Memory refusal.1) }
         ensures journal { self.new.journal ≡ self.old.journal }
+        ensures form { self.new.form ≡ self.old.form }
     {
         self.core.commit(transaction, worker)
     }
@@ -117,6 +119,7 @@ impl RunningPrimary {
             × (durable ≡ length self.new.primary.durable)) }
         ensures refused { IfErr result (λ fault. IsFlushRefusal (core_of self.old) count fault self.new.primary) }
         ensures faults { CountsFlushFault result 0 0 }
+        ensures form { self.new.form ≡ self.old.form }
     {
         self.core.flush(count)
     }

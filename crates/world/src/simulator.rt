@@ -1,8 +1,11 @@
-//! Runs of a list of events on a new world.
+//! Runs of a list of events on a world from its beginning on.
 
-ghost use Rattle.std.specs.Prelude.{◌≡◌, ◌<◌, ◌≤◌, length, IfOk};
+ghost use Rattle.std.specs.Prelude.{◌≡◌, ◌^◌, ◌<◌, ◌≤◌, [], length, IfOk, IfErr};
 ghost use Rattle.std.specs.List.{AllByRecursion};
+ghost use Rattle.rows.specs.Shape.{shape_of};
+ghost use Rattle.journal.specs.Recovery.{IsRefusal};
 ghost use Rattle.script.specs.Events.{IsPossible};
+ghost use Rattle.world.specs.Cores.{Opening, new_opening, IsOpeningOn, cores_started};
 ghost use Rattle.world.specs.Database.{IsPromised};
 ghost use Rattle.world.specs.Theorem.{AreOfOneRun, HasOneDumpOfVersion, IsFaultless, KeepsPromises};
 ghost use Rattle.rows.specs.Limits.{workers_max, replicas_max};
@@ -10,6 +13,7 @@ ghost use Rattle.rows.specs.Limits.{workers_max, replicas_max};
 use crate::laws::steps_are_told;
 use crate::world::World;
 use apply::PARTITIONS;
+use journal::JournalFault;
 use script::{Event, Output, Setup};
 use std::alloc::{AllocError, Global};
 use std::marker::Sync;
@@ -40,9 +44,9 @@ pub fn run<R: Threads + Sync>(
     requires workers { setup.now.workers ≤ workers_max }
     requires replicas { setup.now.replicas ≤ replicas_max }
     requires possible { AllByRecursion (IsPossible setup.now.workers setup.now.replicas) events.now }
-    ensures promise { IfOk result (λ outputs. IsPromised setup.now.schema setup.now.replicas outputs.items) }
+    ensures promise { IfOk result (λ outputs. IsPromised setup.now.schema [] setup.now.replicas outputs.items) }
     ensures each { IfOk result (λ outputs. length outputs.items ≡ length events.now) }
-    ensures run { IfOk result (λ outputs. AreOfOneRun setup.now events.now outputs.items) }
+    ensures run { IfOk result (λ outputs. AreOfOneRun (new_opening setup.now) events.now outputs.items) }
     ensures dumps { IfOk result (λ outputs. HasOneDumpOfVersion outputs.items) }
     ensures faultless { IfOk result (λ outputs. AllByRecursion IsFaultless outputs.items) }
 {
@@ -62,9 +66,54 @@ pub fn run_on<R: Threads + Sync>(
     requires workers { setup.now.workers ≤ workers_max }
     requires replicas { setup.now.replicas ≤ replicas_max }
     requires possible { AllByRecursion (IsPossible setup.now.workers setup.now.replicas) events.now }
-    ensures { IfOk result (λ outputs. KeepsPromises setup.now events.now outputs.items) }
+    ensures { IfOk result (λ outputs. KeepsPromises (new_opening setup.now) events.now outputs.items) }
 {
-    let mut world = World::with_partitions(alloc, setup, partitions)?;
+    let world = World::with_partitions(alloc, setup, partitions)?;
+    run_through(rt, alloc, world, events)
+}
+
+/// The same on a primary that is stopped, and whose journal has these bytes; they may be of version
+/// 1, as an earlier program wrote them. What they keep is durable at the beginning, and a `start`
+/// goes on from there: the list of commits of which all is promised begins with it.
+///
+/// Fails with why the bytes are refused, or with `Memory`.
+pub fn run_on_journal<R: Threads + Sync>(
+    rt: &R,
+    alloc: Global,
+    setup: &Setup,
+    journal: Vec<u8>,
+    events: &[Event],
+) -> Result<Vec<Output>, JournalFault>
+    requires some { 0 < setup.now.workers }
+    requires workers { setup.now.workers ≤ workers_max }
+    requires replicas { setup.now.replicas ≤ replicas_max }
+    requires possible { AllByRecursion (IsPossible setup.now.workers setup.now.replicas) events.now }
+    ensures ok { IfOk result (λ outputs. (opening : Opening) × IsOpeningOn setup.now journal.items opening
+        × KeepsPromises opening events.now outputs.items) }
+    ensures refused { IfErr result (λ fault. ¬ (fault ≡ JournalFault.Memory)
+        → IsRefusal setup.now.workers (shape_of setup.now.schema) journal.items fault) }
+{
+    let world = World::open_on(alloc, setup, journal)?;
+    match run_through(rt, alloc, world, events) {
+        Ok(outputs) => Ok(outputs),
+        Err(_) => Err(JournalFault::Memory),
+    }
+}
+
+/// The outputs of the events, one for each, in order, on a world at its beginning. Fails only if out
+/// of memory.
+fn run_through<R: Threads + Sync>(
+    rt: &R,
+    alloc: Global,
+    opened: World,
+    events: &[Event],
+) -> Result<Vec<Output>, AllocError>
+    requires replicas { length opened.replicas ≤ replicas_max }
+    requires possible { AllByRecursion (IsPossible opened.primary.workers (length opened.replicas)) events.now }
+    ensures { IfOk result (λ outputs. (opening : Opening) → opened ≡ cores_started opening → length opening.durable < 2 ^ 64
+        → KeepsPromises opening events.now outputs.items) }
+{
+    let mut world = opened;
     let mut outputs = Vec::new(alloc);
     for event in events {
         let output = world.step(rt, event);

@@ -2,23 +2,25 @@
 
 ghost use Rattle.std.specs.Prelude.{◌≡◌, ◌<◌, ◌≤◌, [], ◌++◌, ℕ, List, length, take, false, IfOk, IfErr};
 ghost use Rattle.rows.specs.declared.commit.Commit.{Commit as CommitOf};
+ghost use Rattle.journal.specs.declared.form.Form.{Form as FormOf};
 ghost use Rattle.rows.specs.Limits.{workers_max};
 ghost use Rattle.rows.specs.Shape.{shape_of};
-ghost use Rattle.journal.specs.Recovery.{IsRecovered};
-ghost use Rattle.journal.specs.Text.{journal_text, records_from};
+ghost use Rattle.journal.specs.Recovery.{IsRecovered, IsRefusal};
+ghost use Rattle.journal.specs.Text.{journal_text, records_from, started};
+ghost use Rattle.primary.specs.Steps.{started_primary};
 ghost use Rattle.world.specs.Inner.CoreSteps.{HappensBeside, MayStep};
 ghost use Rattle.world.specs.Inner.Invariant.{IsReady};
-ghost use Rattle.world.specs.Inner.Nodes.{primary_kept};
+ghost use Rattle.world.specs.Inner.Nodes.{IsStoppedOn};
 ghost use Rattle.world.specs.Stops.{closed};
 
 use crate::cores::Cores;
 use crate::primary_node::PrimaryNode;
 use crate::running_primary::RunningPrimary;
-use journal::laws::stops_are_recovered;
-use journal::{JournalFault, MemJournal, recover};
+use journal::laws::{stops_are_recovered, texts_grow};
+use journal::{JournalFault, MemJournal, Recovered, recover};
 use mvcc::Transaction;
 use primary::{PrimaryCore, StartFault};
-use rows::{Commit, Schema};
+use rows::Schema;
 use script::{Event, Output, Setup};
 use std::alloc::{AllocError, Global};
 
@@ -37,6 +39,7 @@ impl Cores {
         };
         primary.keeps_legal();
         stops_are_recovered();
+        texts_grow();
         let setup = &self.setup;
         let Ok(kept) = commits_kept(self.alloc, content.as_slice(), &setup.schema, setup.workers)
         else {
@@ -44,7 +47,8 @@ impl Cores {
         };
         self.primary = PrimaryNode::Stopped {
             journal: MemJournal::of(content),
-            kept,
+            kept: kept.commits,
+            form: kept.form,
         };
         close_all(self.transactions.as_mut_slice());
         Output::Stopped
@@ -88,21 +92,21 @@ fn bytes_left(alloc: Global, primary: &RunningPrimary, bytes: u64) -> Result<Vec
     Ok(content)
 }
 
-/// The commits that a journal keeps, whose bytes are not refused. Fails only if out of memory.
+/// What a journal keeps, whose bytes are not refused. Fails only if out of memory.
 fn commits_kept(
     alloc: Global,
     content: &[u8],
     schema: &Schema,
     workers: u8,
-) -> Result<Vec<Commit>, AllocError>
-    requires { (commits : List CommitOf) × (bytes_kept : ℕ)
-        × IsRecovered workers (shape_of schema.now) content.now commits bytes_kept }
+) -> Result<Recovered, AllocError>
+    requires { (form : FormOf) × (commits : List CommitOf) × (bytes_kept : ℕ)
+        × IsRecovered workers (shape_of schema.now) content.now form commits bytes_kept }
     ensures { IfOk result (λ kept. (bytes_kept : ℕ)
-        × IsRecovered workers (shape_of schema.now) content.now kept.items bytes_kept) }
+        × IsRecovered workers (shape_of schema.now) content.now kept.form kept.commits.items bytes_kept) }
 {
     stops_are_recovered();
     match recover(alloc, content, schema, workers) {
-        Ok(recovered) => Ok(recovered.commits),
+        Ok(recovered) => Ok(recovered),
         Err(JournalFault::Memory) => Err(AllocError),
         Err(JournalFault::OtherHeader) => unreachable!(),
         Err(JournalFault::Damaged(_)) => unreachable!(),
@@ -121,7 +125,7 @@ fn close_all(transactions: &mut [Option<Transaction>])
 }
 
 /// Starts a primary on a journal whose bytes are not refused. If out of memory, it hands back the
-/// journal, which keeps the same commits.
+/// journal, which has the same bytes.
 pub fn start_on(
     alloc: Global,
     journal: MemJournal,
@@ -130,15 +134,14 @@ pub fn start_on(
 ) -> Result<RunningPrimary, MemJournal>
     requires some { 0 < workers }
     requires few { workers ≤ workers_max }
-    requires kept { (commits : List CommitOf) × (bytes_kept : ℕ)
-        × IsRecovered workers (shape_of schema.now) journal.bytes commits bytes_kept }
-    ensures ok { IfOk result (λ core. (commits : List CommitOf) (bytes_kept : ℕ)
-        → IsRecovered workers (shape_of schema.now) journal.bytes commits bytes_kept
-        → core.primary ≡ record { schema = schema.now; workers = workers; durable = commits; pending = []; failed = false }) }
-    ensures written { IfOk result (λ core. core.journal.bytes ≡ journal_text workers (shape_of schema.now) core.primary.durable) }
-    ensures err { IfErr result (λ back. (commits : List CommitOf) (bytes_kept : ℕ)
-        → IsRecovered workers (shape_of schema.now) journal.bytes commits bytes_kept
-        → (left : ℕ) × IsRecovered workers (shape_of schema.now) back.bytes commits left) }
+    requires kept { (form : FormOf) × (commits : List CommitOf) × (bytes_kept : ℕ)
+        × IsRecovered workers (shape_of schema.now) journal.bytes form commits bytes_kept }
+    ensures ok { IfOk result (λ core. (form : FormOf) (commits : List CommitOf) (bytes_kept : ℕ)
+        → IsRecovered workers (shape_of schema.now) journal.bytes form commits bytes_kept
+        → (core.primary ≡ started_primary schema.now workers commits) × (core.form ≡ started form (length commits))) }
+    ensures written { IfOk result (λ core.
+        core.journal.bytes ≡ journal_text core.form workers (shape_of schema.now) core.primary.durable) }
+    ensures err { IfErr result (λ back. back.bytes ≡ journal.bytes) }
 {
     stops_are_recovered();
     match PrimaryCore::start(alloc, journal, schema, workers) {
@@ -147,4 +150,21 @@ pub fn start_on(
         Err((_, StartFault::Store(_))) => unreachable!(),
         Err((_, StartFault::Journal(_))) => unreachable!(),
     }
+}
+
+/// A stopped primary whose journal has these bytes. Fails as `recover` does.
+pub fn stopped_on(
+    alloc: Global,
+    content: Vec<u8>,
+    setup: &Setup,
+) -> Result<PrimaryNode, JournalFault>
+    ensures ok { IfOk result (IsStoppedOn setup.now content.items) }
+    ensures refused { IfErr result (IsRefusal setup.now.workers (shape_of setup.now.schema) content.items) }
+{
+    let kept = recover(alloc, &content, &setup.schema, setup.workers)?;
+    Ok(PrimaryNode::Stopped {
+        journal: MemJournal::of(content),
+        kept: kept.commits,
+        form: kept.form,
+    })
 }

@@ -4,7 +4,7 @@ ghost use Rattle.world.specs.Theorem.{AllowedRunsAreExact, RunsAreOfDatabase};
 ghost use Rattle.world.specs.Stops.{StopIsRecovered, StopKeepsDurable, StopEndsTransactions};
 
 use crate::laws::steps_are_told;
-use journal::laws::stops_are_recovered;
+use journal::laws::{stops_are_recovered, texts_grow};
 
 /// What is durable after a stop is what the journal keeps of its bytes at that moment: what was
 /// durable, possibly with more after it. No transaction is open then. No code takes part.
@@ -14,6 +14,7 @@ pub fn stops_keep_what_stands()
     ensures transactions { StopEndsTransactions }
 {
     stops_are_recovered();
+    texts_grow();
 }
 
 /// Any outputs that the world allows for possible events, whatever produced them, keep what is

@@ -1,20 +1,22 @@
 //! The world: the cores and all that was ever sent, stepped by events.
 
-ghost use Rattle.std.specs.Prelude.{◌≡◌, ◌<◌, ◌≤◌, length, IfOk};
+ghost use Rattle.std.specs.Prelude.{◌≡◌, ◌<◌, ◌≤◌, length, IfOk, IfErr};
 ghost use Rattle.rows.specs.Shape.{shape_of};
 ghost use Rattle.rows.specs.Commits.{IsLegal};
-ghost use Rattle.journal.specs.Recovery.{IsBeginning};
+ghost use Rattle.journal.specs.Recovery.{IsBeginning, IsRefusal};
 ghost use Rattle.script.specs.Events.{IsPossible};
-ghost use Rattle.world.specs.Cores.{cores_started};
+ghost use Rattle.world.specs.Cores.{Opening, new_opening, IsOpeningOn, cores_started};
 ghost use Rattle.world.specs.Allowed.{MayHappen};
 ghost use Rattle.world.specs.Standing.{world_of, AreFed, JournalStands, StopLeaves};
 ghost use Rattle.world.specs.Theorem.{SaysRows, IsFaultless};
 ghost use Rattle.rows.specs.Limits.{workers_max, replicas_max};
 
-use crate::cores::Cores;
+use crate::cores::{Cores, new_replicas};
 use crate::laws::steps_are_told;
+use crate::stopping::stopped_on;
 use apply::PARTITIONS;
 use dispatcher::fed_replicas_stay_fed;
+use journal::JournalFault;
 use script::{Event, Output, Setup};
 use std::alloc::{AllocError, Global};
 use std::marker::{Model, Sync};
@@ -48,7 +50,7 @@ impl World {
         requires some { 0 < setup.now.workers }
         requires workers { setup.now.workers ≤ workers_max }
         requires replicas { setup.now.replicas ≤ replicas_max }
-        ensures { IfOk result (λ world. world ≡ cores_started setup.now) }
+        ensures { IfOk result (λ world. world ≡ cores_started (new_opening setup.now)) }
     {
         World::with_partitions(alloc, setup, PARTITIONS)
     }
@@ -63,12 +65,36 @@ impl World {
         requires some { 0 < setup.now.workers }
         requires workers { setup.now.workers ≤ workers_max }
         requires replicas { setup.now.replicas ≤ replicas_max }
-        ensures { IfOk result (λ world. world ≡ cores_started setup.now) }
+        ensures { IfOk result (λ world. world ≡ cores_started (new_opening setup.now)) }
     {
         fed_replicas_stay_fed();
         steps_are_told();
         setup.schema.keeps_limits();
         let cores = Cores::start(alloc, setup, partitions)?;
+        Ok(World { cores })
+    }
+
+    /// A primary that is stopped, on a journal of these bytes, which may be of version 1, and
+    /// replicas as at the start. What the journal keeps is durable.
+    ///
+    /// Fails as `recover` does: with why the bytes are refused, or with `Memory`.
+    pub fn open_on(alloc: Global, setup: &Setup, journal: Vec<u8>) -> Result<World, JournalFault>
+        requires some { 0 < setup.now.workers }
+        requires workers { setup.now.workers ≤ workers_max }
+        requires replicas { setup.now.replicas ≤ replicas_max }
+        ensures ok { IfOk result (λ world.
+            (opening : Opening) × IsOpeningOn setup.now journal.items opening × (world ≡ cores_started opening)) }
+        ensures refused { IfErr result (λ fault. ¬ (fault ≡ JournalFault.Memory)
+            → IsRefusal setup.now.workers (shape_of setup.now.schema) journal.items fault) }
+    {
+        fed_replicas_stay_fed();
+        steps_are_told();
+        setup.schema.keeps_limits();
+        let Ok(replicas) = new_replicas(alloc, setup, PARTITIONS) else {
+            return Err(JournalFault::Memory);
+        };
+        let primary = stopped_on(alloc, journal, setup)?;
+        let cores = Cores::around(alloc, primary, replicas);
         Ok(World { cores })
     }
 

@@ -9,7 +9,7 @@ use Rattle.update_log.specs.declared.span.Span.{Span}
 use Rattle.update_log.specs.Streams.{AreStreamsOf}
 use Rattle.journal.specs.Recovery.{HasRecord}
 use Rattle.journal.specs.Storing.{faults_max}
-use Rattle.primary.specs.Journaling.{AreNumbered}
+use Rattle.primary.specs.Journaling.{IsFormOf, AreNumbered}
 use Rattle.primary.specs.State.{Core, faults_in}
 use Rattle.primary.specs.Lending.{Lent}
 
@@ -22,10 +22,12 @@ pub record AreLists (versions : VersionList) (streams : List (List Span)) (durab
   pub records : AllByRecursion HasRecord versions.commits
   pub framed : AreStreamsOf streams versions.commits
 
--- until it fails, a journal that is there can count one fault more, so that it may be appended to; where it failed it is there
+-- until it fails, a journal that is there can count one fault more, so that it may be appended to; where it failed it is there. The
+-- text of what is durable may have its form
 pub record KeepsJournal {J : Type 0} (fault_count : J → ℕ) (core : Core J) : Type 0 where
   pub countable : core.primary.failed ≡ false → faults_in fault_count core.journal < faults_max
   pub there : core.primary.failed ≡ true → is_some core.journal ≡ true
+  pub form : IsFormOf core.form core.primary.durable
 
 -- a flush that has begun can be written: there is room for what it offers, and one fault more can be counted
 pub record CanBeWritten {J : Type 0} (room fault_count : J → ℕ) (lent : Lent J) : Type 0 where

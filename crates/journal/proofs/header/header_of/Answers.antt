@@ -15,7 +15,7 @@ loop-table-preserved c =
           record {
             written =
                 rw w.bytes-is (w.push_table.ensures.items ∙ ap (λ text. text ++ table_header kinds) c.loop-table.invariant.written
-                ∙ header_more c.args.workers shape c.loop-table.table kinds (sym w.in-Some.ensures.value));
+                ∙ header_more c.args.form c.args.workers shape c.loop-table.table kinds (sym w.in-Some.ensures.value));
             few = rw w.bytes-is (omega (arith, w.push_table.ensures.len, c.loop-table.invariant.few));
           }
       | in_default w ↦ absurd (no_gap c.args.schema.now c.loop-table.table (omega arith) w.in_default.ensures.value)

@@ -6,6 +6,6 @@ use Rattle.journal.proofs.header.header_of.Given as goal
 
 abbrev pub invariant-loop-table : goal.invariant-loop-table
 invariant-loop-table l = record {
-  written : l.bytes.items ≡ header_so_far l.workers (shape_of l.schema) l.table;
+  written : l.bytes.items ≡ header_so_far l.fn.form l.workers (shape_of l.schema) l.table;
   few : length l.bytes.items ≤ 6 + 17 * l.table;
 }

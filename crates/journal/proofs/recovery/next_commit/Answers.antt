@@ -9,7 +9,7 @@ use Rattle.journal.proofs.recovery.next_commit.Goals as goal
 pub returns-in-Ok-None-clause-err : goal.returns-in-Ok-None-clause-err
 returns-in-Ok-None-clause-err c tables is = (
   refl,
-  record_at-damaged c.entries_are_read_as_spelled.ensures.spelled c.args.rest.now c.requires
+  record_at-damaged c.entries_are_read_as_spelled.ensures.spelled c.args.form c.args.rest.now c.requires
       (sym c.in-Ok-None.ensures ∙ c.in-Ok-None.field-0-is),
 )
 
@@ -19,13 +19,13 @@ returns-then-found-number-clause-err c tables is =
     let found = c.in-Ok-Some.found in
     let read =
     read_here c.numbers_are_read_as_spelled.ensures.spelled c.numbers_are_read_as_spelled.ensures.below
-    c.entries_are_read_as_spelled.ensures.found rest found c.in-Ok-Some.field-0 (λ i. omega (arith, c.type_inv.rest i))
+    c.entries_are_read_as_spelled.ensures.found c.args.form rest found c.in-Ok-Some.field-0 (λ i. omega (arith, c.type_inv.rest i))
     c.requires c.in-Ok-Some.ensures c.in-Ok-Some.field-0-is in (
       refl,
       record {
         number = found.number;
         commit = found.commit;
-        there = record_at-there rest found read;
+        there = record_at-there c.args.form rest found read;
         other = c.if-found-number.true;
       },
     )
@@ -36,12 +36,13 @@ returns-in-Ok-false-clause-err c tables is =
     let found = c.in-Ok-Some.found in
     let read =
     read_here c.numbers_are_read_as_spelled.ensures.spelled c.numbers_are_read_as_spelled.ensures.below
-    c.entries_are_read_as_spelled.ensures.found rest found c.in-Ok-Some.field-0 (λ i. omega (arith, c.type_inv.rest i))
+    c.entries_are_read_as_spelled.ensures.found c.args.form rest found c.in-Ok-Some.field-0 (λ i. omega (arith, c.type_inv.rest i))
     c.requires c.in-Ok-Some.ensures c.in-Ok-Some.field-0-is in (
       refl,
       record {
         commit = found.commit;
-        there = subst (λ (n : ℕ). IsRecordAt rest n found.commit) c.if-found-number.false (record_at-there rest found read);
+        there = subst (λ (n : ℕ). IsRecordAt c.args.form rest n found.commit) c.if-found-number.false
+            (record_at-there c.args.form rest found read);
         undefined =
             subst (λ (b : Bool). IsAccepted b c.args.workers tables c.accepts.new.present found.commit)
             c.in-Ok-false.field-0-test (c.in-Ok-false.ensures tables is);
@@ -54,7 +55,7 @@ returns-clause-ok c tables is =
     let found = c.in-Ok-Some.found in
     let read =
     read_here c.numbers_are_read_as_spelled.ensures.spelled c.numbers_are_read_as_spelled.ensures.below
-    c.entries_are_read_as_spelled.ensures.found rest found c.in-Ok-Some.field-0 (λ i. omega (arith, c.type_inv.rest i))
+    c.entries_are_read_as_spelled.ensures.found c.args.form rest found c.in-Ok-Some.field-0 (λ i. omega (arith, c.type_inv.rest i))
     c.requires c.in-Ok-Some.ensures c.in-Ok-Some.field-0-is in
     record {
       front =
@@ -63,6 +64,7 @@ returns-clause-ok c tables is =
           (sym (c.split_at.ensures.back ∙ ap (λ (n : ℕ). drop (4 + n) rest) c.body_len.ensures.value))
           ∙ ap (λ (n : ℕ). record_of n found.commit ++ c.split_at.result.1.now) c.if-found-number.false;
       held = read.held;
+      follows = read.follows;
       accepted =
           subst (λ (b : Bool). IsAccepted b c.args.workers tables c.accepts.new.present found.commit)
           c.in-Ok-true.field-0-test (c.in-Ok-true.ensures tables is);

@@ -25,3 +25,36 @@ returns-clause-shortest c = refl
 
 pub returns-clause-longest : goal.returns-clause-longest
 returns-clause-longest c = refl
+
+pub returns-clause-old : goal.returns-clause-old
+returns-clause-old c = refl
+
+pub returns-clause-add_number : goal.returns-clause-add_number
+returns-clause-add_number c = refl
+
+pub returns-clause-old_journal : goal.returns-clause-old_journal
+returns-clause-old_journal c = refl
+
+pub returns-clause-marked : goal.returns-clause-marked
+returns-clause-marked c = refl
+
+pub returns-clause-marked_first : goal.returns-clause-marked_first
+returns-clause-marked_first c = refl
+
+pub returns-clause-torn_length : goal.returns-clause-torn_length
+returns-clause-torn_length c = refl
+
+pub returns-clause-damaged_length : goal.returns-clause-damaged_length
+returns-clause-damaged_length c = refl
+
+pub returns-clause-torn_new : goal.returns-clause-torn_new
+returns-clause-torn_new c = refl
+
+pub returns-clause-damaged_new : goal.returns-clause-damaged_new
+returns-clause-damaged_new c = refl
+
+pub returns-clause-second_mark : goal.returns-clause-second_mark
+returns-clause-second_mark c = refl
+
+pub returns-clause-old_shortest : goal.returns-clause-old_shortest
+returns-clause-old_shortest c = refl

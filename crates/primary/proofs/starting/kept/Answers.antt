@@ -6,5 +6,6 @@ use Rattle.primary.proofs.starting.kept.Goals as goal
 
 pub returns-in-Ok-clause-numbered : goal.returns-in-Ok-clause-numbered
 returns-in-Ok-clause-numbered g c =
-    numbered-recovered c.one_cut.ensures.short c.args.workers (shape_of c.args.schema.now) c.args.bytes.now c.in-Ok.recovered.commits.items
+    numbered-recovered c.one_cut.ensures.short c.args.workers (shape_of c.args.schema.now) c.args.bytes.now c.in-Ok.recovered.form
+    c.in-Ok.recovered.commits.items
     c.in-Ok.recovered.bytes_kept c.in-Ok.ensures (omega arith)

@@ -4,7 +4,9 @@ use Rattle.world.proofs.theorem.stops_keep_what_stands.Goals as goal
 
 pub returns : goal.returns
 returns c = record {
-  recovered = stop-recovered c.stops_are_recovered.ensures.stops;
+  recovered =
+      stop-recovered c.stops_are_recovered.ensures.stops c.stops_are_recovered.ensures.form c.texts_grow.ensures.grows
+      c.texts_grow.ensures.goes_on;
   durable = stop-durable;
   transactions = stop-transactions;
 }

@@ -22,7 +22,8 @@ returns-in-Err-default-Memory c =
     inside.boots.items inside.asked_at.items c.args.self.now c.in-Running.is c.self.view_is in
     let refused = c.in-Err-default-Memory.ensures.refused in
     let journal = c.in-Err-default-Memory.ensures.journal in
+    let form = c.in-Err-default-Memory.ensures.form in
     let left = rw (c.take_open.ensures.left) at c.put_back.ensures in
     let fault = rw c.in-Err-default-Memory.field-0-1-is at refused.2 in
-    rw (refused.1, journal) (commit_lacks _ _ seen refl c.args.number c.args.worker c.in-Some.transaction
+    rw (refused.1, journal, form) (commit_lacks _ _ seen refl c.args.number c.args.worker c.in-Some.transaction
     c.in-Err-default-Memory.transaction _ (sym c.take_open.ensures.taken ∙ c.in-Some.is) left refused.0 fault)

@@ -1,6 +1,6 @@
 -- The parts at the beginning are those of a world.
 use Rattle.world.proofs.FedLaws.{FedLaws}
-use Rattle.world.proofs.Whole.{started-kept}
+use Rattle.world.proofs.Whole.{new-kept}
 use Rattle.world.proofs.world.World.with_partitions.Goals as goal
 
 pub invariant_of-result : goal.invariant_of-result
@@ -21,4 +21,4 @@ invariant_of-result c =
       steps = c.steps_are_told.ensures;
     } in
     rw c.in_ok-cores.ensures
-    (started-kept laws c.args.setup.now c.keeps_limits.ensures c.requires.some c.requires.workers c.requires.replicas)
+    (new-kept laws c.args.setup.now c.keeps_limits.ensures c.requires.some c.requires.workers c.requires.replicas)

@@ -3,7 +3,7 @@ use Rattle.std.proofs.Common.{◌≡◌, ◌<◌, ◌≤◌, ◌++◌, length, m
 use Rattle.std.proofs.lemmas.List.{length-map, get_or-map, take-map, take-append-drop}
 use Rattle.apply.specs.Blocks.{wider, narrower}
 use Rattle.apply.proofs.Widened.{mixed-at, mixed-more, mixed-all, mixed-front, mixed-back, set-same, of-ok, of-err, narrower-each}
-use Rattle.apply.proofs.widening.add_column.Goals as goal
+use Rattle.apply.proofs.widening.add_copies.Goals as goal
 
 pub loop-k-init : goal.loop-k-init
 loop-k-init c = refl
@@ -17,9 +17,9 @@ loop-k-preserved c =
     let d = c.index-blocks-k.result in
     let few : k < length olds = c.loop-k-test.true in
     let many = length-map olds wide in
-    let made = of-ok c.add_column.result _ c.add_column.ensures.ok (sym c.is_err.ensures.value ∙ c.if-is_err.false) in
-    ap (λ blocks. slice_set blocks k c.add_column.new.self) c.loop-k.invariant
-    ∙ mixed-more k news olds d c.add_column.new.self many few
+    let made = of-ok c.add_copy.result _ c.add_copy.ensures.ok (sym c.is_err.ensures.value ∙ c.if-is_err.false) in
+    ap (λ blocks. slice_set blocks k c.add_copy.new.self) c.loop-k.invariant
+    ∙ mixed-more k news olds d c.add_copy.new.self many few
     (made ∙ ap wide (ap (λ blocks. get_or blocks k d) c.loop-k.invariant ∙ mixed-at k news olds d many few)
     ∙ sym (get_or-map wide olds k d d few))
 
@@ -39,9 +39,9 @@ returns-then-is_err-clause-err c =
     let blocks = c.loop-k.blocks in
     let many = length-map olds wide in
     let le : k ≤ length olds = omega (arith, c.loop-k-test.true) in
-    let kept = of-err c.add_column.result _ c.add_column.ensures.err (sym c.is_err.ensures.value ∙ c.if-is_err.true) in
-    let same : slice_set blocks k c.add_column.new.self ≡ blocks = set-same blocks k c.add_column.new.self d kept in
-    let all : slice_set blocks k c.add_column.new.self ≡ take k news ++ drop k olds = same ∙ c.loop-k.invariant in
+    let kept = of-err c.add_copy.result _ c.add_copy.ensures.err (sym c.is_err.ensures.value ∙ c.if-is_err.true) in
+    let same : slice_set blocks k c.add_copy.new.self ≡ blocks = set-same blocks k c.add_copy.new.self d kept in
+    let all : slice_set blocks k c.add_copy.new.self ≡ take k news ++ drop k olds = same ∙ c.loop-k.invariant in
     let front : c.drop_column.new.blocks ≡ take k olds =
     c.drop_column.ensures ∙ ap (λ blocks. map narrower (take k blocks)) all ∙ ap (map narrower) (mixed-front k news olds many le)
     ∙ ap (map narrower) (take-map wide k olds) ∙ narrower-each c.args.default.now (take k olds) in
@@ -49,3 +49,13 @@ returns-then-is_err-clause-err c =
     ∙ ap (λ back. c.drop_column.new.blocks ++ back) (mixed-back k news olds many le)
     ∙ ap (λ front. front ++ drop k olds) front
     ∙ take-append-drop k olds
+
+pub add_copy-requires-clause-within : goal.add_copy-requires-clause-within
+add_copy-requires-clause-within c =
+    let olds = c.args.blocks.now in
+    let wide = wider c.args.default.now in
+    let k = c.loop-k.k in
+    let d = c.index-blocks-k.result in
+    let few : k < length olds = c.loop-k-test.true in
+    let same = ap (λ blocks. get_or blocks k d) c.loop-k.invariant ∙ mixed-at k (map wide olds) olds d (length-map olds wide) few in
+    rw same (c.requires.within k d few)
