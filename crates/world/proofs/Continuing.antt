@@ -13,7 +13,7 @@ use Rattle.world.specs.Cores.{Cores, Opening, cores_started}
 use Rattle.world.specs.Steps.{World, opening_world}
 use Rattle.world.specs.Allowed.{Step, LeadsTo, events_in, outputs_in, IsAllowed, Runs}
 use Rattle.world.specs.Database.{IsDatabaseRun, new_database}
-use Rattle.world.specs.Standing.{world_of, AreFed, JournalStands, StopLeaves}
+use Rattle.world.specs.Standing.{world_of, AreFed, JournalStands, LeavesOnJournal}
 use Rattle.world.specs.Theorem.{seen, database_of, IsFaultless, AreOfOneRun, HasOneDumpOfVersion, KeepsPromises}
 use Rattle.world.specs.Inner.StepLaws.{StepLaws}
 use Rattle.world.proofs.Databases.{runs-of-database}
@@ -28,7 +28,7 @@ use Rattle.world.proofs.Worlds.{world-started}
 
 -- a step of the cores that the world allows, and after which they stand
 abbrev pub KeepsStanding : Step Cores → Type 0
-KeepsStanding step = IsAllowed (seen step) × AreFed step.new × JournalStands step.new × StopLeaves step.old step.event step.new
+KeepsStanding step = IsAllowed (seen step) × AreFed step.new × JournalStands step.new × LeavesOnJournal step.old step.event step.new
 
 -- the steps by these events and with these outputs, from the cores' start to where they are now
 pub record RunsSoFar (opening : Opening) (events : List Event) (outputs : List Output) (now : Cores) : Type 0 where
@@ -121,7 +121,7 @@ keeps_promises laws opening events outputs end numbered few possible legal run =
         fed = fed;
         journal = all_weaker KeepsStanding (λ (step : Step Cores). JournalStands step.new) run.steps (λ step kept. kept.2) run.kept;
         leaves =
-            all_weaker KeepsStanding (λ (step : Step Cores). StopLeaves step.old step.event step.new) run.steps (λ step kept. kept.3)
+            all_weaker KeepsStanding (λ (step : Step Cores). LeavesOnJournal step.old step.event step.new) run.steps (λ step kept. kept.3)
             run.kept;
         tables = run-stands opening end run.steps run.leads allowed grow fed;
       };

@@ -12,14 +12,14 @@ use Rattle.journal.specs.declared.form.Form.{Form}
 use Rattle.journal.specs.declared.form.Form.TheVariants.{New}
 use Rattle.journal.specs.Laws.{StopsAreRecovered, IsRecoveredOnce, FormStays, TextGrows, StartedGoesOn}
 use Rattle.journal.specs.Recovery.{IsJournaled, IsRecovered}
-use Rattle.journal.specs.Text.{header, journal_text, records_from}
+use Rattle.journal.specs.Text.{header, journal_text, records_from, started}
 use Rattle.primary.specs.Journaling.{IsFormOf}
 use Rattle.primary.specs.State.{Primary}
 use Rattle.dispatcher.specs.State.{Replica}
 use Rattle.script.specs.declared.event.Event.TheVariants.{Stop, Start}
 use Rattle.script.specs.declared.output.Output.TheVariants as outputs
 use Rattle.script.specs.declared.setup.Setup.{Setup}
-use Rattle.world.specs.Inner.CoreSteps.{HappensBeside, MayStep}
+use Rattle.world.specs.Inner.CoreSteps.{MayStep}
 use Rattle.world.specs.declared.primary_node.PrimaryNode.{PrimaryNode}
 use Rattle.world.specs.Inner.Running.{Running as RunningOf}
 use Rattle.world.specs.Inner.Nodes.{primary_kept, primary_in, durable_in, is_stopped, journal_bytes_in, form_in, opening_of}
@@ -265,30 +265,36 @@ module _ (setup : Setup) (p : Primary) (journal : List ℕ) (form : Form) (trans
         λ was now. (stands ∙ is, same.0),
       )
 
-  -- it starts on what is kept
+  -- it starts on what is kept, in the form that a start leaves
   pub start_done : (old : Cores) (kept : List Commit) (bytes : List ℕ) (found : Form) → stopped kept bytes found transactions ≡ old
-      → p ≡ primary_kept setup kept → HappensBeside old Start (outputs.Durable (length p.durable)) running
-  start_done old kept bytes found seen same =
+      → p ≡ primary_kept setup kept → form ≡ started found (length kept) → MayStep old Start (outputs.Durable (length p.durable)) running
+  start_done old kept bytes found seen same marked =
       let w = world_of (stopped kept bytes found transactions) in
-      subst (λ (x : Cores). HappensBeside x Start (outputs.Durable (length p.durable)) running) seen (record {
-        happens = inl (ap (λ (x : Primary). (outputs.Durable (length x.durable), record w { primary = x; stopped = false })) (sym same));
-        setup = refl;
-        replicas = refl;
-        boots = refl;
-        asked_at = refl;
-        kept = λ keeps is. absurd (false≢true is);
-      })
+      subst (λ (x : Cores). MayStep x Start (outputs.Durable (length p.durable)) running) seen (
+        record {
+          happens = inl (ap (λ (x : Primary). (outputs.Durable (length x.durable), record w { primary = x; stopped = false })) (sym same));
+          setup = refl;
+          replicas = refl;
+          boots = refl;
+          asked_at = refl;
+          kept = λ keeps is. absurd (false≢true is);
+        },
+        λ was now. marked,
+      )
 
   -- it is out of memory, and stays stopped
   pub start_lacks : (old : Cores) (kept : List Commit) (bytes back : List ℕ) (found : Form) (count : ℕ)
       → stopped kept bytes found transactions ≡ old → IsRecovered setup.workers (shape_of setup.schema) back found kept count
-      → HappensBeside old Start outputs.Memory (stopped kept back found transactions)
+      → MayStep old Start outputs.Memory (stopped kept back found transactions)
   start_lacks old kept bytes back found count seen recovered =
-      subst (λ (x : Cores). HappensBeside x Start outputs.Memory (stopped kept back found transactions)) seen (record {
-        happens = inr (inl (refl, refl, refl));
-        setup = refl;
-        replicas = refl;
-        boots = refl;
-        asked_at = refl;
-        kept = λ keeps is. (count, recovered);
-      })
+      subst (λ (x : Cores). MayStep x Start outputs.Memory (stopped kept back found transactions)) seen (
+        record {
+          happens = inr (inl (refl, refl, refl));
+          setup = refl;
+          replicas = refl;
+          boots = refl;
+          asked_at = refl;
+          kept = λ keeps is. (count, recovered);
+        },
+        λ was now. absurd (false≢true (sym now)),
+      )

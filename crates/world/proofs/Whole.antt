@@ -51,7 +51,7 @@ use Rattle.world.specs.Steps.{World, Member, open_transaction, happens, unless_s
 use Rattle.world.specs.Steps.{run_happens, raw_happens, is_forged, delivered, dump_at, restart_happens, had_boot}
 use Rattle.world.specs.Allowed.{MayHappen, RunIsInterruptedAt}
 use Rattle.world.specs.Inner.Sound.{Sound, PrimaryListsAreLegal, IsFed}
-use Rattle.world.specs.Standing.{boots_at, world_of, members_of, AreFed, JournalStands, JournalStandsAs, StopLeaves}
+use Rattle.world.specs.Standing.{boots_at, world_of, members_of, AreFed, JournalStands, JournalStandsAs, LeavesOnJournal}
 use Rattle.world.specs.Inner.Undamaged.{IsUndamaged}
 use Rattle.world.specs.Inner.Fresh.{Fresh, HasBoot}
 use Rattle.world.proofs.Restarts.{restart-follows}
@@ -384,7 +384,7 @@ module _ (laws : FedLaws) (shape : Shape) (p : Cores) (sound : Sound shape p) (f
   may-follow (events.Stop bytes) output new may =
       happens-served shape p _ _ output new sound (λ cut. cut) lists may.0 refl (λ lists. stop-sound laws shape p bytes lists sound)
   may-follow events.Start output new may =
-      happens-beside shape p _ output new sound (λ cut. cut) may (start-sound shape p p.stopped sound)
+      happens-beside shape p _ output new sound (λ cut. cut) may.0 (start-sound shape p p.stopped sound)
   may-follow (events.Push worker seq) output new may =
       happens-served shape p _ _ output new sound (λ cut. cut) lists may refl
       (λ lists. push-sound laws.steps.reads shape p worker seq (slice_get (stream_of p.primary.durable worker) seq) lists sound refl)
@@ -441,8 +441,9 @@ HasText p =
     → p.journal ≡ journal_text p.form p.primary.workers (shape_of p.primary.schema) p.primary.durable
 
 -- what a stop leaves on the journal
-leaves-bytes : (p : Cores) (event : Event) (output : Output) (new : Cores) → MayStep p event output new → StopLeaves p event new
+leaves-bytes : (p : Cores) (event : Event) (output : Output) (new : Cores) → MayStep p event output new → LeavesOnJournal p event new
 leaves-bytes p (events.Stop bytes) output new may = may.1
+leaves-bytes p events.Start output new may = may.1
 leaves-bytes p other output new may = tt
 
 -- where the journal stands
@@ -583,7 +584,7 @@ pub record IsKeptStep (old : Cores) (event : Event) (output : Output) (new : Cor
   pub faultless : IsFaultless output
   pub fed : AreFed new
   pub journal : HasText new → JournalStands new
-  pub leaves : StopLeaves old event new
+  pub leaves : LeavesOnJournal old event new
   pub schema : new.primary.schema ≡ old.primary.schema
   pub workers : new.primary.workers ≡ old.primary.workers
   pub replicas : length new.replicas ≡ length old.replicas

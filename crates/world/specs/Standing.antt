@@ -4,7 +4,7 @@ use Rattle.std.specs.Prelude.{◌≡◌, ℕ, List, [], ◌∷◌, ◌++◌, len
 use Rattle.std.specs.Prelude.{slice_index, slice_index_or}
 use Rattle.std.specs.List.{AllByRecursion}
 use Rattle.rows.specs.Shape.{shape_of}
-use Rattle.journal.specs.Text.{journal_text, records_from}
+use Rattle.journal.specs.Text.{journal_text, records_from, started}
 use Rattle.journal.specs.Recovery.{IsRecovered}
 use Rattle.dispatcher.specs.State.{Replica, protocol_of}
 use Rattle.dispatcher.specs.Feeding.{IsFedFrom}
@@ -62,10 +62,13 @@ JournalStandsAs p false = p.journal ≡ journal_text p.form p.primary.workers (s
 abbrev pub JournalStands : Cores → Type 0
 JournalStands p = JournalStandsAs p p.stopped
 
--- what a stop leaves on the journal: the bytes that it acknowledged, and so many of the pending commits' records after them
-abbrev pub StopLeaves : Cores → Event → Cores → Type 0
-StopLeaves old (events.Stop bytes) new =
+-- what stands on the journal after a stop: the bytes that it acknowledged, and so many of the pending commits' records after them, in
+-- the same form; and after a start: a text of the form that a start leaves
+abbrev pub LeavesOnJournal : Cores → Event → Cores → Type 0
+LeavesOnJournal old (events.Stop bytes) new =
     old.stopped ≡ false → new.stopped ≡ true
     → (new.journal ≡ old.journal ++ take bytes (records_from (length old.primary.durable) old.primary.pending))
     × (new.form ≡ old.form)
-StopLeaves old other new = Unit {0}
+LeavesOnJournal old events.Start new =
+    old.stopped ≡ true → new.stopped ≡ false → new.form ≡ started old.form (length old.primary.durable)
+LeavesOnJournal old other new = Unit {0}

@@ -23,7 +23,7 @@ use Rattle.world.specs.Steps.{World, Member, opening_world}
 use Rattle.world.specs.Acknowledged.{KeepsAcknowledged}
 use Rattle.world.specs.Allowed.{Step, LeadsTo, events_in, outputs_in, Runs}
 use Rattle.world.specs.Database.{Reader, Database, new_database, IsDatabaseRun, IsPromised}
-use Rattle.world.specs.Standing.{world_of, AreFed, TablesAgree, JournalStands, StopLeaves}
+use Rattle.world.specs.Standing.{world_of, AreFed, TablesAgree, JournalStands, LeavesOnJournal}
 
 -- ---- what a step keeps
 
@@ -127,7 +127,7 @@ cores_of opening steps = cores_started opening ∷ map (λ (step : Step Cores). 
 pub record CoresStand (opening : Opening) (steps : List (Step Cores)) : Type 0 where
   pub fed : AllByRecursion (λ (step : Step Cores). AreFed step.new) steps
   pub journal : AllByRecursion (λ (step : Step Cores). JournalStands step.new) steps
-  pub leaves : AllByRecursion (λ (step : Step Cores). StopLeaves step.old step.event step.new) steps
+  pub leaves : AllByRecursion (λ (step : Step Cores). LeavesOnJournal step.old step.event step.new) steps
   pub tables : AllByRecursion (λ (p : Cores). AllByRecursion (TablesAgree p) (cores_of opening steps)) (cores_of opening steps)
 
 -- the outputs are those of one run of the cores, and of this run all of the following is so: it is exact by the one list that is

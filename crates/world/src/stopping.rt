@@ -8,7 +8,7 @@ ghost use Rattle.rows.specs.Shape.{shape_of};
 ghost use Rattle.journal.specs.Recovery.{IsRecovered, IsRefusal};
 ghost use Rattle.journal.specs.Text.{journal_text, records_from, started};
 ghost use Rattle.primary.specs.Steps.{started_primary};
-ghost use Rattle.world.specs.Inner.CoreSteps.{HappensBeside, MayStep};
+ghost use Rattle.world.specs.Inner.CoreSteps.{MayStep};
 ghost use Rattle.world.specs.Inner.Invariant.{IsReady};
 ghost use Rattle.world.specs.Inner.Nodes.{IsStoppedOn};
 ghost use Rattle.world.specs.Stops.{closed};
@@ -54,10 +54,11 @@ impl Cores {
         Output::Stopped
     }
 
-    /// Starts the primary again, on what its journal keeps. If out of memory, it stays stopped.
+    /// Starts the primary again, on what its journal keeps; a journal of version 1 is marked. If out
+    /// of memory, it stays stopped.
     pub fn start_again(&mut self) -> Output
         requires { IsReady self.old }
-        ensures { HappensBeside self.old Event.Start result self.new }
+        ensures { MayStep self.old Event.Start result self.new }
     {
         let PrimaryNode::Stopped { journal, .. } = &mut self.primary else {
             return Output::Running;

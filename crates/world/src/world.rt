@@ -7,7 +7,7 @@ ghost use Rattle.journal.specs.Recovery.{IsBeginning, IsRefusal};
 ghost use Rattle.script.specs.Events.{IsPossible};
 ghost use Rattle.world.specs.Cores.{Opening, new_opening, IsOpeningOn, cores_started};
 ghost use Rattle.world.specs.Allowed.{MayHappen};
-ghost use Rattle.world.specs.Standing.{world_of, AreFed, JournalStands, StopLeaves};
+ghost use Rattle.world.specs.Standing.{world_of, AreFed, JournalStands, LeavesOnJournal};
 ghost use Rattle.world.specs.Theorem.{SaysRows, IsFaultless};
 ghost use Rattle.rows.specs.Limits.{workers_max, replicas_max};
 
@@ -110,7 +110,7 @@ impl World {
         ensures durable { IsBeginning self.old.primary.durable self.new.primary.durable }
         ensures fed { AreFed self.new }
         ensures journal { JournalStands self.new }
-        ensures leaves { StopLeaves self.old event.now self.new }
+        ensures leaves { LeavesOnJournal self.old event.now self.new }
         ensures faultless { IsFaultless result }
         ensures schema { self.new.primary.schema ≡ self.old.primary.schema }
         ensures workers { self.new.primary.workers ≡ self.old.primary.workers }

@@ -26,7 +26,7 @@ use Rattle.world.specs.Outputs.{of_answers, packets_of, of_open, of_ask, of_got}
 use Rattle.world.specs.Inner.Naming.{of_dump}
 use Rattle.world.specs.Cores.{Cores}
 use Rattle.world.specs.Allowed.{MayHappen, takes_memory}
-use Rattle.world.specs.Standing.{boots_at, world_of, JournalKeeps, StopLeaves}
+use Rattle.world.specs.Standing.{boots_at, world_of, JournalKeeps, LeavesOnJournal}
 use Rattle.world.specs.Steps.{is_forged, had_boot}
 
 -- ---- beside the replicas
@@ -197,5 +197,6 @@ MayStep old (events.Restart number boot) output new =
 MayStep old (events.Raw (nodes.Replica number) bytes) output new =
     MayAnswer old (raw_by old number bytes (slice_get old.replicas number)) output new
 MayStep old (events.Stop bytes) output new =
-    HappensBeside old (events.Stop bytes) output new × StopLeaves old (events.Stop bytes) new
+    HappensBeside old (events.Stop bytes) output new × LeavesOnJournal old (events.Stop bytes) new
+MayStep old events.Start output new = HappensBeside old events.Start output new × LeavesOnJournal old events.Start new
 MayStep old other output new = HappensBeside old other output new

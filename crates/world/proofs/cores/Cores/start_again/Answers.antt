@@ -17,7 +17,7 @@ returns-in-Ok c =
     let core = c.in-Ok.primary in
     rw c.durable-durable.ensures (start_done inside.setup core.primary core.journal.bytes core.form inside.transactions.items
     inside.sent.items inside.replicas.items inside.boots.items inside.asked_at.items c.args.self.now c.in-Stopped.kept.items
-    c.in-Stopped.journal.bytes c.in-Stopped.form seen same.0)
+    c.in-Stopped.journal.bytes c.in-Stopped.form seen same.0 same.1)
 
 pub returns-in-Err : goal.returns-in-Err
 returns-in-Err c =
