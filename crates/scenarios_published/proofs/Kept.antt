@@ -4,14 +4,15 @@ use Rattle.std.proofs.Common.{Option, Some, None, IfSome}
 use Rattle.std.proofs.lemmas.List.{take_more, take-append-drop}
 use Rattle.rows.specs.declared.commit.Commit.{Commit}
 use Rattle.rows.specs.Shape.{Shape}
+use Rattle.journal.specs.declared.form.Form.{Form}
 use Rattle.journal.specs.Recovery.{IsJournaled, IsRecovered}
 use Rattle.journal.specs.Laws.{EmptyIsJournaled, BeginningIsJournaled}
 
-pub recovered_journaled : (empty : EmptyIsJournaled) (workers : ℕ) (shape : Shape) (bytes : List ℕ) (commits : List Commit) (bytes_kept : ℕ)
-    → IsRecovered workers shape bytes commits bytes_kept → IsJournaled workers shape commits
-recovered_journaled empty workers shape bytes commits bytes_kept (inl ends) =
-    subst (IsJournaled workers shape) (sym ends.1) (empty workers shape)
-recovered_journaled empty workers shape bytes commits bytes_kept (inr keeps) = keeps.0.0.journaled
+pub recovered_journaled : (empty : EmptyIsJournaled) (workers : ℕ) (shape : Shape) (bytes : List ℕ) (form : Form) (commits : List Commit)
+    (bytes_kept : ℕ) → IsRecovered workers shape bytes form commits bytes_kept → IsJournaled workers shape commits
+recovered_journaled empty workers shape bytes form commits bytes_kept (inl ends) =
+    subst (IsJournaled workers shape) (sym ends.2) (empty workers shape)
+recovered_journaled empty workers shape bytes form commits bytes_kept (inr keeps) = keeps.0.0.is.journaled
 
 pub first_journaled : (beginning : BeginningIsJournaled) (workers : ℕ) (shape : Shape) (commits : List Commit) (count : ℕ)
     → IsJournaled workers shape commits
