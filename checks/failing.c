@@ -3,6 +3,7 @@
  *
  *     LD_PRELOAD=./failing.so FILE=PATH FAILED=7 ERROR=5 PROGRAM            the seventh call on the file fails with EIO
  *     LD_PRELOAD=./failing.so FILE=PATH FAILED=7 ERROR=28 HALF=1 PROGRAM    if it writes, it writes a half, and the next one fails
+ *     LD_PRELOAD=./failing.so FILE=PATH GROWN=170 PROGRAM                   a zero is written at byte 170, before the file is locked
  *     LD_PRELOAD=./failing.so RECEIVED=7 ERROR=5 PROGRAM                    the seventh receive, or wait for one, fails
  *     LD_PRELOAD=./failing.so SENT=7 ERROR=105 PROGRAM                      the seventh datagram cannot be sent
  *     LD_PRELOAD=./failing.so THREAD=2 PROGRAM                              the second thread that it asks for is refused
@@ -26,9 +27,10 @@ struct turn {
 };
 
 static struct turn on_file, received, sent, threads;
-static unsigned long fault, halved;
+static unsigned long fault, halved, grown;
 static const char *path;
-static char is_it[FILES_MAX];
+/* Whether a descriptor is the file, a socket, or what waits for a socket. */
+static char is_it[FILES_MAX], is_socket[FILES_MAX], is_waited[FILES_MAX];
 
 static void *next(const char *name) { return dlsym((void *)-1L, name); }
 
@@ -45,6 +47,7 @@ __attribute__((constructor)) static void begin(void) {
     threads.failed = number("THREAD");
     fault = number("ERROR");
     halved = number("HALF");
+    grown = number("GROWN");
 }
 
 /* Counts a call, and tells whether it fails. */
@@ -70,7 +73,7 @@ int open(const char *name, int flags, unsigned mode) {
 
 int close(int file) {
     if (file >= 0 && file < FILES_MAX)
-        is_it[file] = 0;
+        is_it[file] = is_socket[file] = is_waited[file] = 0;
     return ((int (*)(int))next("close"))(file);
 }
 
@@ -98,7 +101,11 @@ int fdatasync(int file) { return fails_on(file) ? -1 : ((int (*)(int))next("fdat
 
 int ftruncate(int file, long count) { return fails_on(file) ? -1 : ((int (*)(int, long))next("ftruncate"))(file, count); }
 
-int flock(int file, int how) { return fails_on(file) ? -1 : ((int (*)(int, int))next("flock"))(file, how); }
+int flock(int file, int how) {
+    if (grown && file >= 0 && file < FILES_MAX && is_it[file])
+        ((long (*)(int, const void *, size, long))next("pwrite"))(file, "", 1, (long)grown);
+    return fails_on(file) ? -1 : ((int (*)(int, int))next("flock"))(file, how);
+}
 
 int fchmod(int file, unsigned mode) { return fails_on(file) ? -1 : ((int (*)(int, unsigned))next("fchmod"))(file, mode); }
 
@@ -113,8 +120,23 @@ long recvfrom(int socket, void *bytes, size count, int flags, void *from, unsign
     return fails(&received) ? -1 : whole(socket, bytes, count, flags, from, length);
 }
 
+int socket(int family, int kind, int protocol) {
+    int it = ((int (*)(int, int, int))next("socket"))(family, kind, protocol);
+    if (it >= 0 && it < FILES_MAX)
+        is_socket[it] = 1;
+    return it;
+}
+
+int epoll_ctl(int poll, int act, int file, void *event) {
+    if (poll >= 0 && poll < FILES_MAX && file >= 0 && file < FILES_MAX && is_socket[file])
+        is_waited[poll] = 1;
+    return ((int (*)(int, int, int, void *))next("epoll_ctl"))(poll, act, file, event);
+}
+
+/* A node waits for its input in the same way, which is no receive. */
 int epoll_wait(int poll, void *events, int count, int milliseconds) {
-    return fails(&received) ? -1 : ((int (*)(int, void *, int, int))next("epoll_wait"))(poll, events, count, milliseconds);
+    int it = poll >= 0 && poll < FILES_MAX && is_waited[poll];
+    return it && fails(&received) ? -1 : ((int (*)(int, void *, int, int))next("epoll_wait"))(poll, events, count, milliseconds);
 }
 
 long sendto(int socket, const void *bytes, size count, int flags, const void *to, unsigned length) {

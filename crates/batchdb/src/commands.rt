@@ -3,13 +3,15 @@
 use crate::addresses::{read_address, read_number};
 use crate::failure::{Failure, Status, shown};
 use clap::{Arg, ArgAction, ArgMatches, Command, Error};
+use nodes::Pace;
 use std::alloc::{AllocError, Global};
 use std::net::SocketAddr;
+use std::time::Duration;
 
 /// How many turns a node serves, if the words do not say.
 const TURNS: u64 = 1000;
 
-/// The most turns that may be asked for.
+/// The most turns, or seconds, that may be asked for.
 const TURNS_MAX: u64 = 4_294_967_295;
 
 /// The words of a primary.
@@ -19,12 +21,9 @@ pub struct PrimaryWords<'a> {
     pub journal: &'a str,
     pub listen: SocketAddr,
     pub replicas: Vec<SocketAddr>,
-    /// `None`: they have no end.
-    pub turns: Option<u64>,
     /// Whether jobs are taken while it serves.
     pub is_live: bool,
-    /// Whether it says what it does.
-    pub says: bool,
+    pub pace: Pace,
 }
 
 /// The words of a replica.
@@ -35,12 +34,9 @@ pub struct ReplicaWords<'a> {
     pub boot: u64,
     pub listen: SocketAddr,
     pub primary: SocketAddr,
-    /// `None`: they have no end.
-    pub turns: Option<u64>,
     /// Whether batches are taken while it serves.
     pub is_live: bool,
-    /// Whether it says what it does.
-    pub says: bool,
+    pub pace: Pace,
 }
 
 /// The words that have a journal looked at.
@@ -50,10 +46,14 @@ pub struct JournalWords<'a> {
     pub journal: &'a str,
     /// Whether its commits are printed.
     pub dumps: bool,
+    /// The first commit that is printed.
+    pub from: u64,
     /// How many bytes it is to be cut to.
     pub cut: Option<u64>,
     /// Whether it is really cut.
     pub is_sure: bool,
+    /// Whether it says how far the printing has come.
+    pub says: bool,
 }
 
 /// What the words of a node ask for.
@@ -134,6 +134,7 @@ const COMMANDS: &[(&str, &[(&str, Form)])] = &[
             ("LISTEN", Form::Word),
             ("PRIMARY", Form::Word),
             ("turns", Form::Option),
+            ("wait", Form::Option),
             ("live", Form::Flag),
             ("say", Form::Flag),
         ],
@@ -145,8 +146,10 @@ const COMMANDS: &[(&str, &[(&str, Form)])] = &[
             ("SCHEMA", Form::Word),
             ("JOURNAL", Form::Word),
             ("dump", Form::Flag),
+            ("from", Form::Option),
             ("cut", Form::Option),
             ("yes", Form::Flag),
+            ("say", Form::Flag),
         ],
     ),
 ];
@@ -217,22 +220,35 @@ fn primary_words<'a>(alloc: Global, words: &ArgMatches<'a>) -> Result<PrimaryWor
         journal: given(alloc, words, "JOURNAL")?,
         listen: address(alloc, words, "LISTEN")?,
         replicas: addresses(alloc, words)?,
-        turns: turns(alloc, words)?,
         is_live: words.get_flag("live"),
-        says: words.get_flag("say"),
+        pace: Pace {
+            turns: turns(alloc, words, Some(TURNS))?,
+            wait: None,
+            says: words.get_flag("say"),
+        },
     })
 }
 
 fn replica_words<'a>(alloc: Global, words: &ArgMatches<'a>) -> Result<ReplicaWords<'a>, Failure> {
+    let wait = wait(alloc, words)?;
+    // With a limit of time alone the turns have no end.
+    let turns = turns(
+        alloc,
+        words,
+        if wait.is_some() { None } else { Some(TURNS) },
+    )?;
     Ok(ReplicaWords {
         schema: given(alloc, words, "SCHEMA")?,
         number: number(alloc, "NUMBER", given(alloc, words, "NUMBER")?)?,
         boot: number(alloc, "BOOT", given(alloc, words, "BOOT")?)?,
         listen: address(alloc, words, "LISTEN")?,
         primary: address(alloc, words, "PRIMARY")?,
-        turns: turns(alloc, words)?,
         is_live: words.get_flag("live"),
-        says: words.get_flag("say"),
+        pace: Pace {
+            turns,
+            wait,
+            says: words.get_flag("say"),
+        },
     })
 }
 
@@ -242,9 +258,20 @@ fn journal_words<'a>(alloc: Global, words: &ArgMatches<'a>) -> Result<JournalWor
         None => None,
     };
     let dumps = words.get_flag("dump");
+    let from = match words.get_str("from") {
+        Some(word) => Some(number(alloc, "--from", word)?),
+        None => None,
+    };
     let is_sure = words.get_flag("yes");
+    let says = words.get_flag("say");
     if dumps && cut.is_some() {
         return Err(wrong(alloc, "--dump", "not with --cut"));
+    }
+    if from.is_some() && !dumps {
+        return Err(wrong(alloc, "--from", "not without --dump"));
+    }
+    if says && !dumps {
+        return Err(wrong(alloc, "--say", "not without --dump"));
     }
     if is_sure && cut.is_none() {
         return Err(wrong(alloc, "--yes", "not without --cut"));
@@ -253,8 +280,10 @@ fn journal_words<'a>(alloc: Global, words: &ArgMatches<'a>) -> Result<JournalWor
         schema: given(alloc, words, "SCHEMA")?,
         journal: given(alloc, words, "JOURNAL")?,
         dumps,
+        from: from.unwrap_or(1),
         cut,
         is_sure,
+        says,
     })
 }
 
@@ -300,15 +329,32 @@ fn number(alloc: Global, name: &str, word: &str) -> Result<u64, Failure> {
     }
 }
 
-/// How many turns a node serves; 0 turns stand for turns without an end.
-fn turns(alloc: Global, words: &ArgMatches<'_>) -> Result<Option<u64>, Failure> {
+/// How many turns a node serves, if the words say so; 0 turns stand for turns without an end.
+fn turns(
+    alloc: Global,
+    words: &ArgMatches<'_>,
+    unsaid: Option<u64>,
+) -> Result<Option<u64>, Failure> {
     let Some(word) = words.get_str("turns") else {
-        return Ok(Some(TURNS));
+        return Ok(unsaid);
     };
     match read_number(word) {
         Some(0) => Ok(None),
         Some(turns) if turns <= TURNS_MAX => Ok(Some(turns)),
         _ => Err(wrong(alloc, "--turns", word)),
+    }
+}
+
+/// How long a replica waits for the answer to a batch, if the words say so.
+fn wait(alloc: Global, words: &ArgMatches<'_>) -> Result<Option<Duration>, Failure> {
+    let Some(word) = words.get_str("wait") else {
+        return Ok(None);
+    };
+    match read_number(word) {
+        Some(seconds) if 0 < seconds && seconds <= TURNS_MAX => {
+            Ok(Some(Duration::from_secs(seconds)))
+        }
+        _ => Err(wrong(alloc, "--wait", word)),
     }
 }
 

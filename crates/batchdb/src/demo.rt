@@ -2,23 +2,24 @@
 
 ghost use Rattle.std.specs.Prelude.{◌≡◌};
 
-use crate::failure::{Failure, Status};
-use crate::files::{refused, setup_of};
-use crate::listening::listening;
+use crate::failure::{Failure, Status, failure_of};
+use crate::files::refused;
+use crate::listening::{Addresses, listening, socket_failure};
 use crate::printing::print;
-use crate::replica_program::{put, replica_of, serve_failure};
-use crate::serving::Server;
-use crate::watched_port::{Role, WatchedPort};
+use crate::replica_program::replica_of;
 use apply::ColumnStore;
-use dispatcher::ReplicaCore;
 use journal::{JournalStore, MemJournal};
+use nodes::{Host, NodeFault, Pace, Server, fault_of};
 use primary::PrimaryCore;
 use queries::Plan;
 use queue::QueryQueue;
 use rows::{ByteList, Row, RowId, Value};
-use script::{Setup, read_plan};
+use script::{Setup, read_plan, read_settings};
 use shared::{Line, Origin, Seat, Start};
-use sockets::{Change, Job, OpenGate, UdpPort, are_of_workers, run_workers, serve_replica};
+use sockets::{
+    Change, Job, OpenGate, PrimaryNode, ReplicaNode, ServeFault, Step, UdpPort, are_of_workers,
+    run_workers, serve_replica,
+};
 use std::alloc::{AllocError, Global};
 use std::io::Write;
 use std::marker::Brand;
@@ -49,11 +50,13 @@ const SEATS: u8 = WORKERS + 1;
 /// Commits 100 transactions with each of two workers, has each of two replicas answer a query, and writes
 /// their reports and that their tables are the same.
 pub fn run_demo<T: Threads + Wait + Net + Clock + Sync, W: Write>(
-    rt: &T,
-    alloc: Global,
+    host: Host<'_, T>,
     writer: &mut W,
 ) -> Result<(), Failure> {
-    let setup = setup_of(alloc, SETTINGS.as_bytes())?;
+    let alloc = host.alloc;
+    let Ok(setup) = read_settings(alloc, SETTINGS.as_bytes()) else {
+        return Err(Failure::Memory);
+    };
     let Ok(jobs) = jobs(alloc) else {
         return Err(Failure::Memory);
     };
@@ -61,14 +64,13 @@ pub fn run_demo<T: Threads + Wait + Net + Clock + Sync, W: Write>(
     let Ok(core) = core else {
         return Err(Failure::Memory);
     };
-    let pair = named(rt, alloc, core, &setup, &jobs)?;
+    let pair = named(host, core, &setup, &jobs)?;
     print_pair(alloc, &pair, writer)
 }
 
 /// What both replicas report of a primary on a new line.
 fn named<T: Threads + Wait + Net + Clock + Sync>(
-    rt: &T,
-    alloc: Global,
+    host: Host<'_, T>,
     core: PrimaryCore<MemJournal>,
     setup: &Setup,
     jobs: &[Job],
@@ -76,13 +78,13 @@ fn named<T: Threads + Wait + Net + Clock + Sync>(
     let Ok(start) = Start::new(SEATS) else {
         return Err(Failure::Memory);
     };
-    on_line::<Brand, T>(rt, alloc, core, start, setup, jobs)
+    on_line::<Brand, T>(host, core, start, setup, jobs)
 }
 
 /// A replica, and what it reported.
 #[derive(Drop)]
 struct Reported {
-    replica: ReplicaCore<ColumnStore>,
+    node: ReplicaNode<ColumnStore, UdpPort>,
     report: Option<ByteList>,
 }
 
@@ -102,19 +104,18 @@ fn job(alloc: Global, worker: u8, i: u64) -> Result<Job, AllocError> {
     let mut values = Vec::new(alloc);
     values.push(Value::Int((i % EACH) as i64))?;
     values.push(Value::Int(worker as i64))?;
-    let mut changes = Vec::new(alloc);
-    changes.push(Change::Insert {
+    let mut steps = Vec::new(alloc);
+    steps.push(Step::Change(Change::Insert {
         table: 0,
         row: RowId(1000 * worker as u64 + i % EACH),
         values: Row::from_vec(values),
-    })?;
-    Ok(Job { worker, changes })
+    }))?;
+    Ok(Job { worker, steps })
 }
 
 /// What both replicas report of a primary on a line that has done these jobs.
 fn on_line<L: Origin + Send + Sync, T: Threads + Wait + Net + Clock + Sync>(
-    rt: &T,
-    alloc: Global,
+    host: Host<'_, T>,
     core: PrimaryCore<MemJournal>,
     start: Start,
     setup: &Setup,
@@ -129,14 +130,14 @@ fn on_line<L: Origin + Send + Sync, T: Threads + Wait + Net + Clock + Sync>(
     requires seats { start.seats ≡ L.seats }
 {
     let workers = core.workers();
-    let Ok(line) = Line::<L, MemJournal, &T>::new(alloc, rt, core, start) else {
+    let Ok(line) = Line::<L, MemJournal, &T>::new(host.alloc, host.rt, core, start) else {
         return Err(Failure::Memory);
     };
-    do_all(rt, alloc, &line, workers, jobs)?;
-    let Some(mut seat) = line.seat(rt) else {
+    do_all(host, &line, workers, jobs)?;
+    let Some(seat) = line.seat(host.rt) else {
         return Err(Failure::Memory);
     };
-    reported_by_both(rt, alloc, &line, &mut seat, setup)
+    reported_by_both(host, &line, seat, setup)
 }
 
 /// Has the workers do their jobs.
@@ -145,13 +146,13 @@ fn do_all<
     J: JournalStore + Drop + Send,
     H: Wait + Drop + Send,
     T: Threads + Wait + Sync,
->(rt: &T, alloc: Global, line: &Line<L, J, H>, workers: u8, jobs: &[Job]) -> Result<(), Failure>
+>(host: Host<'_, T>, line: &Line<L, J, H>, workers: u8, jobs: &[Job]) -> Result<(), Failure>
     requires { workers ≡ L.workers }
 {
     if workers == 0 || !are_of_workers(jobs, workers as usize) {
         return Err(Failure::Memory);
     }
-    match run_workers(rt, alloc, line, workers, jobs, &OpenGate) {
+    match run_workers(host.rt, host.alloc, line, workers, jobs, &OpenGate) {
         Ok(_) => Ok(()),
         Err(_) => Err(Failure::Memory),
     }
@@ -160,23 +161,23 @@ fn do_all<
 /// The ports of a primary and of its two replicas.
 #[derive(Drop)]
 struct Ports {
-    primary: WatchedPort<UdpPort>,
-    first: WatchedPort<UdpPort>,
-    second: WatchedPort<UdpPort>,
+    primary: UdpPort,
+    first: UdpPort,
+    second: UdpPort,
 }
 
 /// Ports on the loopback that know each other.
-fn open_ports<H: Net>(rt: &H, alloc: Global) -> Result<Ports, Failure> {
-    let primary = port_of(rt, alloc, Role::Primary, None)?;
-    let address = primary.port.local_addr().ok();
-    let first = port_of(rt, alloc, Role::Replica, address)?;
-    let second = port_of(rt, alloc, Role::Replica, address)?;
+fn open_ports<T: Net>(host: Host<'_, T>) -> Result<Ports, Failure> {
+    let primary = port_of(host, None)?;
+    let address = primary.local_addr().ok();
+    let first = port_of(host, address)?;
+    let second = port_of(host, address)?;
     let mut ports = Ports {
         primary,
         first,
         second,
     };
-    introduce(alloc, &mut ports)?;
+    introduce(host.alloc, &mut ports)?;
     Ok(ports)
 }
 
@@ -184,7 +185,7 @@ fn open_ports<H: Net>(rt: &H, alloc: Global) -> Result<Ports, Failure> {
 fn introduce(alloc: Global, ports: &mut Ports) -> Result<(), Failure> {
     let mut addresses = Vec::new(alloc);
     for port in [&ports.first, &ports.second] {
-        let address = match port.port.local_addr() {
+        let address = match port.local_addr() {
             Ok(address) => address,
             Err(error) => return Err(refused(alloc, "127.0.0.1:0", "local address", error)),
         };
@@ -192,8 +193,18 @@ fn introduce(alloc: Global, ports: &mut Ports) -> Result<(), Failure> {
             return Err(Failure::Memory);
         }
     }
-    ports.primary.port.set_replicas(addresses);
+    ports.primary.set_replicas(addresses);
     Ok(())
+}
+
+/// A port on the loopback whose number the system chooses.
+fn port_of<T: Net>(host: Host<'_, T>, primary: Option<SocketAddr>) -> Result<UdpPort, Failure> {
+    let addresses = Addresses {
+        listen: SocketAddr::from((Ipv4Addr::LOCALHOST, 0)),
+        primary,
+        replicas: Vec::new(host.alloc),
+    };
+    listening(host, addresses, false, &mut Vec::new(host.alloc))
 }
 
 /// What both replicas report of a primary that serves them.
@@ -203,43 +214,50 @@ fn reported_by_both<
     H: Wait + Drop + Send + Sync,
     T: Threads + Wait + Net + Clock + Sync,
 >(
-    rt: &T,
-    alloc: Global,
+    host: Host<'_, T>,
     line: &Line<L, J, H>,
-    seat: &mut Seat<L>,
+    seat: Seat<L>,
     setup: &Setup,
 ) -> Result<(Reported, Reported), Failure> {
-    let left = AtomicU64::new(2);
-    let mut server = Server::new(alloc, WORKERS, false);
     let Ports {
-        mut primary,
-        mut first,
-        mut second,
-    } = open_ports(rt, alloc)?;
+        primary,
+        first,
+        second,
+    } = open_ports(host)?;
+    let Ok(node) = PrimaryNode::new(host.alloc, seat, primary, WORKERS) else {
+        return Err(Failure::Memory);
+    };
+    let pace = Pace {
+        turns: Some(TURNS),
+        wait: None,
+        says: false,
+    };
+    let mut server = Server::new(node, pace);
+    let left = AtomicU64::new(2);
     let (served, pair) = join(
-        rt,
-        || server.serve_while(rt, line, seat, &mut primary, &left, TURNS),
-        || report_twice(rt, alloc, setup, &mut first, &mut second, &left),
+        host.rt,
+        || server.serve_while(host, line, &left),
+        || report_twice(host, setup, first, second, &left),
     );
     match served {
         Ok(()) => pair,
-        Err(failure) => Err(failure),
+        Err(NodeFault::Socket) => Err(socket_failure(host.alloc, server.port())),
+        Err(fault) => Err(failure_of(host.alloc, fault)),
     }
 }
 
 /// What two replicas report, each in a thread of its own.
 fn report_twice<T: Threads + Wait + Sync>(
-    rt: &T,
-    alloc: Global,
+    host: Host<'_, T>,
     setup: &Setup,
-    first: &mut WatchedPort<UdpPort>,
-    second: &mut WatchedPort<UdpPort>,
+    first: UdpPort,
+    second: UdpPort,
     left: &AtomicU64,
 ) -> Result<(Reported, Reported), Failure> {
     let (one, other) = join(
-        rt,
-        || report_once(rt, alloc, setup, 0, first, left),
-        || report_once(rt, alloc, setup, 1, second, left),
+        host.rt,
+        || report_once(host, setup, 0, first, left),
+        || report_once(host, setup, 1, second, left),
     );
     match (one, other) {
         (Ok(one), Ok(other)) => Ok((one, other)),
@@ -248,77 +266,55 @@ fn report_twice<T: Threads + Wait + Sync>(
     }
 }
 
-/// A port on the loopback whose number the system chooses.
-fn port_of<H: Net>(
-    rt: &H,
-    alloc: Global,
-    role: Role,
-    primary: Option<SocketAddr>,
-) -> Result<WatchedPort<UdpPort>, Failure> {
-    let any = SocketAddr::from((Ipv4Addr::LOCALHOST, 0));
-    let mut unsaid = Vec::new(alloc);
-    listening(
-        rt,
-        alloc,
-        role,
-        any,
-        primary,
-        Vec::new(alloc),
-        false,
-        &mut unsaid,
-    )
-}
-
 /// What a replica reports. One node less is left then.
 fn report_once<T: Threads + Wait + Sync>(
-    rt: &T,
-    alloc: Global,
+    host: Host<'_, T>,
     setup: &Setup,
     number: u8,
-    port: &mut WatchedPort<UdpPort>,
+    port: UdpPort,
     left: &AtomicU64,
 ) -> Result<Reported, Failure> {
-    let reported = report_of(rt, alloc, setup, number, port);
+    let reported = report_of(host, setup, number, port);
     left.fetch_sub(1, Ordering::SeqCst);
     reported
 }
 
 /// What a replica reports within its turns.
 fn report_of<T: Threads + Wait + Sync>(
-    rt: &T,
-    alloc: Global,
+    host: Host<'_, T>,
     setup: &Setup,
     number: u8,
-    port: &mut WatchedPort<UdpPort>,
+    port: UdpPort,
 ) -> Result<Reported, Failure> {
-    let Some(mut replica) = replica_of(alloc, setup, number, 1) else {
+    let Some(core) = replica_of(host.alloc, setup, number, 1) else {
         return Err(Failure::Memory);
     };
-    match answer(rt, alloc, setup, &mut replica, port) {
-        Ok(report) => Ok(Reported { replica, report }),
+    let mut node = ReplicaNode::new(host.alloc, core, port);
+    match answer(host, setup, &mut node) {
+        Ok(report) => Ok(Reported { node, report }),
         Err(failure) => Err(failure),
     }
 }
 
 /// What a replica answers to the query, if it does within its turns.
 fn answer<T: Threads + Wait + Sync>(
-    rt: &T,
-    alloc: Global,
+    host: Host<'_, T>,
     setup: &Setup,
-    replica: &mut ReplicaCore<ColumnStore>,
-    port: &mut WatchedPort<UdpPort>,
+    node: &mut ReplicaNode<ColumnStore, UdpPort>,
 ) -> Result<Option<ByteList>, Failure> {
-    let Ok(queue) = QueryQueue::new(alloc, 1) else {
+    let Ok(queue) = QueryQueue::new(host.alloc, 1) else {
         return Err(Failure::Memory);
     };
     let Some(mut pass) = queue.pass() else {
         return Err(Failure::Memory);
     };
-    put(rt, &queue, query(alloc, setup)?);
+    // The queue is empty, and has room for the query.
+    let _ = queue.put(host.rt, &mut pass, query(host.alloc, setup)?);
     let mut turns = Some(TURNS);
-    match serve_replica(rt, alloc, replica, &queue, &mut pass, port, &mut turns) {
+    match serve_replica(host.rt, host.alloc, node, &queue, &mut pass, &mut turns) {
         Ok(report) => Ok(report),
-        Err(fault) => Err(serve_failure(alloc, fault, port)),
+        Err(ServeFault::Socket) => Err(socket_failure(host.alloc, node.port())),
+        Err(fault) => Err(failure_of(host.alloc, fault_of(fault))),
     }
 }
 
@@ -347,7 +343,7 @@ fn print_pair<W: Write>(
     print(alloc, writer, one.as_slice())?;
     print(alloc, writer, b"replica 1\n")?;
     print(alloc, writer, other.as_slice())?;
-    let (Ok(one), Ok(other)) = (first.replica.dump(), second.replica.dump()) else {
+    let (Ok(one), Ok(other)) = (first.node.core().dump(), second.node.core().dump()) else {
         return Err(Failure::Memory);
     };
     if one.as_slice() != other.as_slice() {

@@ -2,6 +2,8 @@
 
 ghost use Rattle.std.specs.Prelude.{◌<◌, ◌≤◌};
 
+use nodes::NodeFault;
+use requests::RequestFault;
 use std::alloc::Global;
 use std::io::Write;
 
@@ -12,7 +14,7 @@ pub enum Status {
     Failed,
     /// The words, a script, a schema or the input do not read.
     NotRead,
-    /// The turns are used up, and a batch is not answered.
+    /// The turns or the time are used up, and a batch is not answered.
     Unanswered,
 }
 
@@ -36,8 +38,8 @@ pub enum Failure {
     /// What this line says.
     Said { status: Status, line: String },
     Memory,
-    /// The journal failed. What it says of that is known only where the journal is.
-    Journal,
+    /// All was said before.
+    Told(Status),
 }
 
 impl Failure {
@@ -63,10 +65,54 @@ impl Failure {
                 let _ = writeln!(errors, "batchdb: out of memory");
                 Status::Failed.code()
             }
-            Failure::Journal => {
-                let _ = writeln!(errors, "batchdb: the journal failed");
-                Status::Failed.code()
-            }
+            Failure::Told(status) => status.code(),
+        }
+    }
+}
+
+/// What is said of a node that ended for such a fault, in this program's words. `Journal` and `Socket` are said where what
+/// the system told is at hand.
+pub fn failure_of(alloc: Global, fault: NodeFault) -> Failure {
+    match fault {
+        NodeFault::Memory | NodeFault::Input(RequestFault::Memory) => Failure::Memory,
+        NodeFault::Input(RequestFault::Read(error)) => Failure::new(
+            Status::Failed,
+            format!(in alloc; "batchdb: standard input: {error}").ok(),
+        ),
+        NodeFault::Input(fault) => Failure::new(
+            Status::NotRead,
+            format!(in alloc; "batchdb: standard input: {fault}").ok(),
+        ),
+        NodeFault::Slipped => Failure::Told(Status::NotRead),
+        NodeFault::Output(error) => Failure::new(
+            Status::Failed,
+            format!(in alloc; "batchdb: the output could not be written: {error}").ok(),
+        ),
+        NodeFault::Threads => Failure::new(
+            Status::Failed,
+            format!(in alloc; "batchdb: the system makes too few threads").ok(),
+        ),
+        NodeFault::Broken => Failure::new(
+            Status::Failed,
+            format!(in alloc;
+                "batchdb: the replica is broken; start it again with another BOOT"
+            ).ok(),
+        ),
+        NodeFault::Unanswered => Failure::new(
+            Status::Unanswered,
+            format!(in alloc; "batchdb: no answer").ok(),
+        ),
+        NodeFault::Journal => {
+            Failure::new(
+                Status::Failed,
+                format!(in alloc; "batchdb: the journal failed").ok(),
+            )
+        }
+        NodeFault::Socket => {
+            Failure::new(
+                Status::Failed,
+                format!(in alloc; "batchdb: the socket failed").ok(),
+            )
         }
     }
 }

@@ -71,27 +71,32 @@ pub fn setup_at<H: Files<File = File>>(rt: &H, alloc: Global, path: &str) -> Res
     ensures { IfOk result (λ setup. (0 < setup.workers) × (setup.workers ≤ workers_max) × (setup.replicas ≤ replicas_max)) }
 {
     let bytes = file_bytes(rt, alloc, path)?;
-    setup_of(alloc, bytes.as_slice())
+    match read_settings(alloc, bytes.as_slice()) {
+        Ok(setup) => limited(alloc, setup, path),
+        Err(ScriptFault::Memory) => Err(Failure::Memory),
+        Err(fault) => Err(unread(alloc, path, fault)),
+    }
 }
 
-/// The settings that a text has, and nothing else.
-pub fn setup_of(alloc: Global, text: &[u8]) -> Result<Setup, Failure>
+/// The same settings. What reads has these limits; a look brings them to the proof.
+fn limited(alloc: Global, setup: Setup, path: &str) -> Result<Setup, Failure>
     ensures { IfOk result (λ setup. (0 < setup.workers) × (setup.workers ≤ workers_max) × (setup.replicas ≤ replicas_max)) }
 {
-    match read_settings(alloc, text) {
-        Ok(setup) => {
-            // What reads has these limits; a look brings them to the proof.
-            if setup.workers == 0 || setup.workers > WORKERS_MAX || setup.replicas > REPLICAS_MAX {
-                return Err(Failure::new(
-                    Status::NotRead,
-                    format!(in alloc; "line 1: bad setting").ok(),
-                ));
-            }
-            Ok(setup)
-        }
-        Err(ScriptFault::Memory) => Err(Failure::Memory),
-        Err(fault) => Err(Failure::new(Status::NotRead, format!(in alloc; "{fault}").ok())),
+    if setup.workers == 0 || setup.workers > WORKERS_MAX || setup.replicas > REPLICAS_MAX {
+        return Err(failed(alloc, path, format!(in alloc; "beyond a limit").ok()));
     }
+    Ok(setup)
+}
+
+/// What is said of a schema file that does not read: the line and the reason, as of a script, and then the file.
+fn unread(alloc: Global, path: &str, fault: ScriptFault) -> Failure {
+    let Some(path) = shown(alloc, path) else {
+        return Failure::Memory;
+    };
+    Failure::new(
+        Status::NotRead,
+        format!(in alloc; "{fault} (SCHEMA {path})").ok(),
+    )
 }
 
 /// A call that the system refused at a path or an address, in its words.

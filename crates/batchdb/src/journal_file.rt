@@ -7,6 +7,7 @@ use crate::failure::{Failure, Status, shown};
 use crate::files::{failed, file_bytes, len_of, refused, setup_at};
 use crate::printing::print;
 use journal::{FileFault, FileJournal, JournalFault, JournalStore, OpenFault, Recovered, recover};
+use nodes::{Host, was_just_now};
 use rows::{
     Commit, Entry, Kind, KindList, RowId, Schema, append_number, append_value, column_at,
     first_value,
@@ -15,20 +16,22 @@ use script::Setup;
 use std::alloc::{AllocError, Global};
 use std::fs::File;
 use std::io::Write;
-use std::rt::Files;
+use std::rt::{Clock, Files};
+use std::time::Instant;
 
 /// Tells what a journal keeps, prints its commits as jobs, or cuts it.
-pub fn run_journal<T: Files<File = File>, W: Write>(
-    rt: &T,
-    alloc: Global,
+pub fn run_journal<T: Files<File = File> + Clock, W: Write, E: Write>(
+    host: Host<'_, T>,
     words: &JournalWords<'_>,
     writer: &mut W,
+    errors: &mut E,
 ) -> Result<(), Failure> {
+    let Host { rt, alloc } = host;
     let setup = setup_at(rt, alloc, words.schema)?;
     let bytes = file_bytes(rt, alloc, words.journal)?;
     match words.cut {
         Some(len) => cut(rt, alloc, words, &setup, bytes.as_slice(), len, writer),
-        None if words.dumps => dump(alloc, words.journal, &setup, bytes.as_slice(), writer),
+        None if words.dumps => dump(host, words, &setup, bytes.as_slice(), writer, errors),
         None => {
             let kept = kept_of(alloc, words.journal, &setup, bytes.as_slice())?;
             tell(alloc, &kept, bytes.len(), writer)
@@ -206,21 +209,30 @@ pub fn opened<T: Files<File = File>>(
     }
 }
 
-/// Prints the commits of a journal as jobs that a primary does again. All are of worker 0, so that they
-/// are done one after the other. Values are those of the columns that a table has where the entry stands.
-fn dump<W: Write>(
-    alloc: Global,
-    path: &str,
+/// Prints the commits of a journal, from one on, as jobs that a primary does again. All are of worker 0, so that
+/// they are done one after the other. Values are those of the columns that a table has where the entry stands.
+/// If it is to, it says once a second how many commits it has gone through.
+fn dump<T: Clock, W: Write, E: Write>(
+    host: Host<'_, T>,
+    words: &JournalWords<'_>,
     setup: &Setup,
     bytes: &[u8],
     writer: &mut W,
+    errors: &mut E,
 ) -> Result<(), Failure> {
-    let recovered = kept_of(alloc, path, setup, bytes)?;
+    let alloc = host.alloc;
+    let recovered = kept_of(alloc, words.journal, setup, bytes)?;
     tell_dumped(alloc, &recovered, bytes.len(), writer)?;
     let Ok(mut kinds) = opening_kinds(alloc, &setup.schema) else {
         return Err(Failure::Memory);
     };
+    let count = recovered.commits.len();
+    let mut told_at = Instant::now(host.rt).ok();
     for (index, commit) in recovered.commits.iter().enumerate() {
+        if words.says && told_at.is_some() && !was_just_now(host, &told_at) {
+            let _ = writeln!(errors, "dumped {index} of {count} commits");
+            told_at = Instant::now(host.rt).ok();
+        }
         let mut text = Vec::new(alloc);
         match push_job(
             alloc,
@@ -230,7 +242,9 @@ fn dump<W: Write>(
             index as u64,
             commit,
         ) {
-            Ok(()) => print(alloc, writer, text.as_slice())?,
+            Ok(()) if index as u64 + 1 >= words.from => print(alloc, writer, text.as_slice())?,
+            // The columns that it adds are those of the commits behind it.
+            Ok(()) => {}
             Err(_) => return Err(Failure::Memory),
         }
     }

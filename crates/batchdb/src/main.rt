@@ -3,33 +3,23 @@
 //! `batchdb sim` reads a script from standard input, runs its events on one primary and its
 //! replicas, and prints what each event answers: that is the crate `world`. `batchdb primary` does jobs
 //! and serves replicas, `batchdb replica` answers batches of queries, both over UDP and live if they are
-//! told to; `batchdb demo` has a primary and two replicas in one process, and `batchdb journal` looks at
-//! a journal: those run the nodes of the crate `sockets`. What is here is words, input and output, threads
-//! and exit statuses.
+//! told to: that is the crate `nodes`. `batchdb demo` has a primary and two replicas in one process, and
+//! `batchdb journal` looks at a journal. What is here is words, files, addresses, messages and exit
+//! statuses.
 #![tactic(auto)]
 
 mod addresses;
-mod batches;
 mod commands;
 mod demo;
-mod ending;
 mod failure;
 mod files;
-mod job_lines;
-mod jobs;
 mod journal_file;
-mod lane;
-mod lines;
 mod listening;
-mod live_jobs;
-mod live_primary;
 mod polled_input;
 mod primary_program;
 mod printing;
 mod program;
 mod replica_program;
-mod serving;
-mod watched_port;
 mod words;
 
 pub use program::{answer, run_words, without_words};

@@ -5,9 +5,9 @@ ghost use Rattle.std.specs.Io.KnownBytes.{Appends, Keeps};
 ghost use Rattle.batchdb.specs.Words.{asked_for};
 ghost use Rattle.batchdb.specs.Status.{fault_line, fault_status, status_max, HasAnswered, HasRun, IsUnwritten};
 
-use crate::commands::{Asking, Unasked, read_words};
+use crate::commands::{Asking, JournalWords, PrimaryWords, ReplicaWords, Unasked, read_words};
 use crate::demo::run_demo;
-use crate::failure::shown;
+use crate::failure::{Failure, shown};
 use crate::journal_file::run_journal;
 use crate::polled_input::PolledInput;
 use crate::primary_program::run_primary;
@@ -15,6 +15,7 @@ use crate::replica_program::run_replica;
 use crate::words::{Asked, asked_for};
 use clap::Error;
 use clap::error::ErrorKind;
+use nodes::{Host, Streams};
 use std::alloc::{AllocError, Global};
 use std::env::Args;
 use std::fs::File;
@@ -47,10 +48,10 @@ Usage:
                                   with --echo each event is printed before its answers, after \"> \"
   batchdb primary SCHEMA JOURNAL LISTEN [REPLICA]... [--turns N] [--live] [--say] < JOBS
                                   does the jobs, prints a line for each, and then serves N turns
-  batchdb replica SCHEMA NUMBER BOOT LISTEN PRIMARY [--turns N] [--live] [--say] < BATCHES
+  batchdb replica SCHEMA NUMBER BOOT LISTEN PRIMARY [--turns N] [--wait S] [--live] [--say] < BATCHES
                                   prints the report of each batch of queries, and ends
   batchdb demo                    a primary and two replicas in one process
-  batchdb journal SCHEMA JOURNAL [--dump | --cut BYTES [--yes]]
+  batchdb journal SCHEMA JOURNAL [--dump [--from N] [--say] | --cut BYTES [--yes]]
                                   prints what a journal keeps, prints its commits as jobs, or cuts it
   batchdb --help, batchdb help    prints this
   batchdb --version               prints the version
@@ -64,8 +65,10 @@ Usage:
   BOOT     a number with which this replica has never been started before, such as \"$(date +%s)\"
   --turns  how many turns to serve: 1000 by default, 0 for no limit. An idle turn takes 10 ms.
            A live primary counts them from the end of its input on, a live replica for each batch
+  --wait   how many seconds a replica waits for the answer to a batch; turns then have no limit,
+           if --turns does not give one
   --live   takes jobs or batches as they come, while the node serves
-  --say    reports on standard error what the node does
+  --say    reports on standard error what the node does, or how far a dump has come
 
 A job without an answer may or may not be committed, for example after Ctrl-C. Only its ticket confirms it.
 
@@ -77,15 +80,15 @@ Exit status:
   0  all was done
   1  a file, a socket, the journal or memory failed, or the replica is broken
   2  there is a mistake in the words, the script, the schema or the input
-  3  the turns are used up, and a batch is not answered
+  3  the turns or the time are used up, and a batch is not answered
 ";
 
 /// Runs the program with these words, the first of which is its own name, and answers its exit
-/// status: 0, all was done; 1, a file, a socket, a read or a write failed, or it is out of memory, or the
-/// replica is broken; 2, the words, the script, the schema or the input do not read, and nothing was done
-/// but for jobs and batches that were taken live, and for batches before one that names a column which the
-/// schema lacks; 3, a node's turns are used up, and a batch is not answered. But for 0 one line on `errors`
-/// says why.
+/// status: 0, all was done; 1, a file, a socket, a read or a write failed, the system makes too few threads, or it is out of
+/// memory, or the replica is broken; 2, the words, the script, the schema or the input do not read, and nothing was done but
+/// for what a live node took besides the lines at fault, and for batches before one that names a column which the
+/// schema lacks; 3, a node's turns or its time are used up, and a batch is not answered. But for 0 one line on `errors`
+/// says why; a live node writes one for each line at fault.
 pub fn run_words<
     T: Threads + Wait + Net + Files<File = File> + Clock + Sync,
     R: Read + Send,
@@ -108,8 +111,8 @@ pub fn run_words<
     }
 }
 
-/// Runs the program with these words. A live node's input is waited for only for a moment at a time, so
-/// that the node can end while nothing comes.
+/// Runs the program with these words. A node's input is waited for only for a moment at a time, so that a live
+/// node can end while nothing comes, and none is busy while its input would have to be waited for.
 pub fn answer<
     T: Threads + Wait + Net + Files<File = File> + Clock + Sync,
     R: Read + Drop + Send,
@@ -126,7 +129,7 @@ pub fn answer<
     };
     let words = words.as_slice();
     let mut input = input;
-    if !words.contains(&"--live") {
+    if !is_fed(words) {
         return run_words(rt, alloc, words, &mut input, writer, errors);
     }
     match PolledInput::new(rt, alloc, input) {
@@ -135,6 +138,14 @@ pub fn answer<
             let _ = writeln!(errors, "batchdb: standard input: {fault}");
             FAILED
         }
+    }
+}
+
+/// Whether the word of the command is that of a node that takes jobs or batches.
+fn is_fed(words: &[&str]) -> bool {
+    match words {
+        [_, word, ..] => *word == "primary" || *word == "replica",
+        _ => false,
     }
 }
 
@@ -237,16 +248,80 @@ fn run_node<
         Err(Unasked::Wrong(failure)) => return failure.tell(errors),
     };
     let ended = match asking {
-        Asking::Primary(words) => run_primary(rt, alloc, words, reader, writer, errors),
-        Asking::Replica(words) => run_replica(rt, alloc, &words, reader, writer, errors),
-        Asking::Demo => run_demo(rt, alloc, writer),
-        Asking::Journal(words) => run_journal(rt, alloc, &words, writer),
+        Asking::Primary(words) => primary_with(rt, alloc, words, reader, writer, errors),
+        Asking::Replica(words) => replica_with(rt, alloc, &words, reader, writer, errors),
+        Asking::Demo => demo_with(rt, alloc, writer),
+        Asking::Journal(words) => journal_with(rt, alloc, &words, writer, errors),
         Asking::Nothing => Ok(()),
     };
     match ended {
         Ok(()) => DONE,
         Err(failure) => failure.tell(errors),
     }
+}
+
+/// Runs a primary with the standard streams.
+fn primary_with<
+    T: Threads + Wait + Net + Files<File = File> + Clock + Sync,
+    R: Read + Send,
+    W: Write + Send,
+    E: Write + Send,
+>(
+    rt: &T,
+    alloc: Global,
+    words: PrimaryWords<'_>,
+    reader: &mut R,
+    writer: &mut W,
+    errors: &mut E,
+) -> Result<(), Failure> {
+    let mut streams = Streams {
+        reader: &mut *reader,
+        writer: &mut *writer,
+        errors: &mut *errors,
+    };
+    run_primary(Host { rt: &*rt, alloc }, words, &mut streams)
+}
+
+/// Runs a replica with the standard streams.
+fn replica_with<
+    T: Threads + Wait + Net + Files<File = File> + Clock + Sync,
+    R: Read + Send,
+    W: Write + Send,
+    E: Write + Send,
+>(
+    rt: &T,
+    alloc: Global,
+    words: &ReplicaWords<'_>,
+    reader: &mut R,
+    writer: &mut W,
+    errors: &mut E,
+) -> Result<(), Failure> {
+    let mut streams = Streams {
+        reader: &mut *reader,
+        writer: &mut *writer,
+        errors: &mut *errors,
+    };
+    run_replica(Host { rt: &*rt, alloc }, words, &mut streams)
+}
+
+/// Runs the demonstration.
+fn demo_with<T: Threads + Wait + Net + Clock + Sync, W: Write>(
+    rt: &T,
+    alloc: Global,
+    writer: &mut W,
+) -> Result<(), Failure> {
+    run_demo(Host { rt: &*rt, alloc }, writer)
+}
+
+/// Looks at a journal with the standard streams.
+fn journal_with<T: Files<File = File> + Clock, W: Write, E: Write>(
+    rt: &T,
+    alloc: Global,
+    words: &JournalWords<'_>,
+    writer: &mut W,
+    errors: &mut E,
+) -> Result<(), Failure> {
+    run_journal(Host { rt: &*rt, alloc }, words, writer, errors)
 }
 
 /// What the words ask for, as far as they are parsed.

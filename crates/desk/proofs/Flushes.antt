@@ -7,7 +7,7 @@ use Rattle.primary.specs.State.{Primary, Core}
 use Rattle.primary.specs.Steps.{flushed, failed_primary}
 use Rattle.primary.specs.Lending.{Returned, ended}
 use Rattle.primary.specs.declared.faults.FlushFault.{FlushFault}
-use Rattle.primary.specs.declared.faults.FlushFault.TheVariants.{NotLent, Journal}
+use Rattle.primary.specs.declared.faults.FlushFault.TheVariants.{NotLent}
 use Rattle.desk.specs.State.{OnDesk}
 use Rattle.desk.specs.Keeping.{IsKept}
 use Rattle.desk.proofs.Beginnings.{prefix_append}

@@ -7,3 +7,4 @@ pub mod Sent
 pub mod Shares
 pub mod Seats
 pub mod Readable
+pub mod Rows

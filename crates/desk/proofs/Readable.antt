@@ -28,7 +28,7 @@ stream_grows worker before first (commit ∷ list) more =
     )
 
 -- the first of numbered commits are numbered
-numbered_front : (list more : List Commit) → AreNumbered (list ++ more) → AreNumbered list
+pub numbered_front : (list more : List Commit) → AreNumbered (list ++ more) → AreNumbered list
 numbered_front list more numbered = record {
   commits_below = omega (arith, numbered.commits_below, length-append list more);
   frames_below = λ worker. omega (arith, numbered.frames_below worker, stream_grows worker 0 0 list more);

@@ -1,5 +1,6 @@
 -- What a seat is answered, by the list of commits that it has seen.
-use Rattle.std.specs.Prelude.{◌≡◌, ℕ, ◌-◌, ◌<◌, ◌≤◌, List, [], length, true, Option, None, Some, slice_get, nat_lt, ◌==◌, if◌then◌else◌}
+use Rattle.std.specs.Prelude.{◌≡◌, ℕ, ◌-◌, ◌<◌, ◌≤◌, List, [], length, map, take, drop, true, Option, None, Some}
+use Rattle.std.specs.Prelude.{slice_get, nat_lt, ◌==◌, if◌then◌else◌}
 use Rattle.std.specs.List.{AllByRecursion}
 use Rattle.rows.specs.declared.commit.Commit.{Commit}
 use Rattle.rows.specs.declared.kind.Kind.{Kind}
@@ -16,6 +17,7 @@ use Rattle.primary.specs.Steps.{started_primary}
 use Rattle.primary.specs.declared.faults.CommitFault.{CommitFault}
 use Rattle.primary.specs.declared.faults.CommitFault.TheVariants.{ReadOnly, Foreign, Conflict}
 use Rattle.primary.specs.declared.ticket.Ticket.{Ticket}
+use Rattle.wire.specs.Spelling.{frame_spelling}
 use Rattle.desk.specs.declared.answers.Flushed.{Flushed}
 use Rattle.desk.specs.declared.answers.Flushed.TheVariants.{Published, Unpublished}
 use Rattle.desk.specs.declared.answers.Settled.{Settled}
@@ -62,6 +64,10 @@ IsSettled list ticket settles.Unpublished = length list < ticket.number
 -- a primary of which just this list is durable, and nothing pending: what is sent of a list is what it sends
 abbrev pub primary_of : List (List ℕ × List Kind) → ℕ → List Commit → Primary
 primary_of schema workers list = started_primary schema workers list
+
+-- a row: the packets of a worker's stream of the durable list from that seq on, as many as the stream has, and at most so many
+abbrev pub row_of : Primary → ℕ → ℕ → ℕ → List (List ℕ)
+row_of p worker from most = map frame_spelling (take most (drop from (stream_of p.durable worker)))
 
 -- a list whose frames and Heads can be read back from what is sent: a journal may be of it, its commits and frames have numbers of 64
 -- bits, a datagram spells each of its frames, and there are 1 to 16 workers

@@ -2,7 +2,7 @@
 
 ghost use Rattle.std.specs.Prelude.{◌≡◌, ◌⊎◌, ◌+◌, ◌<◌, ◌≤◌, [], ◌∷◌, ◌++◌, length, map, sum, take};
 ghost use Rattle.std.specs.Prelude.{Ok, Err, None, true, false, ◌&&◌, nat_lt, nat_le, is_some, is_none, IfOk, IfErr, IfSome, OnOk, OnErr};
-ghost use Rattle.std.specs.Prelude.{IsOk, MatchBool, MatchOption};
+ghost use Rattle.std.specs.Prelude.{ℕ, slice_get, IsOk, MatchBool, MatchOption, vec_capacity};
 ghost use mathlib.Core.List.{IsPrefix};
 ghost use Rattle.rows.specs.Shape.{shape_of};
 ghost use Rattle.journal.specs.Recovery.{IsJournaled};
@@ -10,7 +10,8 @@ ghost use Rattle.primary.specs.Journaling.{IsUnchanged, IsFlushRefusal};
 ghost use Rattle.primary.specs.Lending.{IsLentBy, EndsWritten, ended};
 ghost use Rattle.primary.specs.Sending.{pushed, answers};
 ghost use Rattle.primary.specs.Steps.{commit_answer, committed};
-ghost use Rattle.desk.specs.Answers.{IsCommitRefusal, IsFlushed, TellsDurable, IsSettled, Stands, left_to_flush, primary_of, IsReadable};
+ghost use Rattle.desk.specs.Answers.{IsCommitRefusal, IsFlushed, TellsDurable, IsSettled, Stands, left_to_flush};
+ghost use Rattle.desk.specs.Answers.{primary_of, row_of, IsReadable};
 ghost use Rattle.desk.specs.Keeping.{IsKept, commit_count};
 ghost use Rattle.desk.specs.State.{IsNew};
 
@@ -18,6 +19,7 @@ use crate::answers::{Flushed, Settled};
 use crate::origin::Origin;
 use crate::parts::{Parts, audit_all, open_parts};
 use crate::roster::Roster;
+use crate::row::fill_row;
 use crate::seat::Seat;
 use crate::telling::Telling;
 use history::Opened;
@@ -283,6 +285,41 @@ impl<L: Origin, J: JournalStore, R: Wait + Drop> Desk<L, J, R> {
         }
         self.core.keeps_legal();
         Ok(self.core.push(worker, seq))
+    }
+
+    /// Puts the packets of the worker's stream of the durable list from the seq `from` on into an
+    /// empty row, in order: as many as the stream has, and at most `most`, for which the row has
+    /// room; after that list was published and the seat has seen it. Fails only if out of memory;
+    /// the row is then still empty.
+    pub fn push_row(
+        &mut self,
+        seat: &mut Seat<L>,
+        worker: u8,
+        from: u64,
+        most: usize,
+        row: &mut Vec<Packet>,
+    ) -> Result<(), AllocError>
+        requires empty { row.old.items ≡ [] }
+        requires room { most ≤ vec_capacity row.old }
+        ensures legal { IsJournaled L.workers (shape_of L.schema) seat.new.list }
+        ensures ok { OnOk result ((seat.new.list ≡ self.new.core.primary.durable)
+            × (row.new.items ≡ row_of (primary_of L.schema L.workers seat.new.list) worker from most)) }
+        ensures each { OnOk result ((index : ℕ) → index < most
+            → slice_get row.new.items index ≡ pushed (primary_of L.schema L.workers seat.new.list) worker (from + index)) }
+        ensures few { length row.new.items ≤ most }
+        ensures below { from + length row.new.items ≤ u64.MAX }
+        ensures readable { OnOk result (IsReadable L.workers (shape_of L.schema) seat.new.list) }
+        ensures err { OnErr result ((row.new.items ≡ []) × (seat.new ≡ seat.old)) }
+        ensures later { IsPrefix seat.old.list seat.new.list }
+        ensures seat { seat.new ≡ record seat.old { list = seat.new.list } }
+        ensures same { self.new ≡ record self.old { told = self.new.told; shown = self.new.shown } }
+    {
+        if !self.catch_up(seat) {
+            return Err(AllocError);
+        }
+        self.core.keeps_legal();
+        fill_row(&self.core, worker, from, most, row);
+        Ok(())
     }
 
     /// What the primary sends for bytes that arrived, after what is durable was published and the

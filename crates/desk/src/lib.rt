@@ -27,6 +27,7 @@ mod desk;
 mod origin;
 mod parts;
 mod roster;
+mod row;
 mod seat;
 mod telling;
 

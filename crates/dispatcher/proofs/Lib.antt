@@ -15,3 +15,4 @@ pub mod Identities
 pub mod Dumping
 pub mod Reports
 pub mod Walk
+pub mod Gapping

@@ -3,5 +3,6 @@ pub mod TableText
 pub mod State
 pub mod Protocol
 pub mod Steps
+pub mod Gaps
 pub mod Feeding
 pub mod Inner

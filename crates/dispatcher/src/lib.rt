@@ -5,7 +5,7 @@
 //! version, the waiting queries, and at most one batch. Its caller gives it the store for its
 //! tables, of any kind to which lists of commits can be applied. `specs/` defines what each call
 //! answers and leaves (`Steps.antt`), the report of a batch (`Report.antt`), the text of tables
-//! (`TableText.antt`), and when everything that a replica knows belongs to one list of commits
+//! (`TableText.antt`), where frames are missing (`Gaps.antt`), and when everything that a replica knows belongs to one list of commits
 //! (`Feeding.antt`). `plans` defines what a query is, when it fits, and what its answer is. `Inner`
 //! only helps proofs.
 //!
@@ -22,6 +22,7 @@
 mod batch;
 mod counting;
 mod faults;
+mod gaps;
 mod laws;
 mod outcome;
 mod replica_core;
@@ -29,6 +30,7 @@ mod sending;
 mod table_text;
 
 pub use faults::{AskFault, DumpFault, OpenFault};
+pub use gaps::Gap;
 pub use laws::fed_replicas_stay_fed;
 pub use outcome::{Got, Run};
 pub use replica_core::ReplicaCore;

@@ -1,13 +1,15 @@
 //! The replica's core: bytes and values in, bytes and values out.
 
-ghost use Rattle.std.specs.Prelude.{◌≡◌, ℕ, ◌<◌, ◌≤◌, ◌^◌, ◌+◌, ◌-◌, [], Some, None, true, false, Ok, Err, OnOk, IfOk, IfErr, IsOk, nat_le};
+ghost use Rattle.std.specs.Prelude.{◌≡◌, ℕ, ◌<◌, ◌≤◌, ◌^◌, ◌+◌, ◌-◌, [], Some, None, true, false, Ok, Err, OnOk, IfOk, IfErr, IsOk};
+ghost use Rattle.std.specs.Prelude.{nat_le, take, vec_capacity, All};
 ghost use Rattle.std.specs.Cmp.Lexicographic.{pointwise};
 ghost use Rattle.rows.specs.Faults.{IsFaultOf};
 ghost use Rattle.rows.specs.Limits.{workers_max, replicas_max};
 ghost use Rattle.rows.specs.Shape.{shape_of};
 ghost use Rattle.rows.specs.Tables.{opening};
 ghost use Rattle.dispatcher.specs.State.{Replica};
-ghost use Rattle.dispatcher.specs.Protocol.{fetched_in};
+ghost use Rattle.dispatcher.specs.Protocol.{fetched_in, want_for};
+ghost use Rattle.dispatcher.specs.Gaps.{gaps_of};
 ghost use Rattle.dispatcher.specs.Steps.{started_replica, opened, asked, received, frame_comes, own_head_comes, MayTake, readiness_of};
 ghost use Rattle.dispatcher.specs.Steps.{HoldNext, MayRun, dumped};
 ghost use Rattle.dispatcher.specs.Inner.Parts.{CatchesUp, Applies, MayAnswerBatch};
@@ -15,6 +17,7 @@ ghost use Rattle.dispatcher.specs.Inner.Parts.{CatchesUp, Applies, MayAnswerBatc
 use crate::batch::{Batch, Fetched};
 use crate::counting::{are_at_least, copy_of, missing_below, no_counts};
 use crate::faults::{AskFault, CatchUpFault, DumpFault, OpenFault};
+use crate::gaps::{Gap, push_gaps};
 use crate::outcome::{Got, Run, got_of};
 use crate::sending::{ask_out, want_out};
 use crate::table_text::table_text;
@@ -276,6 +279,37 @@ impl<S: ApplyStore + Sync> ReplicaCore<S> {
             Err(CatchUpFault::Memory) => Run::Memory,
             Err(CatchUpFault::Broken) => Run::Broken,
         }
+    }
+
+    /// The gaps in what the batch waits for, by worker and seq, and at most `most`, for which there is
+    /// room: the places from which on frames below the counts that were fetched for it are missing. A
+    /// gap covers `stride` seqs, and what it covers is not named again. Only seqs are named whose frames
+    /// would be kept if they came, so none 4096 or more past its worker's first missing one. There are
+    /// none before a version is fetched. Takes no memory.
+    pub fn gaps(&self, stride: u64, most: usize, gaps: &mut Vec<Gap>)
+        requires empty { gaps.old.items ≡ [] }
+        requires room { most ≤ vec_capacity gaps.old }
+        ensures gaps { gaps.new.items ≡ take most (gaps_of stride self.now) }
+        ensures of_workers { All (λ gap. gap.worker < workers_max) gaps.new.items }
+        ensures capacity { vec_capacity gaps.new ≡ vec_capacity gaps.old }
+    {
+        if self.broken {
+            return;
+        }
+        let Some(batch) = &self.batch else {
+            return;
+        };
+        if let Some(fetched) = &batch.fetched {
+            push_gaps(&self.intake, fetched.counts.as_slice(), stride, most, gaps);
+        }
+    }
+
+    /// The Want that asks for the frames of a gap. Takes no memory.
+    pub fn want(&self, gap: Gap) -> Out
+        requires { gap.worker < workers_max }
+        ensures { result ≡ want_for self.now.number gap.worker gap.seq }
+    {
+        want_out(self.number, gap.worker, gap.seq)
     }
 
     /// The text of its tables at its version: a line `version V rows N`, N being the number of rows

@@ -4,15 +4,14 @@
 ghost use Rattle.std.specs.Prelude.{◌≡◌, ◌<◌};
 
 use crate::cores::{core_of, replica_of};
-use crate::nodes::{COUNT_AND_SUM, put_one, report_of};
-use dispatcher::ReplicaCore;
+use crate::nodes::{COUNT_AND_SUM, REPORT, put_one, report_of};
 use journal::MemJournal;
 use primary::PrimaryCore;
 use queue::QueryQueue;
 use rows::{ByteList, RowId, Value};
 use scenarios_common::worker_datagrams::{ASK, FRAME, HEAD_OF_TWO, WANT};
 use shared::{Line, Origin, Seat, Start};
-use sockets::{MemPort, Port, ServeFault, serve_primary};
+use sockets::{MemPort, Port, PrimaryNode, ReplicaNode, ServeFault, Traffic, serve_primary};
 use std::alloc::Global;
 use std::marker::Brand;
 use std::sync::Wait;
@@ -25,11 +24,22 @@ use wire::{Out, To};
 /// how many faults the port counted.
 type Ending = (usize, usize, u64);
 
-/// The report of one row of 5 and -1.
-const REPORT: &[u8] = b"version 1 queries 1\nquery 0 rows 1\n1 -1\n";
+/// What went through the port of a node that ended so, to which two datagrams came, so many of them frames
+/// that it did not know, and none that it ignored: each failed call that ended no turn is a lost datagram.
+fn traffic_of(ending: Ending, stored: u64) -> Traffic {
+    let (failed, sent, faults) = ending;
+    let lost = faults.saturating_sub(failed as u64);
+    Traffic {
+        received: 2,
+        stored,
+        ignored: 0,
+        sent: (sent as u64).saturating_add(lost),
+        lost,
+    }
+}
 
 /// Puts a datagram into a port.
-fn deliver(alloc: Global, port: &mut MemPort, datagram: &[u8]) -> Option<()> {
+pub fn deliver(alloc: Global, port: &mut MemPort, datagram: &[u8]) -> Option<()> {
     if datagram.len() > 1201 {
         return None;
     }
@@ -49,11 +59,10 @@ enum Turned {
 fn turn_of<R: Threads + Wait + Sync>(
     rt: &R,
     alloc: Global,
-    replica: &mut ReplicaCore<PlainStore>,
+    node: &mut ReplicaNode<PlainStore, MemPort>,
     queue: &QueryQueue,
-    port: &mut MemPort,
 ) -> Option<Turned> {
-    match report_of(rt, alloc, replica, queue, port, 1) {
+    match report_of(rt, alloc, node, queue, 1) {
         Ok(Some(report)) => {
             if report.as_slice() == REPORT {
                 Some(Turned::Answered)
@@ -72,17 +81,16 @@ fn turn_of<R: Threads + Wait + Sync>(
 fn failures_of<R: Threads + Wait + Sync>(
     rt: &R,
     alloc: Global,
-    replica: &mut ReplicaCore<PlainStore>,
+    node: &mut ReplicaNode<PlainStore, MemPort>,
     queue: &QueryQueue,
-    port: &mut MemPort,
 ) -> Option<usize> {
     let mut failed: usize = 0;
     for call in 0..8usize {
         if call == 1 {
-            deliver(alloc, port, &FRAME)?;
-            deliver(alloc, port, &HEAD_OF_TWO)?;
+            deliver(alloc, node.port_mut(), &FRAME)?;
+            deliver(alloc, node.port_mut(), &HEAD_OF_TWO)?;
         }
-        match turn_of(rt, alloc, replica, queue, port)? {
+        match turn_of(rt, alloc, node, queue)? {
             Turned::Answered => return Some(failed),
             Turned::Quiet => {}
             Turned::Failed => failed = failed.saturating_add(1),
@@ -95,12 +103,11 @@ fn failures_of<R: Threads + Wait + Sync>(
 fn failures_over<R: Threads + Wait + Sync>(
     rt: &R,
     alloc: Global,
-    port: &mut MemPort,
+    node: &mut ReplicaNode<PlainStore, MemPort>,
 ) -> Option<usize> {
-    let mut replica = replica_of(alloc, 0)?;
     let queue = QueryQueue::new(alloc, 1).ok()?;
     put_one(rt, alloc, &queue, &COUNT_AND_SUM)?;
-    failures_of(rt, alloc, &mut replica, &queue, port)
+    failures_of(rt, alloc, node, &queue)
 }
 
 /// How a replica ends whose port fails at the call that comes after so many.
@@ -111,18 +118,24 @@ fn ending_of_replica<R: Threads + Wait + Sync>(
 ) -> Option<Ending> {
     let mut port = MemPort::new(alloc);
     port.fail_after(calls);
-    let failed = failures_over(rt, alloc, &mut port)?;
-    Some((failed, port.sent().len(), port.faults()))
+    let mut node = ReplicaNode::new(alloc, replica_of(alloc, 0)?, port);
+    let failed = failures_over(rt, alloc, &mut node)?;
+    let ending = (failed, node.port().sent().len(), node.port().faults());
+    if node.traffic() != traffic_of(ending, 1) || node.expected() != Some(1) {
+        return None;
+    }
+    Some(ending)
 }
 
 /// How a replica ends whose port fails at its first call, its second, and so on; the last does not fail.
-/// Its calls are: the Ask is sent; nothing comes; the Ask is sent again; the frame comes; the Head comes.
+/// Its calls are: the Ask is sent; nothing comes; the Ask, which is late then, is sent again; the frame comes; the
+/// Head comes. After a receive that failed the Ask is not late.
 const REPLICA_ENDINGS: [Ending; 6] = [
     (0, 1, 1),
-    (1, 2, 1),
+    (1, 1, 1),
     (0, 1, 1),
-    (1, 3, 1),
-    (1, 3, 1),
+    (1, 2, 1),
+    (1, 2, 1),
     (0, 2, 0),
 ];
 
@@ -198,14 +211,12 @@ const SENDINGS: [Sending; 7] = [
 fn failures_of_primary<L: Origin, R: Wait>(
     rt: &R,
     line: &Line<L, MemJournal, &R>,
-    seat: &mut Seat<L>,
-    port: &mut MemPort,
+    node: &mut PrimaryNode<L, MemPort>,
 ) -> Option<usize> {
-    let mut counters = [0u64; 2];
     let mut failed: usize = 0;
     for _ in 0..2usize {
         let mut turns = Some(1);
-        match serve_primary(rt, line, seat, port, &mut counters, &mut turns) {
+        match serve_primary(rt, line, node, &mut turns) {
             Ok(()) => return Some(failed),
             Err(ServeFault::Socket) => failed = failed.saturating_add(1),
             Err(_) => return None,
@@ -214,23 +225,38 @@ fn failures_of_primary<L: Origin, R: Wait>(
     None
 }
 
+/// Whether a primary tells once that replica 0 was told version 1, and of no other replica.
+fn tells_of_asked<L: Origin>(node: &mut PrimaryNode<L, MemPort>) -> bool {
+    let other = node.take_asked(1);
+    let first = node.take_asked(0);
+    let again = node.take_asked(0);
+    let none = node.take_asked(16);
+    first == Some(1) && again.is_none() && other.is_none() && none.is_none()
+}
+
 /// Whether a primary with one frame sends what it is to send, over a port that fails at the call that comes
 /// after so many, and to which an Ask and a Want come. It is called again after a call that failed.
 fn sends_as<L: Origin, R: Wait>(
     rt: &R,
     alloc: Global,
     line: &Line<L, MemJournal, &R>,
-    seat: &mut Seat<L>,
+    seat: Seat<L>,
     calls: u64,
     sending: Sending,
-) -> Option<bool> {
+) -> Option<(bool, Seat<L>)> {
     let mut port = MemPort::new(alloc);
     port.fail_after(calls);
     deliver(alloc, &mut port, &ASK)?;
     deliver(alloc, &mut port, &WANT)?;
-    let failed = failures_of_primary(rt, line, seat, &mut port)?;
+    let mut node = PrimaryNode::new(alloc, seat, port, 2).ok()?;
+    let failed = failures_of_primary(rt, line, &mut node)?;
     let faults = if calls < 6 { 1 } else { 0 };
-    Some(are_named(port.sent(), sending.0) && failed == sending.1 && port.faults() == faults)
+    let is_told = tells_of_asked(&mut node);
+    let port = node.port();
+    let ending = (failed, port.sent().len(), port.faults());
+    let is_counted = node.traffic() == traffic_of(ending, 0) && port.faults() == faults;
+    let is_so = are_named(port.sent(), sending.0) && failed == sending.1;
+    Some((is_so && is_counted && is_told, node.into_seat()))
 }
 
 /// Whether a primary of one row sends what it is to send, whichever call of its port fails.
@@ -256,9 +282,11 @@ fn sends_all<L: Origin, R: Wait>(
     insert_seven(rt, alloc, &line, &mut seat)?;
     let mut calls: u64 = 0;
     for sending in &SENDINGS {
-        if !sends_as(rt, alloc, &line, &mut seat, calls, *sending)? {
+        let (is_so, same_seat) = sends_as(rt, alloc, &line, seat, calls, *sending)?;
+        if !is_so {
             return Some(false);
         }
+        seat = same_seat;
         calls = calls.saturating_add(1);
     }
     Some(true)

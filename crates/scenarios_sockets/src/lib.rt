@@ -1,5 +1,5 @@
-//! Scenarios of `sockets`, by its public calls: ports that fail at each call in turn, and datagrams that no
-//! node sends.
+//! Scenarios of `sockets`, by its public calls: ports that fail at each call in turn, datagrams that no node
+//! sends, and what single turns come to.
 #![tactic(auto)]
 
 #[cfg(test)]
@@ -10,3 +10,5 @@ mod failing_ports;
 mod nodes;
 #[cfg(test)]
 mod odd_datagrams;
+#[cfg(test)]
+mod turns;

@@ -1,11 +1,10 @@
 //! What a replica's node does: it is given a query, and serves some turns.
 
-use dispatcher::ReplicaCore;
 use queries::{Aggregate, Column};
 use queue::QueryQueue;
 use rows::ByteList;
 use scenarios_plans_common::wishes::{COUNT, Wish, plan_of};
-use sockets::{Port, ServeFault, serve_replica};
+use sockets::{Port, ReplicaNode, ServeFault, serve_replica};
 use std::alloc::Global;
 use std::marker::Sync;
 use std::sync::Wait;
@@ -18,6 +17,9 @@ pub const COUNT_AND_SUM: Wish<'static> = Wish {
     ..COUNT
 };
 
+/// The report of one row of 5 and -1.
+pub const REPORT: &[u8] = b"version 1 queries 1\nquery 0 rows 1\n1 -1\n";
+
 /// Puts one query. `None` where the queue is full, and out of memory.
 pub fn put_one<R: Wait>(rt: &R, alloc: Global, queue: &QueryQueue, wish: &Wish<'_>) -> Option<()> {
     let mut pass = queue.pass()?;
@@ -28,14 +30,13 @@ pub fn put_one<R: Wait>(rt: &R, alloc: Global, queue: &QueryQueue, wish: &Wish<'
 pub fn report_of<S: ApplyStore + Sync, P: Port, R: Threads + Wait + Sync>(
     rt: &R,
     alloc: Global,
-    replica: &mut ReplicaCore<S>,
+    node: &mut ReplicaNode<S, P>,
     queue: &QueryQueue,
-    port: &mut P,
     turns: u64,
 ) -> Result<Option<ByteList>, ServeFault> {
     let Some(mut pass) = queue.pass() else {
         return Err(ServeFault::Memory);
     };
     let mut turns = Some(turns);
-    serve_replica(rt, alloc, replica, queue, &mut pass, port, &mut turns)
+    serve_replica(rt, alloc, node, queue, &mut pass, &mut turns)
 }

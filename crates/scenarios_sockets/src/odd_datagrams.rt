@@ -1,12 +1,11 @@
 //! Datagrams that no node sends, and addresses that nothing can be sent to.
 
 use crate::cores::replica_of;
-use crate::nodes::{COUNT_AND_SUM, put_one, report_of};
-use dispatcher::ReplicaCore;
+use crate::nodes::{COUNT_AND_SUM, REPORT, put_one, report_of};
 use mio::net::UdpSocket;
 use queue::QueryQueue;
 use scenarios_common::worker_datagrams::{ASK, FRAME, HEAD_OF_TWO};
-use sockets::{Patience, Port, PortFault, UdpPort};
+use sockets::{Patience, Port, PortFault, ReplicaNode, UdpPort};
 use std::alloc::Global;
 use std::io;
 use std::net::{Ipv4Addr, Net, SocketAddr};
@@ -39,18 +38,14 @@ fn sends_odd_ones(alloc: Global, socket: &UdpSocket, to: SocketAddr) -> io::Resu
     Ok(())
 }
 
-/// The report of one row of 5 and -1.
-const REPORT: &[u8] = b"version 1 queries 1\nquery 0 rows 1\n1 -1\n";
-
 /// How long the report is that ten turns give; 0 where they give none. `None` where the node fails.
 fn length_of_report<R: Threads + Wait + Sync>(
     rt: &R,
     alloc: Global,
-    replica: &mut ReplicaCore<PlainStore>,
+    node: &mut ReplicaNode<PlainStore, UdpPort>,
     queue: &QueryQueue,
-    port: &mut UdpPort,
 ) -> Option<usize> {
-    match report_of(rt, alloc, replica, queue, port, 10) {
+    match report_of(rt, alloc, node, queue, 10) {
         Ok(Some(report)) => Some(report.as_slice().len()),
         Ok(None) => Some(0),
         Err(_) => None,
@@ -62,19 +57,18 @@ fn length_of_report<R: Threads + Wait + Sync>(
 fn lengths_at<R: Threads + Wait + Sync>(
     rt: &R,
     alloc: Global,
-    port: &mut UdpPort,
+    node: &mut ReplicaNode<PlainStore, UdpPort>,
     stranger: &UdpSocket,
     here: SocketAddr,
 ) -> Option<(usize, usize)> {
-    let mut replica = replica_of(alloc, 0)?;
     let queue = QueryQueue::new(alloc, 1).ok()?;
     put_one(rt, alloc, &queue, &COUNT_AND_SUM)?;
     sends_odd_ones(alloc, stranger, here).ok()?;
-    let before = length_of_report(rt, alloc, &mut replica, &queue, port)?;
+    let before = length_of_report(rt, alloc, node, &queue)?;
     stranger.send_to(&FRAME, here).ok()?;
     stranger.send_to(&HEAD_OF_TWO, here).ok()?;
-    let after = length_of_report(rt, alloc, &mut replica, &queue, port)?;
-    if replica.version() == 1 {
+    let after = length_of_report(rt, alloc, node, &queue)?;
+    if node.core().version() == 1 {
         Some((before, after))
     } else {
         None
@@ -86,11 +80,12 @@ fn lengths_of_reports<N: Threads + Net + Wait + Sync>(
     rt: &N,
     alloc: Global,
 ) -> Option<(usize, usize)> {
-    let mut port = UdpPort::bind(rt, alloc, any(), None, Vec::new(alloc)).ok()?;
+    let port = UdpPort::bind(rt, alloc, any(), None, Vec::new(alloc)).ok()?;
     let here = port.local_addr().ok()?;
     let stranger = UdpSocket::bind(rt, any()).ok()?;
-    let lengths = lengths_at(rt, alloc, &mut port, &stranger, here)?;
-    if port.faults() == 0 {
+    let mut node = ReplicaNode::new(alloc, replica_of(alloc, 0)?, port);
+    let lengths = lengths_at(rt, alloc, &mut node, &stranger, here)?;
+    if node.port().faults() == 0 {
         Some(lengths)
     } else {
         None

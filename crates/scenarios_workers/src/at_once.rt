@@ -6,9 +6,10 @@ use crate::cores::core_on;
 use crate::gates::{Counter, Meeting, Turnstile};
 use crate::listed_jobs::{Wish, insertions, jobs_of};
 use journal::{JournalStore, MemJournal};
+use mvcc::TxFault;
 use primary::PrimaryCore;
 use shared::{Line, Origin, Start};
-use sockets::{Gate, Job, JobAnswer, WorkersFault, are_of_workers, run_workers};
+use sockets::{Gate, Job, JobAnswer, Refusal, WorkersFault, are_of_workers, run_workers};
 use std::alloc::Global;
 use std::marker::Brand;
 use std::sync::Wait;
@@ -127,9 +128,12 @@ const STORY: [(u8, &[Wish]); 6] = [
 const TOLD: [JobAnswer; 6] = [
     JobAnswer::Conflict(1),
     JobAnswer::Ticket(1),
-    JobAnswer::Refused,
+    JobAnswer::Refused(Refusal::Change {
+        step: 1,
+        fault: TxFault::Missing,
+    }),
     JobAnswer::Ticket(2),
-    JobAnswer::Refused,
+    JobAnswer::Refused(Refusal::NoChange),
     JobAnswer::Ticket(3),
 ];
 

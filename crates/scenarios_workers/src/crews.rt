@@ -3,12 +3,15 @@
 ghost use Rattle.std.specs.Prelude.{◌≡◌};
 
 use crate::cores::WORKERS;
-use journal::JournalStore;
+use journal::{JournalStore, MemJournal};
 use primary::PrimaryCore;
+use scenarios_journal_common::failing_journal::FailingJournal;
 use shared::{Line, Origin, Seat, Start};
-use sockets::{Gate, Job, JobAnswer, Worker, WorkersFault, are_of_workers, run_crew};
+use sockets::{Gate, Job, JobAnswer, OpenGate, Worker, WorkersFault, are_of_workers, run_crew};
 use std::alloc::Global;
+use std::marker::Brand;
 use std::sync::Wait;
+use std::test::Fail;
 use std::thread::Threads;
 
 /// How far a worker came.
@@ -80,7 +83,7 @@ fn ran<
 
 /// What is left once two workers have done these jobs on a line of this primary. `None` if it is out of
 /// memory before or after, or a job is of no worker.
-pub fn ended<
+fn ended<
     L: Origin + Send + Sync,
     J: JournalStore + Drop + Send,
     R: Threads + Wait + Sync,
@@ -109,4 +112,31 @@ pub fn ended<
     let (seats, done) = parted(alloc, crew)?;
     let core = line.end(seats).ok()?;
     Some(Outcome { core, result, done })
+}
+
+/// What is left once two workers have done these jobs on a new line of this primary, whose journal is in
+/// memory.
+pub fn ended_in_memory<R: Threads + Wait + Sync>(
+    rt: &R,
+    alloc: Global,
+    core: PrimaryCore<MemJournal>,
+    jobs: &[Job],
+) -> Result<Outcome<MemJournal>, Fail> {
+    let start = Start::new(WORKERS).ok().ok_or("start")?;
+    Ok(ended::<Brand, MemJournal, _, _>(rt, alloc, core, start, jobs, &OpenGate).ok_or(
+        "out of memory",
+    )?)
+}
+
+/// The same on a journal that fails at one of its calls.
+pub fn ended_on_failing<R: Threads + Wait + Sync>(
+    rt: &R,
+    alloc: Global,
+    core: PrimaryCore<FailingJournal>,
+    jobs: &[Job],
+) -> Result<Outcome<FailingJournal>, Fail> {
+    let start = Start::new(WORKERS).ok().ok_or("start")?;
+    Ok(ended::<Brand, FailingJournal, _, _>(rt, alloc, core, start, jobs, &OpenGate).ok_or(
+        "ended",
+    )?)
 }

@@ -1,22 +1,16 @@
 //! A journal that fails while workers commit: it keeps what was answered by a ticket.
 
-ghost use Rattle.std.specs.Prelude.{◌≡◌};
-
 use crate::cores::{WORKERS, core_on};
-use crate::crews::{Outcome, ended};
-use crate::listed_jobs::{are_kept, insertions};
+use crate::crews::{Outcome, ended_on_failing};
+use crate::listed_jobs::{are_kept, guarded_insertions};
 use journal::{JournalStore, recover};
 use primary::PrimaryCore;
 use rows::Schema;
 use scenarios_common::wanted::NUMBERS;
 use scenarios_journal_common::failing_journal::{Failing, FailingJournal, Failure};
-use shared::Start;
-use sockets::{Job, OpenGate, WorkersFault};
+use sockets::{Job, WorkersFault};
 use std::alloc::Global;
-use std::marker::Brand;
-use std::sync::Wait;
 use std::test::Fail;
-use std::thread::Threads;
 
 /// An append in the middle, of which so many bytes are written.
 const IN_THE_MIDDLE: Failure = Failure {
@@ -64,24 +58,11 @@ fn are_recovered(
     Ok(!recovered.commits.is_empty())
 }
 
-/// What is left once two workers have inserted rows on a new line of this primary.
-fn outcome_on<R: Threads + Wait + Sync>(
-    rt: &R,
-    alloc: Global,
-    core: PrimaryCore<FailingJournal>,
-    jobs: &[Job],
-) -> Result<Outcome<FailingJournal>, Fail> {
-    let start = Start::new(WORKERS).ok().ok_or("start")?;
-    Ok(ended::<Brand, FailingJournal, _, _>(rt, alloc, core, start, jobs, &OpenGate).ok_or(
-        "ended",
-    )?)
-}
-
 #[test]
 fn a_journal_that_fails_keeps_what_was_answered(rt: HostRuntime) -> Result<(), Fail> {
     let core = failing_core(rt.alloc())?;
-    let jobs = insertions(rt.alloc(), EACH)?;
-    let outcome = outcome_on(&rt, rt.alloc(), core, &jobs)?;
+    let jobs = guarded_insertions(rt.alloc(), EACH)?;
+    let outcome = ended_on_failing(&rt, rt.alloc(), core, &jobs)?;
     assert!(rt; are_recovered(rt.alloc(), &outcome, &jobs)?);
     Ok(())
 }

@@ -3,7 +3,11 @@
 #![tactic(auto)]
 
 #[cfg(test)]
+mod alone;
+#[cfg(test)]
 mod at_once;
+#[cfg(test)]
+mod conditions;
 #[cfg(test)]
 mod cores;
 #[cfg(test)]
@@ -16,3 +20,5 @@ mod gates;
 mod listed_jobs;
 #[cfg(test)]
 mod refused_memory;
+#[cfg(test)]
+mod sharing;

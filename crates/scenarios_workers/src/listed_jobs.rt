@@ -1,10 +1,10 @@
 //! Jobs of constant lists, and jobs that insert a row each.
 
 use rows::{Commit, Row, RowId, Value};
-use sockets::{Change, Job, JobAnswer};
+use sockets::{Change, Job, JobAnswer, Step};
 use std::alloc::{AllocError, Global};
 
-/// A change that is wanted of the accounts.
+/// A step that is wanted of the accounts.
 #[derive(Clone, Copy)]
 pub enum Wish {
     /// A row of these numbers.
@@ -12,42 +12,56 @@ pub enum Wish {
     /// Another number in a column.
     Set(u64, usize, i64),
     Delete(u64),
+    /// A number that a column is to have.
+    Expect(u64, usize, i64),
+    /// A row that is not to be there.
+    Absent(u64),
 }
 
-/// The change that is wanted.
-fn change_of(alloc: Global, wish: Wish) -> Result<Change, AllocError> {
+/// The step that is wanted.
+fn step_of(alloc: Global, wish: Wish) -> Result<Step, AllocError> {
     match wish {
         Wish::Insert(row, first, second) => {
             let values = vec![in alloc; Value::Int(first), Value::Int(second)]?;
-            Ok(Change::Insert {
+            Ok(Step::Change(Change::Insert {
                 table: 0,
                 row: RowId(row),
                 values: Row::from_vec(values),
-            })
+            }))
         }
-        Wish::Set(row, column, number) => Ok(Change::Set {
+        Wish::Set(row, column, number) => Ok(Step::Change(Change::Set {
+            table: 0,
+            row: RowId(row),
+            column,
+            value: Value::Int(number),
+        })),
+        Wish::Delete(row) => Ok(Step::Change(Change::Delete {
+            table: 0,
+            row: RowId(row),
+        })),
+        Wish::Expect(row, column, number) => Ok(Step::Expect {
             table: 0,
             row: RowId(row),
             column,
             value: Value::Int(number),
         }),
-        Wish::Delete(row) => Ok(Change::Delete {
+        Wish::Absent(row) => Ok(Step::Absent {
             table: 0,
             row: RowId(row),
         }),
     }
 }
 
-/// A job of these changes.
-fn job_of(alloc: Global, worker: u8, wishes: &[Wish]) -> Result<Job, AllocError> {
-    let mut changes = Vec::new(alloc);
+/// A job of these steps.
+pub fn job_of(alloc: Global, worker: u8, wishes: &[Wish]) -> Result<Job, AllocError> {
+    let mut steps = Vec::new(alloc);
     for wish in wishes {
-        changes.push(change_of(alloc, *wish)?)?;
+        steps.push(step_of(alloc, *wish)?)?;
     }
-    Ok(Job { worker, changes })
+    Ok(Job { worker, steps })
 }
 
-/// The jobs of a list, each a worker and its changes.
+/// The jobs of a list, each a worker and its steps.
 pub fn jobs_of(alloc: Global, list: &[(u8, &[Wish])]) -> Result<Vec<Job>, AllocError> {
     let mut jobs = Vec::new(alloc);
     for (worker, wishes) in list {
@@ -69,9 +83,25 @@ pub fn insertions(alloc: Global, each: u32) -> Result<Vec<Job>, AllocError> {
     Ok(jobs)
 }
 
+/// The same jobs, each with a condition that holds, so that it waits until the one before is durable.
+pub fn guarded_insertions(alloc: Global, each: u32) -> Result<Vec<Job>, AllocError> {
+    let mut jobs = Vec::new(alloc);
+    for i in 0..each {
+        for worker in 0..2u8 {
+            let row = 2 * i as u64 + worker as u64;
+            let wishes = [
+                Wish::Insert(row, i as i64, worker as i64),
+                Wish::Expect(row, 0, i as i64),
+            ];
+            jobs.push(job_of(alloc, worker, &wishes)?)?;
+        }
+    }
+    Ok(jobs)
+}
+
 /// Whether the commit of that number is of the job's worker, and inserts the job's row and nothing else.
 fn is_kept(job: &Job, number: u64, commits: &[Commit]) -> bool {
-    let Some(Change::Insert { row, .. }) = job.changes.get(0) else {
+    let Some(Step::Change(Change::Insert { row, .. })) = job.steps.get(0) else {
         return false;
     };
     let Some(commit) = commits.get((number as usize).wrapping_sub(1)) else {

@@ -1,20 +1,13 @@
 //! Whichever request for memory is refused: at most one worker ends before its last job, and the jobs of
 //! the other are whole.
 
-ghost use Rattle.std.specs.Prelude.{◌≡◌};
-
 use crate::cores::{WORKERS, core_on};
-use crate::crews::{Done, Outcome, ended};
+use crate::crews::{Done, Outcome, ended_in_memory};
 use crate::listed_jobs::{are_kept, insertions};
 use journal::MemJournal;
-use primary::PrimaryCore;
-use shared::Start;
-use sockets::{Job, OpenGate, WorkersFault};
+use sockets::{Job, WorkersFault};
 use std::alloc::Global;
-use std::marker::Brand;
-use std::sync::Wait;
 use std::test::Fail;
-use std::thread::Threads;
 
 /// Jobs of each worker.
 const EACH: u32 = 3;
@@ -61,24 +54,11 @@ fn may_be(outcome: &Outcome<MemJournal>, jobs: &[Job]) -> bool {
     is_so && are_durable(outcome, jobs)
 }
 
-/// What is left once two workers have inserted rows on a new line of this primary.
-fn outcome_on<R: Threads + Wait + Sync>(
-    rt: &R,
-    alloc: Global,
-    core: PrimaryCore<MemJournal>,
-    jobs: &[Job],
-) -> Result<Outcome<MemJournal>, Fail> {
-    let start = Start::new(WORKERS).ok().ok_or("start")?;
-    Ok(ended::<Brand, MemJournal, _, _>(rt, alloc, core, start, jobs, &OpenGate).ok_or(
-        "out of memory",
-    )?)
-}
-
 #[test]
 fn a_worker_without_memory_leaves_the_jobs_of_the_other(rt: HostRuntime) -> Result<(), Fail> {
     let core = core_on(rt.alloc(), MemJournal::new(rt.alloc()))?;
     let jobs = insertions(rt.alloc(), EACH)?;
-    let outcome = outcome_on(&rt, rt.alloc(), core, &jobs)?;
+    let outcome = ended_in_memory(&rt, rt.alloc(), core, &jobs)?;
     assert!(rt; may_be(&outcome, &jobs));
     Ok(())
 }

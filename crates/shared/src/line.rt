@@ -1,11 +1,11 @@
 //! The line: the lock, and the calls that take it.
 
-ghost use Rattle.std.specs.Prelude.{◌≡◌, ◌+◌, ◌<◌, length, map, sum, IfOk, IfErr, IfSome, OnErr, MatchResult};
+ghost use Rattle.std.specs.Prelude.{◌≡◌, ◌+◌, ◌<◌, ◌≤◌, ℕ, [], length, map, sum, slice_get, IfOk, IfErr, IfSome, OnOk, OnErr, MatchResult};
 ghost use mathlib.Core.List.{IsPrefix};
 ghost use Rattle.rows.specs.Shape.{shape_of};
 ghost use Rattle.journal.specs.Recovery.{IsJournaled};
 ghost use Rattle.primary.specs.Sending.{pushed, answers};
-ghost use Rattle.desk.specs.Answers.{IsCommitRefusal, IsFlushed, IsSettled, IsReadable, primary_of};
+ghost use Rattle.desk.specs.Answers.{IsCommitRefusal, IsFlushed, IsSettled, IsReadable, primary_of, row_of};
 ghost use Rattle.desk.specs.Keeping.{commit_count};
 ghost use Rattle.desk.specs.State.{IsNew};
 
@@ -130,6 +130,39 @@ impl<L: Origin, J: JournalStore, R: Wait + Drop> Line<L, J, R> {
         ensures seat { seat.new ≡ record seat.old { list = seat.new.list } }
     {
         self.desk.lock(rt).push(seat, worker, seq)
+    }
+
+    /// The packets of the worker's stream of what is durable from the seq `from` on, in order: as
+    /// many as the stream has, and at most `most`. They replace what the row contains, after what is
+    /// durable was published, and the lock is taken once for all of them. So if the row is shorter
+    /// than `most`, the stream ends there. It may wait; takes memory for the row only if the row has
+    /// no room for `most`. Fails only if out of memory; the row is then empty.
+    pub fn push_row<W: Wait>(
+        &self,
+        rt: &W,
+        seat: &mut Seat<L>,
+        worker: u8,
+        from: u64,
+        most: usize,
+        row: &mut Vec<Packet>,
+    ) -> Result<(), AllocError>
+        ensures legal { IsJournaled L.workers (shape_of L.schema) seat.new.list }
+        ensures ok { OnOk result (row.new.items ≡ row_of (primary_of L.schema L.workers seat.new.list) worker from most) }
+        ensures each { OnOk result ((index : ℕ) → index < most
+            → slice_get row.new.items index ≡ pushed (primary_of L.schema L.workers seat.new.list) worker (from + index)) }
+        ensures few { length row.new.items ≤ most }
+        ensures below { from + length row.new.items ≤ u64.MAX }
+        ensures readable { OnOk result (IsReadable L.workers (shape_of L.schema) seat.new.list) }
+        ensures err { OnErr result (row.new.items ≡ []) }
+        ensures later { IsPrefix seat.old.list seat.new.list }
+        ensures seat { seat.new ≡ record seat.old { list = seat.new.list } }
+    {
+        row.clear();
+        if row.reserve(most).is_err() {
+            seat.keeps_legal();
+            return Err(AllocError);
+        }
+        self.desk.lock(rt).push_row(seat, worker, from, most, row)
     }
 
     /// What the primary sends for bytes that arrived, after what is durable was published: to an

@@ -289,7 +289,7 @@ rising-below : (least last : ℕ) (answers : List JobAnswer) → least ≤ last 
 rising-below least last [] le are = tt
 rising-below least last (Ticket number ∷ answers) le are = (omega (arith, le, are.0), are.1)
 rising-below least last (Conflict number ∷ answers) le are = rising-below least last answers le are
-rising-below least last (Refused ∷ answers) le are = rising-below least last answers le are
+rising-below least last (Refused refusal ∷ answers) le are = rising-below least last answers le are
 
 pub each-rises : (workers : ℕ) (shape : Shape) (jobs : List Job) (old new : List WorkerState) (answers : List JobAnswer)
     → length new ≡ length old → EachWorked workers shape jobs old new → All (λ (job : Job). job.worker < length old) jobs

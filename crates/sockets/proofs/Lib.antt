@@ -1,4 +1,5 @@
 pub mod Carried
+pub mod Counting
 pub mod Served
 pub mod Stepping
 pub mod Damage
@@ -7,7 +8,12 @@ mod TurnsLeft
 mod Beginnings
 mod Drafts
 mod Jobs
+mod Taking
 mod Working
 mod Crews
 mod Streams
+mod Tested
 mod Sent
+mod Asks
+mod Hearing
+mod Passing

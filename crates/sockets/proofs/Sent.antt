@@ -1,5 +1,5 @@
 -- What a line sends is true of its list.
-use Rattle.std.proofs.Common.{◌≡◌, ℕ, zero, suc, ◌+◌, ◌*◌, ◌%◌, ◌^◌, ◌<◌, ◌≤◌, Bool, true, false, cond, not, ◌||◌, ◌&&◌, ◌==◌, List, []}
+use Rattle.std.proofs.Common.{◌≡◌, ℕ, zero, suc, ◌+◌, ◌*◌, ◌%◌, ◌^◌, ◌<◌, ◌≤◌, Bool, true, false, cond, not, ◌||◌, ◌==◌, List, []}
 use Rattle.std.proofs.Common.{◌∷◌}
 use Rattle.std.proofs.Common.{◌++◌, length, drop, get_or, Some, None, Result, Err, nat_lt, refl, sym, ap, subst, ◌∙◌}
 use Rattle.std.proofs.Common.{inl, inr, arith}
@@ -11,16 +11,16 @@ use Rattle.std.proofs.lemmas.Nat.{be_bytes_8}
 use Rattle.byteorder.specs.Endian.{big_bytes, big_number}
 use Rattle.byteorder.specs.Numbers.{big_from-bytes}
 use Rattle.rows.specs.declared.commit.Commit.{Commit}
-use Rattle.rows.specs.declared.limits.TheConstants.{DATAGRAM_MAX, REPLICAS_MAX, WORKERS_MAX}
+use Rattle.rows.specs.declared.limits.TheConstants.{REPLICAS_MAX, WORKERS_MAX}
 use Rattle.rows.specs.Shape.{Shape}
 use Rattle.wire.specs.declared.datagram.Datagram.{Datagram}
 use Rattle.wire.specs.declared.datagram.Datagram.TheVariants as datagrams
 use Rattle.wire.specs.declared.faults.WireFault.{WireFault}
-use Rattle.wire.specs.declared.faults.WireFault.TheVariants.{Short, Magic, Version, Kind, Length, Body}
+use Rattle.wire.specs.declared.faults.WireFault.TheVariants.{Body}
 use Rattle.update_log.specs.declared.frame.Frame.{Frame}
 use Rattle.update_log.specs.Frames.{IsSendable}
 use Rattle.update_log.specs.Streams.{stream_of}
-use Rattle.wire.specs.Reading.{reading, body_at, counts_at}
+use Rattle.wire.specs.Reading.{reading, counts_at}
 use Rattle.wire.specs.Spelling.{datagram_of, datagram_of_frame, head_kind, spelling, frame_spelling, IsAsk}
 use Rattle.wire.specs.Laws.{SpelledAreRead}
 use Rattle.primary.specs.Sending.{counts_of}
@@ -28,6 +28,7 @@ use Rattle.dispatcher.specs.Feeding.{Tells, TruthStays, BytesKeepFed}
 use Rattle.desk.specs.Answers.{IsReadable}
 use Rattle.shared.specs.Laws.{IsOfList}
 use Rattle.sockets.specs.Feeding.{SentKeepsFed}
+use Rattle.sockets.proofs.Tested.{tested}
 use Rattle.sockets.proofs.Streams.{all-get, frame-at, counts-length, counts-are, counts-spelled, counts-below}
 
 -- ---- frames
@@ -69,24 +70,6 @@ head-kept replica boot request version counts =
     let other = bytes-kept request in
     λ i. datagram_of head_kind (((replica ∷ []) ++ one i ++ other i ++ big_bytes 8 version ++ (length counts ∷ []))
     ++ flat_map (big_bytes 8) counts)
-
--- what holds of each fault, and of what the body may be, holds of what bytes read as
-tested : (P : Result Datagram WireFault → Type 0) (bytes : List ℕ) → ((fault : WireFault) → P (Err fault))
-    → P (ok_or (body_at (slice_index bytes 3) (drop 6 bytes)) Body) → P (reading bytes)
-tested P bytes faults read =
-    by (nat_lt (length bytes) 6) (not (big_number 2 bytes == 0x4244)) (not (slice_index bytes 2 == 2))
-    (not (slice_index bytes 3 == 1) && not (slice_index bytes 3 == 2) && not (slice_index bytes 3 == 3) && not (slice_index bytes 3 == 4))
-    (not (big_number 2 (drop 4 bytes) == length bytes) || nat_lt DATAGRAM_MAX (length bytes))
-  where
-    by : (a b c d e : Bool) → P (cond a (Err Short)
-        (cond b (Err Magic) (cond c (Err Version)
-        (cond d (Err Kind) (cond e (Err Length) (ok_or (body_at (slice_index bytes 3) (drop 6 bytes)) Body))))))
-    by true b c d e = faults Short
-    by false true c d e = faults Magic
-    by false false true d e = faults Version
-    by false false false true e = faults Kind
-    by false false false false true = faults Length
-    by false false false false false = read
 
 -- a Head for a replica that cannot be is no datagram
 head-refused : (P : Result Datagram WireFault → Type 0) → ((fault : WireFault) → P (Err fault))

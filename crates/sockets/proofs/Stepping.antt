@@ -1,26 +1,43 @@
 -- What the steps of a replica's turn do, one after the other.
-use Rattle.std.proofs.Common.{◌≡◌, ◌<◌, ◌+◌, inl, inr, ℕ, List, [], ◌∷◌, ◌++◌, Bool, true, refl, sym, ap, subst, ◌∙◌, append_assoc, map}
-use Rattle.std.proofs.Common.{Result, Ok, Err, Option, None, IfOk, OnOk, OnErr, length, arith}
-use Rattle.std.proofs.lemmas.List.{append-nil, map-append}
+use Rattle.std.proofs.Common.{◌≡◌, ◌<◌, ◌≤◌, ◌+◌, inl, inr, ℕ, List, [], ◌∷◌, ◌++◌, Bool, true, refl, sym, ap, subst, ◌∙◌}
+use Rattle.std.proofs.Common.{append_assoc, map, take, min, get_or, All}
+use Rattle.std.proofs.Common.{Result, Ok, Err, Option, None, IfOk, OnErr, is_err, length, arith}
+use Rattle.std.proofs.lemmas.Bool.{true≢false}
+use Rattle.std.proofs.lemmas.List.{append-nil, map-append, length-take, get_or-take, get_or_default}
 use Rattle.std.proofs.lemmas.Grind.{flat_map-append}
-use Rattle.journal.specs.Storing.{CountsFault, faults_max}
+use Rattle.std.specs.List.{sum_by, Contains}
+use Rattle.std.proofs.lemmas.List.Sums.{sum_by-cons}
+use Rattle.journal.specs.Storing.{faults_max}
 use Rattle.wire.specs.declared.out.Out.{Out}
 use Rattle.queries.specs.declared.plan.Plan.{Plan}
 use Rattle.rows.specs.Faults.{IsFaultOf}
+use Rattle.primary.specs.Sending.{want_frames_max}
 use Rattle.dispatcher.specs.State.{Replica}
-use Rattle.dispatcher.specs.Steps.{opened, received, MayTake}
+use Rattle.dispatcher.specs.Protocol.{want_for}
+use Rattle.dispatcher.specs.Gaps.{gaps_of}
+use Rattle.dispatcher.specs.declared.gaps.Gap.{Gap}
+use Rattle.dispatcher.specs.Steps.{opened, asked, received, MayTake, MayRun}
 use Rattle.dispatcher.specs.declared.outcome.Got.{Got}
+use Rattle.dispatcher.specs.declared.outcome.Run.{Run}
 use Rattle.dispatcher.specs.declared.faults.OpenFault.{OpenFault}
 use Rattle.queue.specs.declared.moves.Moves.{Moves}
 use Rattle.queue.specs.declared.moves.Queued.{Queued}
 use Rattle.queue.specs.Rule.{plan_in}
 use Rattle.sockets.specs.Carrying.{Sending, Carried}
-use Rattle.sockets.specs.Serving.{Act, Serves, sendings_in}
-use Rattle.sockets.specs.Replicas.{Call, Offers, Hears, after_offer, Makes, hears, says, reports, reports_in, offers, offers_in}
-use Rattle.sockets.specs.Replicas.{handed, failures, Takes, ServesReplica}
-use Rattle.sockets.specs.Inner.Steps.{Steps, Opens, OpensTaken}
+use Rattle.sockets.specs.Serving.{Act, DoesAll, Serves, heard_in, sendings_in}
+use Rattle.sockets.specs.State.{ReplicaState}
+use Rattle.sockets.specs.Traffic.{with_more, with_heard, stored_as, ignored_as}
+use Rattle.sockets.specs.declared.traffic.Traffic.{Traffic}
+use Rattle.sockets.specs.Replicas.{Call, Offers, Asks, Hears, Runs, Wants, after_offer, Makes, hears, says, reported, reports, reports_in}
+use Rattle.sockets.specs.Replicas.{offers, offers_in, stored, ignored, counted_as, traffic_after, expected_of, expected_by}
+use Rattle.sockets.specs.Replicas.{expected_after, runs}
+use Rattle.sockets.specs.Replicas.{handed, failures, Takes, DoesReplica, OffersOf, ServesReplica}
+use Rattle.sockets.specs.Inner.Sending.{SendsAll}
+use Rattle.sockets.specs.Inner.Steps.{Opens, OpensOf, OffersTaken, offer_acts}
 use Rattle.sockets.specs.declared.faults.ServeFault.{ServeFault}
-use Rattle.sockets.proofs.Carried.{carried_nothing, carried_one, sending_of, counted-one}
+use Rattle.sockets.specs.declared.faults.ServeFault.TheVariants.{Memory}
+use Rattle.sockets.proofs.Carried.{carried_nothing, counted-one}
+use Rattle.sockets.proofs.Counting.{with_more-same, with_more-then, heard-append, sendings-append, sums-append}
 use Rattle.sockets.proofs.Served.{does_all_then, serves_nothing, serves_then}
 
 pub reports-append : (xs ys : List (Act Call)) → reports_in (xs ++ ys) ≡ reports_in xs ++ reports_in ys
@@ -43,27 +60,88 @@ pub left_behind : {A : Type 0} (done : List A) (x : A) (left rest all : List A) 
     → (done ++ x ∷ []) ++ left ≡ all
 left_behind done x left rest all is whole = append_assoc done (x ∷ []) left ∙ ap (λ l. done ++ l) (sym is) ∙ whole
 
+-- what is taken of a list is in it
+pub taken-named : {A : Type 0} (n : ℕ) (xs ys : List A) → ys ≡ take n xs → All (Contains xs) ys
+taken-named n xs ys is k d lt =
+    let front : k < length (take n xs) = omega (arith, lt, ap length is) in
+    let few : k < min n (length xs) = omega (arith, front, length-take n xs) in (
+      k,
+      omega (arith, few),
+      ap (λ zs. get_or xs k (get_or zs k d)) is
+          ∙ (get_or_default xs k (get_or (take n xs) k d) d (omega (arith, few))
+          ∙ (sym (get_or-take n xs k d (omega (arith, few))) ∙ ap (λ zs. get_or zs k d) (sym is))),
+    )
+
+-- ---- what acts count for
+
+abbrev stored_in : List (Act Call) → ℕ
+stored_in acts = sum_by (λ (act : Act Call). stored act.call) acts
+
+abbrev ignored_in : List (Act Call) → ℕ
+ignored_in acts = sum_by (λ (act : Act Call). ignored act.call) acts
+
+pub traffic-then : (t : Traffic) (xs ys : List (Act Call)) → traffic_after (traffic_after t xs) ys ≡ traffic_after t (xs ++ ys)
+traffic-then t xs ys =
+    with_more-then t (length (heard_in hears xs)) (stored_in xs) (ignored_in xs) (length (heard_in hears ys)) (stored_in ys) (ignored_in ys)
+    (sendings_in xs) (sendings_in ys)
+    ∙ with_more-same t (length (heard_in hears xs) + length (heard_in hears ys)) (stored_in xs + stored_in ys)
+    (ignored_in xs + ignored_in ys) (length (heard_in hears (xs ++ ys))) (stored_in (xs ++ ys)) (ignored_in (xs ++ ys))
+    (sendings_in xs ++ sendings_in ys) (sendings_in (xs ++ ys)) (heard-append hears xs ys) (sums-append stored xs ys)
+    (sums-append ignored xs ys) (sendings-append xs ys)
+
+pub expected-then : (expected : Option ℕ) (xs ys : List (Act Call))
+    → expected_after (expected_after expected xs) ys ≡ expected_after expected (xs ++ ys)
+expected-then expected [] ys = refl
+expected-then expected (act ∷ acts) ys = expected-then (expected_by expected act.call) acts ys
+
 -- ---- queries that are offered
 
+abbrev offer_act : Plan → Act Call
+offer_act plan = record { call = Offers plan; sendings = [] }
+
+pub offer_acts-append : (xs ys : List Plan) → offer_acts (xs ++ ys) ≡ offer_acts xs ++ offer_acts ys
+offer_acts-append [] ys = refl
+offer_acts-append (plan ∷ plans) ys =
+    ap (λ (acts : List (Act Call)). record { call = Offers plan; sendings = [] } ∷ acts) (offer_acts-append plans ys)
+
+offers-none-heard : (plans : List Plan) → heard_in hears (offer_acts plans) ≡ []
+offers-none-heard [] = refl
+offers-none-heard (plan ∷ plans) = offers-none-heard plans
+
+offers-none-sent : (plans : List Plan) → sendings_in (offer_acts plans) ≡ []
+offers-none-sent [] = refl
+offers-none-sent (plan ∷ plans) = offers-none-sent plans
+
+offers-none-given : (plans : List Plan) → reports_in (offer_acts plans) ≡ []
+offers-none-given [] = refl
+offers-none-given (plan ∷ plans) = offers-none-given plans
+
+offers-all : (plans : List Plan) → offers_in (offer_acts plans) ≡ plans
+offers-all [] = refl
+offers-all (plan ∷ plans) = ap (λ (l : List Plan). plan ∷ l) (offers-all plans)
+
+offers-none-stored : (plans : List Plan) → sum_by (λ (act : Act Call). stored act.call) (offer_acts plans) ≡ 0
+offers-none-stored [] = refl
+offers-none-stored (plan ∷ plans) =
+    omega (arith, sum_by-cons (λ (act : Act Call). stored act.call) (offer_act plan) (offer_acts plans), offers-none-stored plans)
+
+offers-none-ignored : (plans : List Plan) → sum_by (λ (act : Act Call). ignored act.call) (offer_acts plans) ≡ 0
+offers-none-ignored [] = refl
+offers-none-ignored (plan ∷ plans) =
+    omega (arith, sum_by-cons (λ (act : Act Call). ignored act.call) (offer_act plan) (offer_acts plans), offers-none-ignored plans)
+
+offers-same-expected : (expected : Option ℕ) (plans : List Plan) → expected_after expected (offer_acts plans) ≡ expected
+offers-same-expected expected [] = refl
+offers-same-expected expected (plan ∷ plans) = offers-same-expected expected plans
+
 pub opens_nothing : (r s : Replica) → s ≡ r → Opens r s []
-opens_nothing r s same = record {
-  acts = [];
-  done = same;
-  hears_none = refl;
-  sends_none = refl;
-  gives_none = refl;
-  offers_are = refl;
-}
+opens_nothing r s same = record { done = same }
 
 pub opens_then : (r s t : Replica) (xs ys : List Plan) → Opens r s xs → Opens s t ys → Opens r t (xs ++ ys)
 opens_then r s t xs ys x y = record {
-  acts = x.acts ++ y.acts;
-  done = does_all_then Makes says x.acts y.acts r s t x.done y.done;
-  hears_none =
-      flat_map-append (λ (act : Act Call). hears act.call) x.acts y.acts ∙ joined_are _ _ [] [] x.hears_none y.hears_none;
-  sends_none = flat_map-append (λ (act : Act Call). act.sendings) x.acts y.acts ∙ joined_are _ _ [] [] x.sends_none y.sends_none;
-  gives_none = reports-append x.acts y.acts ∙ joined_are _ _ [] [] x.gives_none y.gives_none;
-  offers_are = offers-append x.acts y.acts ∙ joined_are _ _ xs ys x.offers_are y.offers_are;
+  done =
+      subst (λ (acts : List (Act Call)). DoesAll Makes says r acts t) (sym (offer_acts-append xs ys))
+      (does_all_then Makes says (offer_acts xs) (offer_acts ys) r s t x.done y.done);
 }
 
 pub opens_as : (r s t : Replica) (xs : List Plan) → t ≡ s → Opens r s xs → Opens r t xs
@@ -71,14 +149,7 @@ opens_as r s t xs same x = subst (λ (u : Replica). Opens r u xs) (sym same) x
 
 -- a query that was opened, or that did not fit
 pub offer_opens : (r s : Replica) (plan : Plan) → s ≡ after_offer r (opened r plan) → Opens r s (plan ∷ [])
-offer_opens r s plan is = record {
-  acts = record { call = Offers plan; sendings = [] } ∷ [];
-  done = (s, is, refl, refl);
-  hears_none = refl;
-  sends_none = refl;
-  gives_none = refl;
-  offers_are = refl;
-}
+offer_opens r s plan is = record { done = (s, is, refl, refl) }
 
 pub opened_is_offer : (r s : Replica) (plan : Plan) (count : ℕ) → opened r plan ≡ Ok (count, s) → s ≡ after_offer r (opened r plan)
 opened_is_offer r s plan count is = sym (ap (after_offer r) is)
@@ -93,130 +164,10 @@ pub dropped_is_offer : (r s : Replica) (plan : Plan) (fault : OpenFault) → s �
     → s ≡ after_offer r (opened r plan)
 dropped_is_offer r s plan fault same is = same ∙ sym (ap (after_offer r) is)
 
--- ---- steps
-
-module _ {P : Type 0} (honest : Bool) (came : P → List (List ℕ)) (sent : P → List Out) (faults : P → ℕ) where
-  pub steps_nothing : (a : P) (r s : Replica) → s ≡ r → Steps honest came sent faults a a r s 0 []
-  steps_nothing a r s same = record {
-    acts = [];
-    serves = serves_nothing Makes says hears honest came sent faults a r s same;
-    gives = refl;
-    offers_none = refl;
-  }
-
-  pub steps_then : (a b c : P) (r s t : Replica) (failed : ℕ) (given more : List (List ℕ))
-      → Steps honest came sent faults a b r s 0 given → Steps honest came sent faults b c s t failed more
-      → Steps honest came sent faults a c r t failed (given ++ more)
-  steps_then a b c r s t failed given more x y = record {
-    acts = x.acts ++ y.acts;
-    serves = serves_then Makes says hears honest came sent faults a b c r s t x.acts y.acts failed x.serves y.serves;
-    gives = reports-append x.acts y.acts ∙ joined_are _ _ given more x.gives y.gives;
-    offers_none = offers-append x.acts y.acts ∙ joined_are _ _ [] [] x.offers_none y.offers_none;
-  }
-
-  pub steps_as : (a b : P) (r s : Replica) (failed other_failed : ℕ) (given other : List (List ℕ)) → failed ≡ other_failed → given ≡ other
-      → Steps honest came sent faults a b r s failed given → Steps honest came sent faults a b r s other_failed other
-  steps_as a b r s failed other_failed given other e f x =
-      subst (λ (l : List (List ℕ)). Steps honest came sent faults a b r s other_failed l) f
-      (subst (λ (n : ℕ). Steps honest came sent faults a b r s n given) e x)
-
-  -- one call, which was given no datagram, with what became of the one that it wanted to be sent
-  pub step_sends : {A F : Type 0} (a b : P) (r s : Replica) (call : Call) (out : Out) (result : Result A F) (given : List (List ℕ))
-      → Makes r call s → says call ≡ out ∷ [] → hears call ≡ [] → reports call ≡ given → offers call ≡ [] → faults a < faults_max
-      → (honest ≡ true → OnOk result (sent b ≡ sent a ++ out ∷ [])) → (honest ≡ true → OnErr result (sent b ≡ sent a))
-      → (honest ≡ true → came b ≡ came a) → CountsFault result (faults a) (faults b)
-      → Steps honest came sent faults a b r s 0 given
-  step_sends a b r s call out result given makes says_is hears_is gives_is offers_is below ok err same counts =
-      let sendings : List Sending = sending_of result out ∷ [] in
-      record {
-        acts = record { call = call; sendings = sendings } ∷ [];
-        serves = record {
-          done = (s, makes, sym says_is, refl);
-          carried =
-              subst (λ (l : List (List ℕ)). Carried honest came sent faults a b l sendings 0) (sym (append-nil (hears call) ∙ hears_is))
-              (carried_one honest came sent faults a b out result below ok err same counts);
-        };
-        gives = append-nil (reports call) ∙ gives_is;
-        offers_none = append-nil (offers call) ∙ offers_is;
-      }
-
-  -- one call that is given no datagram and wants none to be sent
-  pub step_alone : (a : P) (r s : Replica) (call : Call) (given : List (List ℕ))
-      → Makes r call s → says call ≡ [] → hears call ≡ [] → reports call ≡ given → offers call ≡ []
-      → Steps honest came sent faults a a r s 0 given
-  step_alone a r s call given makes says_is hears_is gives_is offers_is = record {
-    acts = record { call = call; sendings = [] } ∷ [];
-    serves = record {
-      done = (s, makes, sym says_is, refl);
-      carried =
-          subst (λ (l : List (List ℕ)). Carried honest came sent faults a a l [] 0) (sym (append-nil (hears call) ∙ hears_is))
-          (carried_nothing honest came sent faults a);
-    };
-    gives = append-nil (reports call) ∙ gives_is;
-    offers_none = append-nil (offers call) ∙ offers_is;
-  }
-
-  -- a receive to which nothing came
-  pub steps_same : (a b : P) (r : Replica) → (honest ≡ true → came b ≡ came a ++ []) → (honest ≡ true → sent b ≡ sent a)
-      → faults b ≡ faults a → Steps honest came sent faults a b r r 0 []
-  steps_same a b r same sends counts = record {
-    acts = [];
-    serves = record {
-      done = refl;
-      carried = record { takes = same; sends = λ h. sends h ∙ sym (append-nil (sent a)); counts = counts };
-    };
-    gives = refl;
-    offers_none = refl;
-  }
-
-  -- a receive that failed
-  pub step_fails : (a b : P) (r : Replica) → faults a < faults_max → (honest ≡ true → came b ≡ came a) → (honest ≡ true → sent b ≡ sent a)
-      → faults b ≡ faults a + 1 → Steps honest came sent faults a b r r 1 []
-  step_fails a b r below same sends counts = record {
-    acts = [];
-    serves = record {
-      done = refl;
-      carried = record {
-        takes = λ h. same h ∙ sym (append-nil (came a));
-        sends = λ h. sends h ∙ sym (append-nil (sent a));
-        counts = counts ∙ sym (counted-one (faults a) below);
-      };
-    };
-    gives = refl;
-    offers_none = refl;
-  }
-
-  -- a datagram that was heard
-  pub step_hears : (a b : P) (r s : Replica) (bytes : List ℕ) (got : Got) → MayTake r (received r bytes) got s
-      → (honest ≡ true → came b ≡ came a ++ bytes ∷ []) → (honest ≡ true → sent b ≡ sent a) → faults b ≡ faults a
-      → Steps honest came sent faults a b r s 0 []
-  step_hears a b r s bytes got takes comes sends counts = record {
-    acts = record { call = Hears bytes; sendings = [] } ∷ [];
-    serves = record {
-      done = (s, (got, takes), refl, refl);
-      carried = record { takes = comes; sends = λ h. sends h ∙ sym (append-nil (sent a)); counts = counts };
-    };
-    gives = refl;
-    offers_none = refl;
-  }
-
 -- what holds anyway
 pub if_ok : {A F : Type 0} (result : Result A F) {Q : Type 0} → Q → IfOk result (λ _. Q)
 if_ok (Ok done) q = q
 if_ok (Err fault) q = tt
-
--- ---- turns
-
--- what was opened, as acts of a node whose port did nothing
-pub opens_serve : {P : Type 0} (honest : Bool) (came : P → List (List ℕ)) (sent : P → List Out) (faults : P → ℕ) (a : P) (r s : Replica)
-    (offered : List Plan) (x : Opens r s offered) → Serves Makes hears says honest came sent faults a a r s x.acts 0
-opens_serve honest came sent faults a r s offered x = record {
-  done = x.done;
-  carried =
-      subst (λ (l : List (List ℕ)). Carried honest came sent faults a a l (sendings_in x.acts) 0) (sym x.hears_none)
-      (subst (λ (l : List Sending). Carried honest came sent faults a a [] l 0) (sym x.sends_none)
-      (carried_nothing honest came sent faults a));
-}
 
 -- nothing was taken from the queue
 pub taken_nothing : {A : Type 0} (moves : Moves) (result : Result A ServeFault) → Takes moves moves [] result
@@ -228,91 +179,309 @@ taken_nothing moves result = record {
   all = if_ok result refl;
 }
 
--- what was taken, and all of it offered, whatever the call answers at last
-pub taken_as : {A B : Type 0} (old new : Moves) (offered other : List Plan) (done : A) (result : Result B ServeFault) → other ≡ offered
-    → Takes old new offered (Ok done) → Takes old new other result
-taken_as old new offered other done result same x = record {
-  added = x.added;
-  more = x.more;
-  same = x.same;
-  in_order = ([], append-nil other ∙ same ∙ x.all);
-  all = if_ok result (same ∙ x.all);
-}
-
--- what was taken before the call failed
-pub taken_failed : {A B : Type 0} (old new : Moves) (offered other : List Plan) (fault : ServeFault) → other ≡ offered
-    → Takes {A = A} old new offered (Err fault) → Takes {A = B} old new other (Err fault)
-taken_failed old new offered other fault same x = record {
-  added = x.added;
-  more = x.more;
-  same = x.same;
-  in_order = (x.in_order.0, ap (λ (l : List Plan). l ++ x.in_order.0) same ∙ x.in_order.1);
+-- a batch that was refused
+pub refused_nothing : {A F : Type 0} (B Q : Type 0) (old new : Moves) (result : Result A F) (is_err_too : Bool)
+    → OnErr result ((new ≡ old) × Q) → is_err_too ≡ is_err result → is_err_too ≡ true
+    → Takes {A = B} old new [] (Err Memory)
+refused_nothing B Q old new (Ok done) is_err_too refused is yes_err = absurd (true≢false (sym yes_err ∙ is))
+refused_nothing B Q old new (Err fault) is_err_too refused is yes_err = record {
+  added = [];
+  more = ap (λ (m : Moves). m.taken) refused.0 ∙ sym (append-nil old.taken);
+  same = ap (λ (m : Moves). m.put) refused.0;
+  in_order = ([], refl);
   all = tt;
 }
 
-module _ {P : Type 0} (honest : Bool) (came : P → List (List ℕ)) (sent : P → List Out) (faults : P → ℕ) where
-  pub turn_serves : (a b c : P) (r s t u : Replica) (m n : Moves) (result : Result (Option (List ℕ)) ServeFault)
-      → Steps honest came sent faults a b r s 0 [] → OpensTaken s t m n (Ok tt)
-      → Steps honest came sent faults b c t u (failures result) (handed result)
-      → ServesReplica honest came sent faults a c r u m n result
-  turn_serves a b c r s t u m n result x o y =
-      let acts = o.opens.acts ++ y.acts in
-      record {
-        acts = x.acts ++ acts;
-        serves =
-            serves_then Makes says hears honest came sent faults a b c r s u x.acts acts (failures result) x.serves
-            (serves_then Makes says hears honest came sent faults b b c s t u o.opens.acts y.acts (failures result)
-            (opens_serve honest came sent faults b s t o.offered o.opens) y.serves);
-        takes =
-            taken_as m n o.offered _ tt result
-            (offers-append x.acts acts ∙ joined_are _ _ [] o.offered x.offers_none
-            (offers-append o.opens.acts y.acts ∙ joined_are _ _ o.offered [] o.opens.offers_are y.offers_none ∙ append-nil o.offered))
-            o.takes;
-        gives =
-            reports-append x.acts acts ∙ joined_are _ _ [] (handed result) x.gives
-            (reports-append o.opens.acts y.acts ∙ joined_are _ _ [] (handed result) o.opens.gives_none y.gives);
-      }
+-- what was taken, and all of it offered, whatever the call answers at last
+pub taken_as : {A B : Type 0} (old new : Moves) (offered : List Plan) (done : A) (result : Result B ServeFault)
+    → Takes old new offered (Ok done) → Takes old new offered result
+taken_as old new offered done result x = record {
+  added = x.added;
+  more = x.more;
+  same = x.same;
+  in_order = ([], append-nil offered ∙ x.all);
+  all = if_ok result x.all;
+}
 
-  -- the queries could not be taken or opened
-  pub turn_fails : (a b : P) (r s t : Replica) (m n : Moves) (fault : ServeFault)
-      → Steps honest came sent faults a b r s 0 [] → OpensTaken s t m n (Err fault)
-      → ServesReplica honest came sent faults a b r t m n (Err fault)
-  turn_fails a b r s t m n fault x o = record {
-    acts = x.acts ++ o.opens.acts;
+-- what was taken before the call failed
+pub taken_failed : {A B : Type 0} (old new : Moves) (offered : List Plan) (fault : ServeFault)
+    → Takes {A = A} old new offered (Err fault) → Takes {A = B} old new offered (Err fault)
+taken_failed old new offered fault x = record { added = x.added; more = x.more; same = x.same; in_order = x.in_order; all = tt }
+
+-- ---- what a node does
+
+module _ {P : Type 0} (honest : Bool) (came : P → List (List ℕ)) (sent : P → List Out) (faults : P → ℕ) where
+  pub does_nothing : (a b : ReplicaState P) → b ≡ a → DoesReplica honest came sent faults a b 0 [] [] 0
+  does_nothing a b same =
+      subst (λ (c : ReplicaState P). DoesReplica honest came sent faults a c 0 [] [] 0) (sym same) (record {
+        acts = [];
+        serves = serves_nothing Makes says hears honest came sent faults a.port a.core a.core refl;
+        gives = refl;
+        queries = refl;
+        counts = refl;
+        expects = refl;
+        has_run = omega arith;
+      })
+
+  pub does_then : (a b c : ReplicaState P) (failed : ℕ) (given more : List (List ℕ)) (xs ys : List Plan) (m n : ℕ)
+      → DoesReplica honest came sent faults a b 0 given xs m → DoesReplica honest came sent faults b c failed more ys n
+      → DoesReplica honest came sent faults a c failed (given ++ more) (xs ++ ys) (m + n)
+  does_then a b c failed given more xs ys m n x y = record {
+    acts = x.acts ++ y.acts;
     serves =
-        subst (λ (k : ℕ). Serves Makes hears says honest came sent faults a b r t (x.acts ++ o.opens.acts) k)
-        (sym o.no_failure)
-        (serves_then Makes says hears honest came sent faults a b b r s t x.acts o.opens.acts 0 x.serves
-        (opens_serve honest came sent faults b s t o.offered o.opens));
-    takes =
-        taken_failed m n o.offered _ fault
-        (offers-append x.acts o.opens.acts ∙ joined_are _ _ [] o.offered x.offers_none o.opens.offers_are) o.takes;
-    gives = reports-append x.acts o.opens.acts ∙ joined_are _ _ [] [] x.gives o.opens.gives_none;
+        serves_then Makes says hears honest came sent faults a.port b.port c.port a.core b.core c.core x.acts y.acts failed x.serves
+        y.serves;
+    gives = reports-append x.acts y.acts ∙ joined_are _ _ given more x.gives y.gives;
+    queries = offers-append x.acts y.acts ∙ joined_are _ _ xs ys x.queries y.queries;
+    counts =
+        y.counts ∙ ap (λ (t : Traffic). traffic_after t y.acts) x.counts ∙ traffic-then a.traffic x.acts y.acts;
+    expects =
+        y.expects ∙ ap (λ (e : Option ℕ). expected_after e y.acts) x.expects ∙ expected-then a.expected x.acts y.acts;
+    has_run = omega (arith, x.has_run, y.has_run, sums-append runs x.acts y.acts);
   }
 
-  -- nothing was opened
-  pub turn_goes : (a b c : P) (r s u : Replica) (m : Moves) (result : Result (Option (List ℕ)) ServeFault)
-      → Steps honest came sent faults a b r s 0 [] → Steps honest came sent faults b c s u (failures result) (handed result)
-      → ServesReplica honest came sent faults a c r u m m result
-  turn_goes a b c r s u m result x y =
-      turn_serves a b c r s s u m m result x
-      (record { offered = []; opens = opens_nothing s s refl; takes = taken_nothing m (Ok tt); no_failure = refl }) y
+  -- the same, of which less is said
+  pub does_as : (a b : ReplicaState P) (failed other_failed : ℕ) (given other : List (List ℕ)) (xs ys : List Plan) (m n : ℕ)
+      → failed ≡ other_failed → given ≡ other → xs ≡ ys → n ≤ m → DoesReplica honest came sent faults a b failed given xs m
+      → DoesReplica honest came sent faults a b other_failed other ys n
+  does_as a b failed other_failed given other xs ys m n e f q less x = record {
+    acts = x.acts;
+    serves = subst (λ (k : ℕ). Serves' k x.acts) e x.serves;
+    gives = x.gives ∙ f;
+    queries = x.queries ∙ q;
+    counts = x.counts;
+    expects = x.expects;
+    has_run = omega (arith, x.has_run, less);
+  }
+    where
+      Serves' : ℕ → List (Act Call) → Type 0
+      Serves' k acts = Serves Makes hears says honest came sent faults a.port b.port a.core b.core acts k
 
-  pub serves_none : (a : P) (r : Replica) (m : Moves) → ServesReplica honest came sent faults a a r r m m (Ok None)
-  serves_none a r m =
-      let none = steps_nothing honest came sent faults a r r refl in
-      turn_goes a a a r r r m (Ok None) none none
+  -- a step in which the batch was not run, and then more
+  pub does_on : (a b c : ReplicaState P) (failed : ℕ) (given more : List (List ℕ)) (xs ys : List Plan) (n : ℕ)
+      → DoesReplica honest came sent faults a b 0 given xs 0 → DoesReplica honest came sent faults b c failed more ys n
+      → DoesReplica honest came sent faults a c failed (given ++ more) (xs ++ ys) n
+  does_on a b c failed given more xs ys n x y =
+      does_as a c failed failed (given ++ more) (given ++ more) (xs ++ ys) (xs ++ ys) (0 + n) n refl refl refl (omega arith)
+      (does_then a b c failed given more xs ys 0 n x y)
+
+  -- turns, and then as many as are said
+  pub does_up_to : (a b c : ReplicaState P) (failed : ℕ) (given more : List (List ℕ)) (xs ys : List Plan) (m n all : ℕ) → all ≤ m + n
+      → DoesReplica honest came sent faults a b 0 given xs m → DoesReplica honest came sent faults b c failed more ys n
+      → DoesReplica honest came sent faults a c failed (given ++ more) (xs ++ ys) all
+  does_up_to a b c failed given more xs ys m n all less x y =
+      does_as a c failed failed (given ++ more) (given ++ more) (xs ++ ys) (xs ++ ys) (m + n) all refl refl refl less
+      (does_then a b c failed given more xs ys m n x y)
+
+  -- what was sent, and no more received
+  sent_alone : (a b : ReplicaState P) (outs : List Out) (x : SendsAll honest came sent faults a.port b.port a.traffic b.traffic outs)
+      → Carried honest came sent faults a.port b.port [] (x.sendings ++ []) 0
+  sent_alone a b outs x =
+      subst (λ (l : List Sending). Carried honest came sent faults a.port b.port [] l 0) (sym (append-nil x.sendings)) x.carried
+
+  sent_counts : (a b : ReplicaState P) (outs : List Out) (x : SendsAll honest came sent faults a.port b.port a.traffic b.traffic outs)
+      → b.traffic ≡ with_more a.traffic 0 0 0 (x.sendings ++ [])
+  sent_counts a b outs x = x.counts ∙ ap (λ (l : List Sending). with_more a.traffic 0 0 0 l) (sym (append-nil x.sendings))
+
+  -- the Ask is sent
+  pub does_ask : (a b : ReplicaState P) (out : Out) → asked a.core ≡ Ok (out, b.core)
+      → SendsAll honest came sent faults a.port b.port a.traffic b.traffic (out ∷ []) → b.expected ≡ a.expected
+      → DoesReplica honest came sent faults a b 0 [] [] 0
+  does_ask a b out is x same = record {
+    acts = record { call = Asks out; sendings = x.sendings } ∷ [];
+    serves = record { done = (b.core, is, x.all, refl); carried = sent_alone a b (out ∷ []) x };
+    gives = refl;
+    queries = refl;
+    counts = sent_counts a b (out ∷ []) x;
+    expects = same;
+    has_run = omega arith;
+  }
+
+  -- the Want of a gap is sent
+  pub does_want : (a b : ReplicaState P) (gap : Gap) (out : Out) → b.core ≡ a.core → Contains (gaps_of want_frames_max a.core) gap
+      → out ≡ want_for a.core.number gap.worker gap.seq
+      → SendsAll honest came sent faults a.port b.port a.traffic b.traffic (out ∷ []) → b.expected ≡ a.expected
+      → DoesReplica honest came sent faults a b 0 [] [] 0
+  does_want a b gap out kept named is x same = record {
+    acts = record { call = Wants gap out; sendings = x.sendings } ∷ [];
+    serves = record { done = (b.core, (kept, named, is), x.all, refl); carried = sent_alone a b (out ∷ []) x };
+    gives = refl;
+    queries = refl;
+    counts = sent_counts a b (out ∷ []) x;
+    expects = same;
+    has_run = omega arith;
+  }
+
+  -- a run
+  pub does_run : (a b : ReplicaState P) (run : Run) (given : List (List ℕ)) → MayRun a.core run b.core → reported run ≡ given
+      → b ≡ record a { core = b.core } → DoesReplica honest came sent faults a b 0 given [] 1
+  does_run a b run given is gives same = record {
+    acts = record { call = Runs run; sendings = [] } ∷ [];
+    serves = record {
+      done = (b.core, is, refl, refl);
+      carried =
+          subst (λ (p : P). Carried honest came sent faults a.port p [] [] 0) (sym (ap (λ (n : ReplicaState P). n.port) same))
+          (carried_nothing honest came sent faults a.port);
+    };
+    gives = append-nil (reported run) ∙ gives;
+    queries = refl;
+    counts = ap (λ (n : ReplicaState P). n.traffic) same;
+    expects = ap (λ (n : ReplicaState P). n.expected) same;
+    has_run = omega arith;
+  }
+
+  -- a receive to which nothing came
+  pub does_wait : (a b : ReplicaState P) → (honest ≡ true → came b.port ≡ came a.port ++ [])
+      → (honest ≡ true → sent b.port ≡ sent a.port) → faults b.port ≡ faults a.port → b ≡ record a { port = b.port }
+      → DoesReplica honest came sent faults a b 0 [] [] 0
+  does_wait a b same sends counts is = record {
+    acts = [];
+    serves = record {
+      done = ap (λ (n : ReplicaState P). n.core) is;
+      carried = record { takes = same; sends = λ h. sends h ∙ sym (append-nil (sent a.port)); counts = counts };
+    };
+    gives = refl;
+    queries = refl;
+    counts = ap (λ (n : ReplicaState P). n.traffic) is;
+    expects = ap (λ (n : ReplicaState P). n.expected) is;
+    has_run = omega arith;
+  }
+
+  -- a receive that failed
+  pub does_fail : (a b : ReplicaState P) → faults a.port < faults_max → (honest ≡ true → came b.port ≡ came a.port)
+      → (honest ≡ true → sent b.port ≡ sent a.port) → faults b.port ≡ faults a.port + 1 → b ≡ record a { port = b.port }
+      → DoesReplica honest came sent faults a b 1 [] [] 0
+  does_fail a b below same sends counts is = record {
+    acts = [];
+    serves = record {
+      done = ap (λ (n : ReplicaState P). n.core) is;
+      carried = record {
+        takes = λ h. same h ∙ sym (append-nil (came a.port));
+        sends = λ h. sends h ∙ sym (append-nil (sent a.port));
+        counts = counts ∙ sym (counted-one (faults a.port) below);
+      };
+    };
+    gives = refl;
+    queries = refl;
+    counts = ap (λ (n : ReplicaState P). n.traffic) is;
+    expects = ap (λ (n : ReplicaState P). n.expected) is;
+    has_run = omega arith;
+  }
+
+  -- a datagram that was heard
+  pub does_hear : (a b : ReplicaState P) (bytes : List ℕ) (got : Got) → MayTake a.core (received a.core bytes) got b.core
+      → (honest ≡ true → came b.port ≡ came a.port ++ bytes ∷ []) → (honest ≡ true → sent b.port ≡ sent a.port)
+      → faults b.port ≡ faults a.port → b.traffic ≡ with_heard a.traffic (counted_as got)
+      → b.expected ≡ expected_of a.expected bytes got → DoesReplica honest came sent faults a b 0 [] [] 0
+  does_hear a b bytes got takes comes sends counts traffic expected = record {
+    acts = record { call = Hears bytes got; sendings = [] } ∷ [];
+    serves = record {
+      done = (b.core, takes, refl, refl);
+      carried = record { takes = comes; sends = λ h. sends h ∙ sym (append-nil (sent a.port)); counts = counts };
+    };
+    gives = refl;
+    queries = refl;
+    counts =
+        let one : stored_as (counted_as got) ≡ 0 + stored_as (counted_as got) = omega arith in
+        let other : ignored_as (counted_as got) ≡ 0 + ignored_as (counted_as got) = omega arith in
+        traffic
+        ∙ with_more-same a.traffic 1 (stored_as (counted_as got)) (ignored_as (counted_as got)) 1 (0 + stored_as (counted_as got))
+        (0 + ignored_as (counted_as got)) [] [] refl one other refl;
+    expects = expected;
+    has_run = omega arith;
+  }
+
+  -- queries that were offered
+  pub does_offer : (a b : ReplicaState P) (plans : List Plan) → Opens a.core b.core plans → b ≡ record a { core = b.core }
+      → DoesReplica honest came sent faults a b 0 [] plans 0
+  does_offer a b plans x is =
+      subst (λ (c : ReplicaState P). DoesReplica honest came sent faults a c 0 [] plans 0) (sym is) (record {
+        acts = offer_acts plans;
+        serves = record {
+          done = x.done;
+          carried =
+              subst (λ (l : List (List ℕ)). Carried honest came sent faults a.port a.port l (sendings_in (offer_acts plans)) 0)
+              (sym (offers-none-heard plans))
+              (subst (λ (l : List Sending). Carried honest came sent faults a.port a.port [] l 0) (sym (offers-none-sent plans))
+              (carried_nothing honest came sent faults a.port));
+        };
+        gives = offers-none-given plans;
+        queries = offers-all plans;
+        counts =
+            with_more-same a.traffic 0 0 0 (length (heard_in hears (offer_acts plans))) (stored_in (offer_acts plans))
+            (ignored_in (offer_acts plans)) [] (sendings_in (offer_acts plans)) (sym (ap length (offers-none-heard plans)))
+            (sym (offers-none-stored plans))
+            (sym (offers-none-ignored plans)) (sym (offers-none-sent plans));
+        expects = sym (offers-same-expected a.expected plans);
+        has_run = omega arith;
+      })
+
+  pub offers_of : (a b : ReplicaState P) (plans : List Plan) (result : Result (Unit {0}) ServeFault)
+      → OpensOf a.core b.core plans result → b ≡ record a { core = b.core } → OffersOf honest came sent faults a b plans result
+  offers_of a b plans result x is = record {
+    offered = x.offered;
+    does = does_offer a b x.offered x.opens is;
+    in_order = x.in_order;
+    all = x.all;
+    alone = is;
+    no_failure = x.no_failure;
+  }
+
+  -- ---- turns with a queue
+
+  pub serves_none : (a : ReplicaState P) (m : Moves) → ServesReplica honest came sent faults a a m m 0 (Ok None)
+  serves_none a m = record { offered = []; does = does_nothing a a refl; takes = taken_nothing m (Ok None) }
+
+  pub serves_as : (a b : ReplicaState P) (m n : Moves) (turned other : ℕ) {result : Result (Option (List ℕ)) ServeFault} → turned ≡ other
+      → ServesReplica honest came sent faults a b m n turned result → ServesReplica honest came sent faults a b m n other result
+  serves_as a b m n turned other {result} same x =
+      subst (λ (k : ℕ). ServesReplica honest came sent faults a b m n k result) same x
+
+  -- nothing was offered
+  pub turn_goes : (a b : ReplicaState P) (m : Moves) (turned : ℕ) (result : Result (Option (List ℕ)) ServeFault)
+      → DoesReplica honest came sent faults a b (failures result) (handed result) [] turned
+      → ServesReplica honest came sent faults a b m m turned result
+  turn_goes a b m turned result x = record { offered = []; does = x; takes = taken_nothing m result }
+
+  -- queries were offered, and then comes the turn
+  pub turn_serves : (a b c : ReplicaState P) (m n : Moves) (turned : ℕ) (result : Result (Option (List ℕ)) ServeFault)
+      → OffersTaken honest came sent faults a b m n (Ok tt)
+      → DoesReplica honest came sent faults b c (failures result) (handed result) [] turned
+      → ServesReplica honest came sent faults a c m n turned result
+  turn_serves a b c m n turned result o y = record {
+    offered = o.offered;
+    does =
+        does_as a c (failures result) (failures result) (handed result) (handed result) (o.offered ++ []) o.offered (0 + turned) turned
+        refl refl (append-nil o.offered) (omega arith)
+        (does_then a b c (failures result) [] (handed result) o.offered [] 0 turned o.does y);
+    takes = taken_as m n o.offered tt result o.takes;
+  }
+
+  -- the queries could not be taken or opened
+  pub turn_fails : (a b : ReplicaState P) (m n : Moves) (fault : ServeFault) → OffersTaken honest came sent faults a b m n (Err fault)
+      → ServesReplica honest came sent faults a b m n 0 (Err fault)
+  turn_fails a b m n fault o = record {
+    offered = o.offered;
+    does =
+        does_as a b 0 (failures {A = Option (List ℕ)} (Err fault)) [] [] o.offered o.offered 0 0 (sym o.no_failure) refl refl
+        (omega arith) o.does;
+    takes = taken_failed m n o.offered fault o.takes;
+  }
 
   -- turns without a report, and then a turn
-  pub turns_then : (a b c : P) (r s t : Replica) (l m n : Moves) (result : Result (Option (List ℕ)) ServeFault)
-      → ServesReplica honest came sent faults a b r s l m (Ok None) → ServesReplica honest came sent faults b c s t m n result
-      → ServesReplica honest came sent faults a c r t l n result
-  turns_then a b c r s t l m n result x y =
-      let offered = offers-append x.acts y.acts ∙ ap (λ (plans : List Plan). plans ++ offers_in y.acts) x.takes.all in
+  pub turns_then : (a b c : ReplicaState P) (l m n : Moves) (turned more all : ℕ) (result : Result (Option (List ℕ)) ServeFault)
+      → all ≤ turned + more → ServesReplica honest came sent faults a b l m turned (Ok None)
+      → ServesReplica honest came sent faults b c m n more result → ServesReplica honest came sent faults a c l n all result
+  turns_then a b c l m n turned more all result less x y =
       let joined = map-append plan_in x.takes.added y.takes.added in
+      let offered : x.offered ++ y.offered ≡ map plan_in x.takes.added ++ y.offered =
+      ap (λ (plans : List Plan). plans ++ y.offered) x.takes.all in
       record {
-        acts = x.acts ++ y.acts;
-        serves = serves_then Makes says hears honest came sent faults a b c r s t x.acts y.acts (failures result) x.serves y.serves;
+        offered = x.offered ++ y.offered;
+        does =
+            does_as a c (failures result) (failures result) (handed result) (handed result) (x.offered ++ y.offered)
+            (x.offered ++ y.offered) (turned + more) all refl refl refl less
+            (does_then a b c (failures result) [] (handed result) x.offered y.offered turned more x.does y.does);
         takes = record {
           added = x.takes.added ++ y.takes.added;
           more =
@@ -321,18 +490,17 @@ module _ {P : Type 0} (honest : Bool) (came : P → List (List ℕ)) (sent : P �
           in_order = (
             y.takes.in_order.0,
             ap (λ (plans : List Plan). plans ++ y.takes.in_order.0) offered
-                ∙ append_assoc (map plan_in x.takes.added) (offers_in y.acts) y.takes.in_order.0
+                ∙ append_assoc (map plan_in x.takes.added) y.offered y.takes.in_order.0
                 ∙ ap (λ (plans : List Plan). map plan_in x.takes.added ++ plans) y.takes.in_order.1 ∙ sym joined,
           );
           all = all_offered result y.takes.all offered joined;
         };
-        gives = reports-append x.acts y.acts ∙ joined_are _ _ [] (handed result) x.gives y.gives;
       }
     where
-      all_offered : (result : Result (Option (List ℕ)) ServeFault) → IfOk result (λ _. offers_in y.acts ≡ map plan_in y.takes.added)
-          → offers_in (x.acts ++ y.acts) ≡ map plan_in x.takes.added ++ offers_in y.acts
+      all_offered : (result : Result (Option (List ℕ)) ServeFault) → IfOk result (λ _. y.offered ≡ map plan_in y.takes.added)
+          → x.offered ++ y.offered ≡ map plan_in x.takes.added ++ y.offered
           → map plan_in (x.takes.added ++ y.takes.added) ≡ map plan_in x.takes.added ++ map plan_in y.takes.added
-          → IfOk result (λ _. offers_in (x.acts ++ y.acts) ≡ map plan_in (x.takes.added ++ y.takes.added))
+          → IfOk result (λ _. x.offered ++ y.offered ≡ map plan_in (x.takes.added ++ y.takes.added))
       all_offered (Ok report) all offered joined =
           offered ∙ ap (λ (plans : List Plan). map plan_in x.takes.added ++ plans) all ∙ sym joined
       all_offered (Err fault) all offered joined = tt

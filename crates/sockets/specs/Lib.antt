@@ -1,6 +1,8 @@
 pub mod Ports
 pub mod State
 pub mod Carrying
+pub mod Traffic
+pub mod Asking
 pub mod Serving
 pub mod Replicas
 pub mod Primaries

@@ -1,5 +1,5 @@
 -- What a node has done while it served: acts on its state, one after the other, each with the datagrams that it was to send.
-use Rattle.std.specs.Prelude.{◌≡◌, ◌≤◌, ℕ, List, [], ◌∷◌, map, Bool, Option, None, Some}
+use Rattle.std.specs.Prelude.{◌≡◌, ◌≤◌, ◌-◌, ℕ, List, [], ◌∷◌, map, Bool, true, Option, None, Some, Result, Ok, Err, nat_lt}
 use Rattle.std.specs.List.{flat_map}
 use Rattle.wire.specs.declared.out.Out.{Out}
 use Rattle.sockets.specs.Carrying.{Sending, out_of, Carried}
@@ -30,6 +30,22 @@ TurnsLeft None None = Unit {0}
 TurnsLeft None (Some left) = ⊥
 TurnsLeft (Some turns) None = ⊥
 TurnsLeft (Some turns) (Some left) = left ≤ turns
+
+-- whether a turn is left
+abbrev pub has_turn : Option ℕ → Bool
+has_turn None = true
+has_turn (Some turns) = nat_lt 0 turns
+
+-- the turns that are left after one more
+abbrev pub after_turn : Option ℕ → Option ℕ
+after_turn None = None
+after_turn (Some turns) = Some (turns - 1)
+
+-- how many turns were used up and did not fail, if they are counted
+abbrev pub completed : {A F : Type 0} → Option ℕ → Option ℕ → Result A F → ℕ
+completed (Some turns) (Some left) (Ok done) = turns - left
+completed (Some turns) (Some left) (Err fault) = turns - left - 1
+completed turns left result = 0
 
 -- a node has done these acts, and its port has carried just what they took in and were to send; so many receives have failed
 pub record Serves {S C P : Type 0} (Makes : S → C → S → Type 0) (hears : C → List (List ℕ)) (says : C → List Out)

@@ -1,33 +1,46 @@
 //! One job at a seat.
 
-ghost use Rattle.std.specs.Prelude.{◌≡◌, ◌<◌, length, IfOk, IfErr, OnErr, MatchResult};
+ghost use Rattle.std.specs.Prelude.{◌≡◌, ◌<◌, length, IfOk, IfErr, MatchResult};
 ghost use mathlib.Core.List.{IsPrefix};
 ghost use Rattle.rows.specs.Shape.{shape_of};
 ghost use Rattle.journal.specs.Recovery.{IsJournaled};
 ghost use Rattle.desk.specs.Answers.{Stands};
 ghost use Rattle.sockets.specs.Answers.{IsJobAnswer, IsSeatAfter, IsSeatLeft};
+ghost use Rattle.sockets.specs.Inner.Jobs.{IsAttempt, IsSeatTried};
 
 use crate::drafting::{Stop, drafted};
 use crate::faults::WorkersFault;
 use crate::gate::Gate;
 use crate::job::Job;
 use crate::job_answer::JobAnswer;
+use crate::refusal::Refusal;
 use journal::JournalStore;
 use primary::{CommitFault, FlushFault, Ticket};
 use shared::{Line, Origin, Seat, Settled};
 use std::alloc::Global;
 use std::sync::Wait;
 
-/// Does one job at a seat: begins a transaction, makes the job's changes in their order, commits it
-/// for the job's worker, makes everything pending durable, and settles the ticket. The gate is
-/// notified before and after the commit; `index` is the job's number for the gate. It may wait.
+/// What became of a job before it is durable.
+#[derive(Drop)]
+pub(crate) enum Attempt {
+    /// It is committed, and pending.
+    Pending(Ticket),
+    /// It is not committed, and this is its answer: a conflict or a refusal.
+    Answered(JobAnswer),
+}
+
+/// Does one job at a seat: begins a transaction, makes the job's changes and looks at its conditions
+/// in their order, commits it for the job's worker, makes everything pending durable, and settles the
+/// ticket. The gate is notified before and after the commit; `index` is the job's number for the gate.
+/// It may wait.
 ///
-/// `Ticket`: the commit is durable, and the seat has seen it under that number. `Conflict`: the
-/// commit is refused because of the last one above its snapshot that touches one of its rows, or
-/// where one of the two adds a column to a table in which the other has an entry.
-/// `Refused`: a change is refused, or the commit is for any other reason (no changes, or a number
-/// used up), or a call could not read what is published, even when it was tried again 1000 times;
-/// nothing is committed then.
+/// `Ticket`: each condition held in the transaction as it was where the condition stands, the commit
+/// is durable, and the seat has seen it under that number. `Conflict`: the commit is refused because
+/// of the last one above its snapshot that touches one of its rows, or where one of the two adds a
+/// column to a table in which the other has an entry. `Refused`: a change is refused or a condition
+/// does not hold, in which case the answer has the number of that step; or the job has no change, a
+/// number is used up, or what is published could not be read, even when it was tried again 1000
+/// times. Nothing is committed then.
 ///
 /// Fails with `Journal` if the journal failed, before or while this commit was written, or with
 /// `Memory` if out of memory, also for publishing what is durable. The job may then have been
@@ -49,33 +62,66 @@ pub fn do_job<L: Origin, J: JournalStore + Drop, R: Wait + Drop, W: Wait, G: Gat
     ensures seat { MatchResult result (IsSeatAfter seat.old seat.new) (λ fault. IsSeatLeft seat.old seat.new) }
     ensures fault { IfErr result (λ fault. ¬ (fault ≡ WorkersFault.NoSeat)) }
 {
-    let transaction = match drafted(alloc, seat, &job.changes) {
+    match commit_job(rt, alloc, line, seat, index, job, gate) {
+        Ok(Attempt::Pending(ticket)) => acknowledged(rt, line, seat, &ticket),
+        Ok(Attempt::Answered(answer)) => Ok(answer),
+        Err(fault) => Err(fault),
+    }
+}
+
+/// Drafts a job at a seat, and commits the draft for the job's worker: the commit is then pending. The
+/// gate is notified before and after the commit. It may wait.
+///
+/// Fails with `Journal` if the journal failed before, or with `Memory`; nothing is committed then.
+pub(crate) fn commit_job<L: Origin, J: JournalStore + Drop, R: Wait + Drop, W: Wait, G: Gate>(
+    rt: &W,
+    alloc: Global,
+    line: &Line<L, J, R>,
+    seat: &mut Seat<L>,
+    index: usize,
+    job: &Job,
+    gate: &G,
+) -> Result<Attempt, WorkersFault>
+    requires { job.now.worker < L.workers }
+    ensures legal { IsJournaled L.workers (shape_of L.schema) seat.new.list }
+    ensures later { IsPrefix seat.old.list seat.new.list }
+    ensures answer { IfOk result (IsAttempt (shape_of L.schema) (length seat.old.list) seat.new.list job.now) }
+    ensures seat { MatchResult result (IsSeatTried seat.old seat.new) (λ fault. seat.new ≡ record seat.old { list = seat.new.list }) }
+    ensures fault { IfErr result (λ fault. ¬ (fault ≡ WorkersFault.NoSeat)) }
+{
+    let transaction = match drafted(alloc, seat, &job.steps) {
         Ok(transaction) => transaction,
-        Err(Stop::Refused) => return Ok(JobAnswer::Refused),
+        Err(Stop::Refused(refusal)) => return Ok(refused(refusal)),
         Err(Stop::Memory) => return Err(WorkersFault::Memory),
     };
     gate.before(job.worker, index);
     let committed = line.commit(rt, seat, transaction, job.worker);
     gate.answered(job.worker, index);
     match committed {
-        Ok(ticket) => acknowledged(rt, line, seat, &ticket),
-        Err((_, CommitFault::Conflict(number))) => Ok(JobAnswer::Conflict(number)),
+        Ok(ticket) => Ok(Attempt::Pending(ticket)),
+        Err((_, CommitFault::Conflict(number))) => Ok(Attempt::Answered(JobAnswer::Conflict(
+            number,
+        ))),
+        Err((_, CommitFault::ReadOnly)) => Ok(refused(Refusal::NoChange)),
+        Err((_, CommitFault::Foreign)) => Ok(refused(Refusal::Foreign)),
+        Err((_, CommitFault::NumbersUsedUp)) => Ok(refused(Refusal::NumbersUsedUp)),
         Err((_, CommitFault::Failed)) => Err(WorkersFault::Journal),
         Err((_, CommitFault::Memory)) => Err(WorkersFault::Memory),
-        Err(_) => Ok(JobAnswer::Refused),
     }
+}
+
+/// A job that is refused for this reason.
+fn refused(refusal: Refusal) -> Attempt
+    ensures { result ≡ Attempt.Answered (JobAnswer.Refused refusal) }
+{
+    Attempt::Answered(JobAnswer::Refused(refusal))
 }
 
 /// Makes everything pending durable, and acknowledges the ticket of a commit if the commit is settled:
 /// it is then durable, and the seat has seen it under its number. It may wait.
 ///
-/// Fails with `Journal` if the journal failed, or with `Memory` if memory was refused, also to publish
-/// what is durable; the commit may then be durable. `NoSeat` is never returned.
-///
-/// A commit that is `Lost`, or `NotYet` durable, after a flush of everything pending is one that
-/// the journal did not take as it should have. This never happens, whatever the schedule, and is
-/// reported as `Journal`.
-pub fn acknowledged<L: Origin, J: JournalStore + Drop, R: Wait + Drop, W: Wait>(
+/// Fails as `flushed` and `settled` do; the commit may then be durable.
+fn acknowledged<L: Origin, J: JournalStore + Drop, R: Wait + Drop, W: Wait>(
     rt: &W,
     line: &Line<L, J, R>,
     seat: &mut Seat<L>,
@@ -87,11 +133,54 @@ pub fn acknowledged<L: Origin, J: JournalStore + Drop, R: Wait + Drop, W: Wait>(
     ensures answer { IfOk result (λ answer. (answer ≡ JobAnswer.Ticket ticket.now.number) × Stands seat.new.list ticket.now) }
     ensures fault { IfErr result (λ fault. ¬ (fault ≡ WorkersFault.NoSeat)) }
 {
-    match line.flush(rt, seat, usize::MAX) {
-        Ok(_) => {}
-        Err(FlushFault::Memory) => return Err(WorkersFault::Memory),
-        Err(_) => return Err(WorkersFault::Journal),
+    match flushed(rt, line, seat) {
+        Ok(()) => settled(rt, line, seat, ticket),
+        Err(fault) => Err(fault),
     }
+}
+
+/// Makes everything pending durable. It may wait.
+///
+/// Fails with `Journal` if the journal failed, or with `Memory` if memory was refused; what is pending
+/// may then be durable. `NoSeat` is never returned.
+pub(crate) fn flushed<L: Origin, J: JournalStore + Drop, R: Wait + Drop, W: Wait>(
+    rt: &W,
+    line: &Line<L, J, R>,
+    seat: &mut Seat<L>,
+) -> Result<(), WorkersFault>
+    ensures legal { IsJournaled L.workers (shape_of L.schema) seat.new.list }
+    ensures later { IsPrefix seat.old.list seat.new.list }
+    ensures same { seat.new ≡ record seat.old { list = seat.new.list } }
+    ensures fault { IfErr result (λ fault. ¬ (fault ≡ WorkersFault.NoSeat)) }
+{
+    match line.flush(rt, seat, usize::MAX) {
+        Ok(_) => Ok(()),
+        Err(FlushFault::Memory) => Err(WorkersFault::Memory),
+        Err(_) => Err(WorkersFault::Journal),
+    }
+}
+
+/// Acknowledges the ticket of a commit after a flush, if the commit is settled: it is then durable, and
+/// the seat has seen it under its number. It may wait.
+///
+/// Fails with `Memory` if memory was refused to publish what is durable; the commit may then be
+/// durable. `NoSeat` is never returned.
+///
+/// A commit that is `Lost`, or `NotYet` durable, after a flush of everything pending is one that
+/// the journal did not take as it should have. This never happens, whatever the schedule, and is
+/// reported as `Journal`.
+pub(crate) fn settled<L: Origin, J: JournalStore, R: Wait + Drop, W: Wait>(
+    rt: &W,
+    line: &Line<L, J, R>,
+    seat: &mut Seat<L>,
+    ticket: &Ticket,
+) -> Result<JobAnswer, WorkersFault>
+    ensures legal { IsJournaled L.workers (shape_of L.schema) seat.new.list }
+    ensures later { IsPrefix seat.old.list seat.new.list }
+    ensures same { seat.new ≡ record seat.old { list = seat.new.list } }
+    ensures answer { IfOk result (λ answer. (answer ≡ JobAnswer.Ticket ticket.now.number) × Stands seat.new.list ticket.now) }
+    ensures fault { IfErr result (λ fault. ¬ (fault ≡ WorkersFault.NoSeat)) }
+{
     match line.settle(rt, seat, ticket) {
         Settled::Settled(number) => Ok(JobAnswer::Ticket(number)),
         Settled::Unpublished => Err(WorkersFault::Memory),

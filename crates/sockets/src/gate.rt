@@ -1,9 +1,10 @@
 //! What is notified of each commit.
 
 /// It is notified, in the worker's own thread, before and after each commit, and may block the
-/// worker there. A job with a refused change does not commit, and the gate is not notified of it.
-/// If no thread can be made, the workers run one after the other: a gate that blocks one has to
-/// release it by itself eventually.
+/// worker there. A job with a refused step does not commit, and the gate is not notified of it. A
+/// job that is done again after a conflict with a pending commit of its worker commits again, and
+/// the gate is notified again. If no thread can be made, the workers run one after the other: a
+/// gate that blocks one has to release it by itself eventually.
 pub trait Gate {
     /// A worker is about to commit the job with that index.
     fn before(&self, worker: u8, job: usize);

@@ -1,5 +1,7 @@
 //! The outcome of a job.
 
+use crate::refusal::Refusal;
+
 /// The outcome of a job.
 #[derive(Clone, Copy, PartialEq, Eq)]
 pub enum JobAnswer {
@@ -8,7 +10,6 @@ pub enum JobAnswer {
     /// It is not committed: the commit of this number, which is above its snapshot, touches one of
     /// its rows, or one of the two adds a column to a table in which the other has an entry.
     Conflict(u64),
-    /// It is not committed: a change or the commit is refused, for any reason other than a
-    /// conflict, or what is published could not be read.
-    Refused,
+    /// It is not committed, for any reason other than a conflict.
+    Refused(Refusal),
 }

@@ -2,19 +2,21 @@
 //!
 //! A `Port` receives and sends datagrams: a `MemPort` in memory, which can be made to fail at one
 //! of its calls, or a `UdpPort`, a UDP socket with the addresses of the primary and of the
-//! replicas. `serve_primary` pushes a line's durable frames to all replicas and answers their Asks
-//! and Wants. `serve_replica` takes queries from a queue, asks the primary for the newest durable
-//! version, receives frames, asks for missing ones, and gives each batch's report. Both count down
-//! turns, and continue where they stopped when they are called again. A `Job` is a set of changes
-//! that are committed together, and the worker that does it: `do_job` does one at a seat of a line,
-//! `run_crew` lets many workers do their jobs, each in a thread of its own, and `run_workers` is
-//! its short form. A `Gate` is notified before and after each commit.
+//! replicas. A `PrimaryNode` pushes a line's durable frames to all replicas and answers their Asks
+//! and Wants. A `ReplicaNode` asks the primary for the newest durable version, receives frames, asks
+//! for missing ones, and gives each batch's report. Both give out single turns, each of which
+//! continues where the last one stopped, and count what goes through their port. `serve_primary` and
+//! `serve_replica` are loops over these turns, the latter with queries from a queue. A `Job` is a set
+//! of changes that are committed together, and the worker that does it: `do_job` does one at a seat
+//! of a line, `run_crew` lets many workers do their jobs, each in a thread of its own, and
+//! `run_workers` is its short form. A `Gate` is notified before and after each commit.
 //!
 //! Promised, for every port: what a node does is a list of acts, each one call of its core, which
 //! lead from the state before to the state after. If the port is honest, the acts took in exactly
 //! what arrived, and what was sent is exactly what the cores answered, except for lost datagrams,
-//! each of which is a fault that the port counted. A replica hands on each report once, and was
-//! offered the queries of the queue, in order; a primary pushes each frame once. So what is proved
+//! each of which is a fault that the port counted; what a node counted is what its acts took in and
+//! sent. A replica hands on each report once, and was offered the queries of the queue, in order; a
+//! primary pushes each frame once. A loop uses up a turn only by taking it. So what is proved
 //! of a fed replica and of a line's seats holds for the nodes, and what a line sends of a list keeps
 //! a replica fed that is fed from it (`laws::what_is_sent_keeps_replicas_fed`).
 //!
@@ -25,11 +27,12 @@
 //! workers run at once, or anything about a socket.
 //!
 //! It uses `shared`, `dispatcher` and `queue`, and `mio` for sockets. The definitions to review for
-//! nodes are `specs/Ports.antt`, `Carrying`, `Serving`, `Replicas`, `Primaries` and `Feeding`, and
-//! for workers `Changes`, `Answers`, `Work` and `Crews`. If a call fails for lack of memory, its value is
-//! unchanged unless the call says otherwise.
+//! nodes are `specs/Ports.antt`, `State`, `Carrying`, `Traffic`, `Asking`, `Serving`, `Replicas`,
+//! `Primaries` and `Feeding`, and for workers `Changes`, `Answers`, `Work` and `Crews`. If a call
+//! fails for lack of memory, its value is unchanged unless the call says otherwise.
 #![tactic(auto)]
 
+mod asked;
 mod change;
 mod crew;
 mod doing;
@@ -39,26 +42,44 @@ mod faults;
 mod gate;
 mod job;
 mod job_answer;
+mod job_seat;
 pub mod laws;
 mod mem_port;
 mod port;
+mod primary_node;
+mod refusal;
+mod replica_node;
+mod sending;
 mod serving_primary;
 mod serving_replica;
+mod step;
+mod traffic;
+mod turned;
 mod turns;
 mod udp_port;
+mod under_way;
 mod worker;
 
+pub use asked::Asked;
 pub use change::Change;
 pub use crew::{run_crew, run_workers};
-pub use doing::{acknowledged, do_job};
-pub use drafting::{Stop, TRIES_AGAIN, begun, make_change};
+pub use doing::do_job;
+pub use drafting::{TRIES_AGAIN, begun, looked};
 pub use faults::{PortFault, ServeFault, WorkersFault};
 pub use gate::{Gate, OpenGate};
 pub use job::{Job, are_of_workers};
 pub use job_answer::JobAnswer;
+pub use job_seat::SHARED_JOBS_MAX;
 pub use mem_port::MemPort;
 pub use port::{Patience, Port};
+pub use primary_node::PrimaryNode;
+pub use refusal::Refusal;
+pub use replica_node::ReplicaNode;
 pub use serving_primary::serve_primary;
 pub use serving_replica::serve_replica;
+pub use step::Step;
+pub use traffic::Traffic;
+pub use turned::Turned;
+pub use turns::take_turn;
 pub use udp_port::UdpPort;
 pub use worker::Worker;

@@ -1,17 +1,16 @@
 //! A worker at its seat.
 
-ghost use Rattle.std.specs.Prelude.{◌≡◌, ◌<◌, [], IfErr, OnOk, OnErr, None};
-ghost use mathlib.Core.List.{IsPrefix};
+ghost use Rattle.std.specs.Prelude.{◌≡◌, ◌<◌, [], None};
 ghost use Rattle.rows.specs.Shape.{shape_of};
-ghost use Rattle.journal.specs.Recovery.{IsJournaled};
-ghost use Rattle.sockets.specs.Inner.Jobs.{HasDone, HasLeft, HasMet};
+ghost use Rattle.sockets.specs.Inner.Jobs.{HasMet};
+ghost use Rattle.sockets.specs.Inner.JobSeats.{fault_of};
 ghost use Rattle.sockets.specs.Work.{HasWorked};
 
-use crate::doing::do_job;
 use crate::faults::WorkersFault;
 use crate::gate::Gate;
 use crate::job::Job;
 use crate::job_answer::JobAnswer;
+use crate::job_seat::JobSeat;
 use journal::JournalStore;
 use shared::{Line, Origin, Seat};
 use std::alloc::Global;
@@ -24,8 +23,7 @@ use std::sync::Wait;
 /// its last one, if it did.
 #[derive(Drop)]
 pub struct Worker<L: Origin> {
-    seat: Seat<L>,
-    answers: Vec<JobAnswer>,
+    job_seat: JobSeat<L>,
     fault: Option<WorkersFault>,
 }
 
@@ -34,7 +32,7 @@ impl<L: Origin> Model for Worker<L> {
 
     ghost Value = { WorkerState };
 
-    ghost view = { λ w. record { seat = w.seat; answers = w.answers.items; fault = w.fault } };
+    ghost view = { λ w. record { seat = w.job_seat.seat; answers = w.job_seat.answers; fault = w.fault } };
 }
 
 impl<L: Origin> Worker<L> {
@@ -43,8 +41,7 @@ impl<L: Origin> Worker<L> {
         ensures { result ≡ record { seat = seat; answers = []; fault = None } }
     {
         Worker {
-            seat,
-            answers: Vec::new(alloc),
+            job_seat: JobSeat::new(alloc, seat),
             fault: None,
         }
     }
@@ -53,7 +50,7 @@ impl<L: Origin> Worker<L> {
     pub fn answers(&self) -> &[JobAnswer]
         ensures { result.now ≡ self.now.answers }
     {
-        self.answers.as_slice()
+        self.job_seat.answers()
     }
 
     /// Why it ended before its last job, if it did.
@@ -67,12 +64,18 @@ impl<L: Origin> Worker<L> {
     pub fn into_seat(self) -> Seat<L>
         ensures { result ≡ self.seat }
     {
-        let Worker { seat, .. } = self;
-        seat
+        let Worker { job_seat, .. } = self;
+        job_seat.into_seat()
     }
 
     /// Does the jobs of the worker of that number, in their order, up to the first one that ends by
     /// a fault. Earlier answers are forgotten. It may wait.
+    ///
+    /// It commits several jobs, at most `SHARED_JOBS_MAX`, before it makes their commits durable with one
+    /// flush and settles their tickets, where nothing tells them apart from jobs that are done one after
+    /// the other: a job with a condition begins after the commits before it are settled, and a job that
+    /// is refused or in conflict before that is done again after it. At the end all tickets are settled,
+    /// also after a fault, as far as they can be.
     pub fn works<J: JournalStore + Drop, R: Wait + Drop, W: Wait, G: Gate>(
         &mut self,
         rt: &W,
@@ -85,55 +88,10 @@ impl<L: Origin> Worker<L> {
         requires { number < L.workers }
         ensures { HasWorked L.workers (shape_of L.schema) number jobs.now self.old self.new }
     {
-        self.ready();
-        for (index, job) in jobs.iter().enumerate() {
-            if job.worker as usize == number {
-                match self.does(rt, alloc, line, index, job, gate) {
-                    Ok(()) => {}
-                    Err(fault) => {
-                        self.fault = Some(fault);
-                        return;
-                    }
-                }
-            }
-        }
-    }
-
-    /// Forgets all answers.
-    fn ready(&mut self)
-        ensures met { HasMet L.workers (shape_of L.schema) (record self.old { answers = []; fault = None }) self.new }
-    {
-        self.answers.clear();
-        self.fault = None;
-        self.seat.keeps_legal();
-    }
-
-    /// Does one job, and keeps its answer. Room for the answer is taken first, so that no answer is
-    /// lost.
-    fn does<J: JournalStore + Drop, R: Wait + Drop, W: Wait, G: Gate>(
-        &mut self,
-        rt: &W,
-        alloc: Global,
-        line: &Line<L, J, R>,
-        index: usize,
-        job: &Job,
-        gate: &G,
-    ) -> Result<(), WorkersFault>
-        requires worker { job.now.worker < L.workers }
-        requires legal { IsJournaled L.workers (shape_of L.schema) self.old.seat.list }
-        ensures legal { IsJournaled L.workers (shape_of L.schema) self.new.seat.list }
-        ensures later { IsPrefix self.old.seat.list self.new.seat.list }
-        ensures done { OnOk result (HasDone (shape_of L.schema) job.now self.old self.new) }
-        ensures left { OnErr result (HasLeft self.old self.new) }
-        ensures fault { IfErr result (λ fault. ¬ (fault ≡ WorkersFault.NoSeat)) }
-    {
-        let Worker { seat, answers, .. } = self;
-        if answers.reserve(1).is_err() {
-            return Err(WorkersFault::Memory);
-        }
-        let answer = do_job(rt, alloc, line, seat, index, job, gate)?;
-        answers.push_reserved(answer);
-        Ok(())
+        self.job_seat.clear();
+        let ended = self.job_seat.takes_all(rt, alloc, line, number, jobs, gate);
+        let settled = self.job_seat.settles(rt, line);
+        self.fault = fault_of(ended, settled);
     }
 
     /// Lets its seat meet another worker's: both take the longer of their lists. Takes no memory.
@@ -142,6 +100,19 @@ impl<L: Origin> Worker<L> {
         ensures mine { HasMet L.workers (shape_of L.schema) self.old self.new }
         ensures theirs { HasMet L.workers (shape_of L.schema) other.old other.new }
     {
-        self.seat.meet(&mut other.seat);
+        self.job_seat.meets(&mut other.job_seat);
+    }
+}
+
+/// The fault by which a worker ended that took its jobs and settled what was pending, if it did.
+fn fault_of(
+    ended: Result<(), WorkersFault>,
+    settled: Result<(), WorkersFault>,
+) -> Option<WorkersFault>
+    ensures { result ≡ fault_of ended settled }
+{
+    match ended {
+        Ok(()) => settled.err(),
+        Err(fault) => Some(fault),
     }
 }

@@ -1,27 +1,61 @@
 -- One job of a worker, meetings, and what of a crew's answers the answers of all jobs rest on.
-use Rattle.std.specs.Prelude.{◌≡◌, ℕ, ◌<◌, List, [], ◌∷◌, ◌++◌, length, slice_index_or}
+use Rattle.std.specs.Prelude.{◌≡◌, ℕ, ◌+◌, ◌<◌, List, length, Result, Err, ◌⊎◌, slice_index_or}
 use mathlib.Core.List.{IsPrefix}
+use Rattle.rows.specs.declared.commit.Commit.{Commit}
 use Rattle.rows.specs.Shape.{Shape}
 use Rattle.journal.specs.Recovery.{IsJournaled}
+use Rattle.mvcc.specs.Transaction.{Transaction}
+use Rattle.primary.specs.declared.ticket.Ticket as primary
+use Rattle.desk.specs.State.{SeatState}
+use Rattle.sockets.specs.declared.doing.Attempt.{Attempt}
+use Rattle.sockets.specs.declared.doing.Attempt.TheVariants as attempts
+use Rattle.sockets.specs.declared.drafting.Stop.{Stop}
+use Rattle.sockets.specs.declared.drafting.Stop.TheVariants as stops
 use Rattle.sockets.specs.declared.job.Job.{Job}
 use Rattle.sockets.specs.declared.job_answer.JobAnswer.{JobAnswer}
-use Rattle.sockets.specs.Answers.{IsJobAnswer, IsSeatAfter, IsSeatLeft}
+use Rattle.sockets.specs.declared.job_answer.JobAnswer.TheVariants.{Ticket, Conflict, Refused}
+use Rattle.sockets.specs.declared.refusal.Refusal.{Refusal}
+use Rattle.sockets.specs.declared.refusal.Refusal.TheVariants as refusals
+use Rattle.sockets.specs.declared.step.Step.{Step}
+use Rattle.sockets.specs.Answers.{IsDraft, IsRefused, IsJobAnswer}
 use Rattle.sockets.specs.Work.{jobs_of}
 use Rattle.sockets.specs.Worker.{WorkerState}
 
--- a worker that has done one job more
-pub record HasDone (shape : Shape) (job : Job) (old new : WorkerState) : Type 0 where
-  pub answer : JobAnswer
-  pub kept : new.answers ≡ old.answers ++ answer ∷ []
-  pub answered : IsJobAnswer shape (length old.seat.list) new.seat.list job answer
-  pub seat : IsSeatAfter old.seat new.seat answer
-  pub fault : new.fault ≡ old.fault
+-- why a step with this answer was not taken: for the reason that it gives, or since nothing could be read or there was no memory
+abbrev pub IsStop : Result Transaction Refusal → Stop → Type 0
+IsStop answer (stops.Refused refusal) = (refusal ≡ refusals.Unread) ⊎ (answer ≡ Err refusal)
+IsStop answer stops.Memory = Unit {0}
 
--- a worker whose job a fault ended
-pub record HasLeft (old new : WorkerState) : Type 0 where
-  pub kept : new.answers ≡ old.answers
-  pub seat : IsSeatLeft old.seat new.seat
-  pub fault : new.fault ≡ old.fault
+-- why a job has no transaction
+abbrev pub IsStopped : Shape → ℕ → List Commit → List Step → Stop → Type 0
+IsStopped shape from list steps (stops.Refused refusal) = IsRefused shape from list steps refusal
+IsStopped shape from list steps stops.Memory = Unit {0}
+
+-- the ticket of a job whose commit is pending: it is of the job's worker, has the entries that the job's steps make, and is above their
+-- snapshot
+pub record IsPending (shape : Shape) (from : ℕ) (list : List Commit) (job : Job) (ticket : primary.Ticket) : Type 0 where
+  pub draft : Transaction
+  pub drafted : IsDraft shape from list job.steps.items draft
+  pub above : draft.snapshot < ticket.number
+  pub worker : ticket.worker ≡ job.worker
+  pub entries : ticket.entries ≡ draft.entries
+
+-- an answer without a ticket
+abbrev pub IsUncommitted : JobAnswer → Type 0
+IsUncommitted (Ticket number) = ⊥
+IsUncommitted (Conflict number) = Unit {0}
+IsUncommitted (Refused refusal) = Unit {0}
+
+-- what became of a job before it is durable
+abbrev pub IsAttempt : Shape → ℕ → List Commit → Job → Attempt → Type 0
+IsAttempt shape from list job (attempts.Pending ticket) = IsPending shape from list job ticket
+IsAttempt shape from list job (attempts.Answered answer) = IsJobAnswer shape from list job answer × IsUncommitted answer
+
+-- a seat after that
+abbrev pub IsSeatTried : SeatState → SeatState → Attempt → Type 0
+IsSeatTried old new (attempts.Pending ticket) =
+    (old.last < ticket.number) × (new ≡ record old { list = new.list; last = ticket.number; share = old.share + 1 })
+IsSeatTried old new (attempts.Answered answer) = new ≡ record old { list = new.list }
 
 -- a worker whose seat has met another one
 pub record HasMet (workers : ℕ) (shape : Shape) (old new : WorkerState) : Type 0 where

@@ -1,0 +1,39 @@
+-- Where frames are missing that a batch waits for.
+use Rattle.std.specs.Prelude.{ℕ, zero, suc, ◌+◌, ◌-◌, List, [], ◌∷◌, ◌++◌, Bool, true, false, not, ◌&&◌, Option, None, Some, if◌then◌else◌}
+use Rattle.intake.specs.Known.{is_known, is_ahead}
+use Rattle.intake.specs.State.{Arrivals}
+use Rattle.dispatcher.specs.State.{Replica, Fetched, Batch}
+use Rattle.dispatcher.specs.declared.gaps.Gap.{Gap}
+
+-- whether a worker's frame of that seq is not known, and would be kept if it came
+abbrev pub is_missing : List ℕ → ℕ → Bool
+is_missing known seq = not (is_known known seq) && not (is_ahead known seq)
+
+-- the gaps of a worker among so many seqs from one on: each that is missing, but for those that a gap before it covers, of which so
+-- many are left; a gap covers `stride` seqs
+abbrev pub gaps_among : (stride worker : ℕ) → List ℕ → (count seq covered : ℕ) → List Gap
+gaps_among stride worker known zero seq covered = []
+gaps_among stride worker known (suc count) seq (suc covered) = gaps_among stride worker known count (seq + 1) covered
+gaps_among stride worker known (suc count) seq zero =
+    if is_missing known seq
+    then record { worker = worker; seq = seq } ∷ gaps_among stride worker known count (seq + 1) (stride - 1)
+    else gaps_among stride worker known count (seq + 1) zero
+
+-- the gaps below their counts of the workers from that number on; a worker without a count has none
+abbrev pub gaps_from : (stride worker : ℕ) → List Arrivals → List ℕ → List Gap
+gaps_from stride worker (arrivals ∷ all) (count ∷ counts) =
+    gaps_among stride worker arrivals.known count 0 0 ++ gaps_from stride (worker + 1) all counts
+gaps_from stride worker all counts = []
+
+-- those below the counts that were fetched for a batch
+abbrev pub gaps_below : ℕ → List Arrivals → Option Fetched → List Gap
+gaps_below stride all None = []
+gaps_below stride all (Some fetched) = gaps_from stride 0 all fetched.counts
+
+abbrev pub gaps_for : ℕ → List Arrivals → Option Batch → List Gap
+gaps_for stride all None = []
+gaps_for stride all (Some batch) = gaps_below stride all batch.fetched
+
+-- those of a replica, by worker and seq; a broken one has none
+abbrev pub gaps_of : ℕ → Replica → List Gap
+gaps_of stride r = if r.broken then [] else gaps_for stride r.arrivals r.batch

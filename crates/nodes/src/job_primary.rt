@@ -1,0 +1,186 @@
+//! A primary that does jobs, and serves its replicas.
+
+ghost use Rattle.std.specs.Prelude.{◌≡◌, [], All, IfOk};
+
+use crate::crew_jobs::do_all;
+use crate::faults::NodeFault;
+use crate::host::Host;
+use crate::live::serve_live;
+use crate::pace::Pace;
+use crate::server::Server;
+use crate::streams::Streams;
+use journal::JournalStore;
+use requests::{Dialect, JobReader, Request, RequestFault, Requested};
+use rows::limits::WORKERS_MAX;
+use script::Setup;
+use shared::{Line, Origin, Seat};
+use sockets::{Job, Port, PrimaryNode, Worker};
+use std::alloc::{AllocError, Global};
+use std::io::{Read, Write};
+use std::rt::Clock;
+use std::sync::{Mutex, Wait};
+use std::thread::Threads;
+
+/// A primary's threads: each has a seat of its line.
+#[derive(Drop)]
+pub struct Primary<L: Origin, P: Port + Drop> {
+    /// It serves the replicas.
+    pub server: Server<L, P>,
+    /// They do the jobs; each has the number of its place.
+    pub crew: Vec<Worker<L>>,
+    /// At which it looks at what is durable.
+    pub looking: Seat<L>,
+}
+
+/// What a primary is to do.
+#[derive(Drop)]
+pub struct Work<'a> {
+    pub setup: &'a Setup,
+    /// The jobs of the input; `None`: they are taken while it serves.
+    pub jobs: Option<Vec<Job>>,
+    pub pace: Pace,
+}
+
+impl<L: Origin, P: Port + Drop> Primary<L, P> {
+    /// A primary of so many workers at new seats of a line. It pushes what becomes durable from then on. Fails with `Memory` if
+    /// out of memory, if the line has too few seats, or if there are more workers than there may be.
+    pub fn at<J: JournalStore, H: Wait + Drop, T: Wait>(
+        host: Host<'_, T>,
+        line: &Line<L, J, H>,
+        port: P,
+        workers: u8,
+        pace: Pace,
+    ) -> Result<Primary<L, P>, NodeFault>
+        ensures { IfOk result (λ primary. All (λ worker. worker.answers ≡ []) primary.crew.items) }
+    {
+        if workers > WORKERS_MAX {
+            return Err(NodeFault::Memory);
+        }
+        let Some(seat) = line.seat(host.rt) else {
+            return Err(NodeFault::Memory);
+        };
+        let Ok(mut node) = PrimaryNode::new(host.alloc, seat, port, workers) else {
+            return Err(NodeFault::Memory);
+        };
+        if node.pass_durable(host.rt, line).is_err() {
+            return Err(NodeFault::Memory);
+        }
+        let Some(looking) = line.seat(host.rt) else {
+            return Err(NodeFault::Memory);
+        };
+        Ok(Primary {
+            server: Server::new(node, pace),
+            crew: crew_of(host, line, workers)?,
+            looking,
+        })
+    }
+
+    /// Does its work: jobs of before first, and then it serves; or jobs as they come, while it serves.
+    pub fn run<
+        J: JournalStore + Drop + Send,
+        H: Wait + Drop + Send + Sync,
+        T: Threads + Wait + Clock + Sync,
+        R: Read + Send,
+        W: Write + Send,
+        E: Write + Send,
+    >(
+        &mut self,
+        host: Host<'_, T>,
+        line: &Line<L, J, H>,
+        work: &Work<'_>,
+        streams: &mut Streams<R, W, E>,
+    ) -> Result<(), NodeFault>
+    where
+        L: Send + Sync,
+        P: Send,
+        requires workers { work.now.setup.now.workers ≡ L.workers }
+        requires new { All (λ worker. worker.answers ≡ []) self.old.crew.items }
+    {
+        let Some(jobs) = &work.jobs else {
+            return serve_live(host, line, self, work, streams);
+        };
+        let workers = work.setup.workers;
+        do_all(
+            host,
+            line,
+            &mut self.crew,
+            workers,
+            jobs,
+            &mut streams.writer,
+        )?;
+        self.server
+            .serve(host, line, &Mutex::new(&mut streams.errors))
+    }
+
+    /// All its seats, to end the line with. Fails only if out of memory; the seats are then gone.
+    pub fn into_seats(self, alloc: Global) -> Result<Vec<Seat<L>>, AllocError> {
+        let Primary {
+            server,
+            crew,
+            looking,
+        } = self;
+        let mut seats = Vec::with_capacity(alloc, crew.len().saturating_add(2))?;
+        seats.push(server.into_seat())?;
+        seats.push(looking)?;
+        for worker in crew {
+            seats.push(worker.into_seat())?;
+        }
+        Ok(seats)
+    }
+}
+
+/// All jobs of the input, in their order. Fails with `Input` at the first line that does not read, and where the input
+/// could not be read; with `Memory` if out of memory.
+pub fn read_jobs<R: Read>(
+    alloc: Global,
+    setup: &Setup,
+    reader: &mut R,
+) -> Result<Vec<Job>, NodeFault> {
+    let mut requests = JobReader::new(alloc, Dialect::Jobs);
+    let mut jobs = Vec::new(alloc);
+    for _ in 0..u64::MAX {
+        match requests.next(setup, reader) {
+            Ok(
+                Requested::Request(
+                    Request::Job {
+                        job,
+                        step_lines: _lines,
+                        ..
+                    },
+                ),
+            ) => {
+                if jobs.push(job).is_err() {
+                    return Err(NodeFault::Memory);
+                }
+            }
+            // There are no looks among jobs that are read before.
+            Ok(Requested::Request(Request::Get { .. })) => {}
+            Ok(Requested::NotYet) => {}
+            Ok(Requested::End) => return Ok(jobs),
+            Err(RequestFault::Memory) => return Err(NodeFault::Memory),
+            Err(fault) => return Err(NodeFault::Input(fault)),
+        }
+    }
+    Ok(jobs)
+}
+
+/// This many workers, each at a seat that was not given out before. Fails as `Primary::at` does.
+fn crew_of<L: Origin, J: JournalStore, H: Wait + Drop, T: Wait>(
+    host: Host<'_, T>,
+    line: &Line<L, J, H>,
+    workers: u8,
+) -> Result<Vec<Worker<L>>, NodeFault>
+    ensures { IfOk result (λ crew. All (λ worker. worker.answers ≡ []) crew.items) }
+{
+    let mut crew = Vec::new(host.alloc);
+    for _ in 0..workers {
+        let Some(seat) = line.seat(host.rt) else {
+            return Err(NodeFault::Memory);
+        };
+        match crew.push(Worker::new(host.alloc, seat)) {
+            Ok(()) => {}
+            Err(_) => return Err(NodeFault::Memory),
+        }
+    }
+    Ok(crew)
+}

@@ -1,0 +1,210 @@
+//! A replica that answers the batches of its input.
+
+use crate::batches::{Batches, ROOM};
+use crate::ending::Ending;
+use crate::faults::NodeFault;
+use crate::follower::Follower;
+use crate::host::Host;
+use crate::saying::{say_end, say_slip};
+use crate::streams::Streams;
+use crate::threads::try_threads;
+use requests::{BatchReader, Batched, Query, RequestFault};
+use script::Setup;
+use sockets::Port;
+use std::alloc::{AllocError, Global};
+use std::io::{Read, Write};
+use std::rt::Clock;
+use std::sync::{Mutex, Wait};
+use std::thread::{Threads, join};
+use store::ApplyStore;
+
+/// All batches of the input, in their order. Fails with `Input` at the first line that does not read, and where the input
+/// could not be read; with `Memory` if out of memory.
+pub fn read_batches<R: Read>(
+    alloc: Global,
+    setup: &Setup,
+    reader: &mut R,
+) -> Result<Vec<Vec<Query>>, NodeFault> {
+    let mut input = BatchReader::new(alloc);
+    let mut batches = Vec::new(alloc);
+    for _ in 0..u64::MAX {
+        match input.next(setup, reader) {
+            Ok(Batched::Batch(queries)) => {
+                if batches.push(queries).is_err() {
+                    return Err(NodeFault::Memory);
+                }
+            }
+            Ok(Batched::NotYet) => {}
+            Ok(Batched::End) => return Ok(batches),
+            Err(RequestFault::Memory) => return Err(NodeFault::Memory),
+            Err(fault) => return Err(NodeFault::Input(fault)),
+        }
+    }
+    Ok(batches)
+}
+
+impl<S: ApplyStore + Sync, P: Port + Drop> Follower<S, P> {
+    /// Answers these batches, and then ends. Fails as `Follower::follow` does.
+    pub fn answer<T: Threads + Wait + Clock + Sync, R, W: Write, E: Write>(
+        &mut self,
+        host: Host<'_, T>,
+        all: Vec<Vec<Query>>,
+        streams: &mut Streams<R, W, E>,
+    ) -> Result<(), NodeFault> {
+        let Ok(batches) = put_all(host, all) else {
+            return Err(NodeFault::Memory);
+        };
+        let ending = Ending::of(0);
+        let Streams { writer, errors, .. } = streams;
+        match self.follow(host, &batches, &ending, writer, &Mutex::new(errors)) {
+            Ok(()) => ending.into_result(),
+            Err(fault) => Err(fault),
+        }
+    }
+
+    /// Takes batches from the input in a thread of its own, and answers them meanwhile, until the input ends and each is
+    /// answered. A line that does not read is told on `errors`, and its batch is not answered.
+    ///
+    /// Fails with `Threads` if the system makes too few threads, and otherwise as `Follower::follow` does; with `Input` if
+    /// the input cannot be read, and with `Slipped` if all went well but for lines that did not read.
+    pub fn answer_live<T: Threads + Wait + Clock + Sync, R: Read + Send, W: Write, E: Write + Send>(
+        &mut self,
+        host: Host<'_, T>,
+        setup: &Setup,
+        streams: &mut Streams<R, W, E>,
+    ) -> Result<(), NodeFault> {
+        let Ok(batches) = Batches::new(host.alloc, ROOM) else {
+            return Err(NodeFault::Memory);
+        };
+        let Streams {
+            reader,
+            writer,
+            errors,
+        } = streams;
+        let live = LiveReplica {
+            batches,
+            ending: Ending::of(0),
+            errors: Mutex::new(errors),
+            says: self.says(),
+        };
+        if try_threads(host, 1).is_err() {
+            return Err(NodeFault::Threads);
+        }
+        self.run_threads(host, setup, reader, writer, &live);
+        live.ending.into_result()
+    }
+
+    /// Takes what comes from the input in a thread of its own, and answers it meanwhile.
+    fn run_threads<T: Threads + Wait + Clock + Sync, R: Read + Send, W: Write, E: Write + Send>(
+        &mut self,
+        host: Host<'_, T>,
+        setup: &Setup,
+        reader: &mut R,
+        writer: &mut W,
+        live: &LiveReplica<E>,
+    ) {
+        // This clause asks for nothing; with one, the proof has at hand what may be sent to a thread.
+        join(
+            host.rt,
+            || read_on(host, setup, reader, live),
+            ||
+                requires { Unit {0} }
+            { self.answer_all(host, writer, live) },
+        );
+    }
+
+    /// Answers what comes, until no more does.
+    fn answer_all<T: Threads + Wait + Clock + Sync, W: Write, E: Write>(
+        &mut self,
+        host: Host<'_, T>,
+        writer: &mut W,
+        live: &LiveReplica<E>,
+    ) {
+        let followed = self.follow(host, &live.batches, &live.ending, writer, &live.errors);
+        if let Err(fault) = followed {
+            live.ending.stop(host.rt, fault);
+        }
+        live.batches.end(host.rt);
+    }
+}
+
+/// Batches that wait, all of which are there. Fails only if out of memory.
+fn put_all<T: Wait>(host: Host<'_, T>, all: Vec<Vec<Query>>) -> Result<Batches, AllocError> {
+    let mut room: usize = 0;
+    for batch in &all {
+        room = room.saturating_add(batch.len());
+    }
+    let batches = Batches::new(host.alloc, room)?;
+    for batch in all {
+        batches.put(host, batch)?;
+    }
+    batches.end(host.rt);
+    Ok(batches)
+}
+
+/// What the threads of a live replica share.
+#[derive(Drop)]
+struct LiveReplica<E> {
+    batches: Batches,
+    ending: Ending,
+    errors: Mutex<E>,
+    says: bool,
+}
+
+/// Takes what comes from the input, until it ends or the node is to.
+fn read_on<T: Wait, R: Read, E: Write>(
+    host: Host<'_, T>,
+    setup: &Setup,
+    reader: &mut R,
+    live: &LiveReplica<E>,
+) {
+    if let Err(fault) = take_batches(host, setup, reader, live) {
+        live.ending.note(host.rt, fault);
+    }
+    live.batches.end(host.rt);
+}
+
+/// Puts each batch of the input in.
+fn take_batches<T: Wait, R: Read, E: Write>(
+    host: Host<'_, T>,
+    setup: &Setup,
+    reader: &mut R,
+    live: &LiveReplica<E>,
+) -> Result<(), NodeFault> {
+    let mut input = BatchReader::new(host.alloc);
+    for _ in host.rt.forever() {
+        if live.ending.is_stopped() {
+            return Ok(());
+        }
+        match input.next(setup, reader) {
+            Ok(Batched::Batch(queries)) => {
+                if live.batches.put(host, queries).is_err() {
+                    return Err(NodeFault::Memory);
+                }
+            }
+            Ok(Batched::NotYet) => {}
+            Ok(Batched::End) => {
+                if live.says {
+                    say_end(host, &live.errors);
+                }
+                return Ok(());
+            }
+            Err(fault) => pass_over(host, fault, live)?,
+        }
+    }
+    unreachable!()
+}
+
+/// Tells of a line that does not read, whose batch is passed over. Fails if the reader cannot go on behind it.
+fn pass_over<T: Wait, E: Write>(
+    host: Host<'_, T>,
+    fault: RequestFault,
+    live: &LiveReplica<E>,
+) -> Result<(), NodeFault> {
+    if !matches!(fault, RequestFault::Line { .. }) {
+        return Err(NodeFault::Input(fault));
+    }
+    live.ending.slip();
+    say_slip(host, &fault, &live.errors);
+    Ok(())
+}

@@ -1,0 +1,162 @@
+//! A primary that serves, turn by turn, and says what it does.
+
+use crate::ending::Ending;
+use crate::faults::NodeFault;
+use crate::host::Host;
+use crate::pace::Pace;
+use crate::saying::was_just_now;
+use journal::JournalStore;
+use rows::limits::REPLICAS_MAX;
+use shared::{Line, Origin, Seat};
+use sockets::{Port, PrimaryNode, take_turn};
+use std::io::Write;
+use std::rt::Clock;
+use std::sync::atomic::{AtomicU64, Ordering};
+use std::sync::{Mutex, Wait};
+use std::time::Instant;
+
+/// A primary's node, with its pace, and what it has said of it.
+#[derive(Drop)]
+pub struct Server<L: Origin, P: Port + Drop> {
+    node: PrimaryNode<L, P>,
+    pace: Pace,
+    /// How many commits were said to be durable, and when.
+    told: u64,
+    told_at: Option<Instant>,
+}
+
+impl<L: Origin, P: Port + Drop> Server<L, P> {
+    /// Of a node that has served no turn.
+    pub fn new(node: PrimaryNode<L, P>, pace: Pace) -> Server<L, P> {
+        Server {
+            node,
+            pace,
+            told: 0,
+            told_at: None,
+        }
+    }
+
+    /// The node's port, lent.
+    pub fn port(&self) -> &P {
+        self.node.port()
+    }
+
+    /// The node's seat.
+    pub fn into_seat(self) -> Seat<L> {
+        let Server { node, .. } = self;
+        node.into_seat()
+    }
+
+    /// Serves until the turns are used up.
+    pub fn serve<J: JournalStore, H: Wait + Drop, T: Wait + Clock, E: Write>(
+        &mut self,
+        host: Host<'_, T>,
+        line: &Line<L, J, H>,
+        errors: &Mutex<E>,
+    ) -> Result<(), NodeFault> {
+        let mut left = self.pace.turns;
+        for _ in host.rt.forever() {
+            if !take_turn(&mut left) {
+                self.say_traffic(host, errors);
+                return Ok(());
+            }
+            self.turn(host, line, errors)?;
+        }
+        unreachable!()
+    }
+
+    /// Serves until the node ends: at once if it is stopped, and otherwise, once all that came is done, until the
+    /// turns are used up.
+    pub fn serve_on<J: JournalStore, H: Wait + Drop, T: Wait + Clock, E: Write>(
+        &mut self,
+        host: Host<'_, T>,
+        line: &Line<L, J, H>,
+        ending: &Ending,
+        errors: &Mutex<E>,
+    ) -> Result<(), NodeFault> {
+        for _ in host.rt.forever() {
+            if ending.is_stopped() {
+                return Ok(());
+            }
+            if ending.is_done() {
+                break;
+            }
+            self.turn(host, line, errors)?;
+        }
+        if ending.has_failed(host.rt) {
+            return Ok(());
+        }
+        self.serve(host, line, errors)
+    }
+
+    /// Serves until no node is left that it serves, or the turns are used up.
+    pub fn serve_while<J: JournalStore, H: Wait + Drop, T: Wait + Clock>(
+        &mut self,
+        host: Host<'_, T>,
+        line: &Line<L, J, H>,
+        left: &AtomicU64,
+    ) -> Result<(), NodeFault> {
+        let unsaid = Mutex::new(Vec::new(host.alloc));
+        let mut turns = self.pace.turns;
+        for _ in host.rt.forever() {
+            if left.load(Ordering::SeqCst) == 0 || !take_turn(&mut turns) {
+                return Ok(());
+            }
+            self.turn(host, line, &unsaid)?;
+        }
+        unreachable!()
+    }
+
+    /// Serves one turn, and says what it did.
+    fn turn<J: JournalStore, H: Wait + Drop, T: Wait + Clock, E: Write>(
+        &mut self,
+        host: Host<'_, T>,
+        line: &Line<L, J, H>,
+        errors: &Mutex<E>,
+    ) -> Result<(), NodeFault> {
+        if self.node.turn(host.rt, line).is_err() {
+            return Err(NodeFault::Socket);
+        }
+        if self.pace.says {
+            self.say_asked(host, errors);
+            self.say_durable(host, errors);
+        }
+        Ok(())
+    }
+
+    /// Says which replicas have asked.
+    fn say_asked<T: Wait, E: Write>(&mut self, host: Host<'_, T>, errors: &Mutex<E>) {
+        for replica in 0..REPLICAS_MAX {
+            if let Some(version) = self.node.take_asked(replica) {
+                let mut errors = errors.lock(host.rt);
+                let _ = writeln!(&mut *errors, "replica {replica} asked at version {version}");
+            }
+        }
+    }
+
+    /// Says how many commits are durable, if that has changed and was not said a moment ago.
+    fn say_durable<T: Wait + Clock, E: Write>(&mut self, host: Host<'_, T>, errors: &Mutex<E>) {
+        let durable = self.node.durable();
+        if durable == self.told || was_just_now(host, &self.told_at) {
+            return;
+        }
+        let mut errors = errors.lock(host.rt);
+        let _ = writeln!(&mut *errors, "durable {durable}");
+        self.told = durable;
+        self.told_at = Instant::now(host.rt).ok();
+    }
+
+    /// Says what went through its port, once the turns are used up.
+    fn say_traffic<T: Wait, E: Write>(&self, host: Host<'_, T>, errors: &Mutex<E>) {
+        if !self.pace.says {
+            return;
+        }
+        let traffic = self.node.traffic();
+        let mut errors = errors.lock(host.rt);
+        let _ = writeln!(
+            &mut *errors,
+            "turns used up: received {}, ignored {}, sent {}, lost {}",
+            traffic.received, traffic.ignored, traffic.sent, traffic.lost
+        );
+    }
+}

@@ -1,0 +1,5 @@
+mod Bytes
+mod FirstWords
+mod Handing
+mod Taking
+mod Reading

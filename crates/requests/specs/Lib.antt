@@ -1,0 +1,10 @@
+pub mod Bytes
+pub mod Limits
+pub mod Lines
+pub mod Dialects
+pub mod JobLines
+pub mod Requests
+pub mod Readers
+pub mod QueryLines
+pub mod Batches
+pub mod Inner

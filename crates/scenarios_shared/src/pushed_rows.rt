@@ -1,0 +1,172 @@
+//! Rows of packets that are pushed at a seat, each as its packets are when they are pushed one by one.
+
+ghost use Rattle.std.specs.Prelude.{◌≡◌, ◌<◌};
+
+use crate::cores::core_on;
+use journal::MemJournal;
+use primary::PrimaryCore;
+use rows::{RowId, Value};
+use shared::{Flushed, Line, Origin, Seat, Start};
+use std::alloc::Global;
+use std::marker::Brand;
+use std::sync::Wait;
+use std::test::Fail;
+use wire::Packet;
+
+/// Commits of worker 0, each of one frame.
+const FRAMES: u64 = 3;
+
+/// Rows of worker 0: where each begins, how many packets it is to have at most, and how many it has.
+const ROWS: [(u64, usize, usize); 9] = [
+    (0, 3, 3),
+    (0, 2, 2),
+    (0, 9, 3),
+    (1, 1, 1),
+    (1, 0, 0),
+    (2, 4, 1),
+    (3, 4, 0),
+    (7, 4, 0),
+    (u64::MAX, 4, 0),
+];
+
+/// Whether a row is put in by one commit of worker 0.
+fn commits<L: Origin, R: Wait + Drop, W: Wait>(
+    rt: &W,
+    alloc: Global,
+    line: &Line<L, MemJournal, R>,
+    seat: &mut Seat<L>,
+    id: u64,
+) -> bool
+    requires { 0 < L.workers }
+{
+    let Ok(mut transaction) = seat.begin(alloc) else {
+        return false;
+    };
+    let values = [Value::Int(5), Value::Int(-1)];
+    seat.insert(&mut transaction, 0, RowId(id), &values).is_ok()
+        && line.commit(rt, seat, transaction, 0).is_ok()
+}
+
+/// Whether all commits of worker 0 are made, and are durable.
+fn is_filled<L: Origin, R: Wait + Drop, W: Wait>(
+    rt: &W,
+    alloc: Global,
+    line: &Line<L, MemJournal, R>,
+    seat: &mut Seat<L>,
+) -> bool
+    requires { 0 < L.workers }
+{
+    for id in 0..FRAMES {
+        if !commits(rt, alloc, line, seat, id) {
+            return false;
+        }
+    }
+    line.flush(rt, seat, usize::MAX) == Ok(Flushed::Published(FRAMES))
+}
+
+/// Whether this packet is the one that is pushed for that seq; for none, whether none is pushed.
+fn is_pushed<L: Origin, R: Wait + Drop, W: Wait>(
+    rt: &W,
+    line: &Line<L, MemJournal, R>,
+    seat: &mut Seat<L>,
+    worker: u8,
+    seq: u64,
+    packet: Option<&Packet>,
+) -> bool {
+    match (line.push(rt, seat, worker, seq), packet) {
+        (Ok(Some(pushed)), Some(packet)) => pushed.bytes() == packet.bytes(),
+        (Ok(None), None) => true,
+        _ => false,
+    }
+}
+
+/// Whether a row from that seq on has so many packets, each as it is pushed alone, and after a row with
+/// fewer than `most` none is pushed.
+fn is_row<L: Origin, R: Wait + Drop, W: Wait>(
+    rt: &W,
+    line: &Line<L, MemJournal, R>,
+    seat: &mut Seat<L>,
+    row: &[Packet],
+    worker: u8,
+    from: u64,
+    most: usize,
+) -> bool {
+    for index in 0..most.min(row.len().saturating_add(1)) {
+        let seq = from.saturating_add(index as u64);
+        if !is_pushed(rt, line, seat, worker, seq, row.get(index)) {
+            return false;
+        }
+    }
+    row.len() <= most
+}
+
+/// The length of the row that is pushed, if each packet is as it is pushed alone.
+fn pushed_row<L: Origin, R: Wait + Drop, W: Wait>(
+    rt: &W,
+    line: &Line<L, MemJournal, R>,
+    seat: &mut Seat<L>,
+    row: &mut Vec<Packet>,
+    worker: u8,
+    from: u64,
+    most: usize,
+) -> Option<usize> {
+    match line.push_row(rt, seat, worker, from, most, row) {
+        Ok(()) if is_row(rt, line, seat, row, worker, from, most) => Some(row.len()),
+        _ => None,
+    }
+}
+
+/// Whether each row has as many packets as are written here, one after the other in the same room, and a
+/// worker without commits has none.
+fn are_rows<L: Origin, R: Wait + Drop, W: Wait>(
+    rt: &W,
+    alloc: Global,
+    line: &Line<L, MemJournal, R>,
+    seat: &mut Seat<L>,
+) -> bool {
+    let mut row = Vec::new(alloc);
+    for (from, most, len) in ROWS {
+        if pushed_row(rt, line, seat, &mut row, 0, from, most) != Some(len) {
+            return false;
+        }
+    }
+    pushed_row(rt, line, seat, &mut row, 0, 0, 3) == Some(3)
+        && pushed_row(rt, line, seat, &mut row, 1, 0, 3) == Some(0)
+}
+
+/// Whether rows are pushed so on a line of this primary: before anything is durable none, then those of
+/// three frames.
+fn is_pushed_in_rows<L: Origin, R: Wait>(
+    rt: &R,
+    alloc: Global,
+    core: PrimaryCore<MemJournal>,
+    start: Start,
+) -> bool
+    requires book { start.opened.seen.book ≡ L.book }
+    requires schema { core.primary.schema ≡ L.schema }
+    requires workers { core.primary.workers ≡ L.workers }
+    requires first { core.primary ≡ L.first }
+    requires name { start.blank.name ≡ L.name }
+    requires parts { start.blank.parts ≡ L.parts }
+    requires seats { start.seats ≡ L.seats }
+{
+    core.keeps_legal();
+    let Ok(line) = Line::<L, MemJournal, &R>::new(alloc, rt, core, start) else {
+        return false;
+    };
+    let Some(mut seat) = line.seat(rt) else {
+        return false;
+    };
+    let mut row = Vec::new(alloc);
+    pushed_row(rt, &line, &mut seat, &mut row, 0, 0, 3) == Some(0)
+        && is_filled(rt, alloc, &line, &mut seat)
+        && are_rows(rt, alloc, &line, &mut seat)
+}
+
+#[test]
+fn a_row_has_the_packets_that_are_pushed_one_by_one(rt: HostRuntime) -> Result<(), Fail> {
+    let core = core_on(rt.alloc(), MemJournal::new(rt.alloc()))?;
+    let start = Start::new(1).ok().ok_or("start")?;
+    assert!(rt; is_pushed_in_rows::<Brand, _>(&rt, rt.alloc(), core, start));
+    Ok(())
+}

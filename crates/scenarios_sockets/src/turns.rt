@@ -1,0 +1,146 @@
+//! Single turns of nodes, and what they count.
+
+use crate::cores::replica_of;
+use crate::failing_ports::deliver;
+use crate::nodes::{COUNT_AND_SUM, REPORT};
+use rows::ByteList;
+use scenarios_common::worker_datagrams::{ASK, FRAME, HEAD_OF_TWO};
+use scenarios_plans_common::wishes::plan_of;
+use sockets::{MemPort, ReplicaNode, Traffic, Turned};
+use std::alloc::Global;
+use std::marker::Sync;
+use std::test::Fail;
+use std::thread::Threads;
+use store::PlainStore;
+
+/// What a turn came to, by the first letter of its name; `F` where it failed, or gave another report.
+fn name_of<R: Threads + Sync>(rt: &R, node: &mut ReplicaNode<PlainStore, MemPort>) -> u8 {
+    match node.turn(rt) {
+        Ok(Turned::Answered(report)) => is_report(&report),
+        Ok(Turned::Waits) => b'W',
+        Ok(Turned::Idle) => b'I',
+        Err(_) => b'F',
+    }
+}
+
+/// `A` for the report that is wanted.
+fn is_report(report: &ByteList) -> u8 {
+    if report.as_slice() == REPORT {
+        b'A'
+    } else {
+        b'F'
+    }
+}
+
+/// Offers a node the query.
+fn offer(alloc: Global, node: &mut ReplicaNode<PlainStore, MemPort>) -> Option<()> {
+    let mut plans = Vec::new(alloc);
+    plans.push(plan_of(alloc, &COUNT_AND_SUM).ok()?).ok()?;
+    node.offer_all(plans).ok()
+}
+
+/// What four turns of a new node came to, and what it counts: it has no query, and then one; an Ask comes,
+/// and a frame twice; then the Head of its Ask.
+fn four_turns<R: Threads + Sync>(rt: &R, alloc: Global) -> Option<([u8; 4], Traffic, Option<u64>)> {
+    let mut node = ReplicaNode::new(alloc, replica_of(alloc, 0)?, MemPort::new(alloc));
+    let first = name_of(rt, &mut node);
+    deliver(alloc, node.port_mut(), &ASK)?;
+    deliver(alloc, node.port_mut(), &FRAME)?;
+    deliver(alloc, node.port_mut(), &FRAME)?;
+    let second = name_of(rt, &mut node);
+    offer(alloc, &mut node)?;
+    let third = name_of(rt, &mut node);
+    deliver(alloc, node.port_mut(), &HEAD_OF_TWO)?;
+    let fourth = name_of(rt, &mut node);
+    Some((
+        [first, second, third, fourth],
+        node.traffic(),
+        node.expected(),
+    ))
+}
+
+#[test]
+fn a_turn_says_what_it_came_to_and_counts(rt: HostRuntime) -> Result<(), Fail> {
+    let traffic = Traffic {
+        received: 4,
+        stored: 1,
+        ignored: 1,
+        sent: 2,
+        lost: 0,
+    };
+    assert_eq!(rt;
+        four_turns(&rt, rt.alloc()),
+        Some((*b"IIWA", traffic, Some(1)))
+    );
+    Ok(())
+}
+
+/// A Head for replica 0, boot 1, request 1: version 23, 20 frames of worker 0 and 3 of worker 1.
+const HEAD_OF_23: [u8; 48] = [
+    0x42, 0x44, 2, 3, 0, 48, 0, 0, 0, 0, 0, 0, 0, 0, 1, 0, 0, 0, 0, 0, 0, 0, 1, 0, 0, 0, 0, 0, 0,
+    0, 23, 2, 0, 0, 0, 0, 0, 0, 0, 20, 0, 0, 0, 0, 0, 0, 0, 3,
+];
+
+/// The kinds of datagrams.
+const ASKS: u8 = 2;
+
+const WANTS: u8 = 4;
+
+/// A byte of a datagram; 255 where it has none.
+fn byte_at(bytes: &[u8], place: usize) -> u8 {
+    match bytes.get(place) {
+        Some(byte) => *byte,
+        None => 255,
+    }
+}
+
+/// The kind of each datagram that was sent, and of a Want the worker and the last byte of the seq.
+fn kinds_of(alloc: Global, port: &MemPort) -> Option<Vec<(u8, u8, u8)>> {
+    let mut kinds = Vec::new(alloc);
+    for out in port.sent() {
+        let bytes = out.packet.bytes();
+        let kind = byte_at(bytes, 3);
+        let (worker, seq) = if kind == WANTS {
+            (byte_at(bytes, 7), byte_at(bytes, 15))
+        } else {
+            (0, 0)
+        };
+        kinds.push((kind, worker, seq)).ok()?;
+    }
+    Some(kinds)
+}
+
+/// What a node sends that lacks all frames of its Head: the first turn is silent, and so is the second one after the
+/// Head has come.
+fn sent_for_23<R: Threads + Sync>(rt: &R, alloc: Global) -> Option<Vec<(u8, u8, u8)>> {
+    let mut node = ReplicaNode::new(alloc, replica_of(alloc, 0)?, MemPort::new(alloc));
+    offer(alloc, &mut node)?;
+    let first = name_of(rt, &mut node);
+    deliver(alloc, node.port_mut(), &HEAD_OF_23)?;
+    let second = name_of(rt, &mut node);
+    let third = name_of(rt, &mut node);
+    if [first, second, third] != *b"WWW" {
+        return None;
+    }
+    kinds_of(alloc, node.port())
+}
+
+/// After a Head one Want is sent, since frames may be on their way; once nothing comes, one for each gap: the 16
+/// frames of worker 0 from 0 on, its 4 from 16 on, and those of worker 1.
+#[test]
+fn several_gaps_are_asked_for_at_once(rt: HostRuntime) -> Result<(), Fail> {
+    let sent = sent_for_23(&rt, rt.alloc()).ok_or("sent")?;
+    assert_eq!(rt;
+        sent.as_slice(),
+        [
+            (ASKS, 0, 0),
+            (ASKS, 0, 0),
+            (WANTS, 0, 0),
+            (WANTS, 0, 0),
+            (WANTS, 0, 16),
+            (WANTS, 1, 0),
+        ]
+        .as_slice()
+    );
+    Ok(())
+}

@@ -1,0 +1,310 @@
+//! A seat at which the jobs of one worker are done, several with one flush.
+
+ghost use Rattle.std.specs.Prelude.{◌≡◌, ◌+◌, ◌<◌, ◌≤◌, ℕ, [], ◌∷◌, length, true, if◌then◌else◌, IfErr, IfOk, MatchResult};
+ghost use Rattle.std.specs.Prelude.{vec_capacity};
+ghost use mathlib.Core.List.{IsPrefix};
+ghost use Rattle.rows.specs.Shape.{shape_of};
+ghost use Rattle.journal.specs.Recovery.{IsJournaled};
+ghost use Rattle.sockets.specs.Inner.JobSeats.{AreSettled, GoesOn, Ends};
+ghost use Rattle.sockets.specs.Work.{jobs_of, shared_jobs_max};
+
+use crate::doing::{Attempt, commit_job, flushed, settled};
+use crate::faults::WorkersFault;
+use crate::gate::Gate;
+use crate::job::Job;
+use crate::job_answer::JobAnswer;
+use journal::JournalStore;
+use primary::Ticket;
+use shared::{Line, Origin, Seat};
+use std::alloc::Global;
+use std::marker::Model;
+use std::sync::Wait;
+
+/// How many commits of a worker share a flush, at most.
+pub const SHARED_JOBS_MAX: usize = 1024;
+
+/// A seat with the answers of the first jobs that were done at it, and the tickets of the jobs after
+/// them, whose commits are pending.
+///
+/// There is room for the answers of these.
+#[derive(Drop)]
+pub(crate) struct JobSeat<L: Origin> {
+    seat: Seat<L>,
+    answers: Vec<JobAnswer>,
+    pending: Vec<Ticket>,
+}
+
+impl<L: Origin> Model for JobSeat<L> {
+    ghost use Rattle.std.specs.Prelude.{◌+◌, ◌≤◌, vec_capacity, vec_len};
+    ghost use Rattle.sockets.specs.Inner.JobSeats.{JobSeatState};
+    ghost use Rattle.sockets.specs.Work.{shared_jobs_max};
+
+    ghost Value = { JobSeatState };
+
+    ghost view = { λ s. record { seat = s.seat; answers = s.answers.items; pending = s.pending.items } };
+
+    ghost invariant = { λ s. (vec_len s.answers + vec_len s.pending ≤ vec_capacity s.answers) × (vec_len s.pending ≤ shared_jobs_max) };
+}
+
+impl<L: Origin> JobSeat<L> {
+    /// A seat at which no job was done. Takes no memory.
+    pub fn new(alloc: Global, seat: Seat<L>) -> JobSeat<L>
+        ensures { result ≡ record { seat = seat; answers = []; pending = [] } }
+    {
+        JobSeat {
+            seat,
+            answers: Vec::new(alloc),
+            pending: Vec::new(alloc),
+        }
+    }
+
+    /// The answers so far, lent.
+    pub fn answers(&self) -> &[JobAnswer]
+        ensures { result.now ≡ self.now.answers }
+    {
+        self.answers.as_slice()
+    }
+
+    /// The seat; the answers are dropped. Takes no memory.
+    pub fn into_seat(self) -> Seat<L>
+        ensures { result ≡ self.seat }
+    {
+        let JobSeat { seat, .. } = self;
+        seat
+    }
+
+    /// Forgets all answers and tickets.
+    pub fn clear(&mut self)
+        ensures legal { IsJournaled L.workers (shape_of L.schema) self.new.seat.list }
+        ensures same { self.new ≡ record { seat = self.old.seat; answers = []; pending = [] } }
+    {
+        self.pending.clear();
+        self.answers.clear();
+        self.seat.keeps_legal();
+    }
+
+    /// Takes all jobs of the worker of that number, in their order, up to the first one that ends by a
+    /// fault. It may wait.
+    pub fn takes_all<J: JournalStore + Drop, R: Wait + Drop, W: Wait, G: Gate>(
+        &mut self,
+        rt: &W,
+        alloc: Global,
+        line: &Line<L, J, R>,
+        number: usize,
+        jobs: &[Job],
+        gate: &G,
+    ) -> Result<(), WorkersFault>
+        requires { number < L.workers }
+        ensures taken { MatchResult result (λ _. GoesOn L.workers (shape_of L.schema) 0 (jobs_of number jobs.now) self.old self.new)
+            (λ fault. Ends L.workers (shape_of L.schema) 0 (jobs_of number jobs.now) self.old self.new) }
+        ensures fault { IfErr result (λ fault. ¬ (fault ≡ WorkersFault.NoSeat)) }
+    {
+        for (index, job) in jobs.iter().enumerate() {
+            if job.worker as usize == number {
+                match self.takes(rt, alloc, line, index, job, gate) {
+                    Ok(()) => {}
+                    Err(fault) => return Err(fault),
+                }
+            }
+        }
+        Ok(())
+    }
+
+    /// Takes a job of the worker: it is answered, or its commit is pending. It may wait.
+    ///
+    /// Jobs of one worker may share a flush where nothing tells them apart from jobs that are done one
+    /// after the other. So what is pending is settled before a job that has a condition, and a job
+    /// that is refused or in conflict while something is pending is done again after that is settled;
+    /// only the second answer counts.
+    ///
+    /// Fails as `do_job` does. If it was to be settled, what is pending then stays unanswered.
+    pub fn takes<J: JournalStore + Drop, R: Wait + Drop, W: Wait, G: Gate>(
+        &mut self,
+        rt: &W,
+        alloc: Global,
+        line: &Line<L, J, R>,
+        index: usize,
+        job: &Job,
+        gate: &G,
+    ) -> Result<(), WorkersFault>
+        requires { job.now.worker < L.workers }
+        ensures taken { MatchResult result (λ _. GoesOn L.workers (shape_of L.schema) 0 (job.now ∷ []) self.old self.new)
+            (λ fault. Ends L.workers (shape_of L.schema) 0 [] self.old self.new) }
+        ensures fault { IfErr result (λ fault. ¬ (fault ≡ WorkersFault.NoSeat)) }
+    {
+        match self.makes_way(rt, line, job) {
+            Ok(()) => {}
+            Err(fault) => return Err(fault),
+        }
+        match self.tries(rt, alloc, line, index, job, gate) {
+            Ok(true) => Ok(()),
+            Ok(false) => self.tries_again(rt, alloc, line, index, job, gate),
+            Err(fault) => Err(fault),
+        }
+    }
+
+    /// Settles what is pending, if the job has a condition or no commit more may share the flush.
+    fn makes_way<J: JournalStore + Drop, R: Wait + Drop, W: Wait>(
+        &mut self,
+        rt: &W,
+        line: &Line<L, J, R>,
+        job: &Job,
+    ) -> Result<(), WorkersFault>
+        ensures settled { MatchResult result (λ _. GoesOn L.workers (shape_of L.schema) 0 [] self.old self.new)
+            (λ fault. Ends L.workers (shape_of L.schema) 0 [] self.old self.new) }
+        ensures room { IfOk result (λ _. length self.new.pending < shared_jobs_max) }
+        ensures fault { IfErr result (λ fault. ¬ (fault ≡ WorkersFault.NoSeat)) }
+    {
+        if self.pending.len() < SHARED_JOBS_MAX && !job.has_condition() {
+            return Ok(());
+        }
+        self.settles(rt, line)
+    }
+
+    /// Does a job again after what is pending is settled.
+    fn tries_again<J: JournalStore + Drop, R: Wait + Drop, W: Wait, G: Gate>(
+        &mut self,
+        rt: &W,
+        alloc: Global,
+        line: &Line<L, J, R>,
+        index: usize,
+        job: &Job,
+        gate: &G,
+    ) -> Result<(), WorkersFault>
+        requires { job.now.worker < L.workers }
+        ensures taken { MatchResult result (λ _. GoesOn L.workers (shape_of L.schema) 0 (job.now ∷ []) self.old self.new)
+            (λ fault. Ends L.workers (shape_of L.schema) 0 [] self.old self.new) }
+        ensures fault { IfErr result (λ fault. ¬ (fault ≡ WorkersFault.NoSeat)) }
+    {
+        match self.settles(rt, line) {
+            Ok(()) => {}
+            Err(fault) => return Err(fault),
+        }
+        match self.tries(rt, alloc, line, index, job, gate) {
+            Ok(_) => Ok(()),
+            Err(fault) => Err(fault),
+        }
+    }
+
+    /// Tries a job: its commit is then pending, or, if nothing is pending, it is answered. `false`: it was
+    /// refused or in conflict while something is pending, and that answer does not count.
+    ///
+    /// Room for the answer and the ticket is taken first, so that no answer is lost.
+    fn tries<J: JournalStore + Drop, R: Wait + Drop, W: Wait, G: Gate>(
+        &mut self,
+        rt: &W,
+        alloc: Global,
+        line: &Line<L, J, R>,
+        index: usize,
+        job: &Job,
+        gate: &G,
+    ) -> Result<bool, WorkersFault>
+        requires worker { job.now.worker < L.workers }
+        requires room { length self.old.pending < shared_jobs_max }
+        ensures tried { MatchResult result
+            (λ taken. GoesOn L.workers (shape_of L.schema) 0 (if taken then job.now ∷ [] else []) self.old self.new)
+            (λ fault. GoesOn L.workers (shape_of L.schema) 0 [] self.old self.new) }
+        ensures taken { self.old.pending ≡ [] → IfOk result (λ taken. taken ≡ true) }
+        ensures fault { IfErr result (λ fault. ¬ (fault ≡ WorkersFault.NoSeat)) }
+    {
+        let JobSeat {
+            seat,
+            answers,
+            pending,
+        } = self;
+        if answers.reserve(pending.len() + 1).is_err() {
+            return Err(WorkersFault::Memory);
+        }
+        if pending.reserve(1).is_err() {
+            return Err(WorkersFault::Memory);
+        }
+        let answer = match commit_job(rt, alloc, line, seat, index, job, gate) {
+            Ok(Attempt::Pending(ticket)) => {
+                pending.push_reserved(ticket);
+                return Ok(true);
+            }
+            Ok(Attempt::Answered(answer)) => answer,
+            Err(fault) => return Err(fault),
+        };
+        if !pending.is_empty() {
+            return Ok(false);
+        }
+        answers.push_reserved(answer);
+        Ok(true)
+    }
+
+    /// Makes everything pending durable, and answers the jobs whose commits were pending, in their order.
+    /// It may wait.
+    ///
+    /// Fails with `Journal` if the journal failed, or with `Memory` if memory was refused; the jobs that
+    /// were not answered then stay so, though their commits may be durable.
+    pub fn settles<J: JournalStore + Drop, R: Wait + Drop, W: Wait>(
+        &mut self,
+        rt: &W,
+        line: &Line<L, J, R>,
+    ) -> Result<(), WorkersFault>
+        ensures none { self.new.pending ≡ [] }
+        ensures settled { (lost : ℕ) → MatchResult result (λ _. GoesOn L.workers (shape_of L.schema) lost [] self.old self.new)
+            (λ fault. Ends L.workers (shape_of L.schema) lost [] self.old self.new) }
+        ensures fault { IfErr result (λ fault. ¬ (fault ≡ WorkersFault.NoSeat)) }
+    {
+        if self.pending.is_empty() {
+            return Ok(());
+        }
+        let JobSeat {
+            seat,
+            answers,
+            pending,
+        } = self;
+        if let Err(fault) = flushed(rt, line, seat) {
+            pending.clear();
+            return Err(fault);
+        }
+        let settled = settle_each(rt, line, seat, pending.as_slice(), answers);
+        pending.clear();
+        settled
+    }
+
+    /// Lets the seat meet another one: both take the longer of their lists. Takes no memory.
+    pub fn meets(&mut self, other: &mut JobSeat<L>)
+        ensures one { self.new.seat.list ≡ other.new.seat.list }
+        ensures legal { IsJournaled L.workers (shape_of L.schema) self.new.seat.list }
+        ensures mine { IsPrefix self.old.seat.list self.new.seat.list }
+        ensures theirs { IsPrefix other.old.seat.list other.new.seat.list }
+        ensures same { (self.new ≡ record self.old { seat = record self.old.seat { list = self.new.seat.list } })
+            × (other.new ≡ record other.old { seat = record other.old.seat { list = other.new.seat.list } }) }
+    {
+        self.seat.meet(&mut other.seat);
+    }
+}
+
+/// Acknowledges these tickets in their order after a flush, up to the first that is not settled. There is
+/// room for all answers. It may wait.
+///
+/// Fails as `settled` does.
+fn settle_each<L: Origin, J: JournalStore, R: Wait + Drop, W: Wait>(
+    rt: &W,
+    line: &Line<L, J, R>,
+    seat: &mut Seat<L>,
+    tickets: &[Ticket],
+    answers: &mut Vec<JobAnswer>,
+) -> Result<(), WorkersFault>
+    requires legal { IsJournaled L.workers (shape_of L.schema) seat.old.list }
+    requires room { length answers.old.items + length tickets.now ≤ vec_capacity answers.old }
+    ensures legal { IsJournaled L.workers (shape_of L.schema) seat.new.list }
+    ensures later { IsPrefix seat.old.list seat.new.list }
+    ensures same { seat.new ≡ record seat.old { list = seat.new.list } }
+    ensures settled { MatchResult result
+        (λ _. AreSettled (length tickets.now) tickets.now seat.new.list answers.old.items answers.new.items)
+        (λ fault. (count : ℕ) × AreSettled count tickets.now seat.new.list answers.old.items answers.new.items) }
+    ensures capacity { vec_capacity answers.new ≡ vec_capacity answers.old }
+    ensures fault { IfErr result (λ fault. ¬ (fault ≡ WorkersFault.NoSeat)) }
+{
+    for ticket in tickets {
+        match settled(rt, line, seat, ticket) {
+            Ok(answer) => answers.push_reserved(answer),
+            Err(fault) => return Err(fault),
+        }
+    }
+    Ok(())
+}

@@ -1,0 +1,268 @@
+//! What a replica's node has under way: its Ask and its Wants that are not answered yet.
+
+use byteorder::{BigEndian, ByteOrder};
+use dispatcher::{Gap, Got};
+use rows::limits::WORKERS_MAX;
+
+/// How many Wants may be under way, at the least and at the most. A socket of Linux holds some 270 short frames and 90
+/// long ones, if it is asked for no more.
+const WANTS_LEAST: usize = 4;
+
+pub const WANTS_MAX: usize = 16;
+
+/// How many frames answer a Want, at most.
+pub const WANT_FRAMES: u64 = 16;
+
+/// After how many datagrams more an answer is late, at the least and at the most.
+const LATE_LEAST: u64 = 8;
+
+const LATE_MOST: u64 = 256;
+
+/// How many frames that are missing at a Head may be on their way, since they were pushed: more were not.
+const PUSHED_MOST: u64 = 64;
+
+/// Where a frame's worker stands in its bytes, where its seq does, and how many bytes there are up to its end.
+const WORKER_AT: usize = 6;
+
+const SEQ_AT: usize = 7;
+
+const FRONT_LEN: usize = 15;
+
+/// An Ask that is under way, by how many datagrams had come: when it was sent, and when its answer is late.
+#[derive(Clone, Copy)]
+struct Asked {
+    sent: u64,
+    late: u64,
+    /// Whether an earlier one of the same request was late. Its Head may be the answer to that one.
+    is_repeated: bool,
+}
+
+/// A Want that is under way, and when its answer is late, by how many datagrams have come.
+#[derive(Clone, Copy)]
+struct Wanted {
+    gap: Gap,
+    late: u64,
+}
+
+impl Wanted {
+    /// Whether the frame on which a gap begins is among those that answer it.
+    fn covers(&self, gap: Gap) -> bool {
+        gap.worker == self.gap.worker
+            && gap.seq >= self.gap.seq
+            && gap.seq - self.gap.seq < WANT_FRAMES
+    }
+}
+
+/// What a replica's node has under way, and when its answers are late.
+///
+/// Time is counted in datagrams that come, which needs no clock: while frames are pushed, as many come between
+/// an Ask and its Head as a round trip takes, and an answer is late after twice as many and 8 more. Where
+/// nothing comes for a moment all answers are late.
+#[derive(Drop)]
+pub struct UnderWay {
+    /// How many datagrams have come.
+    came: u64,
+    /// How many come in a round trip, times 8: a mean, in which each new one counts for an eighth.
+    round_trip: u64,
+    asked: Option<Asked>,
+    wants: [Option<Wanted>; WANTS_MAX],
+    /// How many Wants may be under way: half as many once an answer is late, since a receiver may have been given more than
+    /// it could hold, and one more each time that as many were answered.
+    window: usize,
+    /// How many were answered since that has changed.
+    answered: usize,
+    /// For each worker the seq behind the greatest one of its frames that came. A frame below it that is missing is
+    /// lost, or late; one above it may have been pushed and be on its way.
+    seen: [u64; WORKERS_MAX as usize],
+    /// Until so many datagrams have come one Want alone may be under way for frames that may be on their way.
+    one_until: u64,
+    /// How many datagrams had come when it was looked last where frames are missing.
+    looked_at: Option<u64>,
+}
+
+impl UnderWay {
+    /// Nothing.
+    pub fn nothing() -> UnderWay {
+        UnderWay {
+            came: 0,
+            round_trip: 0,
+            asked: None,
+            wants: [None; WANTS_MAX],
+            window: WANTS_LEAST,
+            answered: 0,
+            seen: [0; WORKERS_MAX as usize],
+            one_until: 0,
+            looked_at: None,
+        }
+    }
+
+    /// Notes that these bytes came, which the replica answered so, and that it misses so many frames, at the least.
+    pub fn note(&mut self, bytes: &[u8], got: Got, missing: u64) {
+        self.came = self.came.saturating_add(1);
+        match got {
+            Got::Head(_) => self.note_head(missing),
+            Got::Stored | Got::Repeat | Got::Ahead => self.note_frame(bytes),
+            _ => {}
+        }
+    }
+
+    /// Notes that a frame came with these bytes.
+    fn note_frame(&mut self, bytes: &[u8]) {
+        if bytes.len() < FRONT_LEN {
+            return;
+        }
+        let worker = bytes[WORKER_AT] as usize;
+        let (_, behind) = bytes.split_at(SEQ_AT);
+        let next = BigEndian::read_u64(behind).saturating_add(1);
+        if let Some(seen) = self.seen.get_mut(worker) {
+            *seen = next.max(*seen);
+        }
+    }
+
+    /// Whether frames behind a gap have come.
+    fn is_passed(&self, gap: Gap) -> bool {
+        match self.seen.get(gap.worker as usize) {
+            Some(seen) => gap.seq < *seen,
+            None => false,
+        }
+    }
+
+    /// Notes that nothing came for a moment: what was under way is late.
+    pub fn note_silence(&mut self) {
+        if let Some(asked) = &mut self.asked {
+            asked.late = 0;
+        }
+        if self.wants.iter().any(Option::is_some) {
+            self.narrow();
+        }
+        self.wants = [None; WANTS_MAX];
+        self.one_until = 0;
+        self.looked_at = None;
+    }
+
+    /// Whether an Ask may be sent: none is under way, or its answer is late.
+    pub fn may_ask(&self) -> bool {
+        match &self.asked {
+            Some(asked) => asked.late <= self.came,
+            None => true,
+        }
+    }
+
+    /// Notes that an Ask was sent.
+    pub fn note_ask(&mut self) {
+        self.asked = Some(Asked {
+            sent: self.came,
+            late: self.late_after(0),
+            is_repeated: self.asked.is_some(),
+        });
+    }
+
+    /// Notes that the Head of the Ask came, which tells of frames that were not awaited before. So many of them are missing,
+    /// and most may be on their way.
+    fn note_head(&mut self, missing: u64) {
+        if let Some(asked) = self.asked {
+            if !asked.is_repeated {
+                self.learn(self.came.saturating_sub(asked.sent));
+            }
+        }
+        self.asked = None;
+        self.wants = [None; WANTS_MAX];
+        self.one_until = self.late_after(missing.min(PUSHED_MOST).saturating_add(WANT_FRAMES));
+        self.looked_at = None;
+    }
+
+    /// Whether it is to be looked where frames are missing: a quarter of the Wants may be answered since it was looked
+    /// last, or more may be under way now.
+    pub fn may_look(&self) -> bool {
+        let Some(at) = self.looked_at else {
+            return true;
+        };
+        let count = self.wants.iter().flatten().count() as u64;
+        let some = (count / 4).saturating_add(1).saturating_mul(WANT_FRAMES);
+        let is_open = at < self.one_until && self.one_until <= self.came;
+        is_open || at.saturating_add(some) <= self.came
+    }
+
+    /// Forgets the Wants that are answered, since no gap begins among their frames, and those that are late.
+    pub fn keep(&mut self, gaps: &[Gap]) {
+        self.looked_at = Some(self.came);
+        let mut is_late = false;
+        for wanted in &mut self.wants {
+            let Some(want) = wanted else {
+                continue;
+            };
+            if !gaps.iter().any(|gap| want.covers(*gap)) {
+                self.answered = self.answered.saturating_add(1);
+                *wanted = None;
+            } else if want.late <= self.came {
+                is_late = true;
+                *wanted = None;
+            }
+        }
+        if is_late {
+            self.narrow();
+        } else {
+            self.widen();
+        }
+    }
+
+    /// Lets half as many Wants be under way.
+    fn narrow(&mut self) {
+        self.window = (self.window / 2).max(WANTS_LEAST);
+        self.answered = 0;
+    }
+
+    /// Lets one Want more be under way, if as many were answered.
+    fn widen(&mut self) {
+        if self.answered >= self.window {
+            self.window = self.window.saturating_add(1).min(WANTS_MAX);
+            self.answered = 0;
+        }
+    }
+
+    /// The place of a Want for this gap, if one may be sent: none is under way that it would repeat, and no more
+    /// are than may be.
+    pub fn place_for(&self, gap: Gap) -> Option<usize> {
+        let mut place = None;
+        let mut count: usize = 0;
+        for (index, wanted) in self.wants.iter().enumerate() {
+            match wanted {
+                Some(want) => {
+                    if want.covers(gap) {
+                        return None;
+                    }
+                    count = count.saturating_add(1);
+                }
+                None => place = Some(index),
+            }
+        }
+        let most = if self.is_passed(gap) || self.one_until <= self.came {
+            self.window
+        } else {
+            1
+        };
+        if count < most { place } else { None }
+    }
+
+    /// Notes that a Want for this gap was sent.
+    pub fn note_want(&mut self, place: usize, gap: Gap) {
+        let count = self.wants.iter().flatten().count() as u64;
+        let late = self.late_after(count.saturating_add(1).saturating_mul(WANT_FRAMES));
+        if let Some(wanted) = self.wants.get_mut(place) {
+            *wanted = Some(Wanted { gap, late });
+        }
+    }
+
+    /// When an answer is late that is sent now, if so many datagrams of other answers come before its last one.
+    fn late_after(&self, others: u64) -> u64 {
+        let twice = self.round_trip / 4;
+        let most = twice.saturating_add(LATE_LEAST).min(LATE_MOST);
+        self.came.saturating_add(most).saturating_add(others)
+    }
+
+    /// Takes into the mean that so many datagrams came in a round trip.
+    fn learn(&mut self, datagrams: u64) {
+        let others = self.round_trip - self.round_trip / 8;
+        self.round_trip = others.saturating_add(datagrams);
+    }
+}
