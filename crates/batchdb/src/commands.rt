@@ -1,9 +1,10 @@
 //! The words of the nodes, read.
 
 use crate::addresses::{read_address, read_number};
-use crate::failure::{Failure, Status, shown};
+use crate::failure::{Failure, Status};
 use clap::{Arg, ArgAction, ArgMatches, Command, Error};
 use nodes::Pace;
+use requests::shown;
 use std::alloc::{AllocError, Global};
 use std::net::SocketAddr;
 use std::time::Duration;
@@ -52,8 +53,8 @@ pub struct JournalWords<'a> {
     pub cut: Option<u64>,
     /// Whether it is really cut.
     pub is_sure: bool,
-    /// Whether it says how far the printing has come.
-    pub says: bool,
+    /// Whether it says how far it has come.
+    pub shows: bool,
 }
 
 /// What the words of a node ask for.
@@ -65,6 +66,36 @@ pub enum Asking<'a> {
     Journal(JournalWords<'a>),
     /// Nothing: the word of a command is missing, or it is that of the simulator.
     Nothing,
+}
+
+impl<'a> Asking<'a> {
+    /// The same, for who sees the errors: what it does then says how far long work has come.
+    pub fn watched(self) -> Asking<'a> {
+        match self {
+            Asking::Primary(words) => {
+                let pace = watched(words.pace);
+                Asking::Primary(PrimaryWords { pace, ..words })
+            }
+            Asking::Replica(words) => {
+                let pace = watched(words.pace);
+                Asking::Replica(ReplicaWords { pace, ..words })
+            }
+            Asking::Journal(words) => Asking::Journal(JournalWords {
+                shows: true,
+                ..words
+            }),
+            Asking::Demo => Asking::Demo,
+            Asking::Nothing => Asking::Nothing,
+        }
+    }
+}
+
+/// The same pace of a node that says how far long work has come.
+fn watched(pace: Pace) -> Pace {
+    Pace {
+        shows: true,
+        ..pace
+    }
 }
 
 /// Why words ask for nothing that the program does.
@@ -225,6 +256,7 @@ fn primary_words<'a>(alloc: Global, words: &ArgMatches<'a>) -> Result<PrimaryWor
             turns: turns(alloc, words, Some(TURNS))?,
             wait: None,
             says: words.get_flag("say"),
+            shows: words.get_flag("say"),
         },
     })
 }
@@ -248,6 +280,7 @@ fn replica_words<'a>(alloc: Global, words: &ArgMatches<'a>) -> Result<ReplicaWor
             turns,
             wait,
             says: words.get_flag("say"),
+            shows: words.get_flag("say"),
         },
     })
 }
@@ -263,15 +296,11 @@ fn journal_words<'a>(alloc: Global, words: &ArgMatches<'a>) -> Result<JournalWor
         None => None,
     };
     let is_sure = words.get_flag("yes");
-    let says = words.get_flag("say");
     if dumps && cut.is_some() {
         return Err(wrong(alloc, "--dump", "not with --cut"));
     }
     if from.is_some() && !dumps {
         return Err(wrong(alloc, "--from", "not without --dump"));
-    }
-    if says && !dumps {
-        return Err(wrong(alloc, "--say", "not without --dump"));
     }
     if is_sure && cut.is_none() {
         return Err(wrong(alloc, "--yes", "not without --cut"));
@@ -283,7 +312,7 @@ fn journal_words<'a>(alloc: Global, words: &ArgMatches<'a>) -> Result<JournalWor
         from: from.unwrap_or(1),
         cut,
         is_sure,
-        says,
+        shows: words.get_flag("say"),
     })
 }
 

@@ -228,6 +228,7 @@ fn reported_by_both<
         return Err(Failure::Memory);
     };
     let pace = Pace {
+        shows: false,
         turns: Some(TURNS),
         wait: None,
         says: false,

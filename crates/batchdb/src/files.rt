@@ -3,7 +3,8 @@
 ghost use Rattle.std.specs.Prelude.{◌<◌, ◌≤◌, IfOk};
 ghost use Rattle.rows.specs.Limits.{workers_max, replicas_max};
 
-use crate::failure::{Failure, Status, shown};
+use crate::failure::{Failure, Status};
+use requests::{Misread, misread_settings, shown};
 use rows::limits::{REPLICAS_MAX, WORKERS_MAX};
 use script::{ScriptFault, Setup, read_settings};
 use std::alloc::Global;
@@ -74,7 +75,10 @@ pub fn setup_at<H: Files<File = File>>(rt: &H, alloc: Global, path: &str) -> Res
     match read_settings(alloc, bytes.as_slice()) {
         Ok(setup) => limited(alloc, setup, path),
         Err(ScriptFault::Memory) => Err(Failure::Memory),
-        Err(fault) => Err(unread(alloc, path, fault)),
+        Err(fault @ ScriptFault::At { line, .. }) => {
+            let misread = misread_settings(alloc, bytes.as_slice(), line);
+            Err(unread(alloc, path, fault, &misread))
+        }
     }
 }
 
@@ -88,14 +92,14 @@ fn limited(alloc: Global, setup: Setup, path: &str) -> Result<Setup, Failure>
     Ok(setup)
 }
 
-/// What is said of a schema file that does not read: the line and the reason, as of a script, and then the file.
-fn unread(alloc: Global, path: &str, fault: ScriptFault) -> Failure {
+/// What is said of a schema file that does not read: the line and the reason, as of a script, then the file and the word.
+fn unread(alloc: Global, path: &str, fault: ScriptFault, misread: &Misread) -> Failure {
     let Some(path) = shown(alloc, path) else {
         return Failure::Memory;
     };
     Failure::new(
         Status::NotRead,
-        format!(in alloc; "{fault} (SCHEMA {path})").ok(),
+        format!(in alloc; "{fault} (SCHEMA {path}){misread}").ok(),
     )
 }
 

@@ -3,11 +3,13 @@
 ghost use Rattle.std.specs.Prelude.{◌≡◌, IfOk};
 
 use crate::commands::JournalWords;
-use crate::failure::{Failure, Status, shown};
-use crate::files::{failed, file_bytes, len_of, refused, setup_at};
+use crate::failure::{Failure, Status};
+use crate::files::{failed, len_of, refused, setup_at};
+use crate::journal_reading::{journal_bytes, name_of};
 use crate::printing::print;
 use journal::{FileFault, FileJournal, JournalFault, JournalStore, OpenFault, Recovered, recover};
-use nodes::{Host, was_just_now};
+use nodes::{Host, Progress, while_saying};
+use requests::shown;
 use rows::{
     Commit, Entry, Kind, KindList, RowId, Schema, append_number, append_value, column_at,
     first_value,
@@ -17,10 +19,15 @@ use std::alloc::{AllocError, Global};
 use std::fs::File;
 use std::io::Write;
 use std::rt::{Clock, Files};
-use std::time::Instant;
+use std::sync::Wait;
+use std::thread::Threads;
 
 /// Tells what a journal keeps, prints its commits as jobs, or cuts it.
-pub fn run_journal<T: Files<File = File> + Clock, W: Write, E: Write>(
+pub fn run_journal<
+    T: Threads + Wait + Files<File = File> + Clock + Sync,
+    W: Write,
+    E: Write + Send,
+>(
     host: Host<'_, T>,
     words: &JournalWords<'_>,
     writer: &mut W,
@@ -28,24 +35,73 @@ pub fn run_journal<T: Files<File = File> + Clock, W: Write, E: Write>(
 ) -> Result<(), Failure> {
     let Host { rt, alloc } = host;
     let setup = setup_at(rt, alloc, words.schema)?;
-    let bytes = file_bytes(rt, alloc, words.journal)?;
+    let bytes = journal_bytes(host, words.journal, words.shows, errors)?;
+    let looking = Looking {
+        host,
+        words,
+        setup: &setup,
+        bytes: bytes.as_slice(),
+    };
     match words.cut {
-        Some(len) => cut(rt, alloc, words, &setup, bytes.as_slice(), len, writer),
-        None if words.dumps => dump(host, words, &setup, bytes.as_slice(), writer, errors),
+        Some(len) => cut(&looking, len, writer, errors),
+        None if words.dumps => dump(&looking, writer, errors),
         None => {
-            let kept = kept_of(alloc, words.journal, &setup, bytes.as_slice())?;
+            let kept = kept_of(&looking, looking.bytes, errors)?;
             tell(alloc, &kept, bytes.len(), writer)
         }
     }
 }
 
-/// What these bytes keep.
-fn kept_of(alloc: Global, path: &str, setup: &Setup, bytes: &[u8]) -> Result<Recovered, Failure> {
-    match recover(alloc, bytes, &setup.schema, setup.workers) {
+/// A journal that is looked at: its words and its bytes.
+#[derive(Drop)]
+struct Looking<'a, T> {
+    host: Host<'a, T>,
+    words: &'a JournalWords<'a>,
+    setup: &'a Setup,
+    bytes: &'a [u8],
+}
+
+/// What these bytes keep. If it is to, it says each second for how long they are recovered.
+fn kept_of<T: Threads + Wait + Clock + Sync, E: Write + Send>(
+    looking: &Looking<'_, T>,
+    bytes: &[u8],
+    errors: &mut E,
+) -> Result<Recovered, Failure> {
+    let alloc = looking.host.alloc;
+    match recovered(looking, bytes, errors) {
         Ok(recovered) => Ok(recovered),
         Err(JournalFault::Memory) => Err(Failure::Memory),
-        Err(fault) => Err(failed(alloc, path, format!(in alloc; "{fault}").ok())),
+        Err(fault) => Err(failed(
+            alloc,
+            looking.words.journal,
+            format!(in alloc; "{fault}").ok(),
+        )),
     }
+}
+
+/// What is recovered of these bytes.
+fn recovered<T: Threads + Wait + Clock + Sync, E: Write + Send>(
+    looking: &Looking<'_, T>,
+    bytes: &[u8],
+    errors: &mut E,
+) -> Result<Recovered, JournalFault> {
+    let Host { alloc, .. } = looking.host;
+    let what = recovering(alloc, looking.words.journal, bytes.len() as u64);
+    let setup = looking.setup;
+    while_saying(
+        looking.host,
+        looking.words.shows,
+        what.as_str(),
+        errors,
+        || recover(alloc, bytes, &setup.schema, setup.workers),
+    )
+}
+
+/// What is said of a journal of so many bytes while it is recovered. Without memory for that, nothing is.
+pub fn recovering(alloc: Global, path: &str, len: u64) -> String {
+    let name = name_of(alloc, path);
+    let text = format!(in alloc; "journal {name}: recovering {len} bytes");
+    text.unwrap_or(String::new(alloc))
 }
 
 /// Tells what a journal of so many bytes keeps.
@@ -95,16 +151,15 @@ fn torn(kept: &Recovered, len: usize) -> u64 {
 
 /// Cuts a journal to so many bytes if that is sure, and tells what it keeps then. It is cut at the end of a
 /// record only.
-fn cut<T: Files<File = File>, W: Write>(
-    rt: &T,
-    alloc: Global,
-    words: &JournalWords<'_>,
-    setup: &Setup,
-    bytes: &[u8],
+fn cut<T: Threads + Wait + Files<File = File> + Clock + Sync, W: Write, E: Write + Send>(
+    looking: &Looking<'_, T>,
     len: u64,
     writer: &mut W,
+    errors: &mut E,
 ) -> Result<(), Failure> {
-    let path = words.journal;
+    let Host { rt, alloc } = looking.host;
+    let bytes = looking.bytes;
+    let path = looking.words.journal;
     let Some((front, behind)) = parted(bytes, len) else {
         return Err(failed(
             alloc,
@@ -112,7 +167,7 @@ fn cut<T: Files<File = File>, W: Write>(
             format!(in alloc; "it has {} bytes only", bytes.len()).ok(),
         ));
     };
-    let left = kept_of(alloc, path, setup, front)?;
+    let left = kept_of(looking, front, errors)?;
     if left.bytes_kept < len {
         return Err(failed(
             alloc,
@@ -125,23 +180,22 @@ fn cut<T: Files<File = File>, W: Write>(
         ));
     }
     let count = left.commits.len();
-    if !words.is_sure {
-        return Err(unsure(alloc, path, setup, bytes, behind.len(), count));
+    if !looking.words.is_sure {
+        return Err(unsure(looking, behind.len(), count, errors));
     }
     cut_file(rt, alloc, path, bytes.len() as u64, len)?;
     tell(alloc, &left, front.len(), writer)
 }
 
 /// What is said before a journal is cut: what that would drop, and how many commits it would leave.
-fn unsure(
-    alloc: Global,
-    path: &str,
-    setup: &Setup,
-    bytes: &[u8],
+fn unsure<T: Threads + Wait + Clock + Sync, E: Write + Send>(
+    looking: &Looking<'_, T>,
     dropped: usize,
     left: usize,
+    errors: &mut E,
 ) -> Failure {
-    let what = match recover(alloc, bytes, &setup.schema, setup.workers) {
+    let alloc = looking.host.alloc;
+    let what = match recovered(looking, looking.bytes, errors) {
         Ok(all) => format!(in alloc;
             "{dropped} bytes, which keep {} commits,",
             all.commits.len().saturating_sub(left)
@@ -150,7 +204,7 @@ fn unsure(
         // How many commits they keep is not known.
         Err(_) => format!(in alloc; "{dropped} bytes"),
     };
-    let (Ok(what), Some(path)) = (what, shown(alloc, path)) else {
+    let (Ok(what), Some(path)) = (what, shown(alloc, looking.words.journal)) else {
         return Failure::Memory;
     };
     Failure::new(
@@ -212,26 +266,24 @@ pub fn opened<T: Files<File = File>>(
 /// Prints the commits of a journal, from one on, as jobs that a primary does again. All are of worker 0, so that
 /// they are done one after the other. Values are those of the columns that a table has where the entry stands.
 /// If it is to, it says once a second how many commits it has gone through.
-fn dump<T: Clock, W: Write, E: Write>(
-    host: Host<'_, T>,
-    words: &JournalWords<'_>,
-    setup: &Setup,
-    bytes: &[u8],
+fn dump<T: Threads + Wait + Clock + Sync, W: Write, E: Write + Send>(
+    looking: &Looking<'_, T>,
     writer: &mut W,
     errors: &mut E,
 ) -> Result<(), Failure> {
-    let alloc = host.alloc;
-    let recovered = kept_of(alloc, words.journal, setup, bytes)?;
-    tell_dumped(alloc, &recovered, bytes.len(), writer)?;
+    let Host { alloc, .. } = looking.host;
+    let setup = looking.setup;
+    let words = looking.words;
+    let recovered = kept_of(looking, looking.bytes, errors)?;
+    tell_dumped(alloc, &recovered, looking.bytes.len(), writer)?;
     let Ok(mut kinds) = opening_kinds(alloc, &setup.schema) else {
         return Err(Failure::Memory);
     };
     let count = recovered.commits.len();
-    let mut told_at = Instant::now(host.rt).ok();
+    let mut progress = Progress::begin(looking.host, words.shows);
     for (index, commit) in recovered.commits.iter().enumerate() {
-        if words.says && told_at.is_some() && !was_just_now(host, &told_at) {
+        if progress.is_due() {
             let _ = writeln!(errors, "dumped {index} of {count} commits");
-            told_at = Instant::now(host.rt).ok();
         }
         let mut text = Vec::new(alloc);
         match push_job(

@@ -14,6 +14,7 @@ mod demo;
 mod failure;
 mod files;
 mod journal_file;
+mod journal_reading;
 mod listening;
 mod polled_input;
 mod primary_program;
@@ -22,8 +23,9 @@ mod program;
 mod replica_program;
 mod words;
 
-pub use program::{answer, run_words, without_words};
+pub use program::{ErrorStream, answer, run_words, without_words};
 use std::env;
+use std::io::IsTerminal;
 use std::process::ExitCode;
 
 /// Runs the words that the program was called with, and ends with their status.
@@ -31,6 +33,11 @@ fn main(rt: HostRuntime) -> ExitCode {
     let _held = match files::fill_standard_streams(&rt, rt.alloc()) {
         Ok(held) => held,
         Err(failure) => return ExitCode::from(failure.tell(&mut rt.stderr())),
+    };
+    let error_stream = if rt.stderr().is_terminal() {
+        ErrorStream::Terminal
+    } else {
+        ErrorStream::Other
     };
     let status = match env::args(&rt) {
         Ok(words) => answer(
@@ -40,6 +47,7 @@ fn main(rt: HostRuntime) -> ExitCode {
             rt.stdin(),
             &mut rt.stdout(),
             &mut rt.stderr(),
+            error_stream,
         ),
         Err(fault) => without_words(fault.kind(), &mut rt.stderr()),
     };

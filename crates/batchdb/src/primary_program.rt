@@ -4,12 +4,13 @@ ghost use Rattle.std.specs.Prelude.{◌≡◌, ◌<◌, ◌≤◌, IfOk};
 ghost use Rattle.rows.specs.Limits.{workers_max};
 
 use crate::commands::{PrimaryWords, wrong};
-use crate::failure::{Failure, failure_of, shown};
+use crate::failure::{Failure, failure_of};
 use crate::files::{failed, len_of, refused, setup_at};
-use crate::journal_file::opened;
+use crate::journal_file::{opened, recovering};
+use crate::journal_reading::{name_of, read_ahead};
 use crate::listening::{Addresses, listening, socket_failure};
 use journal::{FileFault, FileJournal, JournalFault};
-use nodes::{Host, NodeFault, Pace, Primary, Streams, Work, read_jobs};
+use nodes::{Host, NodeFault, Pace, Primary, Streams, Work, read_jobs, while_saying};
 use primary::{PrimaryCore, StartFault};
 use rows::limits::WORKERS_MAX;
 use script::Setup;
@@ -46,7 +47,9 @@ pub fn run_primary<
     let jobs = if words.is_live {
         None
     } else {
-        match read_jobs(host.alloc, &setup, &mut streams.reader) {
+        let shows = words.pace.shows;
+        let Streams { reader, errors, .. } = &mut *streams;
+        match read_jobs(host, &setup, shows, reader, errors) {
             Ok(jobs) => Some(jobs),
             Err(fault) => return Err(failure_of(host.alloc, fault)),
         }
@@ -73,7 +76,7 @@ pub fn run_primary<
 }
 
 /// A primary on the journal at a path; it says what the journal keeps.
-fn started<T: Files<File = File>, E: Write>(
+fn started<T: Threads + Wait + Files<File = File> + Clock + Sync, E: Write + Send>(
     host: Host<'_, T>,
     words: &PrimaryWords<'_>,
     setup: &Setup,
@@ -90,7 +93,7 @@ fn started<T: Files<File = File>, E: Write>(
     if words.pace.says {
         say_reading(alloc, path, len, errors);
     }
-    match PrimaryCore::start(alloc, journal, &setup.schema, setup.workers) {
+    match start_on(host, words, journal, setup, len, errors) {
         Ok(core) => {
             if words.pace.says {
                 say_start(alloc, path, core.durable(), len, len_of(rt, path), errors);
@@ -109,6 +112,32 @@ fn started<T: Files<File = File>, E: Write>(
         }
         Err((_, StartFault::Memory)) => Err(Failure::Memory),
     }
+}
+
+/// A primary on this journal, whose file has so many bytes. If it is to, it says how far the file is read, and then for how
+/// long the commits are recovered.
+fn start_on<T: Threads + Wait + Files<File = File> + Clock + Sync, E: Write + Send>(
+    host: Host<'_, T>,
+    words: &PrimaryWords<'_>,
+    journal: FileJournal,
+    setup: &Setup,
+    len: u64,
+    errors: &mut E,
+) -> Result<PrimaryCore<FileJournal>, (FileJournal, StartFault<FileFault>)>
+    requires some { 0 < setup.now.workers }
+    requires few { setup.now.workers ≤ workers_max }
+    requires countable { journal.faults ≡ 0 }
+    ensures { IfOk result (λ core. core.primary.workers ≡ setup.now.workers) }
+{
+    let Host { alloc, .. } = host;
+    let path = words.journal;
+    if words.pace.shows {
+        read_ahead(host, path, len, errors);
+    }
+    let what = recovering(alloc, path, len);
+    while_saying(host, words.pace.shows, what.as_str(), errors, move || {
+        PrimaryCore::start(alloc, journal, &setup.schema, setup.workers)
+    })
 }
 
 /// Says the program's version, and that the start reads a journal of so many bytes, if it has any.
@@ -136,11 +165,6 @@ fn say_start<E: Write>(
         errors,
         "journal {name}: kept {commits} commits, {after} bytes, cut {cut}"
     );
-}
-
-/// The name of a journal as it is shown. Without memory for it there is none.
-fn name_of(alloc: Global, path: &str) -> String {
-    shown(alloc, path).unwrap_or(String::new(alloc))
 }
 
 /// What a journal that failed says.
@@ -227,7 +251,24 @@ fn on_line<
     requires whole { L.parts ≡ L.seats }
 {
     let workers = core.workers();
-    let Ok(line) = Line::<L, FileJournal, &T>::new(host.alloc, host.rt, core, start) else {
+    let what = publishing(host.alloc, core.durable());
+    let errors = &mut streams.errors;
+    let made = while_saying(
+        host,
+        work.pace.shows,
+        what.as_str(),
+        errors,
+        move ||
+            requires book { start.opened.seen.book ≡ L.book }
+            requires schema { core.primary.schema ≡ L.schema }
+            requires workers { core.primary.workers ≡ L.workers }
+            requires first { core.primary ≡ L.first }
+            requires name { start.blank.name ≡ L.name }
+            requires parts { start.blank.parts ≡ L.parts }
+            requires seats { start.seats ≡ L.seats }
+        { Line::<L, FileJournal, &T>::new(host.alloc, host.rt, core, start) },
+    );
+    let Ok(line) = made else {
         return Err(Ended::Otherwise(Failure::Memory));
     };
     let mut primary = match Primary::at(host, &line, port, workers, work.pace) {
@@ -238,6 +279,12 @@ fn on_line<
         Ok(()) => Ok(()),
         Err(fault) => Err(ended_by(host.alloc, fault, line, primary)),
     }
+}
+
+/// What is said of so many commits while they are published. Without memory for that, nothing is.
+fn publishing(alloc: Global, commits: u64) -> String {
+    let text = format!(in alloc; "publishing {commits} commits");
+    text.unwrap_or(String::new(alloc))
 }
 
 /// Why a primary ended that ended for a fault: of its journal or its socket, what the system told of it.

@@ -7,7 +7,7 @@ ghost use Rattle.batchdb.specs.Status.{fault_line, fault_status, status_max, Has
 
 use crate::commands::{Asking, JournalWords, PrimaryWords, ReplicaWords, Unasked, read_words};
 use crate::demo::run_demo;
-use crate::failure::{Failure, shown};
+use crate::failure::Failure;
 use crate::journal_file::run_journal;
 use crate::polled_input::PolledInput;
 use crate::primary_program::run_primary;
@@ -16,6 +16,7 @@ use crate::words::{Asked, asked_for};
 use clap::Error;
 use clap::error::ErrorKind;
 use nodes::{Host, Streams};
+use requests::shown;
 use std::alloc::{AllocError, Global};
 use std::env::Args;
 use std::fs::File;
@@ -51,7 +52,7 @@ Usage:
   batchdb replica SCHEMA NUMBER BOOT LISTEN PRIMARY [--turns N] [--wait S] [--live] [--say] < BATCHES
                                   prints the report of each batch of queries, and ends
   batchdb demo                    a primary and two replicas in one process
-  batchdb journal SCHEMA JOURNAL [--dump [--from N] [--say] | --cut BYTES [--yes]]
+  batchdb journal SCHEMA JOURNAL [--dump [--from N] | --cut BYTES [--yes]] [--say]
                                   prints what a journal keeps, prints its commits as jobs, or cuts it
   batchdb --help, batchdb help    prints this
   batchdb --version               prints the version
@@ -68,7 +69,8 @@ Usage:
   --wait   how many seconds a replica waits for the answer to a batch; turns then have no limit,
            if --turns does not give one
   --live   takes jobs or batches as they come, while the node serves
-  --say    reports on standard error what the node does, or how far a dump has come
+  --say    reports on standard error what the node does, and once a second how far long work has
+           come. If standard error is a terminal, the latter is reported anyway
 
 A job without an answer may or may not be committed, for example after Ctrl-C. Only its ticket confirms it.
 
@@ -83,18 +85,36 @@ Exit status:
   3  the turns or the time are used up, and a batch is not answered
 ";
 
+/// What the program's errors are written to.
+#[derive(Clone, Copy)]
+pub enum ErrorStream {
+    /// A terminal: who sees it is told how far long work has come.
+    Terminal,
+    /// A file, a pipe or another device.
+    Other,
+}
+
 /// Runs the program with these words, the first of which is its own name, and answers its exit
 /// status: 0, all was done; 1, a file, a socket, a read or a write failed, the system makes too few threads, or it is out of
 /// memory, or the replica is broken; 2, the words, the script, the schema or the input do not read, and nothing was done but
 /// for what a live node took besides the lines at fault, and for batches before one that names a column which the
 /// schema lacks; 3, a node's turns or its time are used up, and a batch is not answered. But for 0 one line on `errors`
-/// says why; a live node writes one for each line at fault.
+/// says why; a live node writes one for each line at fault. What a node is told to say, and at a terminal how far long work
+/// has come, is said there too.
 pub fn run_words<
     T: Threads + Wait + Net + Files<File = File> + Clock + Sync,
     R: Read + Send,
     W: Write + Send,
     E: Write + Send,
->(rt: &T, alloc: Global, words: &[&str], reader: &mut R, writer: &mut W, errors: &mut E) -> u8
+>(
+    rt: &T,
+    alloc: Global,
+    words: &[&str],
+    reader: &mut R,
+    writer: &mut W,
+    errors: &mut E,
+    error_stream: ErrorStream,
+) -> u8
     ensures status { result ≤ status_max (asked_for (map (λ word. word.now) words.now)) }
     ensures done { result ≡ 0 → HasAnswered (asked_for (map (λ word. word.now) words.now))
         (R.remaining reader.old) (R.remaining reader.new) (W.contents writer.old) (W.contents writer.new) }
@@ -102,7 +122,7 @@ pub fn run_words<
         (W.contents writer.old) (W.contents writer.new) }
 {
     match asked_for(words) {
-        Asked::Node => run_node(rt, alloc, words, reader, writer, errors),
+        Asked::Node => run_node(rt, alloc, words, reader, writer, errors, error_stream),
         Asked::Simulator(echo) => simulate(rt, alloc, echo, reader, writer, errors),
         Asked::Help => print(HELP, writer, errors),
         Asked::Version => print_version(alloc, writer, errors),
@@ -118,7 +138,15 @@ pub fn answer<
     R: Read + Drop + Send,
     W: Write + Send,
     E: Write + Send,
->(rt: &T, alloc: Global, words: Args, input: R, writer: &mut W, errors: &mut E) -> u8 {
+>(
+    rt: &T,
+    alloc: Global,
+    words: Args,
+    input: R,
+    writer: &mut W,
+    errors: &mut E,
+    error_stream: ErrorStream,
+) -> u8 {
     let Ok(words) = listed(alloc, words) else {
         say(errors, "batchdb: out of memory");
         return FAILED;
@@ -130,10 +158,10 @@ pub fn answer<
     let words = words.as_slice();
     let mut input = input;
     if !is_fed(words) {
-        return run_words(rt, alloc, words, &mut input, writer, errors);
+        return run_words(rt, alloc, words, &mut input, writer, errors, error_stream);
     }
     match PolledInput::new(rt, alloc, input) {
-        Ok(mut input) => run_words(rt, alloc, words, &mut input, writer, errors),
+        Ok(mut input) => run_words(rt, alloc, words, &mut input, writer, errors, error_stream),
         Err(fault) => {
             let _ = writeln!(errors, "batchdb: standard input: {fault}");
             FAILED
@@ -239,13 +267,25 @@ fn run_node<
     R: Read + Send,
     W: Write + Send,
     E: Write + Send,
->(rt: &T, alloc: Global, words: &[&str], reader: &mut R, writer: &mut W, errors: &mut E) -> u8
+>(
+    rt: &T,
+    alloc: Global,
+    words: &[&str],
+    reader: &mut R,
+    writer: &mut W,
+    errors: &mut E,
+    error_stream: ErrorStream,
+) -> u8
     ensures { result ≤ 3 }
 {
     let asking = match parse(alloc, words) {
         Ok(asking) => asking,
         Err(Unasked::Told(answer)) => return tell(alloc, words, answer, writer, errors),
         Err(Unasked::Wrong(failure)) => return failure.tell(errors),
+    };
+    let asking = match error_stream {
+        ErrorStream::Terminal => asking.watched(),
+        ErrorStream::Other => asking,
     };
     let ended = match asking {
         Asking::Primary(words) => primary_with(rt, alloc, words, reader, writer, errors),
@@ -314,7 +354,7 @@ fn demo_with<T: Threads + Wait + Net + Clock + Sync, W: Write>(
 }
 
 /// Looks at a journal with the standard streams.
-fn journal_with<T: Files<File = File> + Clock, W: Write, E: Write>(
+fn journal_with<T: Threads + Wait + Files<File = File> + Clock + Sync, W: Write, E: Write + Send>(
     rt: &T,
     alloc: Global,
     words: &JournalWords<'_>,

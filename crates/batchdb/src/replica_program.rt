@@ -9,7 +9,7 @@ use dispatcher::ReplicaCore;
 use nodes::{Follower, Host, NodeFault, Streams, read_batches};
 use rows::limits::{REPLICAS_MAX, WORKERS_MAX};
 use script::Setup;
-use sockets::{ReplicaNode, UdpPort};
+use sockets::{Drain, ReplicaNode, UdpPort};
 use std::alloc::Global;
 use std::fs::File;
 use std::io::{Read, Write};
@@ -43,25 +43,21 @@ pub fn run_replica<
             Err(fault) => return Err(failure_of(host.alloc, fault)),
         }
     };
-    let mut follower = follower_of(host, words, &setup, number, streams)?;
-    let ended = match batches {
-        Some(batches) => follower.answer(host, batches, streams),
-        None => follower.answer_live(host, &setup, streams),
-    };
-    match ended {
+    let (mut follower, drain) = follower_of(host, words, &setup, number, streams)?;
+    match follower.serve(host, &setup, drain, batches, streams) {
         Ok(()) => Ok(()),
         Err(fault) => Err(ended_by(host.alloc, words, fault, &follower, &mut streams.errors)),
     }
 }
 
-/// A replica's node at its socket.
+/// A replica's node at its socket, and the drain of that, if the system grants one.
 fn follower_of<T: Net, R, W, E: Write>(
     host: Host<'_, T>,
     words: &ReplicaWords<'_>,
     setup: &Setup,
     number: u8,
     streams: &mut Streams<R, W, E>,
-) -> Result<Follower<ColumnStore, UdpPort>, Failure> {
+) -> Result<(Follower<ColumnStore, UdpPort>, Option<Drain>), Failure> {
     let Some(core) = replica_of(host.alloc, setup, number, words.boot) else {
         return Err(Failure::Memory);
     };
@@ -74,9 +70,11 @@ fn follower_of<T: Net, R, W, E: Write>(
         primary: Some(words.primary),
         replicas: Vec::new(host.alloc),
     };
-    let port = listening(host, addresses, words.pace.says, errors)?;
+    let mut port = listening(host, addresses, words.pace.says, errors)?;
+    let drain = port.drain(host.alloc).ok();
     let node = ReplicaNode::new(host.alloc, core, port);
-    Ok(Follower::new(host.alloc, node, words.pace, words.is_live))
+    let follower = Follower::new(host.alloc, node, words.pace, words.is_live);
+    Ok((follower, drain))
 }
 
 /// A replica over an empty store. `None` when out of memory.

@@ -18,14 +18,15 @@ use crate::host::Host;
 use crate::printing::print;
 use journal::JournalStore;
 use shared::{Line, Origin};
-use sockets::{Job, OpenGate, Worker, WorkersFault, are_of_workers, run_crew};
+use sockets::{Gate, Job, Worker, WorkersFault, are_of_workers, run_crew};
 use std::alloc::{AllocError, Global};
 use std::io::Write;
 use std::sync::Wait;
 use std::thread::Threads;
 
 /// Has a crew do all jobs, the jobs of each worker in a thread of its own, and writes what they are answered, in
-/// the order of the jobs. Where a worker failed, what was answered before is told, one worker after the other.
+/// the order of the jobs. Where a worker failed, what was answered before is told, one worker after the other. The
+/// gate is notified of each commit.
 ///
 /// Fails with `Journal` if the journal failed, with `Memory` if out of memory or if a job is of no worker of the
 /// crew, and with `Output` if the writer failed.
@@ -35,12 +36,14 @@ pub fn do_all<
     H: Wait + Drop + Send,
     T: Threads + Wait + Sync,
     W: Write,
+    G: Gate + Sync,
 >(
     host: Host<'_, T>,
     line: &Line<L, J, H>,
     crew: &mut [Worker<L>],
     workers: u8,
     jobs: &[Job],
+    gate: &G,
     writer: &mut W,
 ) -> Result<(), NodeFault>
     requires workers { workers ≡ L.workers }
@@ -53,7 +56,7 @@ pub fn do_all<
     if count == 0 || count > workers as usize || !are_of_workers(jobs, count) {
         return Err(NodeFault::Memory);
     }
-    let fault = match run_crew(host.rt, host.alloc, line, crew, jobs, &OpenGate) {
+    let fault = match run_crew(host.rt, host.alloc, line, crew, jobs, gate) {
         Ok(answers) => return tell_all(host.alloc, &crew[0], jobs, answers.as_slice(), writer),
         Err(fault) => fault,
     };

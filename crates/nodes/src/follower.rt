@@ -9,7 +9,7 @@ use crate::printing::print;
 use crate::saying::{say_slip, was_just_now};
 use dispatcher::{OpenFault, ReplicaCore};
 use queries::{Aggregate, AggregateList, ColumnList, ConditionList, Plan, PlanFault};
-use requests::{LineFault, Query, RequestFault, Skipped};
+use requests::{LineFault, Misread, Query, RequestFault, Skipped, elements_of};
 use rows::ByteList;
 use sockets::{Port, ReplicaNode, ServeFault, Turned, take_turn};
 use std::alloc::Global;
@@ -165,6 +165,7 @@ impl<S: ApplyStore + Sync, P: Port + Drop> Follower<S, P> {
             Some((query, fault)) => Err(NodeFault::Input(RequestFault::Line {
                 line: query.line,
                 why: LineFault::BadPlan(fault),
+                misread: misread_of(alloc, self.node.core(), &query.plan),
                 skipped: Skipped::Batch,
             })),
         }
@@ -245,7 +246,7 @@ impl<S: ApplyStore + Sync, P: Port + Drop> Follower<S, P> {
 
     /// Says what came while a batch waits, once a second.
     fn say_waiting<T: Wait + Clock, E: Write>(&mut self, host: Host<'_, T>, errors: &Mutex<E>) {
-        if !self.pace.says || self.told_at.is_none() || was_just_now(host, &self.told_at) {
+        if !self.pace.shows || self.told_at.is_none() || was_just_now(host, &self.told_at) {
             return;
         }
         self.told_at = Instant::now(host.rt).ok();
@@ -287,6 +288,23 @@ fn refused<'q, S: ApplyStore + Sync>(
         }
     }
     None
+}
+
+/// The word at which a plan does not fit the replica's tables; `Unknown` if out of memory.
+fn misread_of<S: ApplyStore + Sync>(
+    alloc: Global,
+    replica: &ReplicaCore<S>,
+    plan: &Plan,
+) -> Misread {
+    let Ok(elements) = elements_of(alloc, plan) else {
+        return Misread::Unknown;
+    };
+    for element in &elements {
+        if let Err(OpenFault::BadPlan(fault)) = replica.may_open(element.plan()) {
+            return element.misread(alloc, fault);
+        }
+    }
+    Misread::Unknown
 }
 
 /// A batch of one query that counts the rows of a table.

@@ -5,8 +5,10 @@ ghost use Rattle.std.specs.Prelude.{◌≡◌, [], All, IfOk};
 use crate::crew_jobs::do_all;
 use crate::faults::NodeFault;
 use crate::host::Host;
+use crate::job_progress::JobProgress;
 use crate::live::serve_live;
 use crate::pace::Pace;
+use crate::progress::Progress;
 use crate::server::Server;
 use crate::streams::Streams;
 use journal::JournalStore;
@@ -20,6 +22,9 @@ use std::io::{Read, Write};
 use std::rt::Clock;
 use std::sync::{Mutex, Wait};
 use std::thread::Threads;
+
+/// For how many jobs that are read the clock is looked at once.
+const JOBS_A_LOOK: usize = 1024;
 
 /// A primary's threads: each has a seat of its line.
 #[derive(Drop)]
@@ -99,17 +104,35 @@ impl<L: Origin, P: Port + Drop> Primary<L, P> {
         let Some(jobs) = &work.jobs else {
             return serve_live(host, line, self, work, streams);
         };
+        let Streams { writer, errors, .. } = streams;
+        self.do_jobs(host, line, work, jobs, writer, errors)?;
+        self.server.serve(host, line, &Mutex::new(errors))
+    }
+
+    /// Does jobs of before, and says meanwhile how many are done, if it is to.
+    fn do_jobs<
+        J: JournalStore + Drop + Send,
+        H: Wait + Drop + Send,
+        T: Threads + Wait + Clock + Sync,
+        W: Write,
+        E: Write + Send,
+    >(
+        &mut self,
+        host: Host<'_, T>,
+        line: &Line<L, J, H>,
+        work: &Work<'_>,
+        jobs: &[Job],
+        writer: &mut W,
+        errors: &mut E,
+    ) -> Result<(), NodeFault>
+    where
+        L: Send + Sync,
+        requires workers { work.now.setup.now.workers ≡ L.workers }
+        requires new { All (λ worker. worker.answers ≡ []) self.old.crew.items }
+    {
+        let progress = JobProgress::begin(host, work.pace.shows, jobs.len(), errors);
         let workers = work.setup.workers;
-        do_all(
-            host,
-            line,
-            &mut self.crew,
-            workers,
-            jobs,
-            &mut streams.writer,
-        )?;
-        self.server
-            .serve(host, line, &Mutex::new(&mut streams.errors))
+        do_all(host, line, &mut self.crew, workers, jobs, &progress, writer)
     }
 
     /// All its seats, to end the line with. Fails only if out of memory; the seats are then gone.
@@ -129,15 +152,18 @@ impl<L: Origin, P: Port + Drop> Primary<L, P> {
     }
 }
 
-/// All jobs of the input, in their order. Fails with `Input` at the first line that does not read, and where the input
-/// could not be read; with `Memory` if out of memory.
-pub fn read_jobs<R: Read>(
-    alloc: Global,
+/// All jobs of the input, in their order. If it is to, it says once a second how many were read. Fails with `Input` at the
+/// first line that does not read, and where the input could not be read; with `Memory` if out of memory.
+pub fn read_jobs<T: Clock, R: Read, E: Write>(
+    host: Host<'_, T>,
     setup: &Setup,
+    shows: bool,
     reader: &mut R,
+    errors: &mut E,
 ) -> Result<Vec<Job>, NodeFault> {
-    let mut requests = JobReader::new(alloc, Dialect::Jobs);
-    let mut jobs = Vec::new(alloc);
+    let mut requests = JobReader::new(host.alloc, Dialect::Jobs);
+    let mut jobs = Vec::new(host.alloc);
+    let mut progress = Progress::begin(host, shows);
     for _ in 0..u64::MAX {
         match requests.next(setup, reader) {
             Ok(
@@ -152,6 +178,7 @@ pub fn read_jobs<R: Read>(
                 if jobs.push(job).is_err() {
                     return Err(NodeFault::Memory);
                 }
+                say_read(&mut progress, jobs.len(), errors);
             }
             // There are no looks among jobs that are read before.
             Ok(Requested::Request(Request::Get { .. })) => {}
@@ -162,6 +189,14 @@ pub fn read_jobs<R: Read>(
         }
     }
     Ok(jobs)
+}
+
+/// Says how many jobs were read, once a second. It looks at the clock only once for many jobs.
+fn say_read<T: Clock, E: Write>(progress: &mut Progress<'_, T>, count: usize, errors: &mut E) {
+    if count % JOBS_A_LOOK == 0 && progress.is_due() {
+        let rate = progress.rate(count as u64);
+        let _ = writeln!(errors, "read {count} jobs, {rate} a second");
+    }
 }
 
 /// This many workers, each at a seat that was not given out before. Fails as `Primary::at` does.

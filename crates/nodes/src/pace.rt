@@ -12,4 +12,6 @@ pub struct Pace {
     pub wait: Option<Duration>,
     /// Whether it says on standard error what it does.
     pub says: bool,
+    /// Whether it says there how far long work has come.
+    pub shows: bool,
 }

@@ -7,16 +7,20 @@ use crate::follower::Follower;
 use crate::host::Host;
 use crate::saying::{say_end, say_slip};
 use crate::streams::Streams;
-use crate::threads::try_threads;
 use requests::{BatchReader, Batched, Query, RequestFault};
 use script::Setup;
-use sockets::Port;
+use sockets::{Drain, Port};
 use std::alloc::{AllocError, Global};
 use std::io::{Read, Write};
 use std::rt::Clock;
+use std::sync::atomic::{AtomicBool, Ordering};
 use std::sync::{Mutex, Wait};
-use std::thread::{Threads, join};
+use std::thread::{Builder, Threads, scope, scope_env};
+use std::time::Duration;
 use store::ApplyStore;
+
+/// How long it is from one look of a drain to the next, in milliseconds.
+const DRAIN_MILLIS: u64 = 2;
 
 /// All batches of the input, in their order. Fails with `Input` at the first line that does not read, and where the input
 /// could not be read; with `Memory` if out of memory.
@@ -44,8 +48,48 @@ pub fn read_batches<R: Read>(
 }
 
 impl<S: ApplyStore + Sync, P: Port + Drop> Follower<S, P> {
+    /// Answers these batches, or, live, those of the input, and then ends. A thread beside it has the drain of its port
+    /// look every 2 ms; if there is none, or the system makes no thread for it, what its socket cannot hold while the node is
+    /// at work is lost, and is asked for again.
+    ///
+    /// Fails as `Follower::follow` does, and live also with `Threads`, `Input` and `Slipped`.
+    pub fn serve<T: Threads + Wait + Clock + Sync, R: Read + Send, W: Write, E: Write + Send>(
+        &mut self,
+        host: Host<'_, T>,
+        setup: &Setup,
+        drain: Option<Drain>,
+        batches: Option<Vec<Vec<Query>>>,
+        streams: &mut Streams<R, W, E>,
+    ) -> Result<(), NodeFault> {
+        match drain {
+            // (a clause that asks for nothing, with which the proof has at hand what may be sent to a thread)
+            Some(drain) => while_draining(
+                host,
+                drain,
+                ||
+                    requires { Unit {0} }
+                { self.answer_either(host, setup, batches, streams) },
+            ),
+            None => self.answer_either(host, setup, batches, streams),
+        }
+    }
+
+    /// Answers these batches, or, live, those of the input.
+    fn answer_either<T: Threads + Wait + Clock + Sync, R: Read + Send, W: Write, E: Write + Send>(
+        &mut self,
+        host: Host<'_, T>,
+        setup: &Setup,
+        batches: Option<Vec<Vec<Query>>>,
+        streams: &mut Streams<R, W, E>,
+    ) -> Result<(), NodeFault> {
+        match batches {
+            Some(batches) => self.answer(host, batches, streams),
+            None => self.answer_live(host, setup, streams),
+        }
+    }
+
     /// Answers these batches, and then ends. Fails as `Follower::follow` does.
-    pub fn answer<T: Threads + Wait + Clock + Sync, R, W: Write, E: Write>(
+    fn answer<T: Threads + Wait + Clock + Sync, R, W: Write, E: Write>(
         &mut self,
         host: Host<'_, T>,
         all: Vec<Vec<Query>>,
@@ -67,7 +111,7 @@ impl<S: ApplyStore + Sync, P: Port + Drop> Follower<S, P> {
     ///
     /// Fails with `Threads` if the system makes too few threads, and otherwise as `Follower::follow` does; with `Input` if
     /// the input cannot be read, and with `Slipped` if all went well but for lines that did not read.
-    pub fn answer_live<T: Threads + Wait + Clock + Sync, R: Read + Send, W: Write, E: Write + Send>(
+    fn answer_live<T: Threads + Wait + Clock + Sync, R: Read + Send, W: Write, E: Write + Send>(
         &mut self,
         host: Host<'_, T>,
         setup: &Setup,
@@ -84,41 +128,28 @@ impl<S: ApplyStore + Sync, P: Port + Drop> Follower<S, P> {
         let live = LiveReplica {
             batches,
             ending: Ending::of(0),
+            reader: Mutex::new(reader),
             errors: Mutex::new(errors),
             says: self.says(),
         };
-        if try_threads(host, 1).is_err() {
-            return Err(NodeFault::Threads);
-        }
-        self.run_threads(host, setup, reader, writer, &live);
+        // (the same clause)
+        while_reading(
+            host,
+            setup,
+            &live,
+            ||
+                requires { Unit {0} }
+            { self.answer_all(host, writer, &live) },
+        );
         live.ending.into_result()
     }
 
-    /// Takes what comes from the input in a thread of its own, and answers it meanwhile.
-    fn run_threads<T: Threads + Wait + Clock + Sync, R: Read + Send, W: Write, E: Write + Send>(
-        &mut self,
-        host: Host<'_, T>,
-        setup: &Setup,
-        reader: &mut R,
-        writer: &mut W,
-        live: &LiveReplica<E>,
-    ) {
-        // This clause asks for nothing; with one, the proof has at hand what may be sent to a thread.
-        join(
-            host.rt,
-            || read_on(host, setup, reader, live),
-            ||
-                requires { Unit {0} }
-            { self.answer_all(host, writer, live) },
-        );
-    }
-
     /// Answers what comes, until no more does.
-    fn answer_all<T: Threads + Wait + Clock + Sync, W: Write, E: Write>(
+    fn answer_all<T: Threads + Wait + Clock + Sync, R, W: Write, E: Write>(
         &mut self,
         host: Host<'_, T>,
         writer: &mut W,
-        live: &LiveReplica<E>,
+        live: &LiveReplica<R, E>,
     ) {
         let followed = self.follow(host, &live.batches, &live.ending, writer, &live.errors);
         if let Err(fault) = followed {
@@ -142,23 +173,81 @@ fn put_all<T: Wait>(host: Host<'_, T>, all: Vec<Vec<Query>>) -> Result<Batches, 
     Ok(batches)
 }
 
+/// Does work while another thread has a drain look, if the system makes one.
+fn while_draining<T: Threads + Wait + Clock + Sync, A, F: FnOnce() -> A>(
+    host: Host<'_, T>,
+    drain: Drain,
+    work: F,
+) -> A
+    requires { F.pre work }
+{
+    let is_over = AtomicBool::new(false);
+    let over = &is_over;
+    scope(
+        scope_env(),
+        host.rt,
+        move |scope| -> A
+            requires { F.pre work }
+        {
+            let _ = Builder::new().spawn_scoped(scope, move || drain_until(host, drain, over));
+            let done = work();
+            over.store(true, Ordering::SeqCst);
+            done
+        },
+    )
+}
+
+/// Has a drain look until it is over.
+fn drain_until<T: Wait + Clock>(host: Host<'_, T>, drain: Drain, over: &AtomicBool) {
+    let mut drain = drain;
+    for _ in host.rt.forever() {
+        if over.load(Ordering::SeqCst) {
+            return;
+        }
+        drain.look();
+        host.rt.sleep(Duration::from_millis(DRAIN_MILLIS));
+    }
+}
+
+/// Does work while another thread takes what comes from the input. If the system makes no thread it does neither: one after
+/// the other, nothing would be answered before the input ends.
+fn while_reading<T: Threads + Wait + Clock + Sync, R: Read + Send, E: Write + Send, F: FnOnce()>(
+    host: Host<'_, T>,
+    setup: &Setup,
+    live: &LiveReplica<R, E>,
+    work: F,
+)
+    requires { F.pre work }
+{
+    scope(
+        scope_env(),
+        host.rt,
+        move |scope|
+            requires { F.pre work }
+        {
+            match Builder::new().spawn_scoped(scope, move || read_on(host, setup, live)) {
+                Ok(_) => work(),
+                Err(_) => live.ending.note(host.rt, NodeFault::Threads),
+            }
+        },
+    )
+}
+
 /// What the threads of a live replica share.
 #[derive(Drop)]
-struct LiveReplica<E> {
+struct LiveReplica<R, E> {
     batches: Batches,
     ending: Ending,
+    /// One thread alone reads. The lock is what lets it have the reader.
+    reader: Mutex<R>,
     errors: Mutex<E>,
     says: bool,
 }
 
 /// Takes what comes from the input, until it ends or the node is to.
-fn read_on<T: Wait, R: Read, E: Write>(
-    host: Host<'_, T>,
-    setup: &Setup,
-    reader: &mut R,
-    live: &LiveReplica<E>,
-) {
-    if let Err(fault) = take_batches(host, setup, reader, live) {
+fn read_on<T: Wait, R: Read, E: Write>(host: Host<'_, T>, setup: &Setup, live: &LiveReplica<R, E>) {
+    let mut reader = live.reader.lock(host.rt);
+    if let Err(fault) = take_batches(host, setup, &mut *reader, live) {
         live.ending.note(host.rt, fault);
     }
     live.batches.end(host.rt);
@@ -169,7 +258,7 @@ fn take_batches<T: Wait, R: Read, E: Write>(
     host: Host<'_, T>,
     setup: &Setup,
     reader: &mut R,
-    live: &LiveReplica<E>,
+    live: &LiveReplica<R, E>,
 ) -> Result<(), NodeFault> {
     let mut input = BatchReader::new(host.alloc);
     for _ in host.rt.forever() {
@@ -196,10 +285,10 @@ fn take_batches<T: Wait, R: Read, E: Write>(
 }
 
 /// Tells of a line that does not read, whose batch is passed over. Fails if the reader cannot go on behind it.
-fn pass_over<T: Wait, E: Write>(
+fn pass_over<T: Wait, R, E: Write>(
     host: Host<'_, T>,
     fault: RequestFault,
-    live: &LiveReplica<E>,
+    live: &LiveReplica<R, E>,
 ) -> Result<(), NodeFault> {
     if !matches!(fault, RequestFault::Line { .. }) {
         return Err(NodeFault::Input(fault));

@@ -4,7 +4,8 @@ ghost use Rattle.std.specs.Prelude.{◌≤◌, vec_len};
 ghost use Rattle.requests.specs.Limits.{batch_queries_max};
 
 use crate::faults::{LineFault, RequestFault, Skipped};
-use crate::query_line::read_query_line;
+use crate::misread::Misread;
+use crate::query_line::{misread_query_line, read_query_line};
 use queries::Plan;
 use script::Setup;
 use std::alloc::Global;
@@ -67,7 +68,7 @@ impl BatchAssembly {
                 Ok(()) => Ok(None),
                 Err(fault) => Err(fault),
             },
-            Ok(Err(why)) => Err(self.fault(why)),
+            Ok(Err(why)) => Err(self.fault(why, misread_query_line(alloc, setup, line))),
             Err(_) => Err(self.out_of_memory()),
         }
     }
@@ -78,7 +79,7 @@ impl BatchAssembly {
         if self.is_skipped {
             return Ok(());
         }
-        Err(self.fault(LineFault::TooLong))
+        Err(self.fault(LineFault::TooLong, Misread::Unknown))
     }
 
     /// Takes in an empty line or the end of the input, and gives the batch that has begun, if it has a query.
@@ -95,7 +96,7 @@ impl BatchAssembly {
     /// Adds the query of the newest line to the batch.
     fn add(&mut self, plan: Plan) -> Result<(), RequestFault> {
         if self.queries.len() >= BATCH_QUERIES_MAX {
-            return Err(self.fault(LineFault::TooManyQueries));
+            return Err(self.fault(LineFault::TooManyQueries, Misread::Unknown));
         }
         let query = Query {
             line: self.count,
@@ -108,11 +109,12 @@ impl BatchAssembly {
     }
 
     /// The fault of the newest line, whose batch is skipped.
-    fn fault(&mut self, why: LineFault) -> RequestFault {
+    fn fault(&mut self, why: LineFault, misread: Misread) -> RequestFault {
         self.skip();
         RequestFault::Line {
             line: self.count,
             why,
+            misread,
             skipped: Skipped::Batch,
         }
     }

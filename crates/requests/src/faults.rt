@@ -1,5 +1,6 @@
 //! Why a line does not read.
 
+use crate::misread::Misread;
 use queries::PlanFault;
 use script::Reason;
 use std::io;
@@ -68,10 +69,11 @@ pub enum Skipped {
 #[derive(Debug, Drop, Error)]
 pub enum RequestFault {
     /// A line does not read, counted from 1 over all lines of the input.
-    #[error("line {line}: {why}")]
+    #[error("line {line}: {why}{misread}")]
     Line {
         line: u64,
         why: LineFault,
+        misread: Misread,
         skipped: Skipped,
     },
     /// The reader failed, as it says.

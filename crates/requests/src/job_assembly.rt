@@ -10,7 +10,10 @@ ghost use Rattle.requests.specs.Dialects.{has_step};
 use crate::dialect::Dialect;
 use crate::faults::{LineFault, RequestFault, Skipped};
 use crate::job_line::{JobLine, begins_job, read_job_line};
+use crate::job_words::{misplaced, misread_job_line};
+use crate::misread::Misread;
 use crate::request::Request;
+use crate::word_fault::WordFault;
 use script::Setup;
 use sockets::{Job, Step};
 use std::alloc::Global;
@@ -91,20 +94,23 @@ impl JobAssembly {
         }
         match read_job_line(alloc, setup, self.dialect, line) {
             Ok(Ok(said)) => self.take_said(alloc, setup, line, said),
-            Ok(Err(reason)) => Err(self.fault(line, LineFault::of_reason(reason))),
-            Err(_) => Err(self.out_of_memory(line)),
+            Ok(Err(reason)) => {
+                let misread = misread_job_line(alloc, setup.workers, self.dialect, line, reason);
+                Err(self.fault(alloc, line, LineFault::of_reason(reason), misread))
+            }
+            Err(_) => Err(self.out_of_memory(alloc, line)),
         }
     }
 
     /// Takes in the next line, of which only the front is known, since it is too long.
-    pub fn take_too_long(&mut self, front: &[u8]) -> Result<(), RequestFault>
+    pub fn take_too_long(&mut self, alloc: Global, front: &[u8]) -> Result<(), RequestFault>
         ensures { dialect_of self.new ≡ dialect_of self.old }
     {
         self.count = self.count.saturating_add(1);
         if self.still_skips(front) {
             return Ok(());
         }
-        Err(self.fault(front, LineFault::TooLong))
+        Err(self.fault(alloc, front, LineFault::TooLong, Misread::Unknown))
     }
 
     /// Takes in the end of the input. Fails inside a job.
@@ -117,6 +123,7 @@ impl JobAssembly {
             return Err(RequestFault::Line {
                 line: self.count.saturating_add(1),
                 why: LineFault::NoEnd,
+                misread: Misread::Unknown,
                 skipped: Skipped::Job,
             });
         }
@@ -158,7 +165,7 @@ impl JobAssembly {
             }
             (JobLine::Job(worker), JobState::Inside) => {
                 self.begin(worker);
-                Err(self.broken_off())
+                Err(self.broken_off(alloc))
             }
             (JobLine::Step(step), JobState::Inside) => match self.add(step) {
                 Ok(()) => Ok(None),
@@ -174,7 +181,18 @@ impl JobAssembly {
                 column,
                 line: self.count,
             })),
-            (_, _) => Err(self.fault(line, LineFault::WrongPlace)),
+            (_, _) => {
+                let misread = misplaced(alloc, line, self.place());
+                Err(self.fault(alloc, line, LineFault::WrongPlace, misread))
+            }
+        }
+    }
+
+    /// Where the newest line stands, which is the wrong place.
+    fn place(&self) -> WordFault {
+        match self.state {
+            JobState::Inside => WordFault::Inside,
+            JobState::Outside | JobState::Skipped => WordFault::Outside,
         }
     }
 
@@ -215,6 +233,7 @@ impl JobAssembly {
             return Err(RequestFault::Line {
                 line: self.first_line,
                 why: LineFault::BadWords,
+                misread: Misread::Unknown,
                 skipped: Skipped::Job,
             });
         }
@@ -232,7 +251,13 @@ impl JobAssembly {
 
     /// The fault of the newest line, which begins with these bytes, and what is skipped with it; or first that
     /// of the job that this line breaks off.
-    fn fault(&mut self, line: &[u8], why: LineFault) -> RequestFault
+    fn fault(
+        &mut self,
+        alloc: Global,
+        line: &[u8],
+        why: LineFault,
+        misread: Misread,
+    ) -> RequestFault
         ensures { dialect_of self.new ≡ dialect_of self.old }
     {
         let skipped = if self.state == JobState::Inside || begins_job(line) {
@@ -243,28 +268,29 @@ impl JobAssembly {
         let own = RequestFault::Line {
             line: self.count,
             why,
+            misread,
             skipped,
         };
-        self.skip(line, own)
+        self.skip(alloc, line, own)
     }
 
     /// The fault of the newest line if memory was refused for it, in the same way.
-    fn out_of_memory(&mut self, line: &[u8]) -> RequestFault
+    fn out_of_memory(&mut self, alloc: Global, line: &[u8]) -> RequestFault
         ensures { dialect_of self.new ≡ dialect_of self.old }
     {
-        self.skip(line, RequestFault::Memory)
+        self.skip(alloc, line, RequestFault::Memory)
     }
 
     /// Skips a line that begins with these bytes, and with it the job that it is in or begins. The fault to
     /// report: this one of its own, or that of the job that it breaks off, and then its own is owed.
-    fn skip(&mut self, line: &[u8], own: RequestFault) -> RequestFault
+    fn skip(&mut self, alloc: Global, line: &[u8], own: RequestFault) -> RequestFault
         ensures { dialect_of self.new ≡ dialect_of self.old }
     {
         match (self.state, begins_job(line)) {
             (JobState::Inside, true) => {
                 self.state = JobState::Skipped;
                 self.owed = Some(own);
-                self.broken_off()
+                self.broken_off(alloc)
             }
             (JobState::Inside, false) | (_, true) => {
                 self.state = JobState::Skipped;
@@ -275,10 +301,11 @@ impl JobAssembly {
     }
 
     /// The fault of a job that the newest line breaks off, since it begins the next one.
-    fn broken_off(&self) -> RequestFault {
+    fn broken_off(&self, alloc: Global) -> RequestFault {
         RequestFault::Line {
             line: self.count,
             why: LineFault::WrongPlace,
+            misread: misplaced(alloc, b"job", WordFault::NoEnd),
             skipped: Skipped::Job,
         }
     }

@@ -104,7 +104,7 @@ pub fn begins_job(line: &[u8]) -> bool
 }
 
 /// The first word of a line, and what comes after it.
-fn first_word(line: &[u8]) -> (&[u8], &[u8])
+pub fn first_word(line: &[u8]) -> (&[u8], &[u8])
     ensures first { result.0.now ≡ first_word line.now }
     ensures rest { result.1.now ≡ drop (length (first_word line.now)) line.now }
 {

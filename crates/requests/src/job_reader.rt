@@ -72,7 +72,7 @@ impl JobReader {
                     };
                 }
                 Err(InputFault::TooLong(front)) => {
-                    match self.assembly.take_too_long(front.as_slice()) {
+                    match self.assembly.take_too_long(self.alloc, front.as_slice()) {
                         Ok(()) => {}
                         Err(fault) => return Err(fault),
                     }

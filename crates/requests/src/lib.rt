@@ -6,6 +6,10 @@
 //! texts of a `LineFault` are those that docs/FORMATS.md lists. The crate knows nothing of the program
 //! that prints them.
 //!
+//! A line that does not read is looked at once more, for the word at which it does not: its `Misread`. This
+//! look decides nothing: if it finds no such word, or memory is refused for it, the fault has none.
+//! `misread_settings` is the same for a schema file, and `shown` shows a word in any line of a fault.
+//!
 //! A reader continues after a fault. A fault in a job skips the rest of this job, one in a batch the
 //! rest of that batch, and any other the line alone. A line whose first word is `job` always begins the
 //! next job, so each such line is one job, and each job that is lost has one fault.
@@ -28,10 +32,18 @@ mod faults;
 mod job_assembly;
 mod job_line;
 mod job_reader;
+mod job_words;
+mod line_words;
 mod lines;
+mod misread;
+mod plan_elements;
+mod plan_words;
 mod query_line;
 mod request;
+mod setting_words;
+mod shown_words;
 mod word;
+mod word_fault;
 
 pub use batch_assembly::{BATCH_QUERIES_MAX, Query};
 pub use batch_reader::{BatchReader, Batched};
@@ -40,5 +52,10 @@ pub use faults::{LineFault, RequestFault, Skipped};
 pub use job_line::{JobLine, read_job_line};
 pub use job_reader::JobReader;
 pub use lines::{Input, InputFault, LINE_LEN_MAX, Lines};
+pub use misread::Misread;
+pub use plan_elements::{PlanElement, elements_of};
 pub use query_line::read_query_line;
 pub use request::{Request, Requested};
+pub use setting_words::misread_settings;
+pub use shown_words::shown;
+pub use word_fault::WordFault;

@@ -6,6 +6,9 @@ ghost use Rattle.queries.specs.Checking.{checked};
 ghost use Rattle.requests.specs.QueryLines.{IsQueryLine, allowed};
 
 use crate::faults::LineFault;
+use crate::misread::Misread;
+use crate::plan_elements::misread_unfit;
+use crate::plan_words::misread_plan;
 use queries::{Plan, PlanFault};
 use rows::Schema;
 use script::{Setup, read_plan};
@@ -33,5 +36,14 @@ fn allowed(schema: &Schema, plan: Plan) -> Result<Plan, LineFault>
     match plan.check(schema) {
         Ok(()) | Err(PlanFault::NoColumn) => Ok(plan),
         Err(fault) => Err(LineFault::BadPlan(fault)),
+    }
+}
+
+/// The word at which a line of batches does not read; `Unknown` if it does or if out of memory.
+pub fn misread_query_line(alloc: Global, setup: &Setup, line: &[u8]) -> Misread {
+    match read_plan(alloc, line, setup) {
+        Ok(Some(plan)) => misread_unfit(alloc, &setup.schema, &plan),
+        Ok(None) => misread_plan(alloc, &setup.schema, line),
+        Err(_) => Misread::Unknown,
     }
 }

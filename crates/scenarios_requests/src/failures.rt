@@ -3,7 +3,7 @@
 use crate::pieces::Pieces;
 use crate::readers::setup;
 use queries::PlanFault;
-use requests::{Dialect, JobReader, LineFault, Request, RequestFault, Requested, Skipped};
+use requests::{Dialect, JobReader, LineFault, Misread, Request, RequestFault, Requested, Skipped};
 use script::Setup;
 use std::alloc::Global;
 use std::io::{self, ErrorKind, Read};
@@ -182,6 +182,7 @@ fn first_wrong(alloc: Global) -> Result<Option<usize>, Fail> {
         let fault = RequestFault::Line {
             line: 7,
             why: *why,
+            misread: Misread::Unknown,
             skipped: Skipped::Line,
         };
         if format!(in alloc; "{fault}")?.as_str() != *text {

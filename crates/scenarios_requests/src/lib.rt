@@ -1,5 +1,5 @@
 //! Scenarios of `requests`, by its public calls: jobs and batches of lines, however the lines arrive,
-//! and what comes after a line that does not read.
+//! what comes after a line that does not read, and at which word it does not.
 #![tactic(auto)]
 
 #[cfg(test)]
@@ -10,6 +10,10 @@ mod failures;
 mod jobs;
 #[cfg(test)]
 mod long_lines;
+#[cfg(test)]
+mod misread_lines;
+#[cfg(test)]
+mod misread_schemas;
 #[cfg(test)]
 mod pauses;
 #[cfg(test)]

@@ -63,16 +63,22 @@ fn write_query(text: &mut String, line: u64, plan: &Plan) -> Result<(), AllocErr
     write!(text, " {line}:{}", plan.table)
 }
 
-/// A fault, and what is skipped with the line.
+/// A fault, and what is skipped with the line. At which word it does not read is left out (`misread_lines.rt`).
 fn write_fault(text: &mut String, fault: &RequestFault) -> Result<(), AllocError> {
-    write!(text, "{fault}")?;
-    text.push_str(match fault {
-        RequestFault::Line { skipped, .. } => match skipped {
-            Skipped::Line => " (line)\n",
-            Skipped::Job => " (job)\n",
-            Skipped::Batch => " (batch)\n",
-        },
-        _ => "\n",
+    let RequestFault::Line {
+        line,
+        why,
+        skipped,
+        ..
+    } = fault
+    else {
+        return write!(text, "{fault}\n");
+    };
+    write!(text, "line {line}: {why}")?;
+    text.push_str(match skipped {
+        Skipped::Line => " (line)\n",
+        Skipped::Job => " (job)\n",
+        Skipped::Batch => " (batch)\n",
     })
 }
 

@@ -1,9 +1,11 @@
 //! Scenarios of `sockets`, by its public calls: ports that fail at each call in turn, datagrams that no node
-//! sends, and what single turns come to.
+//! sends, what a drain takes, and what single turns come to.
 #![tactic(auto)]
 
 #[cfg(test)]
 mod cores;
+#[cfg(test)]
+mod drains;
 #[cfg(test)]
 mod failing_ports;
 #[cfg(test)]

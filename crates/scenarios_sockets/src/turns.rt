@@ -110,12 +110,26 @@ fn kinds_of(alloc: Global, port: &MemPort) -> Option<Vec<(u8, u8, u8)>> {
     Some(kinds)
 }
 
-/// What a node sends that lacks all frames of its Head: the first turn is silent, and so is the second one after the
-/// Head has come.
-fn sent_for_23<R: Threads + Sync>(rt: &R, alloc: Global) -> Option<Vec<(u8, u8, u8)>> {
+/// A frame of worker 0 with seq 5.
+fn sixth_frame() -> [u8; 54] {
+    let mut frame = FRAME;
+    frame[14] = 5;
+    frame
+}
+
+/// What a node sends that lacks all frames of its Head, or all but one that comes right before it: the first turn is
+/// silent, and so is the second one after the Head has come.
+fn sent_for_23<R: Threads + Sync>(
+    rt: &R,
+    alloc: Global,
+    has_sixth: bool,
+) -> Option<Vec<(u8, u8, u8)>> {
     let mut node = ReplicaNode::new(alloc, replica_of(alloc, 0)?, MemPort::new(alloc));
     offer(alloc, &mut node)?;
     let first = name_of(rt, &mut node);
+    if has_sixth {
+        deliver(alloc, node.port_mut(), &sixth_frame())?;
+    }
     deliver(alloc, node.port_mut(), &HEAD_OF_23)?;
     let second = name_of(rt, &mut node);
     let third = name_of(rt, &mut node);
@@ -125,11 +139,29 @@ fn sent_for_23<R: Threads + Sync>(rt: &R, alloc: Global) -> Option<Vec<(u8, u8, 
     kinds_of(alloc, node.port())
 }
 
-/// After a Head one Want is sent, since frames may be on their way; once nothing comes, one for each gap: the 16
-/// frames of worker 0 from 0 on, its 4 from 16 on, and those of worker 1.
+/// After a Head no frame is wanted at first, since all may be on their way; once nothing comes, there is a Want for
+/// each gap: the 16 frames of worker 0 from 0 on, its 4 from 16 on, and those of worker 1.
 #[test]
 fn several_gaps_are_asked_for_at_once(rt: HostRuntime) -> Result<(), Fail> {
-    let sent = sent_for_23(&rt, rt.alloc()).ok_or("sent")?;
+    let sent = sent_for_23(&rt, rt.alloc(), false).ok_or("sent")?;
+    assert_eq!(rt;
+        sent.as_slice(),
+        [
+            (ASKS, 0, 0),
+            (ASKS, 0, 0),
+            (WANTS, 0, 0),
+            (WANTS, 0, 16),
+            (WANTS, 1, 0),
+        ]
+        .as_slice()
+    );
+    Ok(())
+}
+
+/// Frames behind which another has come are wanted right after the Head; and again with the others, once nothing comes.
+#[test]
+fn frames_that_were_passed_are_asked_for_at_once(rt: HostRuntime) -> Result<(), Fail> {
+    let sent = sent_for_23(&rt, rt.alloc(), true).ok_or("sent")?;
     assert_eq!(rt;
         sent.as_slice(),
         [

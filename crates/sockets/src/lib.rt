@@ -2,13 +2,14 @@
 //!
 //! A `Port` receives and sends datagrams: a `MemPort` in memory, which can be made to fail at one
 //! of its calls, or a `UdpPort`, a UDP socket with the addresses of the primary and of the
-//! replicas. A `PrimaryNode` pushes a line's durable frames to all replicas and answers their Asks
-//! and Wants. A `ReplicaNode` asks the primary for the newest durable version, receives frames, asks
+//! replicas. From the latter a `Drain` in another thread takes what comes while its node is at
+//! work. A `PrimaryNode` pushes a line's durable frames to all replicas and answers their Asks and
+//! Wants. A `ReplicaNode` asks the primary for the newest durable version, receives frames, asks
 //! for missing ones, and gives each batch's report. Both give out single turns, each of which
-//! continues where the last one stopped, and count what goes through their port. `serve_primary` and
-//! `serve_replica` are loops over these turns, the latter with queries from a queue. A `Job` is a set
-//! of changes that are committed together, and the worker that does it: `do_job` does one at a seat
-//! of a line, `run_crew` lets many workers do their jobs, each in a thread of its own, and
+//! continues where the last one stopped, and count what goes through their port. `serve_primary`
+//! and `serve_replica` are loops over these turns, the latter with queries from a queue. A `Job` is
+//! a set of changes that are committed together, and the worker that does it: `do_job` does one at
+//! a seat of a line, `run_crew` lets many workers do their jobs, each in a thread of its own, and
 //! `run_workers` is its short form. A `Gate` is notified before and after each commit.
 //!
 //! Promised, for every port: what a node does is a list of acts, each one call of its core, which
@@ -26,7 +27,7 @@
 //! one. Not promised: that a datagram arrives or is sent, that a call that waits returns, that
 //! workers run at once, or anything about a socket.
 //!
-//! It uses `shared`, `dispatcher` and `queue`, and `mio` for sockets. The definitions to review for
+//! It uses `shared`, `dispatcher` and `queue`, `mio` for sockets, and `rtrb` for what a drain takes. The definitions to review for
 //! nodes are `specs/Ports.antt`, `State`, `Carrying`, `Traffic`, `Asking`, `Serving`, `Replicas`,
 //! `Primaries` and `Feeding`, and for workers `Changes`, `Answers`, `Work` and `Crews`. If a call
 //! fails for lack of memory, its value is unchanged unless the call says otherwise.
@@ -37,6 +38,7 @@ mod change;
 mod crew;
 mod doing;
 mod drafting;
+mod drain;
 mod ending;
 mod faults;
 mod gate;
@@ -65,6 +67,7 @@ pub use change::Change;
 pub use crew::{run_crew, run_workers};
 pub use doing::do_job;
 pub use drafting::{TRIES_AGAIN, begun, looked};
+pub use drain::Drain;
 pub use faults::{PortFault, ServeFault, WorkersFault};
 pub use gate::{Gate, OpenGate};
 pub use job::{Job, are_of_workers};

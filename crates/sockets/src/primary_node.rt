@@ -31,10 +31,9 @@ const TURN_PUSHES: usize = 1024;
 /// How many frames of one worker are pushed in a turn, at most.
 const WORKER_PUSHES: usize = 256;
 
-/// How many frames of one worker are pushed in a row, at most, before the next worker's are. A replica that
-/// misses several workers' frames asks for one worker's, waits for the 16th of these, and by then has
-/// the others' as well.
-const ROW_PUSHES: usize = 4;
+/// How many frames of one worker are pushed in a row, at most, before the next worker's are. A row takes the
+/// line's lock once, for which it waits as long as each worker that commits.
+const ROW_PUSHES: usize = 64;
 
 /// How many datagrams are received in a turn, at most.
 const TURN_DATAGRAMS: usize = 4 * ROUND_DATAGRAMS;

@@ -330,14 +330,6 @@ impl<S: ApplyStore + Sync, P: Port> ReplicaNode<S, P> {
         Ok(true)
     }
 
-    /// How many frames are missing at the newest Head, at the least, if the replica was new when the node was made.
-    fn missing(&self) -> u64 {
-        match self.expected {
-            Some(expected) => expected.saturating_sub(self.traffic.stored),
-            None => 0,
-        }
-    }
-
     /// Receives one datagram.
     fn hear(&mut self, patience: Patience) -> Result<Heard, ServeFault>
         ensures does { DoesReplica P.is_honest P.came P.sent P.fault_count self.old self.new (failures result) [] [] 0 }
@@ -350,8 +342,7 @@ impl<S: ApplyStore + Sync, P: Port> ReplicaNode<S, P> {
             Ok(Some(len)) => {
                 let bytes = &self.buffer[..len];
                 let got = take(&mut self.core, &mut self.traffic, &mut self.expected, bytes);
-                let missing = self.missing();
-                self.under_way.note(&self.buffer[..len], got, missing);
+                self.under_way.note(&self.buffer[..len], got);
                 outcome_of(got)
             }
             Ok(None) => Ok(Heard::Nothing),

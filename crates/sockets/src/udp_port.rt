@@ -4,6 +4,7 @@ ghost use Rattle.std.specs.Prelude.{◌≡◌, ◌<◌, ◌+◌, length, is_some
 ghost use Rattle.journal.specs.Storing.{faults_max};
 ghost use Rattle.sockets.specs.Ports.{IsWithin};
 
+use crate::drain::{Backlog, Drain, drain_of};
 use crate::faults::PortFault;
 use crate::port::{Patience, Port};
 use mio::net::UdpSocket;
@@ -11,7 +12,8 @@ use mio::{Events, Interest, Poll, Token};
 use std::alloc::Global;
 use std::io::{self, ErrorKind};
 use std::marker::Model;
-use std::net::{Net, SocketAddr};
+use std::net::{self, Net, SocketAddr};
+use std::os::fd::AsFd;
 use std::time::Duration;
 use wire::{Out, To};
 
@@ -32,6 +34,8 @@ pub struct UdpPort {
     events: Events,
     primary: Option<SocketAddr>,
     replicas: Vec<SocketAddr>,
+    /// What its drain has taken, if it has one.
+    backlog: Option<Backlog>,
     faults: u64,
     /// The newest fault, in the system's words.
     last_fault: Option<io::Error>,
@@ -75,6 +79,7 @@ impl UdpPort {
             events,
             primary,
             replicas,
+            backlog: None,
             faults: 0,
             last_fault: None,
         })
@@ -93,6 +98,20 @@ impl UdpPort {
         self.replicas = replicas;
     }
 
+    /// A drain for this port's socket, which another thread has look every few milliseconds: what it has taken is received
+    /// first, also once it is dropped. It has the place of the one before; what that took and was not received is lost.
+    ///
+    /// Fails if the system refuses another descriptor of the socket, or if out of memory; the port then keeps the drain
+    /// that it had.
+    pub fn drain(&mut self, alloc: Global) -> io::Result<Drain>
+        ensures { self.new ≡ self.old }
+    {
+        let socket = self.socket.as_fd().try_clone_to_owned()?;
+        let (drain, backlog) = drain_of(alloc, net::UdpSocket::from(socket))?;
+        self.backlog = Some(backlog);
+        Ok(drain)
+    }
+
     /// Why the newest failed call failed, in the system's words; `None` exactly while none has
     /// failed. Takes no memory.
     pub fn last_fault(&self) -> Option<io::Error>
@@ -108,6 +127,27 @@ impl UdpPort {
     {
         self.faults += 1;
         self.last_fault = Some(error);
+    }
+
+    /// Takes a datagram of the backlog, or one of the socket, for which it may wait.
+    fn receive(&mut self, buffer: &mut [u8], patience: Patience) -> io::Result<Option<usize>>
+        ensures port { self.new ≡ self.old }
+        ensures within { IfOk result (IsWithin (length buffer.new)) }
+    {
+        let UdpPort {
+            socket,
+            poll,
+            events,
+            backlog,
+            ..
+        } = self;
+        let Some(backlog) = backlog else {
+            return take_or_wait(socket, poll, events, buffer, patience);
+        };
+        backlog.note_receive();
+        let taken = take_held_or_wait(backlog, socket, poll, events, buffer, patience);
+        backlog.note_receive();
+        taken
     }
 
     /// Sends bytes to each address that a datagram is for; to none if none is known. A failure at
@@ -185,6 +225,28 @@ fn take_or_wait(
     take(socket, buffer)
 }
 
+/// Takes a datagram of the backlog, or one of the socket, for which it may wait.
+fn take_held_or_wait(
+    backlog: &mut Backlog,
+    socket: &UdpSocket,
+    poll: &mut Poll,
+    events: &mut Events,
+    buffer: &mut [u8],
+    patience: Patience,
+) -> io::Result<Option<usize>>
+    ensures { IfOk result (IsWithin (length buffer.new)) }
+{
+    let len = backlog.take(buffer);
+    if len.is_some() {
+        return Ok(len);
+    }
+    if backlog.has_run_out() {
+        // A wait would end at once, notified of what the drain took.
+        poll.poll(events, Some(Duration::from_millis(0)))?;
+    }
+    take_or_wait(socket, poll, events, buffer, patience)
+}
+
 impl Port for UdpPort {
     ghost use Rattle.std.specs.Prelude.{[], false};
 
@@ -196,15 +258,9 @@ impl Port for UdpPort {
 
     ghost is_honest = { false };
 
-    /// Receives a datagram from any address.
+    /// Receives a datagram from any address; first those that its drain has taken.
     fn recv(&mut self, buffer: &mut [u8], patience: Patience) -> Result<Option<usize>, PortFault> {
-        match take_or_wait(
-            &self.socket,
-            &mut self.poll,
-            &mut self.events,
-            buffer,
-            patience,
-        ) {
+        match self.receive(buffer, patience) {
             Ok(len) => Ok(len),
             Err(error) => {
                 self.count(error);

@@ -18,9 +18,6 @@ const LATE_LEAST: u64 = 8;
 
 const LATE_MOST: u64 = 256;
 
-/// How many frames that are missing at a Head may be on their way, since they were pushed: more were not.
-const PUSHED_MOST: u64 = 64;
-
 /// Where a frame's worker stands in its bytes, where its seq does, and how many bytes there are up to its end.
 const WORKER_AT: usize = 6;
 
@@ -74,8 +71,9 @@ pub struct UnderWay {
     /// For each worker the seq behind the greatest one of its frames that came. A frame below it that is missing is
     /// lost, or late; one above it may have been pushed and be on its way.
     seen: [u64; WORKERS_MAX as usize],
-    /// Until so many datagrams have come one Want alone may be under way for frames that may be on their way.
-    one_until: u64,
+    /// For each worker until how many datagrams have come the frames above `seen` are awaited without a Want. Each
+    /// frame that comes meanwhile shows that they are pushed, and puts this off.
+    pushed_until: [u64; WORKERS_MAX as usize],
     /// How many datagrams had come when it was looked last where frames are missing.
     looked_at: Option<u64>,
 }
@@ -91,16 +89,16 @@ impl UnderWay {
             window: WANTS_LEAST,
             answered: 0,
             seen: [0; WORKERS_MAX as usize],
-            one_until: 0,
+            pushed_until: [0; WORKERS_MAX as usize],
             looked_at: None,
         }
     }
 
-    /// Notes that these bytes came, which the replica answered so, and that it misses so many frames, at the least.
-    pub fn note(&mut self, bytes: &[u8], got: Got, missing: u64) {
+    /// Notes that these bytes came, which the replica answered so.
+    pub fn note(&mut self, bytes: &[u8], got: Got) {
         self.came = self.came.saturating_add(1);
         match got {
-            Got::Head(_) => self.note_head(missing),
+            Got::Head(_) => self.note_head(),
             Got::Stored | Got::Repeat | Got::Ahead => self.note_frame(bytes),
             _ => {}
         }
@@ -114,16 +112,26 @@ impl UnderWay {
         let worker = bytes[WORKER_AT] as usize;
         let (_, behind) = bytes.split_at(SEQ_AT);
         let next = BigEndian::read_u64(behind).saturating_add(1);
-        if let Some(seen) = self.seen.get_mut(worker) {
-            *seen = next.max(*seen);
+        let until = self.late_after_wants();
+        let seen = self.seen.get_mut(worker);
+        let pushed_until = self.pushed_until.get_mut(worker);
+        if let (Some(seen), Some(pushed_until)) = (seen, pushed_until) {
+            if next > *seen {
+                *seen = next;
+                if self.came < *pushed_until {
+                    *pushed_until = until;
+                }
+            }
         }
     }
 
-    /// Whether frames behind a gap have come.
-    fn is_passed(&self, gap: Gap) -> bool {
-        match self.seen.get(gap.worker as usize) {
-            Some(seen) => gap.seq < *seen,
-            None => false,
+    /// Whether the frame on which a gap begins is lost, as far as can be told: frames behind it have come, or none of its
+    /// worker does any more.
+    fn is_lost(&self, gap: Gap) -> bool {
+        let worker = gap.worker as usize;
+        match (self.seen.get(worker), self.pushed_until.get(worker)) {
+            (Some(seen), Some(until)) => gap.seq < *seen || *until <= self.came,
+            _ => true,
         }
     }
 
@@ -136,7 +144,7 @@ impl UnderWay {
             self.narrow();
         }
         self.wants = [None; WANTS_MAX];
-        self.one_until = 0;
+        self.pushed_until = [0; WORKERS_MAX as usize];
         self.looked_at = None;
     }
 
@@ -157,9 +165,8 @@ impl UnderWay {
         });
     }
 
-    /// Notes that the Head of the Ask came, which tells of frames that were not awaited before. So many of them are missing,
-    /// and most may be on their way.
-    fn note_head(&mut self, missing: u64) {
+    /// Notes that the Head of the Ask came, which tells of frames that were not awaited before. They may be on their way.
+    fn note_head(&mut self) {
         if let Some(asked) = self.asked {
             if !asked.is_repeated {
                 self.learn(self.came.saturating_sub(asked.sent));
@@ -167,7 +174,7 @@ impl UnderWay {
         }
         self.asked = None;
         self.wants = [None; WANTS_MAX];
-        self.one_until = self.late_after(missing.min(PUSHED_MOST).saturating_add(WANT_FRAMES));
+        self.pushed_until = [self.late_after_wants(); WORKERS_MAX as usize];
         self.looked_at = None;
     }
 
@@ -179,8 +186,12 @@ impl UnderWay {
         };
         let count = self.wants.iter().flatten().count() as u64;
         let some = (count / 4).saturating_add(1).saturating_mul(WANT_FRAMES);
-        let is_open = at < self.one_until && self.one_until <= self.came;
-        is_open || at.saturating_add(some) <= self.came
+        // Frames that were awaited without a Want are so no longer.
+        let are_lost = self
+            .pushed_until
+            .iter()
+            .any(|until| at < *until && *until <= self.came);
+        are_lost || at.saturating_add(some) <= self.came
     }
 
     /// Forgets the Wants that are answered, since no gap begins among their frames, and those that are late.
@@ -220,9 +231,12 @@ impl UnderWay {
         }
     }
 
-    /// The place of a Want for this gap, if one may be sent: none is under way that it would repeat, and no more
-    /// are than may be.
+    /// The place of a Want for this gap, if one may be sent: its frame is lost, as far as can be told, none is under
+    /// way that it would repeat, and no more are than may be.
     pub fn place_for(&self, gap: Gap) -> Option<usize> {
+        if !self.is_lost(gap) {
+            return None;
+        }
         let mut place = None;
         let mut count: usize = 0;
         for (index, wanted) in self.wants.iter().enumerate() {
@@ -236,21 +250,21 @@ impl UnderWay {
                 None => place = Some(index),
             }
         }
-        let most = if self.is_passed(gap) || self.one_until <= self.came {
-            self.window
-        } else {
-            1
-        };
-        if count < most { place } else { None }
+        if count < self.window { place } else { None }
     }
 
     /// Notes that a Want for this gap was sent.
     pub fn note_want(&mut self, place: usize, gap: Gap) {
-        let count = self.wants.iter().flatten().count() as u64;
-        let late = self.late_after(count.saturating_add(1).saturating_mul(WANT_FRAMES));
+        let late = self.late_after_wants();
         if let Some(wanted) = self.wants.get_mut(place) {
             *wanted = Some(Wanted { gap, late });
         }
+    }
+
+    /// When the answer to one Want more would be late, which comes after those of the Wants under way.
+    fn late_after_wants(&self) -> u64 {
+        let count = self.wants.iter().flatten().count() as u64;
+        self.late_after(count.saturating_add(1).saturating_mul(WANT_FRAMES))
     }
 
     /// When an answer is late that is sent now, if so many datagrams of other answers come before its last one.
