@@ -7,10 +7,11 @@ import struct
 from collections import namedtuple
 
 INSERT, PATCH, DELETE, ADD_COLUMN = 1, 2, 3, 4
-FRAME, ASK, HEAD, WANT = 1, 2, 3, 4
+FRAME, ASK, HEAD, WANT, PIECE, PULL = 1, 2, 3, 4, 5, 6
 COLUMNS_MAX, ROW_MAX = 16, 512
 DATAGRAM_MAX = 1200
-FRAME_OVERHEAD = 26
+# The bytes of a frame, and of a piece of an image, that are before its entries.
+FRAME_OVERHEAD, PIECE_OVERHEAD = 26, 25
 WANTED_MAX = 16
 WINDOW = 4096
 ENTRIES_MAX = 4096
@@ -27,8 +28,11 @@ Entry = namedtuple("Entry", "operation table row offset data")
 Commit = namedtuple("Commit", "worker entries")
 Frame = namedtuple("Frame", "worker seq commit last entries")
 Ask = namedtuple("Ask", "replica boot request")
-Head = namedtuple("Head", "replica boot request version counts")
+# The base counts of the workers are its lows.
+Head = namedtuple("Head", "replica boot request version base pieces lows counts")
 Want = namedtuple("Want", "replica worker start")
+Piece = namedtuple("Piece", "base number last entries")
+Pull = namedtuple("Pull", "replica base start")
 
 
 class Schema:
@@ -140,15 +144,25 @@ def spell(datagram):
     elif isinstance(datagram, Ask):
         kind, body = ASK, struct.pack(">BQQ", *datagram)
     elif isinstance(datagram, Head):
-        kind, body = HEAD, struct.pack(f">BQQQB{len(datagram.counts)}Q", *datagram[:4], len(datagram.counts), *datagram.counts)
+        each = b"".join(struct.pack(">QQ", low, count) for low, count in zip(datagram.lows, datagram.counts))
+        kind, body = HEAD, struct.pack(">BQQQQQB", *datagram[:6], len(datagram.counts)) + each
+    elif isinstance(datagram, Piece):
+        kind, body = PIECE, struct.pack(">QQBH", *datagram[:3], len(datagram.entries)) + b"".join(map(spell_entry, datagram.entries))
+    elif isinstance(datagram, Pull):
+        kind, body = PULL, struct.pack(">BQQ", *datagram)
     else:
         kind, body = WANT, struct.pack(">BBQ", *datagram)
-    return struct.pack(">2sBBH", b"BD", 2, kind, 6 + len(body)) + body
+    return struct.pack(">2sBBH", b"BD", 3, kind, 6 + len(body)) + body
+
+
+def plain_head(replica, boot, request, version, counts):
+    """A Head without a base."""
+    return Head(replica, boot, request, version, 0, 0, (0,) * len(counts), tuple(counts))
 
 
 def read_datagram(data):
     """The datagram that the bytes are; None if they are none."""
-    if len(data) < 6 or data[:3] != b"BD\x02" or data[3] not in (FRAME, ASK, HEAD, WANT):
+    if len(data) < 6 or data[:3] != b"BD\x03" or data[3] not in (FRAME, ASK, HEAD, WANT, PIECE, PULL):
         return None
     if int.from_bytes(data[4:6], "big") != len(data) or len(data) > DATAGRAM_MAX:
         return None
@@ -160,21 +174,57 @@ def read_datagram(data):
             return Frame(worker, seq, commit, last, entries)
     if kind == ASK and len(body) == 17 and body[0] < 16:
         return Ask(*struct.unpack(">BQQ", body))
-    if kind == HEAD and len(body) >= 26 and body[0] < 16 and 1 <= body[25] <= 16 and len(body) == 26 + 8 * body[25]:
-        return Head(*struct.unpack(">BQQQ", body[:25]), struct.unpack(f">{body[25]}Q", body[26:]))
+    if kind == HEAD and len(body) >= 42 and body[0] < 16 and 1 <= body[41] <= 16 and len(body) == 42 + 16 * body[41]:
+        numbers = struct.unpack(f">{2 * body[41]}Q", body[42:])
+        head = Head(*struct.unpack(">BQQQQQ", body[:41]), numbers[0::2], numbers[1::2])
+        within = head.base <= head.version and all(low <= count for low, count in zip(head.lows, head.counts))
+        if within and (head.pieces > 0 if head.base else head.pieces == 0 and not any(head.lows)):
+            return head
     if kind == WANT and len(body) == 10 and body[0] < 16 and body[1] < 16:
         return Want(*struct.unpack(">BBQ", body))
+    if kind == PIECE and len(body) >= 19:
+        base, number, last, count = struct.unpack_from(">QQBH", body)
+        entries = read_entries(body[19:], count)
+        if base >= 1 and last <= 1 and (count >= 1 or number == 0 and last == 1) and entries is not None:
+            return Piece(base, number, last, entries)
+    if kind == PULL and len(body) == 17 and body[0] < 16:
+        return Pull(*struct.unpack(">BQQ", body))
     return None
+
+
+def parted(overhead, entries):
+    """The entries, each with those that fit beside it into a datagram, of which so many bytes are before them."""
+    parts, length = [[]], overhead
+    for entry in entries:
+        size = len(spell_entry(entry))
+        if parts[-1] and length + size > DATAGRAM_MAX:
+            parts.append([])
+            length = overhead
+        parts[-1].append(entry)
+        length += size
+    return parts
 
 
 def cut(worker, commit, seq, entries):
     """The frames of a commit, the first with that seq."""
-    parts = [[]]
-    for entry in entries:
-        if parts[-1] and FRAME_OVERHEAD + sum(len(spell_entry(it)) for it in [*parts[-1], entry]) > DATAGRAM_MAX:
-            parts.append([])
-        parts[-1].append(entry)
+    parts = parted(FRAME_OVERHEAD, entries)
     return [spell(Frame(worker, seq + it, commit, int(it == len(parts) - 1), part)) for it, part in enumerate(parts)]
+
+
+def image(opened, now, rows):
+    """The entries that make these rows, of the settings `now`, out of the tables as they were opened."""
+    entries = []
+    for table, kinds in enumerate(now.kinds):
+        added = kinds[len(opened.kinds[table]):]
+        entries += [Entry(ADD_COLUMN, table, None, kind, bytes(kind or 8)) for kind in added]
+        entries += [Entry(INSERT, table, row, 0, rows[table][row]) for row in sorted(rows[table])]
+    return entries
+
+
+def pieces(base, entries):
+    """The pieces of the image of a base above 0."""
+    parts = parted(PIECE_OVERHEAD, entries)
+    return [spell(Piece(base, it, int(it == len(parts) - 1), part)) for it, part in enumerate(parts)]
 
 
 # ---- tables and journals
@@ -463,7 +513,7 @@ class World:
 
     def __init__(self, schema):
         self.schema = schema
-        self.commits, self.durable, self.stopped = [], 0, False
+        self.commits, self.durable, self.base, self.stopped = [], 0, 0, False
         # The rows after each number of commits, and the settings with the columns that were added by then.
         self.tables, self.schemas = [[{} for _ in schema.kinds]], [schema]
         self.transactions = []
@@ -495,13 +545,23 @@ class World:
         schema = self.schema_at(self.durable)
         return report(schema, self.durable, self.rows_after(self.durable), [read_plan(schema, it.split(" ")) for it in queries])
 
-    def frames(self, worker):
-        """The worker's stream of durable frames."""
+    def frames(self, worker, version=None):
+        """The worker's stream of durable frames, up to that version if one is given."""
         frames = []
-        for number, commit in enumerate(self.commits[:self.durable]):
+        for number, commit in enumerate(self.commits[:self.durable if version is None else version]):
             if commit.worker == worker:
                 frames += cut(worker, number + 1, len(frames), commit.entries)
         return frames
+
+    def low(self, worker):
+        """How many frames of the worker are not kept: those up to the base."""
+        return len(self.frames(worker, self.base))
+
+    def pieces(self):
+        """The pieces of the base."""
+        if self.base == 0:
+            return []
+        return pieces(self.base, image(self.schema, self.schema_at(self.base), self.rows_after(self.base)))
 
     def send(self, data):
         self.sent.append(data)
@@ -598,6 +658,10 @@ class World:
         self.durable = min(self.durable + int(count), len(self.commits))
         return [f"durable {self.durable}"]
 
+    def on_base(self):
+        self.base = self.durable
+        return [f"base {self.base} pieces {len(self.pieces())}"]
+
     def on_stop(self, count):
         left = self.journal(len(self.commits))[:len(self.journal(self.durable)) + int(count)]
         self.commits = recover(self.schema, left).commits
@@ -609,23 +673,28 @@ class World:
     def on_start(self):
         if not self.stopped:
             return ["running"]
-        self.stopped = False
+        self.stopped, self.base = False, 0
         return [f"durable {self.durable}"]
 
     # -- the network
 
     def on_push(self, worker, seq):
         frames = self.frames(int(worker))
-        return [self.send(frames[int(seq)])] if int(seq) < len(frames) else ["no frame"]
+        return [self.send(frames[int(seq)])] if self.low(int(worker)) <= int(seq) < len(frames) else ["no frame"]
 
     def arrived(self, node, data):
         datagram = read_datagram(data)
         if node == "p":
             if isinstance(datagram, Ask):
-                counts = tuple(len(self.frames(worker)) for worker in range(self.schema.workers))
-                return [self.send(spell(Head(*datagram, self.durable, counts)))]
+                workers = range(self.schema.workers)
+                lows, counts = (tuple(each(worker) for worker in workers) for each in (self.low, lambda it: len(self.frames(it))))
+                return [self.send(spell(Head(*datagram, self.durable, self.base, len(self.pieces()), lows, counts)))]
             if isinstance(datagram, Want) and datagram.worker < self.schema.workers:
-                found = self.frames(datagram.worker)[datagram.start:datagram.start + WANTED_MAX]
+                kept = max(datagram.start, self.low(datagram.worker))
+                found = self.frames(datagram.worker)[kept:datagram.start + WANTED_MAX]
+                return [self.send(it) for it in found] or ["ignored"]
+            if isinstance(datagram, Pull) and datagram.base == self.base:
+                found = self.pieces()[datagram.start:datagram.start + WANTED_MAX]
                 return [self.send(it) for it in found] or ["ignored"]
             return ["ignored"]
         replica = self.replicas[int(node[1:])]
@@ -641,7 +710,7 @@ class World:
             replica.known[datagram.worker].add(datagram.seq)
             return ["stored"]
         if isinstance(datagram, Head) and datagram[:3] == (replica.number, replica.boot, replica.request):
-            if replica.batch is not None and replica.head is None:
+            if replica.batch is not None and replica.head is None and datagram.base <= replica.version:
                 replica.head = datagram
                 return [f"head {datagram.version}"]
         return ["ignored"]
@@ -714,7 +783,7 @@ class World:
 
     # -- all of it
 
-    OF_THE_PRIMARY = ("begin", "insert", "set", "delete", "column", "get", "commit", "abort", "flush", "stop", "push")
+    OF_THE_PRIMARY = ("begin", "insert", "set", "delete", "column", "get", "commit", "abort", "flush", "base", "stop", "push")
 
     def step(self, line):
         word, *words = line.split(" ")
@@ -735,6 +804,8 @@ class World:
         lines = after.step(line)
         if word == "flush":
             takes = not self.stopped and min(int(words[0]), len(self.commits) - self.durable) > 0
+        elif word == "base":
+            takes = not self.stopped and self.base < self.durable
         elif word == "stop":
             takes = not self.stopped
         elif word == "show":

@@ -6,9 +6,12 @@ ONE_TABLE = "workers 2\nreplicas 2\ntable acct int int\n"
 WITH_SITES = ONE_TABLE + "table site bytes2\n"
 
 # The frame of commit 1 of worker 0, which inserts row 7 with the values 5 and -1, and the same bytes changed in one way each.
-FRAME = "424402010036" "00" "0000000000000000" "0000000000000001" "01" "0001" "0100" "0000000000000007" "0010" "0000000000000005" + "ff" * 8
+FRAME = "424403010036" "00" "0000000000000000" "0000000000000001" "01" "0001" "0100" "0000000000000007" "0010" "0000000000000005" + "ff" * 8
 CUT, WITH_A_BYTE_MORE = FRAME[:-2], FRAME + "00"
 OF_OTHER_MAGIC, OF_VERSION_1, OF_LAST_2 = "4245" + FRAME[4:], "424401" + FRAME[6:], FRAME[:46] + "02" + FRAME[48:]
+# The Head of version 2, whose base is commit 1, in one piece; base counts and counts of worker 0 are 1 and 1, of worker 1 0 and 1.
+HEAD_OF_BASE = "424403030050" "00" + "0000000000000001" * 2 + "0000000000000002" + "0000000000000001" * 2 + "02" \
+    + "0000000000000001" * 2 + "00" * 8 + "0000000000000001"
 
 ROW_7_PENDING = """
 begin -> tx 0 at 0
@@ -23,7 +26,7 @@ def batch(replica, first, version, queries, report):
     opened = "".join(f"open {replica} {query} -> opened {number + 1}\n" for number, query in enumerate(queries))
     return f"""{opened}
 ask {replica} -> sent {first} 23
-deliver {first} p -> sent {first + 1} 48
+deliver {first} p -> sent {first + 1} 80
 deliver {first + 1} r{replica} -> head {version}
 run {replica} -> version {version} queries {len(queries)} | {report}
 """
@@ -125,6 +128,39 @@ deliver 3 r0 -> stored
 dump 0 -> version 2 rows 2 | acct 7 5 -1 3 x61 | acct 8 1 2 4 x62
 dump 1 -> version 0 rows 0
 """),
+    "a base": (ONE_TABLE, f"""
+{ROW_7}
+open 1 query acct get count -> opened 1
+ask 1 -> sent 0 23
+deliver 0 p -> sent 1 80
+deliver 1 r1 -> head 1
+base -> base 1 pieces 1
+push 0 0 -> no frame
+base -> base 1 pieces 1
+run 1 -> waiting 0 0 | sent 2 16
+deliver 2 p -> ignored
+begin -> tx 1 at 1
+insert 1 acct 8 1 1 -> ok
+column 1 acct 3 -> ok
+commit 1 1 -> ticket 2
+base -> base 1 pieces 1
+flush 1 -> durable 2
+push 1 0 -> sent 3 65
+open 0 query acct get count sum 0 -> opened 1
+ask 0 -> sent 4 23
+deliver 4 p -> sent 5 80
+show 5 -> {HEAD_OF_BASE}
+deliver 5 r0 -> ignored
+run 0 -> waiting head
+base -> base 2 pieces 1
+push 1 0 -> no frame
+stop 0 -> stopped
+base -> stopped
+start -> durable 2
+deliver 2 p -> sent 6 54
+deliver 6 r1 -> stored
+run 1 -> version 1 queries 1 | query 0 rows 1 | 1
+"""),
     "a stop before the last byte": (ONE_TABLE, f"""
 {ROW_7_PENDING}
 stop 42 -> stopped
@@ -165,13 +201,13 @@ start -> durable 2
     "two boots": (ONE_TABLE, """
 open 0 query acct get count -> opened 1
 ask 0 -> sent 0 23
-deliver 0 p -> sent 1 48
+deliver 0 p -> sent 1 80
 restart 0 2 -> boot 2
 open 0 query acct get count -> opened 1
 ask 0 -> sent 2 23
 deliver 1 r0 -> ignored
 run 0 -> waiting head
-deliver 2 p -> sent 3 48
+deliver 2 p -> sent 3 80
 deliver 3 r0 -> head 0
 run 0 -> version 0 queries 1 | query 0 rows 1 | 0
 restart 0 1 -> boot used
@@ -189,7 +225,7 @@ deliver 1 r0 -> stored
 deliver 1 r0 -> repeat
 open 0 query acct get count -> opened 1
 ask 0 -> sent 2 23
-deliver 2 p -> sent 3 48
+deliver 2 p -> sent 3 80
 deliver 3 r0 -> head 2
 run 0 -> waiting 0 0 | sent 4 16
 deliver 4 p -> sent 5 54
@@ -243,9 +279,9 @@ run 0 -> no batch
 open 0 query acct get count -> opened 1
 ask 0 -> sent 0 23
 ask 0 -> sent 1 23
-show 0 -> 42440202001700 0000000000000001 0000000000000001
-show 1 -> 42440202001700 0000000000000001 0000000000000001
-deliver 0 p -> sent 2 48
+show 0 -> 42440302001700 0000000000000001 0000000000000001
+show 1 -> 42440302001700 0000000000000001 0000000000000001
+deliver 0 p -> sent 2 80
 deliver 2 r0 -> head 0
 deliver 2 r0 -> ignored
 ask 0 -> busy

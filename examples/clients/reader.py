@@ -38,7 +38,7 @@ def address(word):
 
 def datagram(kind, form, *fields):
     body = struct.pack(">" + form, *fields)
-    return struct.pack(">2sBBH", b"BD", 2, kind, 6 + len(body)) + body
+    return struct.pack(">2sBBH", b"BD", 3, kind, 6 + len(body)) + body
 
 
 def read_entries(body, count):
@@ -72,17 +72,18 @@ class Reader:
 
     def take(self, data):
         """Takes one datagram: a Frame that is new, or the Head that is waited for. Everything else is ignored."""
-        if struct.unpack_from(">2sBxH", data) != (b"BD", 2, len(data)) or len(data) > 1200:
+        if struct.unpack_from(">2sBxH", data) != (b"BD", 3, len(data)) or len(data) > 1200:
             return
         if data[3] == FRAME:
             worker, seq, commit, _, count = struct.unpack_from(">BQQBH", data, 6)
             if worker < self.workers and seq >= self.applied[worker] and seq not in self.frames[worker]:
                 self.frames[worker][seq] = commit, read_entries(data[26:], count)
         elif data[3] == HEAD and self.head is None:
-            number, boot, request, version, _, *counts = struct.unpack(f">BQQQB{data[31]}Q", data[6:])
+            number, boot, request, version, base, _, _, *counts = struct.unpack(f">BQQQQQB{2 * data[47]}Q", data[6:])
+            counts = counts[1::2]  # each is behind the worker's base count
             own = (self.number, self.boot, self.request, self.workers)
             is_newer = version >= self.version and all(count >= applied for count, applied in zip(counts, self.applied))
-            if (number, boot, request, len(counts)) == own and is_newer:
+            if (number, boot, request, len(counts)) == own and is_newer and base <= self.version:
                 self.head = version, counts
 
     def receive(self, seconds):

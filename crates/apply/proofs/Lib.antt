@@ -17,3 +17,4 @@ pub mod Lent
 pub mod Widened
 pub mod Rebuilt
 pub mod Added
+pub mod Cleared

@@ -2,6 +2,7 @@
 use Rattle.std.specs.Prelude.{ℕ, List, [], ◌∷◌, Bool, Option, slice_get, slice_index_or}
 use Rattle.std.specs.Option.{option_map}
 use Rattle.rows.specs.declared.value.Value.{Value}
+use Rattle.rows.specs.Shape.{Shape}
 use Rattle.rows.specs.Tables.{Rows, Tables, rows_of, with_row}
 use Rattle.apply.specs.declared.spot.Spot.{Spot}
 
@@ -26,9 +27,11 @@ abbrev pub values_in : List Tables → ℕ → Spot → Option (List Value)
 values_in partitions table spot =
     option_map (λ row. row.1) (slice_get (rows_of (slice_index_or partitions spot.partition []) table) spot.position)
 
--- a store of columns as its callers see it: the tables of each partition, and whether it is whole
+-- a store of columns as its callers see it: the tables of each partition, whether it is whole, and what it was made with
 pub record ColumnState : Type 0 where
   -- the tables of each partition
   pub partitions : List Tables
   -- whether they stand as the store's changes made them; once it is not, it never is again
   pub whole : Bool
+  -- the kinds of each table's columns when the store was made
+  pub base_shape : Shape

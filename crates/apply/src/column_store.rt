@@ -10,7 +10,8 @@ ghost use Rattle.apply.specs.Partitions.{tables_in};
 
 use crate::partition::Partition;
 use crate::partitions::{
-    change_partitions, column_from, empty_partitions, find, id_at, ids_from, kinds, len, value,
+    change_partitions, clear_partitions, column_from, empty_partitions, find, id_at, ids_from,
+    kinds, len, value,
 };
 use crate::spot::Spot;
 use crate::starter::Starter;
@@ -19,19 +20,22 @@ use rows::{Commit, Entry, Kind, RowId, Schema, Value, laws};
 use std::alloc::{AllocError, Global};
 use std::marker::Model;
 use std::thread::Threads;
-use store::{ApplyFault, ApplyStore, Lent, Store, StoreFault, run_commits};
+use store::{ApplyFault, ApplyStore, Lent, Store, StoreFault, first_columns_stay, run_commits};
 
 /// A store of rows in columns. A row is in the partition whose number is the remainder of its
 /// identifier, divided by the number of partitions; there its values are side by side with those of
 /// other rows, column by column.
 ///
-/// Contracts see the tables of each partition, and whether the store is whole. Its answers are
-/// those of all partitions' tables together, and do not depend on the number of partitions.
+/// Contracts see the tables of each partition, whether the store is whole, and the kinds of the
+/// tables' columns when it was made. Its answers are those of all partitions' tables together, and
+/// do not depend on the number of partitions.
 #[derive(Drop)]
 pub struct ColumnStore {
     alloc: Global,
     partitions: Vec<Partition>,
     whole: bool,
+    /// The schema that it was made for: `clear` goes back to its columns.
+    schema: Schema,
 }
 
 impl Model for ColumnStore {
@@ -55,12 +59,15 @@ impl ColumnStore {
         ensures tables { IfOk result (λ store. tables_in store.partitions ≡ opening (shape_of schema.now)) }
         ensures partitions { IfOk result (λ store. length store.partitions ≡ partitions) }
         ensures whole { IfOk result (λ store. store.whole ≡ true) }
+        ensures base { IfOk result (λ store. store.base_shape ≡ shape_of schema.now) }
     {
         laws::rows_are_of_kinds();
+        first_columns_stay();
         Ok(ColumnStore {
             alloc,
             partitions: empty_partitions(alloc, schema, partitions)?,
             whole: true,
+            schema: schema.clone()?,
         })
     }
 
@@ -82,11 +89,13 @@ impl ColumnStore {
         ensures err { IfErr result
             (FailsAs self.old.whole (have_entries commits.now) (apply_commits (tables_in self.old.partitions) commits.now)) }
         ensures broken { OnErr result (self.new.whole ≡ false) }
+        ensures base { self.new.base_shape ≡ self.old.base_shape }
     {
         if !self.whole {
             return Err(ApplyFault::Broken);
         }
         laws::rows_are_of_kinds();
+        first_columns_stay();
         if are_many(commits) {
             let applied = apply_in_threads(rt, self.alloc, &mut self.partitions, commits);
             self.whole = applied.is_ok();
@@ -112,6 +121,8 @@ impl Store for ColumnStore {
     ghost tables = { λ s. tables_in s.partitions };
 
     ghost is_whole = { λ s. s.whole };
+
+    ghost base_shape = { λ s. s.base_shape };
 
     ghost values_at = { λ s table place. values_in s.partitions table place };
 
@@ -207,6 +218,7 @@ impl Store for ColumnStore {
             return Err(StoreFault::Broken);
         }
         laws::rows_are_of_kinds();
+        first_columns_stay();
         change_partitions(self.alloc, &mut self.partitions, entry)
     }
 
@@ -224,5 +236,16 @@ impl ApplyStore for ColumnStore {
         commits: &[Commit],
     ) -> Result<(), ApplyFault> {
         self.apply_together(&Starter::new(rt), commits)
+    }
+
+    /// Deletes all rows, and all columns that were added, in all partitions; blocks give their memory
+    /// back. A store that is not whole stays as it is.
+    fn clear(&mut self) {
+        if !self.whole {
+            return;
+        }
+        laws::rows_are_of_kinds();
+        first_columns_stay();
+        clear_partitions(&mut self.partitions, &self.schema);
     }
 }

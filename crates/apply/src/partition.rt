@@ -5,7 +5,7 @@ ghost use Rattle.std.specs.Prelude.{slice_get};
 ghost use Rattle.std.specs.Option.{option_map};
 ghost use Rattle.rows.specs.Shape.{shape_of};
 ghost use Rattle.rows.specs.Tables.{opening, shape_in, kinds_of, rows_of, row_at, is_present, apply_entry};
-ghost use Rattle.store.specs.Changes.{fault_kind};
+ghost use Rattle.store.specs.Changes.{fault_kind, BeganWith};
 ghost use Rattle.store.specs.Faults.{number_of};
 ghost use Rattle.apply.specs.Blocks.{dropped};
 ghost use Rattle.apply.specs.Limits.{rows_max};
@@ -15,7 +15,7 @@ ghost use Rattle.apply.specs.Orders.{AllUnder, place_in};
 use crate::piece::Piece;
 use rows::{Entry, Schema};
 use std::alloc::{AllocError, Global};
-use store::{ApplyFault, StoreFault, change_tables, empty_tables};
+use store::{ApplyFault, StoreFault, change_tables, clear_tables, empty_tables};
 
 /// The rows of each table in one partition, and how the last list of commits ended there.
 #[derive(Drop)]
@@ -106,6 +106,15 @@ impl Partition {
         ensures { self.new.tables.items ≡ dropped self.old.tables.items table }
     {
         self.tables[table as usize].drop_column();
+    }
+
+    /// Deletes all its rows, and all columns that were added to those of the schema. Takes no
+    /// memory.
+    pub fn clear(&mut self, schema: &Schema)
+        requires { BeganWith (shape_of schema.now) self.old.tables.items }
+        ensures { self.new.tables.items ≡ opening (shape_of schema.now) }
+    {
+        clear_tables(&mut self.tables, schema);
     }
 
     /// Makes the change of one entry, unless one before it failed; keeps the first failure.

@@ -7,7 +7,7 @@ ghost use Rattle.std.specs.Map.{keys_of};
 ghost use Rattle.std.specs.Option.{option_map};
 ghost use Rattle.rows.specs.Shape.{shape_of, AreColumns};
 ghost use Rattle.rows.specs.Tables.{Tables, RowsAreOfKinds, opening, shape_in, rows_of, row_at, is_row_at, apply_entry};
-ghost use Rattle.store.specs.Changes.{column_of, id_in, IsAboveAllBefore, fault_kind};
+ghost use Rattle.store.specs.Changes.{column_of, id_in, IsAboveAllBefore, BeganWith, fault_kind};
 ghost use Rattle.store.specs.Faults.{number_of};
 ghost use Rattle.store.specs.Lent.{rows_in, rows_from, column_in, AreLent};
 ghost use Rattle.apply.specs.Limits.{partitions_max};
@@ -37,6 +37,19 @@ pub fn empty_partitions(
         partitions.push(Partition::new(alloc, schema)?)?;
     }
     Ok(partitions)
+}
+
+/// Deletes all rows of these partitions, and all columns that were added to those of the schema.
+/// Takes no memory.
+pub fn clear_partitions(partitions: &mut [Partition], schema: &Schema)
+    requires { (k : ℕ) (d : Tables) → k < length partitions.old
+        → BeganWith (shape_of schema.now) (slice_index_or (views partitions.old) k d) }
+    ensures tables { views partitions.new ≡ replicate (length partitions.old) (opening (shape_of schema.now)) }
+    ensures len { length partitions.new ≡ length partitions.old }
+{
+    for k in 0..partitions.len() {
+        partitions[k].clear(schema);
+    }
 }
 
 /// The partition of a row, of this many.

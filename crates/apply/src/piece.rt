@@ -201,4 +201,11 @@ impl TableRows for Piece {
         self.kinds = kinds;
         Ok(())
     }
+
+    /// Deletes all rows, and all columns but the first so many. No block is left.
+    fn clear(&mut self, columns: usize) {
+        self.kinds.truncate(columns);
+        self.blocks.clear();
+        self.ends.clear();
+    }
 }

@@ -234,16 +234,43 @@ fn reported_by_both<
         says: false,
     };
     let mut server = Server::new(node, pace);
+    reported_to(host, line, &mut server, first, second, setup)
+}
+
+/// What both replicas report over these ports of a primary that this server serves.
+fn reported_to<
+    L: Origin + Send + Sync,
+    J: JournalStore + Drop + Send,
+    H: Wait + Drop + Send + Sync,
+    T: Threads + Wait + Net + Clock + Sync,
+>(
+    host: Host<'_, T>,
+    line: &Line<L, J, H>,
+    server: &mut Server<L, UdpPort>,
+    first: UdpPort,
+    second: UdpPort,
+    setup: &Setup,
+) -> Result<(Reported, Reported), Failure> {
     let left = AtomicU64::new(2);
     let (served, pair) = join(
         host.rt,
         || server.serve_while(host, line, &left),
         || report_twice(host, setup, first, second, &left),
     );
+    told_of(host.alloc, server.port(), served, pair)
+}
+
+/// What both replicas reported, or why the primary that served them has failed.
+fn told_of(
+    alloc: Global,
+    port: &UdpPort,
+    served: Result<(), NodeFault>,
+    pair: Result<(Reported, Reported), Failure>,
+) -> Result<(Reported, Reported), Failure> {
     match served {
         Ok(()) => pair,
-        Err(NodeFault::Socket) => Err(socket_failure(host.alloc, server.port())),
-        Err(fault) => Err(failure_of(host.alloc, fault)),
+        Err(NodeFault::Socket) => Err(socket_failure(alloc, port)),
+        Err(fault) => Err(failure_of(alloc, fault)),
     }
 }
 

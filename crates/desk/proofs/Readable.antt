@@ -1,5 +1,5 @@
 -- What is durable can be read back from what is sent of it.
-use Rattle.std.proofs.Common.{◌≡◌, ◌+◌, ◌<◌, ◌≤◌, ◌==◌, if◌then◌else◌, ℕ, List, [], ◌∷◌, ◌++◌, length, length-append, arith}
+use Rattle.std.proofs.Common.{◌≡◌, ◌+◌, ◌^◌, ◌<◌, ◌≤◌, ◌==◌, if◌then◌else◌, ℕ, List, [], ◌∷◌, ◌++◌, length, length-append, arith}
 use Rattle.std.specs.List.{AllByRecursion}
 use Rattle.rows.specs.declared.commit.Commit.{Commit}
 use Rattle.rows.specs.declared.kind.Kind.{Kind}
@@ -9,9 +9,11 @@ use Rattle.journal.specs.Recovery.{IsJournaled}
 use Rattle.update_log.specs.declared.frame.Frame as frames
 use Rattle.update_log.specs.Frames.{IsSendable, frames_of}
 use Rattle.update_log.specs.Streams.{stream_from, stream_of}
+use Rattle.wire.specs.Spelling.{HasDatagramSpelling}
 use Rattle.primary.specs.Journaling.{AreNumbered}
+use Rattle.primary.specs.Sending.{pieces_of_base}
 use Rattle.primary.specs.State.{Primary}
-use Rattle.desk.specs.Answers.{IsReadable}
+use Rattle.desk.specs.Answers.{IsReadable, IsBaseOf}
 
 -- a stream is not shorter once commits have come after
 stream_grows : (worker before first : ℕ) (list more : List Commit)
@@ -47,3 +49,10 @@ readable_of p schema workers list of_schema of_workers is legal numbered sendabl
       some = some;
       few = few;
     })
+
+-- the base is one of the list
+pub base_of : (p : Primary) (schema : List (List ℕ × List Kind)) (list : List Commit) (base : ℕ) → p.schema ≡ schema → list ≡ p.durable
+    → base ≡ p.base → p.base ≤ length p.durable → length (pieces_of_base (shape_of p.schema) p.durable p.base) < 2 ^ 64
+    → AllByRecursion HasDatagramSpelling (pieces_of_base (shape_of p.schema) p.durable p.base) → IsBaseOf (shape_of schema) list base
+base_of p schema list base of_schema is on within counted spelled =
+    rw (is, on, ← of_schema) (record { within = within; counted = counted; spelled = spelled })

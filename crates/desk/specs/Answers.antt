@@ -1,7 +1,8 @@
 -- What a seat is answered, by the list of commits that it has seen.
-use Rattle.std.specs.Prelude.{◌≡◌, ℕ, ◌-◌, ◌<◌, ◌≤◌, List, [], length, map, take, drop, true, Option, None, Some}
-use Rattle.std.specs.Prelude.{slice_get, nat_lt, ◌==◌, if◌then◌else◌}
+use Rattle.std.specs.Prelude.{◌≡◌, ℕ, ◌-◌, ◌^◌, ◌<◌, ◌≤◌, List, [], length, map, take, drop, true, Option, None, Some}
+use Rattle.std.specs.Prelude.{max, slice_get, nat_lt, ◌==◌, if◌then◌else◌}
 use Rattle.std.specs.List.{AllByRecursion}
+use Rattle.std.specs.Option.{option_map}
 use Rattle.rows.specs.declared.commit.Commit.{Commit}
 use Rattle.rows.specs.declared.kind.Kind.{Kind}
 use Rattle.rows.specs.Limits.{workers_max}
@@ -10,14 +11,15 @@ use Rattle.journal.specs.Recovery.{IsJournaled}
 use Rattle.mvcc.specs.VersionList.{defined_at}
 use Rattle.mvcc.specs.Transaction.{Transaction}
 use Rattle.update_log.specs.Frames.{IsSendable}
-use Rattle.update_log.specs.Streams.{stream_of}
+use Rattle.update_log.specs.Streams.{stream_of, frame_count}
 use Rattle.primary.specs.Journaling.{AreNumbered}
+use Rattle.primary.specs.Sending.{pieces_of_base}
 use Rattle.primary.specs.State.{Primary}
 use Rattle.primary.specs.Steps.{started_primary}
 use Rattle.primary.specs.declared.faults.CommitFault.{CommitFault}
 use Rattle.primary.specs.declared.faults.CommitFault.TheVariants.{ReadOnly, Foreign, Conflict}
 use Rattle.primary.specs.declared.ticket.Ticket.{Ticket}
-use Rattle.wire.specs.Spelling.{frame_spelling}
+use Rattle.wire.specs.Spelling.{frame_spelling, HasDatagramSpelling}
 use Rattle.desk.specs.declared.answers.Flushed.{Flushed}
 use Rattle.desk.specs.declared.answers.Flushed.TheVariants.{Published, Unpublished}
 use Rattle.desk.specs.declared.answers.Settled.{Settled}
@@ -61,13 +63,27 @@ IsSettled list ticket settles.Lost = (ticket.number ≤ length list) × ¬ Stand
 IsSettled list ticket settles.NotYet = length list < ticket.number
 IsSettled list ticket settles.Unpublished = length list < ticket.number
 
--- a primary of which just this list is durable, and nothing pending: what is sent of a list is what it sends
-abbrev pub primary_of : List (List ℕ × List Kind) → ℕ → List Commit → Primary
-primary_of schema workers list = started_primary schema workers list
+-- a primary of which just this list is durable, on that base, and nothing pending: what is sent of a list is what it sends
+abbrev pub primary_of : List (List ℕ × List Kind) → ℕ → List Commit → (base : ℕ) → Primary
+primary_of schema workers list base = record (started_primary schema workers list) { base = base }
 
--- a row: the packets of a worker's stream of the durable list from that seq on, as many as the stream has, and at most so many
-abbrev pub row_of : Primary → ℕ → ℕ → ℕ → List (List ℕ)
-row_of p worker from most = map frame_spelling (take most (drop from (stream_of p.durable worker)))
+-- a base that a primary of this list may have: it is within the list, 64 bits count its pieces, and a datagram spells each of them
+pub record IsBaseOf (shape : Shape) (list : List Commit) (base : ℕ) : Type 0 where
+  pub within : base ≤ length list
+  pub counted : length (pieces_of_base shape list base) < 2 ^ 64
+  pub spelled : AllByRecursion HasDatagramSpelling (pieces_of_base shape list base)
+
+-- the packet of that seq of a worker's stream of a list, if the stream has it, whether it is kept or not
+abbrev pub packet_at : List Commit → ℕ → ℕ → Option (List ℕ)
+packet_at list worker seq = option_map frame_spelling (slice_get (stream_of list worker) seq)
+
+-- a row: the packets of a worker's stream of a list from that seq on, as many as the stream has, and at most so many
+abbrev pub row_of : List Commit → ℕ → ℕ → ℕ → List (List ℕ)
+row_of list worker start most = map frame_spelling (take most (drop start (stream_of list worker)))
+
+-- the seq of the first frame of a worker that is kept on that base, from that seq on
+abbrev pub kept_from : List Commit → (base worker from : ℕ) → ℕ
+kept_from list base worker from = max from (frame_count list worker base)
 
 -- a list whose frames and Heads can be read back from what is sent: a journal may be of it, its commits and frames have numbers of 64
 -- bits, a datagram spells each of its frames, and there are 1 to 16 workers

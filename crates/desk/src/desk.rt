@@ -8,10 +8,10 @@ ghost use Rattle.rows.specs.Shape.{shape_of};
 ghost use Rattle.journal.specs.Recovery.{IsJournaled};
 ghost use Rattle.primary.specs.Journaling.{IsUnchanged, IsFlushRefusal};
 ghost use Rattle.primary.specs.Lending.{IsLentBy, EndsWritten, ended};
-ghost use Rattle.primary.specs.Sending.{pushed, answers};
-ghost use Rattle.primary.specs.Steps.{commit_answer, committed};
+ghost use Rattle.primary.specs.Sending.{pushed, answers, pieces_of_base};
+ghost use Rattle.primary.specs.Steps.{commit_answer, committed, based};
 ghost use Rattle.desk.specs.Answers.{IsCommitRefusal, IsFlushed, TellsDurable, IsSettled, Stands, left_to_flush};
-ghost use Rattle.desk.specs.Answers.{primary_of, row_of, IsReadable};
+ghost use Rattle.desk.specs.Answers.{primary_of, packet_at, row_of, kept_from, IsBaseOf, IsReadable};
 ghost use Rattle.desk.specs.Keeping.{IsKept, commit_count};
 ghost use Rattle.desk.specs.State.{IsNew};
 
@@ -263,8 +263,8 @@ impl<L: Origin, J: JournalStore, R: Wait + Drop> Desk<L, J, R> {
         }
     }
 
-    /// The packet of that `seq` of the worker's stream of the durable list, after that was
-    /// published and the seat has seen it. Fails only if out of memory.
+    /// The packet of that `seq` of the worker's stream of the durable list, if it is kept, after that
+    /// list was published and the seat has seen it. Fails only if out of memory.
     pub fn push(
         &mut self,
         seat: &mut Seat<L>,
@@ -273,7 +273,8 @@ impl<L: Origin, J: JournalStore, R: Wait + Drop> Desk<L, J, R> {
     ) -> Result<Option<Packet>, AllocError>
         ensures legal { IsJournaled L.workers (shape_of L.schema) seat.new.list }
         ensures ok { IfOk result (λ packet. (seat.new.list ≡ self.new.core.primary.durable)
-            × (packet ≡ pushed (primary_of L.schema L.workers seat.new.list) worker seq)) }
+            × (packet ≡ pushed (primary_of L.schema L.workers seat.new.list self.new.core.primary.base) worker seq)) }
+        ensures base { IfOk result (λ _. IsBaseOf (shape_of L.schema) seat.new.list self.new.core.primary.base) }
         ensures readable { IfOk result (λ _. IsReadable L.workers (shape_of L.schema) seat.new.list) }
         ensures err { OnErr result (seat.new ≡ seat.old) }
         ensures later { IsPrefix seat.old.list seat.new.list }
@@ -287,9 +288,10 @@ impl<L: Origin, J: JournalStore, R: Wait + Drop> Desk<L, J, R> {
         Ok(self.core.push(worker, seq))
     }
 
-    /// Puts the packets of the worker's stream of the durable list from the seq `from` on into an
-    /// empty row, in order: as many as the stream has, and at most `most`, for which the row has
-    /// room; after that list was published and the seat has seen it. Fails only if out of memory;
+    /// Puts the packets of the worker's stream of the durable list from the seq `from` on, or from the
+    /// first frame on that is kept if that is a later one, into an empty row, in order: as many as
+    /// the stream has, and at most `most`, for which the row has room; after that list was published
+    /// and the seat has seen it. Answers the seq of the first packet. Fails only if out of memory;
     /// the row is then still empty.
     pub fn push_row(
         &mut self,
@@ -298,17 +300,19 @@ impl<L: Origin, J: JournalStore, R: Wait + Drop> Desk<L, J, R> {
         from: u64,
         most: usize,
         row: &mut Vec<Packet>,
-    ) -> Result<(), AllocError>
+    ) -> Result<u64, AllocError>
         requires empty { row.old.items ≡ [] }
         requires room { most ≤ vec_capacity row.old }
         ensures legal { IsJournaled L.workers (shape_of L.schema) seat.new.list }
-        ensures ok { OnOk result ((seat.new.list ≡ self.new.core.primary.durable)
-            × (row.new.items ≡ row_of (primary_of L.schema L.workers seat.new.list) worker from most)) }
-        ensures each { OnOk result ((index : ℕ) → index < most
-            → slice_get row.new.items index ≡ pushed (primary_of L.schema L.workers seat.new.list) worker (from + index)) }
+        ensures start { IfOk result (λ start. start ≡ kept_from seat.new.list self.new.core.primary.base worker from) }
+        ensures ok { IfOk result (λ start. (seat.new.list ≡ self.new.core.primary.durable)
+            × (row.new.items ≡ row_of seat.new.list worker start most)) }
+        ensures each { IfOk result (λ start. (index : ℕ) → index < most
+            → slice_get row.new.items index ≡ packet_at seat.new.list worker (start + index)) }
         ensures few { length row.new.items ≤ most }
-        ensures below { from + length row.new.items ≤ u64.MAX }
-        ensures readable { OnOk result (IsReadable L.workers (shape_of L.schema) seat.new.list) }
+        ensures below { IfOk result (λ start. start + length row.new.items ≤ u64.MAX) }
+        ensures base { IfOk result (λ _. IsBaseOf (shape_of L.schema) seat.new.list self.new.core.primary.base) }
+        ensures readable { IfOk result (λ _. IsReadable L.workers (shape_of L.schema) seat.new.list) }
         ensures err { OnErr result ((row.new.items ≡ []) × (seat.new ≡ seat.old)) }
         ensures later { IsPrefix seat.old.list seat.new.list }
         ensures seat { seat.new ≡ record seat.old { list = seat.new.list } }
@@ -318,8 +322,9 @@ impl<L: Origin, J: JournalStore, R: Wait + Drop> Desk<L, J, R> {
             return Err(AllocError);
         }
         self.core.keeps_legal();
-        fill_row(&self.core, worker, from, most, row);
-        Ok(())
+        let start = from.max(self.core.low(worker));
+        fill_row(&self.core, worker, start, most, row);
+        Ok(start)
     }
 
     /// What the primary sends for bytes that arrived, after what is durable was published and the
@@ -327,7 +332,8 @@ impl<L: Origin, J: JournalStore, R: Wait + Drop> Desk<L, J, R> {
     pub fn on_bytes(&mut self, seat: &mut Seat<L>, bytes: &[u8]) -> Result<Vec<Out>, AllocError>
         ensures legal { IsJournaled L.workers (shape_of L.schema) seat.new.list }
         ensures ok { IfOk result (λ outs. (seat.new.list ≡ self.new.core.primary.durable)
-            × (outs.items ≡ answers (primary_of L.schema L.workers seat.new.list) bytes.now)) }
+            × (outs.items ≡ answers (primary_of L.schema L.workers seat.new.list self.new.core.primary.base) bytes.now)) }
+        ensures base { IfOk result (λ _. IsBaseOf (shape_of L.schema) seat.new.list self.new.core.primary.base) }
         ensures readable { IfOk result (λ _. IsReadable L.workers (shape_of L.schema) seat.new.list) }
         ensures later { IsPrefix seat.old.list seat.new.list }
         ensures seat { seat.new ≡ record seat.old { list = seat.new.list } }
@@ -338,6 +344,32 @@ impl<L: Origin, J: JournalStore, R: Wait + Drop> Desk<L, J, R> {
         }
         self.core.keeps_legal();
         self.core.on_bytes(bytes)
+    }
+
+    /// Publishes what is durable, shows it to the seat, and makes it the core's base: answers the base,
+    /// which is how many commits are durable, and how many pieces it has.
+    ///
+    /// Fails only if out of memory; the core is then unchanged.
+    pub fn take_base(&mut self, seat: &mut Seat<L>) -> Result<(u64, u64), AllocError>
+        ensures legal { IsJournaled L.workers (shape_of L.schema) seat.new.list }
+        ensures ok { IfOk result (λ taken. (seat.new.list ≡ self.new.core.primary.durable)
+            × (self.new.core.primary ≡ based self.old.core.primary) × (self.new.shown ≡ self.new.core.primary.durable)) }
+        ensures base { IfOk result (λ taken. taken.0 ≡ length seat.new.list) }
+        ensures pieces { IfOk result (λ taken. taken.1 ≡ length (pieces_of_base (shape_of L.schema) seat.new.list taken.0)) }
+        ensures err { OnErr result (self.new.core ≡ self.old.core) }
+        ensures kept { self.new ≡ record self.old {
+          core = record self.old.core { primary = self.new.core.primary };
+          told = self.new.told;
+          shown = self.new.shown;
+        } }
+        ensures later { IsPrefix seat.old.list seat.new.list }
+        ensures seat { seat.new ≡ record seat.old { list = seat.new.list } }
+    {
+        let is_published = self.catch_up(seat);
+        if !is_published {
+            return Err(AllocError);
+        }
+        self.core.take_base()
     }
 
     /// The core, if every seat that was given out is handed in: beyond the commits with which the

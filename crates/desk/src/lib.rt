@@ -15,7 +15,8 @@
 //! made has a seat, and the shares of all seats add up to their number; no two seats have the same
 //! number; a ticket is the core's, and its number is above the seat's last one. What is settled,
 //! pushed or answered agrees with the list that the seat has then seen, which is legal and, unless
-//! memory was refused, the whole durable list. What is sent of it can be read back.
+//! memory was refused, the whole durable list. What is sent of it, on the base that the primary has,
+//! can be read back. A base is taken of what was published and the seat has seen.
 //!
 //! It uses `primary` and `published`. If a call fails for lack of memory, its values are unchanged
 //! unless the call says otherwise, except that more of the durable list may be told, published and

@@ -18,7 +18,7 @@ pub trait Origin: Line + Ledger {
 impl Origin for Brand {
     ghost use Rattle.std.specs.Prelude.{[], false};
 
-    ghost first = { record { schema = []; workers = 0; durable = []; pending = []; failed = false } };
+    ghost first = { record { schema = []; workers = 0; durable = []; pending = []; failed = false; base = 0 } };
 
     ghost seats = { 0 };
 }

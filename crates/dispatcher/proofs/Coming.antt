@@ -1,5 +1,5 @@
 -- What comes of a frame, test by test.
-use Rattle.std.proofs.Common.{◌≡◌, ℕ, Bool, true, false, cond, List, length, nat_lt, is_ok, refl, sym, ap, subst, ◌∙◌, ◌⊎◌, inl, inr}
+use Rattle.std.proofs.Common.{◌≡◌, ℕ, Bool, true, false, cond, List, [], length, nat_lt, refl, sym, ap, subst, ◌∙◌, ◌⊎◌, inl, inr}
 use Rattle.std.specs.List.{list_all, slice_set}
 use Rattle.rows.specs.declared.entry.Entry.{Entry}
 use Rattle.rows.specs.Entries.{table_of}
@@ -22,12 +22,12 @@ the_frame worker seq commit last entries = record { worker = worker; seq = seq; 
 
 -- what the intake makes of a frame
 abbrev pub Takes : List Arrivals → Frame → Taken → List Arrivals → Type 0
-Takes all frame answer new = ((answer ≡ Memory) × (new ≡ all) × ((taken all frame).0 ≡ Stored)) ⊎ (taken all frame ≡ (answer, new))
+Takes all frame answer new = ((answer ≡ Memory) × (new ≡ all) × ((taken all [] frame).0 ≡ Stored)) ⊎ (taken all [] frame ≡ (answer, new))
 
 -- one that is not stored leaves all as it is
-not-stored : (all : List Arrivals) (frame : Frame) → ((taken all frame).0 ≡ Stored → ⊥) → (taken all frame).1 ≡ all
+not-stored : (all : List Arrivals) (frame : Frame) → ((taken all [] frame).0 ≡ Stored → ⊥) → (taken all [] frame).1 ≡ all
 not-stored all frame apart =
-    by (is_known (arrivals_of all frame.worker).known frame.seq) (is_ahead (arrivals_of all frame.worker).known frame.seq) apart
+    by (is_known (arrivals_of all frame.worker).known frame.seq) (is_ahead (arrivals_of all frame.worker).known 0 frame.seq) apart
   where
     stored : List Arrivals
     stored = slice_set all frame.worker (with_frame (arrivals_of all frame.worker) frame)
@@ -46,20 +46,20 @@ module _ (r : Replica) (frame : Frame) (tables : ℕ) (seen : length r.tables �
   comes-unfit unfit = rw (there, seen, unfit) refl
 
   module _ (fits : list_all (λ entry. nat_lt (table_of entry) tables) frame.entries ≡ true) where
-    pub comes : frame_comes r frame ≡ (got_of (taken r.arrivals frame).0, record r { arrivals = (taken r.arrivals frame).1 })
+    pub comes : frame_comes r frame ≡ (got_of (taken r.arrivals [] frame).0, record r { arrivals = (taken r.arrivals [] frame).1 })
     comes = rw (there, seen, fits) refl
 
     -- one that the intake does not store
-    pub comes-apart : (answer : Taken) (result : Got) → answer ≡ (taken r.arrivals frame).0 → (answer ≡ Stored → ⊥)
+    pub comes-apart : (answer : Taken) (result : Got) → answer ≡ (taken r.arrivals [] frame).0 → (answer ≡ Stored → ⊥)
         → result ≡ got_of answer → frame_comes r frame ≡ (result, r)
     comes-apart answer result is apart same =
         comes
-        ∙ ap (λ (answer : Taken). (got_of answer, record r { arrivals = (taken r.arrivals frame).1 })) (sym is)
+        ∙ ap (λ (answer : Taken). (got_of answer, record r { arrivals = (taken r.arrivals [] frame).1 })) (sym is)
         ∙ ap (λ (all : List Arrivals). (got_of answer, record r { arrivals = all })) (not-stored r.arrivals frame (λ e. apart (is ∙ e)))
         ∙ ap (λ (got : Got). (got, r)) (sym same)
 
     -- one that it would store
-    pub comes-stored : Stored ≡ (taken r.arrivals frame).0 → (frame_comes r frame).0 ≡ got.Stored
+    pub comes-stored : Stored ≡ (taken r.arrivals [] frame).0 → (frame_comes r frame).0 ≡ got.Stored
     comes-stored is = ap (λ (answer : Got × Replica). answer.0) comes ∙ ap got_of (sym is)
 
     -- one that it took, or had no memory for
@@ -83,11 +83,11 @@ pub takes-workers : FramesLeaveWorkers → (all : List Arrivals) (frame : Frame)
     → Takes all frame answer new → length new ≡ length all
 takes-workers law all frame answer new (inl memory) = ap length memory.1
 takes-workers law all frame answer new (inr took) =
-    ap (λ (told : Taken × List Arrivals). length told.1) (sym took) ∙ law all frame
+    ap (λ (told : Taken × List Arrivals). length told.1) (sym took) ∙ law all [] frame
 
 -- and what was kept stays kept
 pub takes-kept : FramesStayKept → (all : List Arrivals) (lows : List ℕ) (frame : Frame) (answer : Taken) (new : List Arrivals)
     → AreKeptFrom all lows → Takes all frame answer new → AreKeptFrom new lows
 takes-kept law all lows frame answer new kept (inl memory) = subst (λ (all : List Arrivals). AreKeptFrom all lows) (sym memory.1) kept
 takes-kept law all lows frame answer new kept (inr took) =
-    subst (λ (told : Taken × List Arrivals). AreKeptFrom told.1 lows) took (law all lows frame kept)
+    subst (λ (told : Taken × List Arrivals). AreKeptFrom told.1 lows) took (law all lows [] frame kept)

@@ -1,10 +1,9 @@
 -- What keeps a replica fed.
-use Rattle.std.proofs.Common.{◌≡◌, ℕ, ◌+◌, ◌≤◌, Bool, true, false, cond, not, ◌||◌, ◌&&◌, ◌==◌, List, ◌++◌}
+use Rattle.std.proofs.Common.{◌≡◌, ℕ, ◌+◌, ◌≤◌, Bool, true, false, cond, not, ◌||◌, ◌&&◌, ◌==◌, List, [], ◌++◌}
 use Rattle.std.proofs.Common.{length, Option}
 use Rattle.std.proofs.Common.{Some, None, Result, Ok, Err, nat_lt, nat_le, refl, sym, ap, subst, ◌∙◌, ◌⊎◌, inl, inr, arith}
 use Rattle.std.specs.Cmp.Lexicographic.{pointwise}
 use Rattle.std.specs.List.{slice_get, list_all}
-use Rattle.std.specs.Result.{is_ok}
 use Rattle.std.proofs.lemmas.Bool.{true≢false, cond_both, leb-true, and_parts, eq-eqb, le-leb}
 use Rattle.std.proofs.lemmas.List.{length-append, length-replicate}
 use Rattle.std.proofs.lemmas.Option.{none-some, same_Some}
@@ -25,6 +24,7 @@ use Rattle.ordering.specs.Cutting.{AreFrameCounts}
 use Rattle.wire.specs.declared.datagram.Datagram.{Datagram}
 use Rattle.wire.specs.declared.datagram.Datagram.TheVariants as datagrams
 use Rattle.wire.specs.declared.faults.WireFault.{WireFault}
+use Rattle.wire.specs.declared.head.Head.{Head}
 use Rattle.wire.specs.declared.out.Out.{Out}
 use Rattle.wire.specs.Reading.{reading}
 use Rattle.dispatcher.specs.declared.outcome.Got.{Got}
@@ -38,7 +38,8 @@ use Rattle.dispatcher.specs.Feeding.{IsFetchedFrom, IsFedFrom, Tells, TruthStays
 use Rattle.dispatcher.specs.Feeding.{OpenKeepsFed, AskKeepsFed, VersionTellsTables}
 use Rattle.queries.specs.Checking.{checked}
 use Rattle.dispatcher.specs.State.{Replica, Batch, Fetched, Protocol, protocol_of, with_protocol}
-use Rattle.dispatcher.specs.Protocol.{opens_checked, opens_query, ask_for, with_batch, asks_by, asks_version, is_own, takes_head}
+use Rattle.dispatcher.specs.Protocol.{opens_checked, opens_query, ask_for, with_batch, asks_by, asks_version, is_own, fetched_by}
+use Rattle.dispatcher.specs.Protocol.{takes_head}
 use Rattle.dispatcher.specs.Steps.{stepped, got_of, frame_comes, goes_on, headed, own_head_comes, datagram_comes, at_fetched, broken_of}
 use Rattle.dispatcher.proofs.Beginning.{none-known}
 use Rattle.dispatcher.proofs.CatchingUp.{Merges, is-fetched, each-known}
@@ -115,25 +116,27 @@ pub truth-stays : TruthStays
 truth-stays workers commits more (Err fault) h = tt
 truth-stays workers commits more (Ok (datagrams.Frame worker seq commit last entries)) h = stream-stays commits more worker seq _ h
 truth-stays workers commits more (Ok (datagrams.Ask replica boot request)) h = tt
-truth-stays workers commits more (Ok (datagrams.Head replica boot request version counts)) h =
+truth-stays workers commits more (Ok (datagrams.Head head)) h =
     let below = h.0 in
-    (omega (arith, length-append commits more), h.1, counts-stay commits more version counts h.0 h.2)
+    (omega (arith, length-append commits more), h.1, counts-stay commits more head.version head.counts h.0 h.2)
 truth-stays workers commits more (Ok (datagrams.Want replica worker from)) h = tt
+truth-stays workers commits more (Ok (datagrams.Piece base number last entries)) h = tt
+truth-stays workers commits more (Ok (datagrams.Pull replica base from)) h = tt
 
 -- ---- a frame
 
 -- with a frame of the list, or one that is not taken
 taken-fed : (laws : Arriving) (shape : Shape) (commits : List Commit) (r : Replica) (frame : Frame) → IsFedFrom shape commits r
     → slice_get (stream_of commits frame.worker) frame.seq ≡ Some frame
-    → IsFedFrom shape commits (record r { arrivals = (taken r.arrivals frame).1 })
+    → IsFedFrom shape commits (record r { arrivals = (taken r.arrivals [] frame).1 })
 taken-fed laws shape commits r frame fed is = record {
   legal = fed.legal;
-  workers_are = laws.frames_leave r.arrivals frame ∙ fed.workers_are;
-  frames_are = laws.frames_from commits r.arrivals frame is fed.frames_are;
+  workers_are = laws.frames_leave r.arrivals [] frame ∙ fed.workers_are;
+  frames_are = laws.frames_from commits r.arrivals [] frame is fed.frames_are;
   counted = fed.counted;
   applied_are = fed.applied_are;
-  applied_known = λ worker seq below. laws.frames_known r.arrivals frame worker seq (fed.applied_known worker seq below);
-  others_kept = laws.frames_kept r.arrivals r.applied frame fed.others_kept;
+  applied_known = λ worker seq below. laws.frames_known r.arrivals [] frame worker seq (fed.applied_known worker seq below);
+  others_kept = laws.frames_kept r.arrivals r.applied [] frame fed.others_kept;
   below = fed.below;
   tables_are = fed.tables_are;
   fetched_is = λ batch fetched there has.
@@ -146,7 +149,7 @@ frame-feeds : (laws : Arriving) (shape : Shape) (commits : List Commit) (r : Rep
     → IsFedFrom shape commits (frame_comes r frame).1
 frame-feeds laws shape commits r frame fed is =
     cond_both (not (nat_lt frame.worker r.workers) || not (list_all (λ entry. nat_lt (table_of entry) (length r.tables)) frame.entries))
-    (got.Ignored, r) (got_of (taken r.arrivals frame).0, record r { arrivals = (taken r.arrivals frame).1 })
+    (got.Ignored, r) (got_of (taken r.arrivals [] frame).0, record r { arrivals = (taken r.arrivals [] frame).1 })
     (λ (answer : Got × Replica). IsFedFrom shape commits answer.1)
     (λ not_taken. fed) (λ takes. taken-fed laws shape commits r frame fed is)
 
@@ -182,28 +185,29 @@ queries-fed shape commits r request waiting batch fed is = record {
 -- ---- a Head
 
 -- whether it goes on, part by part
-goes-parts : (r : Replica) (version : ℕ) (counts : List ℕ) → goes_on r version counts ≡ true
-    → ((length counts == r.workers) ≡ true) × (r.version ≤ version)
-goes-parts r version counts h =
-    let front = (and_parts ((length counts == r.workers) && nat_le r.version version) (pointwise nat_le r.applied counts) h).0 in
-    let parts = and_parts (length counts == r.workers) (nat_le r.version version) front in
-    (parts.0, leb-true r.version version parts.1)
+goes-parts : (r : Replica) (head : Head) → goes_on r head ≡ true → ((length head.counts == r.workers) ≡ true) × (r.version ≤ head.version)
+goes-parts r head h =
+    let many = length head.counts == r.workers in
+    let up = nat_le r.version head.version in
+    let based = nat_le head.base r.version in
+    let front = (and_parts (many && up && based) (pointwise nat_le r.applied head.counts) h).0 in
+    let parts = and_parts many up (and_parts (many && up) based front).0 in
+    (parts.0, leb-true r.version head.version parts.1)
 
-head-feeds : (shape : Shape) (commits : List Commit) (r : Replica) (version : ℕ) (counts : List ℕ) → IsFedFrom shape commits r
-    → version ≤ length commits → length counts ≡ r.workers → AreFrameCounts commits version counts
-    → IsFedFrom shape commits (own_head_comes r version counts).1
-head-feeds shape commits r version counts fed below many are =
-    cond_both (goes_on r version counts) (headed r (takes_head (protocol_of r) version counts r.batch)) (got.Ignored, r)
+head-feeds : (shape : Shape) (commits : List Commit) (r : Replica) (head : Head) → IsFedFrom shape commits r
+    → head.version ≤ length commits → length head.counts ≡ r.workers → AreFrameCounts commits head.version head.counts
+    → IsFedFrom shape commits (own_head_comes r head).1
+head-feeds shape commits r head fed below many are =
+    cond_both (goes_on r head) (headed r (takes_head (protocol_of r) head r.batch)) (got.Ignored, r)
     (λ (answer : Got × Replica). IsFedFrom shape commits answer.1)
-    (λ goes. by_batch (goes-parts r version counts goes).1 r.batch refl) (λ other. fed)
+    (λ goes. by_batch (goes-parts r head goes).1 r.batch refl) (λ other. fed)
   where
     found : Fetched
-    found = record { version = version; counts = counts }
+    found = fetched_by head
 
-    by_fetched : r.version ≤ version → (plans : List Plan) (fetched : Option Fetched)
+    by_fetched : r.version ≤ head.version → (plans : List Plan) (fetched : Option Fetched)
         → r.batch ≡ Some (record { plans = plans; fetched = fetched })
-        → IsFedFrom shape commits
-        (headed r (takes_head (protocol_of r) version counts (Some (record { plans = plans; fetched = fetched })))).1
+        → IsFedFrom shape commits (headed r (takes_head (protocol_of r) head (Some (record { plans = plans; fetched = fetched })))).1
     by_fetched up plans (Some fetched) is = fed
     by_fetched up plans None is =
         let made : Batch = record { plans = plans; fetched = Some found } in
@@ -211,20 +215,21 @@ head-feeds shape commits r version counts fed below many are =
         (λ queries other there has. subst (IsFetchedFrom commits r) (same-fetched (Some made) made queries found other refl refl there has)
         (record { above = up; below = below; counted = many; counts_are = are }))
 
-    by_batch : r.version ≤ version → (batch : Option Batch) → r.batch ≡ batch
-        → IsFedFrom shape commits (headed r (takes_head (protocol_of r) version counts batch)).1
+    by_batch : r.version ≤ head.version → (batch : Option Batch) → r.batch ≡ batch
+        → IsFedFrom shape commits (headed r (takes_head (protocol_of r) head batch)).1
     by_batch up None is = fed
     by_batch up (Some batch) is = by_fetched up batch.plans batch.fetched is
 
 pub head-goes-on : TrueHeadGoesOn
-head-goes-on shape commits r version counts fed below many are up =
-    all (length counts == r.workers) (nat_le r.version version) (pointwise nat_le r.applied counts)
-    (eq-eqb (length counts) r.workers many) (le-leb r.version version up)
-    (le-pointwise r.applied counts (fed.counted ∙ sym many)
-    (λ worker. omega (arith, fed.applied_are worker, are worker, count-grows commits worker r.version version up)))
+head-goes-on shape commits r head fed below many are up based =
+    all (length head.counts == r.workers) (nat_le r.version head.version) (nat_le head.base r.version)
+    (pointwise nat_le r.applied head.counts)
+    (eq-eqb (length head.counts) r.workers many) (le-leb r.version head.version up) (le-leb head.base r.version based)
+    (le-pointwise r.applied head.counts (fed.counted ∙ sym many)
+    (λ worker. omega (arith, fed.applied_are worker, are worker, count-grows commits worker r.version head.version up)))
   where
-    all : (a b c : Bool) → a ≡ true → b ≡ true → c ≡ true → (a && b && c) ≡ true
-    all a b c e f g = rw (e, f, g) refl
+    all : (a b c d : Bool) → a ≡ true → b ≡ true → c ≡ true → d ≡ true → (a && b && c && d) ≡ true
+    all a b c d e f g h = rw (e, f, g, h) refl
 
 -- ---- bytes
 
@@ -235,11 +240,13 @@ datagram-feeds laws shape commits r (Err fault) fed tells = fed
 datagram-feeds laws shape commits r (Ok (datagrams.Frame worker seq commit last entries)) fed tells =
     frame-feeds laws shape commits r (record { worker = worker; seq = seq; commit = commit; last = last; entries = entries }) fed tells
 datagram-feeds laws shape commits r (Ok (datagrams.Ask replica boot request)) fed tells = fed
-datagram-feeds laws shape commits r (Ok (datagrams.Head replica boot request version counts)) fed tells =
-    cond_both (is_own (protocol_of r) replica boot request) (own_head_comes r version counts) (got.Ignored, r)
+datagram-feeds laws shape commits r (Ok (datagrams.Head head)) fed tells =
+    cond_both (is_own (protocol_of r) head) (own_head_comes r head) (got.Ignored, r)
     (λ (answer : Got × Replica). IsFedFrom shape commits answer.1)
-    (λ own. head-feeds shape commits r version counts fed tells.0 tells.1 tells.2) (λ other. fed)
+    (λ own. head-feeds shape commits r head fed tells.0 tells.1 tells.2) (λ other. fed)
 datagram-feeds laws shape commits r (Ok (datagrams.Want replica worker from)) fed tells = fed
+datagram-feeds laws shape commits r (Ok (datagrams.Piece base number last entries)) fed tells = fed
+datagram-feeds laws shape commits r (Ok (datagrams.Pull replica base from)) fed tells = fed
 
 pub bytes-feed : Arriving → BytesKeepFed
 bytes-feed laws shape commits r bytes fed tells =

@@ -1,7 +1,6 @@
 -- Each step of a replica leaves its identity.
-use Rattle.std.proofs.Common.{◌≡◌, ℕ, not, ◌||◌, List, length, Result, Ok, Err, IsOkAnd, nat_lt, refl, ap, ◌∙◌, inl, inr}
+use Rattle.std.proofs.Common.{◌≡◌, ℕ, not, ◌||◌, List, [], length, Result, Ok, Err, IsOkAnd, nat_lt, refl, ap, ◌∙◌, inl, inr}
 use Rattle.std.specs.List.{list_all}
-use Rattle.std.specs.Result.{is_ok}
 use Rattle.std.proofs.lemmas.Bool.{cond_both}
 use Rattle.rows.specs.Entries.{table_of}
 use Rattle.rows.specs.Commits.{apply_commits}
@@ -11,6 +10,7 @@ use Rattle.intake.specs.Steps.{taken}
 use Rattle.wire.specs.declared.datagram.Datagram.{Datagram}
 use Rattle.wire.specs.declared.datagram.Datagram.TheVariants as datagrams
 use Rattle.wire.specs.declared.faults.WireFault.{WireFault}
+use Rattle.wire.specs.declared.head.Head.{Head}
 use Rattle.wire.specs.declared.out.Out.{Out}
 use Rattle.wire.specs.Reading.{reading}
 use Rattle.queries.specs.declared.plan.Plan.{Plan}
@@ -31,12 +31,12 @@ use Rattle.dispatcher.proofs.Feeding.{stepped-left}
 frame-keeps : (r : Replica) (frame : Frame) → identity_of (frame_comes r frame).1 ≡ identity_of r
 frame-keeps r frame =
     cond_both (not (nat_lt frame.worker r.workers) || not (list_all (λ entry. nat_lt (table_of entry) (length r.tables)) frame.entries))
-    (got.Ignored, r) (got_of (taken r.arrivals frame).0, record r { arrivals = (taken r.arrivals frame).1 })
+    (got.Ignored, r) (got_of (taken r.arrivals [] frame).0, record r { arrivals = (taken r.arrivals [] frame).1 })
     (λ (answer : Got × Replica). identity_of answer.1 ≡ identity_of r) (λ not_taken. refl) (λ takes. refl)
 
-head-keeps : (r : Replica) (version : ℕ) (counts : List ℕ) → identity_of (own_head_comes r version counts).1 ≡ identity_of r
-head-keeps r version counts =
-    cond_both (goes_on r version counts) (headed r (takes_head (protocol_of r) version counts r.batch)) (got.Ignored, r)
+head-keeps : (r : Replica) (head : Head) → identity_of (own_head_comes r head).1 ≡ identity_of r
+head-keeps r head =
+    cond_both (goes_on r head) (headed r (takes_head (protocol_of r) head r.batch)) (got.Ignored, r)
     (λ (answer : Got × Replica). identity_of answer.1 ≡ identity_of r) (λ goes. refl) (λ other. refl)
 
 datagram-keeps : (r : Replica) (datagram : Result Datagram WireFault) → identity_of (datagram_comes r datagram).1 ≡ identity_of r
@@ -44,10 +44,12 @@ datagram-keeps r (Err fault) = refl
 datagram-keeps r (Ok (datagrams.Frame worker seq commit last entries)) =
     frame-keeps r (record { worker = worker; seq = seq; commit = commit; last = last; entries = entries })
 datagram-keeps r (Ok (datagrams.Ask replica boot request)) = refl
-datagram-keeps r (Ok (datagrams.Head replica boot request version counts)) =
-    cond_both (is_own (protocol_of r) replica boot request) (own_head_comes r version counts) (got.Ignored, r)
-    (λ (answer : Got × Replica). identity_of answer.1 ≡ identity_of r) (λ own. head-keeps r version counts) (λ other. refl)
+datagram-keeps r (Ok (datagrams.Head head)) =
+    cond_both (is_own (protocol_of r) head) (own_head_comes r head) (got.Ignored, r)
+    (λ (answer : Got × Replica). identity_of answer.1 ≡ identity_of r) (λ own. head-keeps r head) (λ other. refl)
 datagram-keeps r (Ok (datagrams.Want replica worker from)) = refl
+datagram-keeps r (Ok (datagrams.Piece base number last entries)) = refl
+datagram-keeps r (Ok (datagrams.Pull replica base from)) = refl
 
 pub bytes-keep : (r : Replica) (bytes : List ℕ) → identity_of (received r bytes).1 ≡ identity_of r
 bytes-keep r bytes =

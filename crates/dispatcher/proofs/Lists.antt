@@ -1,9 +1,7 @@
 -- Counts of the same workers, compared one by one.
-use Rattle.std.proofs.Common.{◌≡◌, ℕ, zero, suc, ◌+◌, ◌<◌, ◌≤◌, true, ◌&&◌, List, [], ◌∷◌, ◌++◌, length, drop, replicate}
-use Rattle.std.proofs.Common.{slice_index, get_or}
-use Rattle.std.proofs.Common.{nat_le, refl, sym, ap, ◌∙◌, arith, add-one}
+use Rattle.std.proofs.Common.{◌≡◌, ℕ, zero, suc, ◌≤◌, true, List, [], ◌∷◌, length, replicate, slice_index}
+use Rattle.std.proofs.Common.{nat_le, refl, sym, ap, arith}
 use Rattle.std.specs.Cmp.Lexicographic.{pointwise}
-use Rattle.std.proofs.lemmas.List.{drop_more, drop_all}
 use Rattle.std.proofs.lemmas.Bool.{and_parts, and_from, leb-true, le-leb, true≢false}
 
 -- none is below its low
@@ -44,26 +42,3 @@ none-counted (suc workers) (suc worker) = none-counted workers worker
 -- counts are not below themselves
 pub pointwise-same : (counts : List ℕ) → pointwise nat_le counts counts ≡ true
 pointwise-same counts = le-pointwise counts counts refl (λ worker. omega arith)
-
--- from a worker on, worker by worker
-pub pointwise-at : (lows counts : List ℕ) (worker : ℕ) → worker < length lows → worker < length counts
-    → pointwise nat_le (drop worker lows) (drop worker counts)
-    ≡ (nat_le (get_or lows worker 0) (get_or counts worker 0) && pointwise nat_le (drop (worker + 1) lows) (drop (worker + 1) counts))
-pointwise-at lows counts worker within counted =
-    ap (λ (l : List ℕ). pointwise nat_le l (drop worker counts)) (drop_more lows worker 0 within)
-    ∙ ap (pointwise nat_le (get_or lows worker 0 ∷ drop (worker + 1) lows)) (drop_more counts worker 0 counted)
-
--- and past the last, none is left
-pub pointwise-past : (lows counts : List ℕ) (worker : ℕ) → length lows ≤ worker → length counts ≤ worker
-    → pointwise nat_le (drop worker lows) (drop worker counts) ≡ true
-pointwise-past lows counts worker past counted =
-    ap (λ (l : List ℕ). pointwise nat_le l (drop worker counts)) (drop_all worker lows past)
-    ∙ ap (λ (l : List ℕ). pointwise nat_le [] l) (drop_all worker counts counted)
-
--- one more 0
-pub replicate-more : (count : ℕ) → ◌++◌ {A = ℕ} (replicate count 0) (0 ∷ []) ≡ replicate (count + 1) 0
-replicate-more count = rw add-one (more count)
-  where
-    more : (count : ℕ) → ◌++◌ {A = ℕ} (replicate count 0) (0 ∷ []) ≡ 0 ∷ replicate count 0
-    more zero = refl
-    more (suc count) = ap (λ (l : List ℕ). 0 ∷ l) (more count)

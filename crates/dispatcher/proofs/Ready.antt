@@ -1,5 +1,5 @@
 -- Which replicas can answer their batch.
-use Rattle.std.proofs.Common.{◌≡◌, ℕ, Bool, true, false, cond, List, Option, Some, None, refl, ap, subst, ◌∙◌}
+use Rattle.std.proofs.Common.{◌≡◌, ℕ, Bool, true, false, List, [], Option, Some, None, refl, ap, subst, ◌∙◌}
 use Rattle.std.proofs.lemmas.Option.{none-some, same_Some}
 use Rattle.intake.specs.Steps.{lacking}
 use Rattle.queries.specs.declared.plan.Plan.{Plan}
@@ -12,16 +12,16 @@ pub record CanAnswer (r : Replica) (batch : Batch) (fetched : Fetched) : Type 0 
   pub whole : r.broken ≡ false
   pub there : r.batch ≡ Some batch
   pub has : batch.fetched ≡ Some fetched
-  pub complete : lacking r.arrivals fetched.counts ≡ None
+  pub complete : lacking r.arrivals [] fetched.counts ≡ None
 
 -- what a run finds where a version was fetched, by the first frame that is missing
 pub finds : (r : Replica) (batch : Batch) (fetched : Fetched) (missing : Option (ℕ × ℕ)) → r.broken ≡ false → r.batch ≡ Some batch
-    → batch.fetched ≡ Some fetched → lacking r.arrivals fetched.counts ≡ missing
+    → batch.fetched ≡ Some fetched → lacking r.arrivals [] fetched.counts ≡ missing
     → readiness_of r ≡ readiness false (Some (record { plans = batch.plans; fetched = Some fetched })) (λ counts. missing)
 finds r batch fetched missing whole there has lacks =
-    ap (λ broken. readiness broken r.batch (lacking r.arrivals)) whole
-    ∙ ap (λ batch. readiness false batch (lacking r.arrivals)) there
-    ∙ ap (λ found. readiness false (Some (record { plans = batch.plans; fetched = found })) (lacking r.arrivals)) has
+    ap (λ broken. readiness broken r.batch (lacking r.arrivals [])) whole
+    ∙ ap (λ batch. readiness false batch (lacking r.arrivals [])) there
+    ∙ ap (λ found. readiness false (Some (record { plans = batch.plans; fetched = found })) (lacking r.arrivals [])) has
     ∙ ap (λ (missing : Option (ℕ × ℕ)).
     readiness false (Some (record { plans = batch.plans; fetched = Some fetched })) (λ counts. missing)) lacks
 
@@ -34,22 +34,22 @@ found-is : (r : Replica) → Found r (readiness_of r)
 found-is r = by_broken r.broken refl
   where
     by_missing : (plans : List Plan) (fetched : Fetched) (missing : Option (ℕ × ℕ)) → r.broken ≡ false
-        → r.batch ≡ Some (record { plans = plans; fetched = Some fetched }) → lacking r.arrivals fetched.counts ≡ missing
+        → r.batch ≡ Some (record { plans = plans; fetched = Some fetched }) → lacking r.arrivals [] fetched.counts ≡ missing
         → Found r (readiness false (Some (record { plans = plans; fetched = Some fetched })) (λ counts. missing))
     by_missing plans fetched (Some frame) whole there lacks = tt
     by_missing plans fetched None whole there lacks = record { whole = whole; there = there; has = refl; complete = lacks }
 
     by_fetched : (plans : List Plan) (found : Option Fetched) → r.broken ≡ false
         → r.batch ≡ Some (record { plans = plans; fetched = found })
-        → Found r (readiness false (Some (record { plans = plans; fetched = found })) (lacking r.arrivals))
+        → Found r (readiness false (Some (record { plans = plans; fetched = found })) (lacking r.arrivals []))
     by_fetched plans None whole there = tt
-    by_fetched plans (Some fetched) whole there = by_missing plans fetched (lacking r.arrivals fetched.counts) whole there refl
+    by_fetched plans (Some fetched) whole there = by_missing plans fetched (lacking r.arrivals [] fetched.counts) whole there refl
 
-    by_batch : (batch : Option Batch) → r.broken ≡ false → r.batch ≡ batch → Found r (readiness false batch (lacking r.arrivals))
+    by_batch : (batch : Option Batch) → r.broken ≡ false → r.batch ≡ batch → Found r (readiness false batch (lacking r.arrivals []))
     by_batch None whole there = tt
     by_batch (Some batch) whole there = by_fetched batch.plans batch.fetched whole there
 
-    by_broken : (broken : Bool) → r.broken ≡ broken → Found r (readiness broken r.batch (lacking r.arrivals))
+    by_broken : (broken : Bool) → r.broken ≡ broken → Found r (readiness broken r.batch (lacking r.arrivals []))
     by_broken true is = tt
     by_broken false is = by_batch r.batch is refl
 
@@ -68,7 +68,7 @@ ready-parts r fetched e = by (readiness_of r) (found-is r) e
         whole = is.whole;
         there = is.there;
         has = e;
-        complete = subst (λ (f : Fetched). lacking r.arrivals f.counts ≡ None) (same_Some held fetched e) is.complete;
+        complete = subst (λ (f : Fetched). lacking r.arrivals [] f.counts ≡ None) (same_Some held fetched e) is.complete;
       },
     )
     by other is e = absurd (none-some fetched e)

@@ -8,8 +8,7 @@ use Rattle.std.specs.Option.{option_map}
 use Rattle.std.proofs.lemmas.Bool.{cases_lt}
 use Rattle.std.proofs.lemmas.List.{get_or_past}
 use Rattle.std.proofs.lemmas.Option.{none-some, same_Some}
-use Rattle.rows.specs.Shape.{shape_of}
-use Rattle.rows.specs.Tables.{Tables, shape_in}
+use Rattle.rows.specs.Tables.{Tables}
 use Rattle.intake.specs.Known.{is_known}
 use Rattle.intake.specs.Kept.{AreAllKept, AreKeptFrom}
 use Rattle.intake.specs.Laws.{NoneLackingIsComplete}
@@ -35,11 +34,11 @@ seen-many is_whole tables a is whole = ap (λ (b : Bool). length (cond b [] (tab
 -- ---- the frames
 
 module _ (law : NoneLackingIsComplete) (all : List Arrivals) (counts : List ℕ) (many : length counts ≡ length all)
-    (complete : lacking all counts ≡ None) where
+    (complete : lacking all [] counts ≡ None) where
   -- each frame below the counts is known
   pub all-known : (worker seq : ℕ) → seq < slice_index counts worker → is_known (known_of all worker) seq ≡ true
   all-known worker seq below = elim (cases_lt worker (length all)) [
-    | inl within ↦ (law all counts).0 complete worker within seq below
+    | inl within ↦ (law all [] counts).0 complete worker within seq (omega arith) below
     | inr past ↦
         let none : slice_index counts worker ≡ 0 = get_or_past counts worker 0 (omega (arith, past, many)) in
         absurd (omega (arith, below, none))

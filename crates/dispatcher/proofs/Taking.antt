@@ -1,10 +1,9 @@
 -- What becomes of a frame of the list that a replica is fed from: its worker is there and each of its entries fits.
-use Rattle.std.proofs.Common.{◌≡◌, ℕ, zero, suc, ◌+◌, ◌<◌, Bool, true, false, cond, not, ◌==◌, List, [], ◌∷◌, ◌++◌, length, take, nat_lt}
+use Rattle.std.proofs.Common.{◌≡◌, ℕ, zero, suc, ◌+◌, ◌<◌, Bool, true, false, cond, ◌==◌, List, [], ◌∷◌, ◌++◌, length, take, nat_lt}
 use Rattle.std.proofs.Common.{Some}
-use Rattle.std.proofs.Common.{Result, Ok, Err, refl, sym, ap, subst, ◌∙◌}
+use Rattle.std.proofs.Common.{Result, refl, sym, ap, subst, ◌∙◌}
 use Rattle.std.specs.List.{slice_get, list_all, AllByRecursion}
-use Rattle.std.specs.Result.{is_ok}
-use Rattle.std.proofs.lemmas.Bool.{false≢true, cond-false, cond_both, and_parts, and_from, lt-ltb}
+use Rattle.std.proofs.lemmas.Bool.{cond-false, cond_both, and_parts, and_from, lt-ltb}
 use Rattle.std.proofs.lemmas.List.{length-map}
 use Rattle.std.proofs.lemmas.List.Folds.{list_all-append}
 use Rattle.std.proofs.lemmas.Option.{none-some, same_Some}
@@ -13,7 +12,7 @@ use Rattle.rows.specs.declared.entry.Entry.{Entry}
 use Rattle.rows.specs.Shape.{Shape}
 use Rattle.rows.specs.Entries.{table_of}
 use Rattle.rows.specs.Tables.{Table, Tables, shape_in}
-use Rattle.rows.specs.Commits.{tables_after, IsCommit}
+use Rattle.rows.specs.Commits.{IsCommit}
 use Rattle.rows.specs.Laws.{VersionsTellKinds, TablesStay}
 use Rattle.rows.specs.ListLaws.{EachHasTable}
 use Rattle.update_log.specs.declared.frame.Frame.{Frame}

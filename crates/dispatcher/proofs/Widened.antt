@@ -1,15 +1,13 @@
 -- Queries that fit still fit when columns were added, and there are as many tables.
 use Rattle.std.proofs.Common.{◌≡◌, ℕ, suc, zero, Bool, true, false, cond, List, [], ◌∷◌, ◌++◌, length, slice_get, slice_set, Option, None}
-use Rattle.std.proofs.Common.{Some, Ok, Err}
-use Rattle.std.proofs.Common.{refl, sym, ap, subst, ◌∙◌}
-use Rattle.std.specs.List.{AllByRecursion}
+use Rattle.std.proofs.Common.{Some, Ok}
+use Rattle.std.proofs.Common.{refl, sym, ap, ◌∙◌}
 use Rattle.std.specs.Option.{unwrap_or}
 use Rattle.std.specs.Result.{is_ok}
 use Rattle.rows.specs.declared.commit.Commit.{Commit}
 use Rattle.rows.specs.declared.entry.Entry.{Entry}
 use Rattle.rows.specs.declared.entry.Entry.TheVariants.{Insert, Patch, Delete, AddColumn}
 use Rattle.rows.specs.declared.kind.Kind.{Kind}
-use Rattle.rows.specs.declared.value.Value.{Value}
 use Rattle.rows.specs.Shape.{Shape, kinds_in}
 use Rattle.rows.specs.Values.{kind_of}
 use Rattle.rows.specs.Entries.{addable, with_kind, shape_after_one, shape_after}

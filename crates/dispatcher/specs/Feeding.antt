@@ -1,6 +1,6 @@
 -- A replica that is fed from a list of commits: the list is legal, and everything that the replica received is part of it. The
 -- laws say which calls keep a replica fed, and what its runs answer.
-use Rattle.std.specs.Prelude.{◌≡◌, ℕ, ◌<◌, ◌≤◌, List, ◌++◌, length, true, false, None, Some, Result, Ok, slice_get, slice_index}
+use Rattle.std.specs.Prelude.{◌≡◌, ℕ, ◌<◌, ◌≤◌, List, [], ◌++◌, length, true, false, None, Some, Result, Ok, slice_get, slice_index}
 use Rattle.rows.specs.declared.commit.Commit.{Commit}
 use Rattle.rows.specs.declared.kind.Kind.{Kind}
 use Rattle.rows.specs.Shape.{Shape, shape_of}
@@ -16,6 +16,7 @@ use Rattle.ordering.specs.Cutting.{AreFrameCounts}
 use Rattle.wire.specs.declared.datagram.Datagram.{Datagram}
 use Rattle.wire.specs.declared.datagram.Datagram.TheVariants as datagrams
 use Rattle.wire.specs.declared.faults.WireFault.{WireFault}
+use Rattle.wire.specs.declared.head.Head.{Head}
 use Rattle.wire.specs.declared.out.Out.{Out}
 use Rattle.wire.specs.Reading.{reading}
 use Rattle.wire.specs.Spelling.{datagram_of_frame}
@@ -55,12 +56,12 @@ pub record IsFedFrom (shape : Shape) (commits : List Commit) (r : Replica) : Typ
       → IsFetchedFrom commits r fetched
 
 -- a datagram is true of the list of a primary with so many workers: a Frame is one of the list's streams, a Head counts the
--- frames at a version of the list. An Ask, a Want and bytes that are no datagram say nothing of the list
+-- frames at a version of the list. What is ignored says nothing of the list: other datagrams, and bytes that are none
 abbrev pub Tells : ℕ → List Commit → Result Datagram WireFault → Type 0
 Tells workers commits (Ok (datagrams.Frame worker seq commit last entries)) =
     slice_get (stream_of commits worker) seq ≡ Some (record { worker = worker; seq = seq; commit = commit; last = last; entries = entries })
-Tells workers commits (Ok (datagrams.Head replica boot request version counts)) =
-    (version ≤ length commits) × (length counts ≡ workers) × AreFrameCounts commits version counts
+Tells workers commits (Ok (datagrams.Head head)) =
+    (head.version ≤ length commits) × (length head.counts ≡ workers) × AreFrameCounts commits head.version head.counts
 Tells workers commits other = Unit {0}
 
 -- ---- what keeps it fed
@@ -89,12 +90,12 @@ BytesKeepFed =
     (shape : Shape) (commits : List Commit) (r : Replica) (bytes : List ℕ) → IsFedFrom shape commits r
     → Tells r.workers commits (reading bytes) → IsFedFrom shape commits (received r bytes).1
 
--- a true Head at or above the replica's version is accepted
+-- a true Head at or above the replica's version, whose base is not above that, is accepted
 abbrev pub TrueHeadGoesOn : Type 0
 TrueHeadGoesOn =
-    (shape : Shape) (commits : List Commit) (r : Replica) (version : ℕ) (counts : List ℕ) → IsFedFrom shape commits r
-    → version ≤ length commits → length counts ≡ r.workers → AreFrameCounts commits version counts → r.version ≤ version
-    → goes_on r version counts ≡ true
+    (shape : Shape) (commits : List Commit) (r : Replica) (head : Head) → IsFedFrom shape commits r
+    → head.version ≤ length commits → length head.counts ≡ r.workers → AreFrameCounts commits head.version head.counts
+    → r.version ≤ head.version → head.base ≤ r.version → goes_on r head ≡ true
 
 -- a true Frame that arrives while the replica is not broken is never ignored: the answer and the arrivals after it are the
 -- intake's
@@ -102,7 +103,7 @@ abbrev pub TrueFrameIsTaken : Type 0
 TrueFrameIsTaken =
     (shape : Shape) (commits : List Commit) (r : Replica) (bytes : List ℕ) (frame : Frame) → IsFedFrom shape commits r
     → r.broken ≡ false → reading bytes ≡ Ok (datagram_of_frame frame) → Tells r.workers commits (reading bytes)
-    → received r bytes ≡ (got_of (taken r.arrivals frame).0, record r { arrivals = (taken r.arrivals frame).1 })
+    → received r bytes ≡ (got_of (taken r.arrivals [] frame).0, record r { arrivals = (taken r.arrivals [] frame).1 })
 
 -- opening a query keeps it fed
 abbrev pub OpenKeepsFed : Type 0

@@ -1,34 +1,40 @@
 -- Where frames are missing that a batch waits for.
-use Rattle.std.specs.Prelude.{ℕ, zero, suc, ◌+◌, ◌-◌, List, [], ◌∷◌, ◌++◌, Bool, true, false, not, ◌&&◌, Option, None, Some, if◌then◌else◌}
+use Rattle.std.specs.Prelude.{ℕ, zero, suc, ◌+◌, ◌-◌, List, [], ◌∷◌, ◌++◌, Bool, not, ◌&&◌, Option, None, Some, slice_index}
+use Rattle.std.specs.Prelude.{if◌then◌else◌}
 use Rattle.intake.specs.Known.{is_known, is_ahead}
 use Rattle.intake.specs.State.{Arrivals}
 use Rattle.dispatcher.specs.State.{Replica, Fetched, Batch}
 use Rattle.dispatcher.specs.declared.gaps.Gap.{Gap}
 
--- whether a worker's frame of that seq is not known, and would be kept if it came
-abbrev pub is_missing : List ℕ → ℕ → Bool
-is_missing known seq = not (is_known known seq) && not (is_ahead known seq)
+-- whether a worker's frame of that seq is not known, and would be kept if it came, with the worker's base
+abbrev pub is_missing : List ℕ → (base seq : ℕ) → Bool
+is_missing known base seq = not (is_known known seq) && not (is_ahead known base seq)
 
 -- the gaps of a worker among so many seqs from one on: each that is missing, but for those that a gap before it covers, of which so
 -- many are left; a gap covers `stride` seqs
-abbrev pub gaps_among : (stride worker : ℕ) → List ℕ → (count seq covered : ℕ) → List Gap
-gaps_among stride worker known zero seq covered = []
-gaps_among stride worker known (suc count) seq (suc covered) = gaps_among stride worker known count (seq + 1) covered
-gaps_among stride worker known (suc count) seq zero =
-    if is_missing known seq
-    then record { worker = worker; seq = seq } ∷ gaps_among stride worker known count (seq + 1) (stride - 1)
-    else gaps_among stride worker known count (seq + 1) zero
+abbrev pub gaps_among : (stride worker base : ℕ) → List ℕ → (count seq covered : ℕ) → List Gap
+gaps_among stride worker base known zero seq covered = []
+gaps_among stride worker base known (suc count) seq (suc covered) = gaps_among stride worker base known count (seq + 1) covered
+gaps_among stride worker base known (suc count) seq zero =
+    if is_missing known base seq
+    then record { worker = worker; seq = seq } ∷ gaps_among stride worker base known count (seq + 1) (stride - 1)
+    else gaps_among stride worker base known count (seq + 1) zero
 
--- the gaps below their counts of the workers from that number on; a worker without a count has none
-abbrev pub gaps_from : (stride worker : ℕ) → List Arrivals → List ℕ → List Gap
-gaps_from stride worker (arrivals ∷ all) (count ∷ counts) =
-    gaps_among stride worker arrivals.known count 0 0 ++ gaps_from stride (worker + 1) all counts
-gaps_from stride worker all counts = []
+-- the gaps of a worker from its base to before its count
+abbrev pub gaps_between : (stride worker : ℕ) → List ℕ → (base count : ℕ) → List Gap
+gaps_between stride worker known base count = gaps_among stride worker base known (count - base) base 0
+
+-- the gaps from their bases to before their counts of the workers from that number on; a worker without a count has none. The bases
+-- are of all workers, 0 for one without a base
+abbrev pub gaps_from : (stride worker : ℕ) → List Arrivals → (bases counts : List ℕ) → List Gap
+gaps_from stride worker (arrivals ∷ all) bases (count ∷ counts) =
+    gaps_between stride worker arrivals.known (slice_index bases worker) count ++ gaps_from stride (worker + 1) all bases counts
+gaps_from stride worker all bases counts = []
 
 -- those below the counts that were fetched for a batch
 abbrev pub gaps_below : ℕ → List Arrivals → Option Fetched → List Gap
 gaps_below stride all None = []
-gaps_below stride all (Some fetched) = gaps_from stride 0 all fetched.counts
+gaps_below stride all (Some fetched) = gaps_from stride 0 all [] fetched.counts
 
 abbrev pub gaps_for : ℕ → List Arrivals → Option Batch → List Gap
 gaps_for stride all None = []

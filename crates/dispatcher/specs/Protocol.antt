@@ -3,6 +3,7 @@ use Rattle.std.specs.Prelude.{ℕ, ◌+◌, List, [], ◌∷◌, ◌++◌, lengt
 use Rattle.std.specs.Prelude.{nat_le, if◌then◌else◌}
 use Rattle.rows.specs.Limits.{waiting_queries_max}
 use Rattle.wire.specs.declared.datagram.Datagram.TheVariants as datagrams
+use Rattle.wire.specs.declared.head.Head.{Head}
 use Rattle.wire.specs.declared.out.Out.{Out}
 use Rattle.wire.specs.declared.out.To.TheVariants.{Primary}
 use Rattle.wire.specs.Spelling.{spelling}
@@ -66,19 +67,23 @@ abbrev pub asks_version : Protocol → Result (Out × Protocol) AskFault
 asks_version q = if q.broken then Err asks.Broken else asks_by q q.batch
 
 -- whether a Head is for a replica's own number, boot and request
-abbrev pub is_own : Protocol → ℕ → ℕ → ℕ → Bool
-is_own q replica boot request = (replica == q.number) && (boot == q.boot) && (request == q.request)
+abbrev pub is_own : Protocol → Head → Bool
+is_own q head = (head.replica == q.number) && (head.boot == q.boot) && (head.request == q.request)
+
+-- what is fetched by a Head
+abbrev pub fetched_by : Head → Fetched
+fetched_by head = record { version = head.version; counts = head.counts }
 
 -- such a Head, by the batch: it is accepted if there is one, and nothing was fetched for it
-abbrev pub takes_head : Protocol → ℕ → List ℕ → Option Batch → Got × Protocol
-takes_head q version counts None = (got.Ignored, q)
-takes_head q version counts (Some batch) = unless_fetched batch.fetched
+abbrev pub takes_head : Protocol → Head → Option Batch → Got × Protocol
+takes_head q head None = (got.Ignored, q)
+takes_head q head (Some batch) = unless_fetched batch.fetched
   where
     unless_fetched : Option Fetched → Got × Protocol
     unless_fetched (Some fetched) = (got.Ignored, q)
     unless_fetched None = (
-      got.Head version,
-      record q { batch = Some (record { plans = batch.plans; fetched = Some (record { version = version; counts = counts }) }) },
+      got.Head head.version,
+      record q { batch = Some (record { plans = batch.plans; fetched = Some (fetched_by head) }) },
     )
 
 -- what a run finds: the replica is broken; there is no batch; its version is not fetched; this frame of the worker is missing; or

@@ -1,6 +1,6 @@
 -- One step of a replica: what each call answers, and what it leaves.
-use Rattle.std.specs.Prelude.{◌≡◌, ℕ, ◌<◌, List, [], length, replicate, Bool, true, false, Option, None, Some, Result, Ok, Err}
-use Rattle.std.specs.Prelude.{◌==◌, ◌||◌, ◌&&◌, not, nat_lt, nat_le, if◌then◌else◌, is_ok, IsOkAnd, IsErr, ◌⊎◌}
+use Rattle.std.specs.Prelude.{◌≡◌, ℕ, ◌<◌, List, [], length, replicate, Bool, true, false, None, Some, Result, Ok, Err}
+use Rattle.std.specs.Prelude.{◌==◌, ◌||◌, ◌&&◌, not, nat_lt, nat_le, if◌then◌else◌, IsOkAnd, IsErr, ◌⊎◌}
 use Rattle.std.specs.Cmp.Lexicographic.{pointwise}
 use Rattle.std.specs.List.{list_all}
 use Rattle.rows.specs.declared.commit.Commit.{Commit}
@@ -17,6 +17,7 @@ use Rattle.ordering.specs.Merging.{IsMerge, frames_in}
 use Rattle.wire.specs.declared.datagram.Datagram.{Datagram}
 use Rattle.wire.specs.declared.datagram.Datagram.TheVariants as datagrams
 use Rattle.wire.specs.declared.faults.WireFault.{WireFault}
+use Rattle.wire.specs.declared.head.Head.{Head}
 use Rattle.wire.specs.declared.out.Out.{Out}
 use Rattle.wire.specs.Reading.{reading}
 use Rattle.dispatcher.specs.declared.faults.AskFault.{AskFault}
@@ -77,27 +78,28 @@ abbrev pub frame_comes : Replica → Frame → Got × Replica
 frame_comes r frame =
     if not (nat_lt frame.worker r.workers)
     || not (list_all (λ entry. nat_lt (table_of entry) (length r.tables)) frame.entries) then (got.Ignored, r) else
-    (got_of (taken r.arrivals frame).0, record r { arrivals = (taken r.arrivals frame).1 })
+    (got_of (taken r.arrivals [] frame).0, record r { arrivals = (taken r.arrivals [] frame).1 })
 
 -- what its protocol made of a Head, and the replica after it
 abbrev pub headed : Replica → Got × Protocol → Got × Replica
 headed r step = (step.0, with_protocol r step.1)
 
--- whether a Head has a count for each worker, and neither its version nor a count is below what the replica has applied
-abbrev pub goes_on : Replica → ℕ → List ℕ → Bool
-goes_on r version counts = (length counts == r.workers) && nat_le r.version version && pointwise nat_le r.applied counts
+-- whether a Head has a count for each worker, neither its version nor a count is below what the replica has applied, and its base is
+-- not above that version
+abbrev pub goes_on : Replica → Head → Bool
+goes_on r head =
+    (length head.counts == r.workers) && nat_le r.version head.version && nat_le head.base r.version
+    && pointwise nat_le r.applied head.counts
 
 -- a Head of the replica's own number, boot and request arrives
-abbrev pub own_head_comes : Replica → ℕ → List ℕ → Got × Replica
-own_head_comes r version counts =
-    if goes_on r version counts then headed r (takes_head (protocol_of r) version counts r.batch) else (got.Ignored, r)
+abbrev pub own_head_comes : Replica → Head → Got × Replica
+own_head_comes r head = if goes_on r head then headed r (takes_head (protocol_of r) head r.batch) else (got.Ignored, r)
 
 -- a datagram arrives
 abbrev pub datagram_comes : Replica → Result Datagram WireFault → Got × Replica
 datagram_comes r (Ok (datagrams.Frame worker seq commit last entries)) =
     frame_comes r (record { worker = worker; seq = seq; commit = commit; last = last; entries = entries })
-datagram_comes r (Ok (datagrams.Head replica boot request version counts)) =
-    if is_own (protocol_of r) replica boot request then own_head_comes r version counts else (got.Ignored, r)
+datagram_comes r (Ok (datagrams.Head head)) = if is_own (protocol_of r) head then own_head_comes r head else (got.Ignored, r)
 datagram_comes r other = (got.Ignored, r)
 
 -- bytes arrive: the answer, and the replica after them. Being out of memory aside.
@@ -154,7 +156,7 @@ RunsAs (Ready plans fetched) old answer new = Ends old plans fetched answer new
 
 -- what a run of a replica finds
 abbrev pub readiness_of : Replica → Readiness
-readiness_of r = readiness r.broken r.batch (lacking r.arrivals)
+readiness_of r = readiness r.broken r.batch (lacking r.arrivals [])
 
 -- what a run may answer and leave when it is out of memory, which happens only if a version was fetched and no frame is
 -- missing: `Memory`, with the tables at the old or at the fetched version; or `Broken`, if there was a commit to apply

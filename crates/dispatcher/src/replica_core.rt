@@ -7,15 +7,15 @@ ghost use Rattle.rows.specs.Faults.{IsFaultOf};
 ghost use Rattle.rows.specs.Limits.{workers_max, replicas_max};
 ghost use Rattle.rows.specs.Shape.{shape_of};
 ghost use Rattle.rows.specs.Tables.{opening};
-ghost use Rattle.dispatcher.specs.State.{Replica};
-ghost use Rattle.dispatcher.specs.Protocol.{fetched_in, want_for};
+ghost use Rattle.dispatcher.specs.State.{Replica, protocol_of};
+ghost use Rattle.dispatcher.specs.Protocol.{is_own, fetched_in, want_for};
 ghost use Rattle.dispatcher.specs.Gaps.{gaps_of};
 ghost use Rattle.dispatcher.specs.Steps.{started_replica, opened, asked, received, frame_comes, own_head_comes, MayTake, readiness_of};
 ghost use Rattle.dispatcher.specs.Steps.{HoldNext, MayRun, dumped};
 ghost use Rattle.dispatcher.specs.Inner.Parts.{CatchesUp, Applies, MayAnswerBatch};
 
 use crate::batch::{Batch, Fetched};
-use crate::counting::{are_at_least, copy_of, missing_below, no_counts};
+use crate::counting::{copy_of, missing_below};
 use crate::faults::{AskFault, CatchUpFault, DumpFault, OpenFault};
 use crate::gaps::{Gap, push_gaps};
 use crate::outcome::{Got, Run, got_of};
@@ -34,7 +34,7 @@ use std::marker::{Model, Sync};
 use std::thread::Threads;
 use store::{ApplyFault, ApplyStore};
 use update_log::Frame;
-use wire::{Counts, Datagram, LentEntries, Out, read};
+use wire::{Counts, Datagram, Head, LentEntries, Out, read};
 
 /// A replica of one primary, on a store of its own.
 ///
@@ -101,7 +101,7 @@ impl<S: ApplyStore + Sync> ReplicaCore<S> {
             boot,
             request: 0,
             intake: Intake::new(alloc, workers)?,
-            applied: no_counts(workers),
+            applied: Counts::zeros(workers),
             version: 0,
             waiting: Vec::new(alloc),
             batch: None,
@@ -208,8 +208,9 @@ impl<S: ApplyStore + Sync> ReplicaCore<S> {
     /// Takes bytes that arrived. A frame of an existing worker, the tables of whose entries exist,
     /// is kept if it is not known and not 4096 or more past its worker's first missing frame;
     /// otherwise it is not copied. A Head is taken if the batch waits for one; if its replica, boot,
-    /// request and number of workers are the replica's own; and if neither its version nor a count
-    /// goes back. Everything else is ignored. `Memory` is answered only if a frame would be kept.
+    /// request and number of workers are the replica's own; if neither its version nor a count goes
+    /// back; and if its base is not above the replica's version. Everything else is ignored. `Memory`
+    /// is answered only if a frame would be kept.
     pub fn on_bytes(&mut self, bytes: &[u8]) -> Got
         ensures { MayTake self.old (received self.old bytes.now) result self.new }
     {
@@ -226,19 +227,11 @@ impl<S: ApplyStore + Sync> ReplicaCore<S> {
                     entries,
                 },
             ) => self.take_frame(worker, seq, commit, last, &entries),
-            Ok(
-                Datagram::Head {
-                    replica,
-                    boot,
-                    request,
-                    version,
-                    counts,
-                },
-            ) => {
-                if replica != self.number || boot != self.boot || request != self.request {
+            Ok(Datagram::Head(head)) => {
+                if !self.is_own(&head) {
                     return Got::Ignored;
                 }
-                self.take_head(version, counts)
+                self.take_head(head)
             }
             _ => Got::Ignored,
         }
@@ -300,7 +293,14 @@ impl<S: ApplyStore + Sync> ReplicaCore<S> {
             return;
         };
         if let Some(fetched) = &batch.fetched {
-            push_gaps(&self.intake, fetched.counts.as_slice(), stride, most, gaps);
+            push_gaps(
+                &self.intake,
+                &[],
+                fetched.counts.as_slice(),
+                stride,
+                most,
+                gaps,
+            );
         }
     }
 
@@ -352,7 +352,7 @@ impl<S: ApplyStore + Sync> ReplicaCore<S> {
         if !entries.have_table(self.schema.len()) {
             return Got::Ignored;
         }
-        match self.intake.would_take(worker, seq) {
+        match self.intake.would_take(&[], worker, seq) {
             Taken::Stored => {}
             taken => return got_of(taken),
         }
@@ -366,17 +366,25 @@ impl<S: ApplyStore + Sync> ReplicaCore<S> {
             last,
             entries,
         };
-        got_of(self.intake.take_owned(frame))
+        got_of(self.intake.take_owned(&[], frame))
+    }
+
+    /// Whether a Head answers its newest request.
+    fn is_own(&self, head: &Head) -> bool
+        ensures { result ≡ is_own (protocol_of self.now) head.now }
+    {
+        head.replica == self.number && head.boot == self.boot && head.request == self.request
     }
 
     /// Takes a Head for its own replica, boot and request.
-    fn take_head(&mut self, version: u64, counts: Counts) -> Got
+    fn take_head(&mut self, head: Head) -> Got
         requires { self.old.broken ≡ false }
-        ensures { own_head_comes self.old version counts ≡ (result, self.new) }
+        ensures { own_head_comes self.old head ≡ (result, self.new) }
     {
-        if counts.as_slice().len() != self.workers as usize
-            || version < self.version
-            || !are_at_least(&self.applied, &counts)
+        if head.counts.as_slice().len() != self.workers as usize
+            || head.version < self.version
+            || head.base > self.version
+            || !self.applied.are_within(&head.counts)
         {
             return Got::Ignored;
         }
@@ -385,6 +393,11 @@ impl<S: ApplyStore + Sync> ReplicaCore<S> {
                 if batch.fetched.is_some() {
                     return Got::Ignored;
                 }
+                let Head {
+                    version,
+                    counts,
+                    ..
+                } = head;
                 batch.fetched = Some(Fetched { version, counts });
                 Got::Head(version)
             }

@@ -2,7 +2,7 @@
 use Rattle.std.proofs.Common.{◌≡◌, ℕ, zero, suc, ◌+◌, ◌-◌, ◌<◌, ◌≤◌, Bool, true, false, cond, ◌==◌, List, [], ◌∷◌, ◌++◌, length}
 use Rattle.std.proofs.Common.{take, drop, set, get_or, Option, Some, None, refl, sym, ap, subst, ◌∙◌, inl, inr, arith}
 use Rattle.std.proofs.Common.{append_assoc}
-use Rattle.std.specs.Prelude.{nat_le, ◌⊎◌, IsSome, slice_get}
+use Rattle.std.specs.Prelude.{nat_le, nat_lt, ◌⊎◌, IsSome, slice_get, slice_index}
 use Rattle.std.specs.Option.{option_to_list}
 use Rattle.std.specs.Ordering.{nat_cmp, match_ordering}
 use Rattle.std.specs.declared.cmp.Ordering.{Ordering}
@@ -10,7 +10,7 @@ use Rattle.std.specs.declared.cmp.Ordering.TheVariants.{Less, Equal, Greater}
 use Rattle.std.specs.BTreeMap.{insert_entry, is_at}
 use Rattle.std.specs.BTreeSet.{insert_key}
 use Rattle.std.proofs.lemmas.Bool.{cases_eq, cases_lt, cases_Bool, eqb-true, or_cases, or_left, or_right, false≢true, cond-true, cond-false}
-use Rattle.std.proofs.lemmas.Bool.{leb-true, leb-false}
+use Rattle.std.proofs.lemmas.Bool.{leb-true, leb-false, ltb-true}
 use Rattle.std.proofs.lemmas.Bool.Decides.{nat_tests}
 use Rattle.std.proofs.lemmas.List.{get_or-set_same, get_or-set_other, set_past, drop_more}
 use Rattle.std.proofs.lemmas.Option.{same_Some, none-some, slice_get_within, get_or_from_slice_get}
@@ -22,9 +22,10 @@ use Rattle.intake.specs.declared.taken.Taken.{Taken}
 use Rattle.intake.specs.declared.taken.Taken.TheVariants.{Repeat, Ahead, Stored}
 use Rattle.intake.specs.Known.{is_known, with_seq, is_ahead}
 use Rattle.intake.specs.State.{Arrivals, nothing, arrivals_of, frame_in}
-use Rattle.intake.specs.Steps.{no_arrivals, with_frame, taken, without_below, dropped}
+use Rattle.intake.specs.Steps.{no_arrivals, with_frame, taken, without_below, dropped, gained, known_below}
 use Rattle.intake.specs.Kept.{frames_at, frames_between, AreKept}
 use Rattle.intake.specs.Streams.{IsFrom, AreFrom}
+use Rattle.intake.proofs.Holding.{below-known}
 use Rattle.intake.proofs.Keeping.{from_on, same-key}
 
 -- ---- what one more frame makes known, and what is found then
@@ -228,10 +229,10 @@ placed-from commits all worker new from is other = elim (cases_eq other worker) 
   | inr apart ↦ subst (IsFrom (stream_of commits other)) (sym (get_or-set_other all worker other new nothing apart)) (from other)
 ]
 
-pub frames-from : (commits : List Commit) (all : List Arrivals) (frame : Frame)
-    → slice_get (stream_of commits frame.worker) frame.seq ≡ Some frame → AreFrom commits all → AreFrom commits (taken all frame).1
-frames-from commits all frame is from =
-    by (is_known one.known frame.seq) (is_ahead one.known frame.seq)
+pub frames-from : (commits : List Commit) (all : List Arrivals) (bases : List ℕ) (frame : Frame)
+    → slice_get (stream_of commits frame.worker) frame.seq ≡ Some frame → AreFrom commits all → AreFrom commits (taken all bases frame).1
+frames-from commits all bases frame is from =
+    by (is_known one.known frame.seq) (is_ahead one.known (slice_index bases frame.worker) frame.seq)
   where
     one : Arrivals
     one = arrivals_of all frame.worker
@@ -262,6 +263,29 @@ drops-from commits all counts from worker = elim (dropped-at all counts worker) 
       subst (IsFrom (stream_of commits worker)) (sym fewer.1)
       (without-from (stream_of commits worker) (arrivals_of all worker) fewer.0 (from worker))
 ]
+
+-- a worker's arrivals where every frame below a base is gained
+below-from : (stream : List Frame) (arrivals : Arrivals) (base : ℕ) → base ≤ length stream → IsFrom stream arrivals
+    → IsFrom stream (known_below arrivals base)
+below-from stream arrivals base within from = record {
+  known_are = λ seq h. elim (or_cases (nat_lt seq base) (is_known arrivals.known seq) (sym (below-known base arrivals.known seq) ∙ h)) [
+    | inl below ↦ omega (arith, within, ltb-true seq base below)
+    | inr was ↦ from.known_are seq was
+  ];
+  kept_are = from.kept_are;
+}
+
+pub gains-from : (commits : List Commit) (all : List Arrivals) (bases : List ℕ)
+    → ((worker : ℕ) → slice_index bases worker ≤ length (stream_of commits worker)) → AreFrom commits all
+    → AreFrom commits (gained all bases)
+gains-from commits all bases within from worker = at (stream_of commits worker) all bases worker (within worker) (from worker)
+  where
+    at : (stream : List Frame) (all : List Arrivals) (bases : List ℕ) (worker : ℕ) → slice_index bases worker ≤ length stream
+        → IsFrom stream (arrivals_of all worker) → IsFrom stream (arrivals_of (gained all bases) worker)
+    at stream all [] worker within is = is
+    at stream [] (base ∷ bases) worker within is = is
+    at stream (one ∷ all) (base ∷ bases) zero within is = below-from stream one base within is
+    at stream (one ∷ all) (base ∷ bases) (suc worker) within is = at stream all bases worker within is
 
 -- ---- frames that are kept one behind the other
 

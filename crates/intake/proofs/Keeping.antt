@@ -15,7 +15,8 @@ use Rattle.std.proofs.lemmas.Bool.Decides.{nat_tests}
 use Rattle.std.proofs.lemmas.List.Elements.{recursion_from_All}
 use Rattle.std.proofs.lemmas.Map.Keys.{le_from_not_gt}
 use Rattle.update_log.specs.declared.frame.Frame.{Frame}
-use Rattle.intake.specs.Known.{is_known, with_seq}
+use Rattle.intake.specs.Known.{is_known, with_seq, with_below}
+use Rattle.intake.proofs.Holding.{below-more}
 use Rattle.intake.specs.Inner.Collecting.{AreKnown, begins_below, NoneBelow}
 
 -- ---- one more, and one taken back
@@ -103,6 +104,11 @@ pub are_known-more : (known : List ℕ) (kept : List (ℕ × Frame)) (seq : ℕ)
     → AreKnown (with_seq known seq) (insert_entry nat_cmp kept seq frame)
 are_known-more known kept seq frame are =
     are_known-insert (with_seq known seq) kept seq frame (known-new known seq) (are_known-with known kept seq are)
+
+-- where every seq below a base is known too
+pub are_known-below : (base : ℕ) (known : List ℕ) (kept : List (ℕ × Frame)) → AreKnown known kept → AreKnown (with_below known base) kept
+are_known-below base known [] are = tt
+are_known-below base known (entry ∷ kept) are = (below-more base known entry.0 are.0, are_known-below base known kept are.1)
 
 -- ---- those below a seq are forgotten
 

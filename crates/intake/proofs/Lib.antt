@@ -5,3 +5,4 @@ pub mod Workers
 pub mod Feeding
 pub mod Staying
 pub mod Missing
+pub mod Passing

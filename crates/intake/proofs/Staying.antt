@@ -1,25 +1,26 @@
 -- What stays known and kept as frames come and are dropped, and what is known where none is lacking.
 use Rattle.std.proofs.Common.{◌≡◌, ℕ, zero, suc, ◌+◌, ◌<◌, ◌≤◌, Bool, true, false, cond, List, [], ◌∷◌, length, set, get_or}
 use Rattle.std.proofs.Common.{Option, Some, None, refl, sym, ap, subst, inl, inr, arith}
-use Rattle.std.specs.Prelude.{nat_le, nat_lt, IsSome, slice_index}
+use Rattle.std.specs.Prelude.{nat_le, nat_lt, ◌||◌, IsSome, slice_index}
 use Rattle.std.specs.Ordering.{nat_cmp, match_ordering}
 use Rattle.std.specs.declared.cmp.Ordering.{Ordering}
 use Rattle.std.specs.declared.cmp.Ordering.TheVariants.{Less, Equal, Greater}
 use Rattle.std.specs.BTreeMap.{insert_entry, is_at}
-use Rattle.std.proofs.lemmas.Bool.{cases_eq, cases_lt, cases_Bool, false≢true, cond-false, leb-false, ltb-false}
+use Rattle.std.proofs.lemmas.Bool.{cases_eq, cases_lt, cases_Bool, false≢true, cond-false, leb-false, ltb-false, le-ltb}
 use Rattle.std.proofs.lemmas.Bool.Decides.{nat_tests}
 use Rattle.std.proofs.lemmas.List.{get_or-set_same, get_or-set_other, set_past, length-set}
 use Rattle.std.proofs.lemmas.Option.{none-some}
 use Rattle.update_log.specs.declared.frame.Frame.{Frame}
 use Rattle.intake.specs.declared.taken.Taken.{Taken}
 use Rattle.intake.specs.declared.taken.Taken.TheVariants.{Repeat, Ahead, Stored}
-use Rattle.intake.specs.Known.{is_known, is_ahead, first_missing}
+use Rattle.intake.specs.Known.{is_known, is_ahead}
 use Rattle.intake.specs.State.{Arrivals, nothing, arrivals_of, known_of, frame_in, frame_of}
-use Rattle.intake.specs.Steps.{with_frame, taken, lacking_from, dropped}
+use Rattle.intake.specs.Steps.{with_frame, taken, missing_at, lacking_from, dropped}
 use Rattle.intake.specs.Laws.{FramesLeaveWorkers, DropsLeaveWorkers, FramesStayKnown, DropsLeaveKnown}
-use Rattle.intake.specs.Laws.{FramesStayKept, DropsStayKept}
+use Rattle.intake.specs.Laws.{FramesStayKept, DropsStayKept, GainsLeaveWorkers, GainsAreKnown, GainsLeaveKept}
 use Rattle.intake.proofs.Feeding.{known-cases, from_on-first, from_on-not}
 use Rattle.intake.proofs.Keeping.{from_on, same-key, is_at-same, known-with}
+use Rattle.intake.proofs.Holding.{below-known}
 use Rattle.intake.proofs.Seqs.{is_known-below}
 
 -- ---- a look-up among frames
@@ -103,11 +104,12 @@ placed-keeps P all worker new other is on = elim (cases_eq other worker) [
   | inr apart ↦ subst P (sym (get_or-set_other all worker other new nothing apart)) is
 ]
 
-taken-keeps : (P : Arrivals → Type 0) (all : List Arrivals) (frame : Frame) (other : ℕ) → P (arrivals_of all other)
+taken-keeps : (P : Arrivals → Type 0) (all : List Arrivals) (bases : List ℕ) (frame : Frame) (other : ℕ) → P (arrivals_of all other)
     → (P (arrivals_of all frame.worker) → P (with_frame (arrivals_of all frame.worker) frame))
-    → P (arrivals_of (taken all frame).1 other)
-taken-keeps P all frame other is on =
-    by (is_known (arrivals_of all frame.worker).known frame.seq) (is_ahead (arrivals_of all frame.worker).known frame.seq)
+    → P (arrivals_of (taken all bases frame).1 other)
+taken-keeps P all bases frame other is on =
+    by (is_known (arrivals_of all frame.worker).known frame.seq)
+    (is_ahead (arrivals_of all frame.worker).known (slice_index bases frame.worker) frame.seq)
   where
     by : (repeat ahead : Bool) → P (arrivals_of (cond {A = Taken × List Arrivals} repeat (Repeat, all)
         (cond ahead (Ahead, all) (Stored, set all frame.worker (with_frame (arrivals_of all frame.worker) frame)))).1 other)
@@ -116,8 +118,9 @@ taken-keeps P all frame other is on =
     by false false = placed-keeps P all frame.worker (with_frame (arrivals_of all frame.worker) frame) other is on
 
 pub frames-workers : FramesLeaveWorkers
-frames-workers all frame =
-    by (is_known (arrivals_of all frame.worker).known frame.seq) (is_ahead (arrivals_of all frame.worker).known frame.seq)
+frames-workers all bases frame =
+    by (is_known (arrivals_of all frame.worker).known frame.seq)
+    (is_ahead (arrivals_of all frame.worker).known (slice_index bases frame.worker) frame.seq)
   where
     by : (repeat ahead : Bool) → length (cond {A = Taken × List Arrivals} repeat (Repeat, all)
         (cond ahead (Ahead, all) (Stored, set all frame.worker (with_frame (arrivals_of all frame.worker) frame)))).1 ≡ length all
@@ -126,8 +129,8 @@ frames-workers all frame =
     by false false = length-set all frame.worker (with_frame (arrivals_of all frame.worker) frame)
 
 pub frames-known : FramesStayKnown
-frames-known all frame worker seq h =
-    taken-keeps (λ (one : Arrivals). is_known one.known seq ≡ true) all frame worker h
+frames-known all bases frame worker seq h =
+    taken-keeps (λ (one : Arrivals). is_known one.known seq ≡ true) all bases frame worker h
     (known-with (arrivals_of all frame.worker).known frame.seq seq)
 
 -- each known frame from a seq on is kept
@@ -143,8 +146,8 @@ with_frame-kept one frame seq kept h = elim (known-cases one.known frame.seq seq
 ]
 
 pub frames-kept : FramesStayKept
-frames-kept all lows frame kept worker seq low =
-    taken-keeps (IsKeptAt seq) all frame worker (kept worker seq low) (with_frame-kept (arrivals_of all frame.worker) frame seq)
+frames-kept all lows bases frame kept worker seq low =
+    taken-keeps (IsKeptAt seq) all bases frame worker (kept worker seq low) (with_frame-kept (arrivals_of all frame.worker) frame seq)
 
 -- ---- where frames are dropped
 
@@ -179,17 +182,42 @@ lacks-none : (lacks : Bool) (here : ℕ × ℕ) (rest : Option (ℕ × ℕ)) →
 lacks-none true here rest h = absurd (none-some here (sym h))
 lacks-none false here rest h = (refl, h)
 
--- each frame below the counts is known where none is lacking
-pub from-known : (from : ℕ) (all : List Arrivals) (counts : List ℕ) (worker seq : ℕ) → lacking_from from all counts ≡ None
-    → worker < length all → seq < slice_index counts worker → is_known (known_of all worker) seq ≡ true
-from-known from [] counts worker seq none within below = absurd (omega (arith, within))
-from-known from (one ∷ all) [] worker seq none within below = absurd (omega (arith, below))
-from-known from (one ∷ all) (count ∷ counts) zero seq none within below =
-    let parts = lacks-none (nat_lt (first_missing one.known) count) (from, first_missing one.known)
-    (lacking_from (from + 1) all counts) none in
-    is_known-below (length one.known) 0 seq one.known (omega arith)
-    (omega (arith, below, ltb-false (first_missing one.known) count parts.0))
-from-known from (one ∷ all) (count ∷ counts) (suc worker) seq none within below =
-    let parts = lacks-none (nat_lt (first_missing one.known) count) (from, first_missing one.known)
-    (lacking_from (from + 1) all counts) none in
-    from-known (from + 1) all counts worker seq parts.1 (omega (arith, within)) below
+-- each frame from the bases to before the counts is known where none is lacking
+pub from-known : (from : ℕ) (all : List Arrivals) (bases counts : List ℕ) (worker seq : ℕ) → lacking_from from all bases counts ≡ None
+    → worker < length all → slice_index bases (from + worker) ≤ seq → seq < slice_index counts worker
+    → is_known (known_of all worker) seq ≡ true
+from-known from [] bases counts worker seq none within low below = absurd (omega (arith, within))
+from-known from (one ∷ all) bases [] worker seq none within low below = absurd (omega (arith, below))
+from-known from (one ∷ all) bases (count ∷ counts) zero seq none within low below =
+    let parts = lacks-none (nat_lt (missing_at bases from one) count) (from, missing_at bases from one)
+    (lacking_from (from + 1) all bases counts) none in
+    let same : from + 0 ≡ from = omega arith in
+    is_known-below (length one.known) (slice_index bases from) seq one.known
+    (subst (λ (n : ℕ). slice_index bases n ≤ seq) same low)
+    (omega (arith, below, ltb-false (missing_at bases from one) count parts.0))
+from-known from (one ∷ all) bases (count ∷ counts) (suc worker) seq none within low below =
+    let parts = lacks-none (nat_lt (missing_at bases from one) count) (from, missing_at bases from one)
+    (lacking_from (from + 1) all bases counts) none in
+    let same : from + suc worker ≡ (from + 1) + worker = omega arith in
+    from-known (from + 1) all bases counts worker seq parts.1 (omega (arith, within))
+    (subst (λ (n : ℕ). slice_index bases n ≤ seq) same low) below
+
+-- ---- where frames are gained
+
+pub gains-workers : GainsLeaveWorkers
+gains-workers all [] = refl
+gains-workers [] (base ∷ bases) = refl
+gains-workers (one ∷ all) (base ∷ bases) = ap suc (gains-workers all bases)
+
+pub gains-kept : GainsLeaveKept
+gains-kept all [] worker seq = refl
+gains-kept [] (base ∷ bases) worker seq = refl
+gains-kept (one ∷ all) (base ∷ bases) zero seq = refl
+gains-kept (one ∷ all) (base ∷ bases) (suc worker) seq = gains-kept all bases worker seq
+
+pub gains-known : GainsAreKnown
+gains-known all [] worker seq within =
+    sym (ap (λ (b : Bool). b || is_known (known_of all worker) seq) (le-ltb seq 0 (omega arith)))
+gains-known [] (base ∷ bases) worker seq within = absurd (omega (arith, within))
+gains-known (one ∷ all) (base ∷ bases) zero seq within = below-known base one.known seq
+gains-known (one ∷ all) (base ∷ bases) (suc worker) seq within = gains-known all bases worker seq (omega (arith, within))

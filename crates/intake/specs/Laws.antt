@@ -1,13 +1,13 @@
 -- Laws of arrivals: what keeps them of the streams of one list of commits, and which frames are kept then; which stay known
 -- and kept as frames come and are dropped; and which seq is the first that is missing.
-use Rattle.std.specs.Prelude.{◌≡◌, ◌↔◌, ℕ, ◌-◌, ◌<◌, ◌≤◌, List, length, ◌++◌, take, drop, true, false, Some, None, slice_get}
+use Rattle.std.specs.Prelude.{◌≡◌, ◌↔◌, ℕ, ◌-◌, ◌<◌, ◌≤◌, List, length, ◌++◌, take, drop, true, false, ◌||◌, nat_lt, Some, None, slice_get}
 use Rattle.std.specs.Prelude.{slice_index}
 use Rattle.rows.specs.declared.commit.Commit.{Commit}
 use Rattle.update_log.specs.declared.frame.Frame.{Frame}
 use Rattle.update_log.specs.Streams.{stream_of}
-use Rattle.intake.specs.Known.{is_known, first_missing}
-use Rattle.intake.specs.State.{Arrivals, known_of}
-use Rattle.intake.specs.Steps.{no_arrivals, taken, lacking, dropped}
+use Rattle.intake.specs.Known.{is_known, first_missing_from}
+use Rattle.intake.specs.State.{Arrivals, known_of, frame_of}
+use Rattle.intake.specs.Steps.{no_arrivals, taken, lacking, dropped, gained}
 use Rattle.intake.specs.Kept.{frames_between, AreKept, AreKeptFrom}
 use Rattle.intake.specs.Streams.{AreFrom}
 
@@ -22,12 +22,19 @@ CommitsKeepFrom = (commits more : List Commit) (all : List Arrivals) → AreFrom
 -- and if a frame of the list comes
 abbrev pub FramesKeepFrom : Type 0
 FramesKeepFrom =
-    (commits : List Commit) (all : List Arrivals) (frame : Frame) → slice_get (stream_of commits frame.worker) frame.seq ≡ Some frame
-    → AreFrom commits all → AreFrom commits (taken all frame).1
+    (commits : List Commit) (all : List Arrivals) (bases : List ℕ) (frame : Frame)
+    → slice_get (stream_of commits frame.worker) frame.seq ≡ Some frame → AreFrom commits all → AreFrom commits (taken all bases frame).1
 
 -- and if frames are dropped
 abbrev pub DropsKeepFrom : Type 0
 DropsKeepFrom = (commits : List Commit) (all : List Arrivals) (counts : List ℕ) → AreFrom commits all → AreFrom commits (dropped all counts)
+
+-- and if every frame below some bases is gained, none of which is past its stream's end
+abbrev pub GainsKeepFrom : Type 0
+GainsKeepFrom =
+    (commits : List Commit) (all : List Arrivals) (bases : List ℕ)
+    → ((worker : ℕ) → slice_index bases worker ≤ length (stream_of commits worker)) → AreFrom commits all
+    → AreFrom commits (gained all bases)
 
 -- frames that are kept one after the other are those of the stream
 abbrev pub KeptAreOfStream : Type 0
@@ -39,26 +46,40 @@ KeptAreOfStream =
 
 -- there are as many workers if a frame comes
 abbrev pub FramesLeaveWorkers : Type 0
-FramesLeaveWorkers = (all : List Arrivals) (frame : Frame) → length (taken all frame).1 ≡ length all
+FramesLeaveWorkers = (all : List Arrivals) (bases : List ℕ) (frame : Frame) → length (taken all bases frame).1 ≡ length all
 
 -- and if frames are dropped
 abbrev pub DropsLeaveWorkers : Type 0
 DropsLeaveWorkers = (all : List Arrivals) (counts : List ℕ) → length (dropped all counts) ≡ length all
 
+-- and if frames are gained
+abbrev pub GainsLeaveWorkers : Type 0
+GainsLeaveWorkers = (all : List Arrivals) (bases : List ℕ) → length (gained all bases) ≡ length all
+
 -- what is known stays known if a frame comes
 abbrev pub FramesStayKnown : Type 0
 FramesStayKnown =
-    (all : List Arrivals) (frame : Frame) (worker seq : ℕ) → is_known (known_of all worker) seq ≡ true
-    → is_known (known_of (taken all frame).1 worker) seq ≡ true
+    (all : List Arrivals) (bases : List ℕ) (frame : Frame) (worker seq : ℕ) → is_known (known_of all worker) seq ≡ true
+    → is_known (known_of (taken all bases frame).1 worker) seq ≡ true
 
 -- and nothing else is known if frames are dropped
 abbrev pub DropsLeaveKnown : Type 0
 DropsLeaveKnown = (all : List Arrivals) (counts : List ℕ) (worker : ℕ) → known_of (dropped all counts) worker ≡ known_of all worker
 
+-- where frames are gained, just those below their worker's base are known beside those that were
+abbrev pub GainsAreKnown : Type 0
+GainsAreKnown =
+    (all : List Arrivals) (bases : List ℕ) (worker seq : ℕ) → worker < length all
+    → is_known (known_of (gained all bases) worker) seq ≡ (nat_lt seq (slice_index bases worker) || is_known (known_of all worker) seq)
+
+-- and the same frames are kept
+abbrev pub GainsLeaveKept : Type 0
+GainsLeaveKept = (all : List Arrivals) (bases : List ℕ) (worker seq : ℕ) → frame_of (gained all bases) worker seq ≡ frame_of all worker seq
+
 -- if each known frame from its worker's low on is kept, so it is once a frame has come
 abbrev pub FramesStayKept : Type 0
 FramesStayKept =
-    (all : List Arrivals) (lows : List ℕ) (frame : Frame) → AreKeptFrom all lows → AreKeptFrom (taken all frame).1 lows
+    (all : List Arrivals) (lows bases : List ℕ) (frame : Frame) → AreKeptFrom all lows → AreKeptFrom (taken all bases frame).1 lows
 
 -- and, from the counts on, once those below are dropped
 abbrev pub DropsStayKept : Type 0
@@ -69,35 +90,40 @@ DropsStayKept =
 -- a frame that is lacking is of a worker that is there
 abbrev pub LackingIsOfWorker : Type 0
 LackingIsOfWorker =
-    (all : List Arrivals) (counts : List ℕ) (missing : ℕ × ℕ) → lacking all counts ≡ Some missing → missing.0 < length all
+    (all : List Arrivals) (bases counts : List ℕ) (missing : ℕ × ℕ) → lacking all bases counts ≡ Some missing → missing.0 < length all
 
 -- ---- what is missing
 
--- the first seq that is missing is the least that is not known
+-- this seq is the least from the base on that is not known
+pub record IsLeastFrom (known : List ℕ) (base seq : ℕ) : Type 0 where
+  pub up : base ≤ seq
+  pub unknown : is_known known seq ≡ false
+  pub lower_known : (other : ℕ) → base ≤ other → other < seq → is_known known other ≡ true
+
+-- the first seq that is missing is that
 abbrev pub FirstMissingIsLeast : Type 0
-FirstMissingIsLeast =
-    (known : List ℕ) → (is_known known (first_missing known) ≡ false)
-    × ((seq : ℕ) → seq < first_missing known → is_known known seq ≡ true)
+FirstMissingIsLeast = (known : List ℕ) (base : ℕ) → IsLeastFrom known base (first_missing_from known base)
 
--- a worker lacks no frame below its count: each is known
-abbrev pub IsComplete : List Arrivals → List ℕ → ℕ → Type 0
-IsComplete all counts worker = (seq : ℕ) → seq < slice_index counts worker → is_known (known_of all worker) seq ≡ true
+-- a worker lacks no frame from its base to before its count: each is known
+abbrev pub IsComplete : List Arrivals → List ℕ → List ℕ → ℕ → Type 0
+IsComplete all bases counts worker =
+    (seq : ℕ) → slice_index bases worker ≤ seq → seq < slice_index counts worker → is_known (known_of all worker) seq ≡ true
 
--- the least worker that lacks a frame below its count, with the least such seq
-pub record IsLeastLacking (all : List Arrivals) (counts : List ℕ) (missing : ℕ × ℕ) : Type 0 where
+-- the least worker that lacks a frame from its base to before its count, with the least such seq
+pub record IsLeastLacking (all : List Arrivals) (bases counts : List ℕ) (missing : ℕ × ℕ) : Type 0 where
   pub there : missing.0 < length all
   pub below : missing.1 < slice_index counts missing.0
-  pub unknown : is_known (known_of all missing.0) missing.1 ≡ false
-  pub lower_known : (seq : ℕ) → seq < missing.1 → is_known (known_of all missing.0) seq ≡ true
-  pub lesser_complete : (worker : ℕ) → worker < missing.0 → IsComplete all counts worker
+  pub least : IsLeastFrom (known_of all missing.0) (slice_index bases missing.0) missing.1
+  pub lesser_complete : (worker : ℕ) → worker < missing.0 → IsComplete all bases counts worker
 
 -- the frame that is named, if one is lacking, is that
 abbrev pub LackingIsLeast : Type 0
 LackingIsLeast =
-    (all : List Arrivals) (counts : List ℕ) (missing : ℕ × ℕ) → lacking all counts ≡ Some missing → IsLeastLacking all counts missing
+    (all : List Arrivals) (bases counts : List ℕ) (missing : ℕ × ℕ) → lacking all bases counts ≡ Some missing
+    → IsLeastLacking all bases counts missing
 
 -- and none is named exactly if no worker that is there lacks one
 abbrev pub NoneLackingIsComplete : Type 0
 NoneLackingIsComplete =
-    (all : List Arrivals) (counts : List ℕ)
-    → (lacking all counts ≡ None) ↔ ((worker : ℕ) → worker < length all → IsComplete all counts worker)
+    (all : List Arrivals) (bases counts : List ℕ)
+    → (lacking all bases counts ≡ None) ↔ ((worker : ℕ) → worker < length all → IsComplete all bases counts worker)

@@ -3,9 +3,9 @@
 ghost use Rattle.std.specs.Prelude.{◌≡◌, ◌-◌, ◌<◌, ◌^◌, false, true, IfOk, OnOk, OnErr, ◌⊎◌};
 ghost use Rattle.std.specs.Option.{option_map};
 ghost use Rattle.update_log.specs.declared.frame.Frame.{Frame as FrameOf};
-ghost use Rattle.intake.specs.Known.{is_known, first_missing};
+ghost use Rattle.intake.specs.Known.{is_known, first_missing, first_missing_from};
 ghost use Rattle.intake.specs.State.{nothing, frame_in};
-ghost use Rattle.intake.specs.Steps.{with_frame, without_below};
+ghost use Rattle.intake.specs.Steps.{with_frame, without_below, known_below};
 ghost use Rattle.intake.specs.Inner.Collecting.{taken_by, begins_below, NoneBelow};
 
 use crate::known_seqs::KnownSeqs;
@@ -51,6 +51,27 @@ impl Collector {
         self.known.first_missing()
     }
 
+    /// The first seq from the base on that is missing.
+    pub fn first_missing_from(&self, base: u64) -> u64
+        ensures { result ≡ first_missing_from self.now.known base }
+    {
+        self.known.first_missing_from(base)
+    }
+
+    /// Lets the first missing seq from this base on be found in one step from now on.
+    pub fn aim(&mut self, base: u64)
+        ensures { self.new ≡ self.old }
+    {
+        self.known.aim(base);
+    }
+
+    /// Makes every seq below the base known.
+    pub fn gain(&mut self, base: u64)
+        ensures { self.new ≡ known_below self.old base }
+    {
+        self.known.gain(base);
+    }
+
     /// The frame of that seq, if it is kept.
     pub fn frame(&self, seq: u64) -> Option<&Frame>
         ensures { option_map (λ frame. frame.now) result ≡ frame_in self.now.kept seq }
@@ -58,30 +79,30 @@ impl Collector {
         self.kept.get(&seq)
     }
 
-    /// Takes a copy of a frame of this worker.
-    pub fn take(&mut self, frame: &Frame) -> Taken
-        ensures { ((result ≡ Taken.Memory) × (self.new ≡ self.old) × ((taken_by self.old frame.now).0 ≡ Taken.Stored))
-            ⊎ (taken_by self.old frame.now ≡ (result, self.new)) }
+    /// Takes a copy of a frame of this worker, with the window from the base on.
+    pub fn take(&mut self, base: u64, frame: &Frame) -> Taken
+        ensures { ((result ≡ Taken.Memory) × (self.new ≡ self.old) × ((taken_by self.old base frame.now).0 ≡ Taken.Stored))
+            ⊎ (taken_by self.old base frame.now ≡ (result, self.new)) }
     {
-        match self.would_take(frame.seq) {
+        match self.would_take(base, frame.seq) {
             Taken::Stored => {}
             other => return other,
         }
         match copy_of(frame) {
-            Ok(copy) => self.take_owned(copy),
+            Ok(copy) => self.take_owned(base, copy),
             Err(_) => Taken::Memory,
         }
     }
 
-    /// Takes a frame of this worker.
-    pub fn take_owned(&mut self, frame: Frame) -> Taken
-        ensures { ((result ≡ Taken.Memory) × (self.new ≡ self.old) × ((taken_by self.old frame).0 ≡ Taken.Stored))
-            ⊎ (taken_by self.old frame ≡ (result, self.new)) }
+    /// Takes a frame of this worker, with the window from the base on.
+    pub fn take_owned(&mut self, base: u64, frame: Frame) -> Taken
+        ensures { ((result ≡ Taken.Memory) × (self.new ≡ self.old) × ((taken_by self.old base frame).0 ≡ Taken.Stored))
+            ⊎ (taken_by self.old base frame ≡ (result, self.new)) }
     {
         if self.known.contains(frame.seq) {
             return Taken::Repeat;
         }
-        if self.known.is_ahead(frame.seq) {
+        if self.known.is_ahead(base, frame.seq) {
             return Taken::Ahead;
         }
         match self.store(frame) {
@@ -91,13 +112,13 @@ impl Collector {
     }
 
     /// The answer to a frame of that seq, if there is memory.
-    pub fn would_take(&self, seq: u64) -> Taken
-        ensures { (frame : FrameOf) → frame.seq ≡ seq → result ≡ (taken_by self.now frame).0 }
+    pub fn would_take(&self, base: u64, seq: u64) -> Taken
+        ensures { (frame : FrameOf) → frame.seq ≡ seq → result ≡ (taken_by self.now base frame).0 }
     {
         if self.known.contains(seq) {
             return Taken::Repeat;
         }
-        if self.known.is_ahead(seq) {
+        if self.known.is_ahead(base, seq) {
             return Taken::Ahead;
         }
         Taken::Stored

@@ -1,11 +1,11 @@
 //! The arrivals of all workers.
 
-ghost use Rattle.std.specs.Prelude.{◌≡◌, ◌<◌, ◌^◌, length, IfOk, ◌⊎◌};
+ghost use Rattle.std.specs.Prelude.{◌≡◌, ◌<◌, ◌^◌, [], length, slice_index, IfOk, ◌⊎◌};
 ghost use Rattle.std.specs.Option.{option_map};
 ghost use Rattle.update_log.specs.declared.frame.Frame.{Frame as FrameOf};
-ghost use Rattle.intake.specs.Known.{first_missing};
+ghost use Rattle.intake.specs.Known.{first_missing, first_missing_from};
 ghost use Rattle.intake.specs.State.{known_of, frame_of};
-ghost use Rattle.intake.specs.Steps.{no_arrivals, taken, lacking, dropped};
+ghost use Rattle.intake.specs.Steps.{no_arrivals, taken, lacking, dropped, gained};
 
 use crate::collector::Collector;
 use crate::taken::Taken;
@@ -59,28 +59,52 @@ impl Intake {
     /// stored. Only `Stored` changes anything.
     pub fn take(&mut self, frame: &Frame) -> Taken
         requires { frame.now.worker < length self.old }
-        ensures { ((result ≡ Taken.Memory) × (self.new ≡ self.old) × ((taken self.old frame.now).0 ≡ Taken.Stored))
-            ⊎ (taken self.old frame.now ≡ (result, self.new)) }
+        ensures { ((result ≡ Taken.Memory) × (self.new ≡ self.old) × ((taken self.old [] frame.now).0 ≡ Taken.Stored))
+            ⊎ (taken self.old [] frame.now ≡ (result, self.new)) }
     {
-        self.workers[frame.worker as usize].take(frame)
+        self.workers[frame.worker as usize].take(0, frame)
     }
 
-    /// Takes a frame as `take` does, and keeps the frame itself, not a copy.
-    pub fn take_owned(&mut self, frame: Frame) -> Taken
+    /// Takes a frame as `take` does, but keeps the frame itself, not a copy, and counts from the
+    /// first seq that is missing at or above its worker's base how far ahead it is. The bases are by
+    /// worker, 0 for a worker without one. If `aim` was not last called with them, it also costs a
+    /// step for each known seq from the base to that seq.
+    pub fn take_owned(&mut self, bases: &[u64], frame: Frame) -> Taken
         requires { frame.worker < length self.old }
-        ensures { ((result ≡ Taken.Memory) × (self.new ≡ self.old) × ((taken self.old frame).0 ≡ Taken.Stored))
-            ⊎ (taken self.old frame ≡ (result, self.new)) }
+        ensures { ((result ≡ Taken.Memory) × (self.new ≡ self.old) × ((taken self.old bases.now frame).0 ≡ Taken.Stored))
+            ⊎ (taken self.old bases.now frame ≡ (result, self.new)) }
     {
-        self.workers[frame.worker as usize].take_owned(frame)
+        let base = base_of(bases, frame.worker);
+        self.workers[frame.worker as usize].take_owned(base, frame)
     }
 
-    /// What `take` answers to a frame of that seq of an existing worker, if there is memory; it
-    /// does not depend on the frame's entries. Takes no memory.
-    pub fn would_take(&self, worker: u8, seq: u64) -> Taken
+    /// What `take_owned` answers, with these bases, to a frame of that seq of an existing worker, if
+    /// there is memory; it does not depend on the frame's entries. Takes no memory.
+    pub fn would_take(&self, bases: &[u64], worker: u8, seq: u64) -> Taken
         requires { worker < length self.now }
-        ensures { (frame : FrameOf) → frame.worker ≡ worker → frame.seq ≡ seq → result ≡ (taken self.now frame).0 }
+        ensures { (frame : FrameOf) → frame.worker ≡ worker → frame.seq ≡ seq → result ≡ (taken self.now bases.now frame).0 }
     {
-        self.workers[worker as usize].would_take(seq)
+        let base = base_of(bases, worker);
+        self.workers[worker as usize].would_take(base, seq)
+    }
+
+    /// Lets calls with these bases find each worker's first missing seq in one step from now on. No
+    /// answer depends on it, so a caller that leaves it out is only slower. The bases are by worker;
+    /// it costs a step for each known seq from there to the first missing one. Takes no memory.
+    pub fn aim(&mut self, bases: &[u64])
+        ensures { self.new ≡ self.old }
+    {
+        aim_each(&mut self.workers, bases);
+    }
+
+    /// Makes every frame below its worker's base known, also those that never came; which are kept
+    /// stays as it is. The bases are by worker, any numbers; nothing changes for a worker without
+    /// one. It costs a step for each worker, and one for each known seq above the first missing one
+    /// that is below the base or passed then. Takes no memory.
+    pub fn gain(&mut self, bases: &[u64])
+        ensures { self.new ≡ gained self.old bases.now }
+    {
+        gain_each(&mut self.workers, bases);
     }
 
     /// The first missing seq of a worker: all before it are known. It is 0 if there is no such
@@ -94,12 +118,34 @@ impl Intake {
         }
     }
 
+    /// The first seq of a worker that is missing at or above its base: all from the base to before it
+    /// are known. The bases are by worker, 0 for a worker without one. It is the base if there is no
+    /// such worker. Takes no memory.
+    pub fn contiguous_from(&self, bases: &[u64], worker: u8) -> u64
+        ensures { result ≡ first_missing_from (known_of self.now worker) (slice_index bases.now worker) }
+    {
+        let base = base_of(bases, worker);
+        match self.workers.as_slice().get(worker as usize) {
+            None => base,
+            Some(collector) => collector.first_missing_from(base),
+        }
+    }
+
     /// The least worker whose first missing seq is below its count, with that seq. The counts are
     /// by worker; a worker without a count lacks nothing. Takes no memory.
     pub fn first_missing(&self, counts: &[u64]) -> Option<(u8, u64)>
-        ensures { result ≡ lacking self.now counts.now }
+        ensures { result ≡ lacking self.now [] counts.now }
     {
-        lacking_worker(&self.workers, counts)
+        lacking_worker(&self.workers, &[], counts)
+    }
+
+    /// The least worker whose first missing seq at or above its base is below its count, with that
+    /// seq: as `first_missing`, but no frame below the bases is looked for. The bases are by worker,
+    /// 0 for a worker without one. Takes no memory.
+    pub fn first_missing_from(&self, bases: &[u64], counts: &[u64]) -> Option<(u8, u64)>
+        ensures { result ≡ lacking self.now bases.now counts.now }
+    {
+        lacking_worker(&self.workers, bases, counts)
     }
 
     /// The frame of that seq of a worker, if it is kept; `None` also if there is no such worker.
@@ -122,21 +168,56 @@ impl Intake {
     }
 }
 
-/// The least worker whose first missing seq is below its count, with that seq.
-fn lacking_worker(workers: &[Collector], counts: &[u64]) -> Option<(u8, u64)>
+/// The base of a worker; 0 if it has none.
+fn base_of(bases: &[u64], worker: u8) -> u64
+    ensures { result ≡ slice_index bases.now worker }
+{
+    match bases.get(worker as usize) {
+        Some(base) => *base,
+        None => 0,
+    }
+}
+
+/// The least worker whose first missing seq at or above its base is below its count, with that seq.
+fn lacking_worker(workers: &[Collector], bases: &[u64], counts: &[u64]) -> Option<(u8, u64)>
     requires { length workers.now < 2 ^ 8 }
-    ensures { result ≡ lacking workers.now counts.now }
+    ensures { result ≡ lacking workers.now bases.now counts.now }
 {
     for (worker, count) in counts.iter().enumerate() {
         if worker >= workers.len() {
             return None;
         }
-        let missing = workers[worker].first_missing();
+        let base = base_of(bases, worker as u8);
+        let missing = workers[worker].first_missing_from(base);
         if missing < *count {
             return Some((worker as u8, missing));
         }
     }
     None
+}
+
+/// Aims each worker that has a base at it.
+fn aim_each(workers: &mut [Collector], bases: &[u64])
+    ensures { workers.new ≡ workers.old }
+{
+    for (worker, base) in bases.iter().enumerate() {
+        if worker >= workers.len() {
+            return;
+        }
+        workers[worker].aim(*base);
+    }
+}
+
+/// Makes every seq below each worker's base known.
+fn gain_each(workers: &mut [Collector], bases: &[u64])
+    ensures { workers.new ≡ gained workers.old bases.now }
+{
+    for (worker, base) in bases.iter().enumerate() {
+        if worker >= workers.len() {
+            return;
+        }
+        workers[worker].gain(*base);
+    }
 }
 
 /// Drops each worker's frames below its count.

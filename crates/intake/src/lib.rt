@@ -7,14 +7,21 @@
 //! everything that has arrived belongs to the streams of one list of commits (`Streams.antt`), and
 //! what preserves that (`Laws.antt`). `Inner` only helps proofs.
 //!
+//! An image of the tables stands for the frames below a base, one for each worker. Some calls take
+//! such bases, by worker: what is missing, and how far ahead a frame may be, is then counted from
+//! there on, and `gain` makes the frames below them known. A base is any number, and an intake has
+//! none of its own: each call is given them. Without bases, as with bases of 0, a call is about all
+//! frames.
+//!
 //! Taking a frame costs a look-up, and a step for each known seq that the first missing one passes;
-//! each seq is passed once. An intake holds, for each worker, the first missing seq, the known ones
-//! above it, and the frames that were not dropped.
+//! each seq is passed once. With bases this needs `aim`. An intake holds, for each worker, the first
+//! missing seq, the known ones above it, and the frames that were not dropped.
 //!
 //! Promised: each call is exact, except that it may run out of memory; only `new`, `take` and
 //! `take_owned` need memory. `arrivals_stay_of_streams` states that an intake holds frames of a
 //! list's streams if only frames of that list arrive, `known_frames_stay_kept` which frames stay
-//! known and kept, and `first_missing_is_least` which seq is the first missing one.
+//! known and kept, `frames_are_gained` which become known without arriving, and
+//! `first_missing_is_least` which seq is the first missing one.
 //!
 //! It uses `update_log` for frames. If a call fails for lack of memory, its value is unchanged
 //! unless the call says otherwise.
@@ -27,5 +34,7 @@ mod laws;
 mod taken;
 
 pub use intake::Intake;
-pub use laws::{arrivals_stay_of_streams, first_missing_is_least, known_frames_stay_kept};
+pub use laws::{
+    arrivals_stay_of_streams, first_missing_is_least, frames_are_gained, known_frames_stay_kept,
+};
 pub use taken::Taken;

@@ -4,7 +4,7 @@ pub enum Taken {
     /// It was known already, dropped or not.
     Repeat,
     /// It is too far ahead: its seq is the greatest number, or 4096 or more past its worker's first
-    /// missing one.
+    /// missing one, at or above the worker's base if there is one.
     Ahead,
     /// Out of memory.
     Memory,

@@ -2,8 +2,6 @@
 use Rattle.std.proofs.Common.{◌≡◌, ℕ, Bool, true, false, cond, ◌&&◌, ◌==◌, List, [], ◌∷◌, None, Some, refl, sym, ap, ◌∙◌, arith}
 use Rattle.std.specs.Map.{lookup, set_value}
 use Rattle.std.specs.BTreeMap.{is_at}
-use Rattle.std.specs.Ordering.{nat_cmp, ordering_then}
-use Rattle.std.specs.declared.cmp.Ordering.{Ordering}
 use Rattle.std.proofs.lemmas.Bool.{and_from, and_parts, eq-eqb, eqb-true}
 use Rattle.std.proofs.lemmas.Bool.Decides.{nat_tests}
 use Rattle.rows.specs.declared.entry.Entry.{Entry}
@@ -12,7 +10,7 @@ use Rattle.rows.specs.declared.row_id.RowId.{RowId}
 use Rattle.std.proofs.lemmas.Option.{same_Some}
 use Rattle.rows.specs.Entries.{table_of, row_of}
 use Rattle.rows.specs.Commits.{is_of}
-use Rattle.mvcc.specs.Inner.Keys.{is_key_of, names, adds_column}
+use Rattle.mvcc.specs.Inner.Keys.{is_key_of, names, adds_column, key_cmp}
 
 -- an entry of a row is of that row of its table, and of no other
 pub of-is : (t r : ℕ) (entry : Entry) (id : RowId) → row_of entry ≡ Some id
@@ -77,10 +75,6 @@ adds-none (Insert table row bytes) id e = refl
 adds-none (Patch table row offset bytes) id e = refl
 adds-none (Delete table row) id e = refl
 adds-none (AddColumn table default) id e = absurd cc
-
--- how a map compares its keys
-abbrev pub key_cmp : ℕ × ℕ → ℕ × ℕ → Ordering
-key_cmp x y = ordering_then (nat_cmp x.0 y.0) (nat_cmp x.1 y.1)
 
 -- two tests that answer alike find the same
 lookup-alike : {K X : Type 0} (f g : K → Bool) (es : List (K × X)) → ((k : K) → f k ≡ g k) → lookup f es ≡ lookup g es

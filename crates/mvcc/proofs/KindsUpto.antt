@@ -163,7 +163,7 @@ first-defaults table (suc version) (commit ∷ commits) =
     )
 
 -- so the kinds at a version are the first of all
-kinds-first : (table version : ℕ) (commits : List Commit) (kinds : List Kind)
+pub kinds-first : (table version : ℕ) (commits : List Commit) (kinds : List Kind)
     → kinds ++ map kind_of (defaults_of table (take version commits)) ≡ kinds_upto version (columns_of table commits kinds)
 kinds-first table version commits kinds =
     let begun = map kind_of (defaults_of table (take version commits)) in
@@ -258,7 +258,7 @@ numbers-sorted table before (commit ∷ commits) i j d le k =
     lower h = omega arith
 
 -- columns at a version are columns that a table may have
-limits-commits : LimitsStay → (shape : Shape) (commits : List Commit) → AreTables shape → AreTables (shape_after_commits shape commits)
+pub limits-commits : LimitsStay → (shape : Shape) (commits : List Commit) → AreTables shape → AreTables (shape_after_commits shape commits)
 limits-commits stay shape [] h = h
 limits-commits stay shape (commit ∷ commits) h =
     limits-commits stay (shape_after shape commit.entries) commits (stay shape commit.entries h)

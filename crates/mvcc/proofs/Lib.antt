@@ -16,3 +16,5 @@ pub mod Seen
 pub mod Definedness
 pub mod Telling
 pub mod Keys
+pub mod Images
+pub mod TableImages

@@ -9,8 +9,8 @@ use Rattle.rows.specs.declared.entry.Entry.{Entry}
 use Rattle.rows.specs.declared.row_id.RowId.{RowId}
 use Rattle.rows.specs.Entries.{table_of, row_of}
 use Rattle.std.proofs.lemmas.Bool.{and_parts, eqb-true}
-use Rattle.mvcc.specs.Inner.Keys.{is_key_of, names}
-use Rattle.mvcc.proofs.Keys.{names-is, names-none, key_cmp, lookup-key, lookup-set, lookup-put}
+use Rattle.mvcc.specs.Inner.Keys.{is_key_of, names, key_cmp}
+use Rattle.mvcc.proofs.Keys.{names-is, names-none, lookup-key, lookup-set, lookup-put}
 use Rattle.mvcc.specs.declared.link.Link.{Link}
 use Rattle.mvcc.specs.Inner.Chains.{Chains, newest_from, latest_from, bytes_from, taken_back_at, links_found, links_at, Turns}
 

@@ -9,3 +9,4 @@ pub mod Chains
 pub mod OwnRows
 pub mod Cells
 pub mod RowsTold
+pub mod Images

@@ -1,18 +1,23 @@
 //! The chains of all tables' rows.
 
-ghost use Rattle.std.specs.Prelude.{◌≡◌, ℕ, ◌+◌, [], false, length, OnOk, OnErr};
+ghost use Rattle.std.specs.Prelude.{◌≡◌, ℕ, ◌+◌, ◌<◌, ◌++◌, [], false, length, OnOk, OnErr};
 ghost use Rattle.std.specs.List.{list_any, AllByRecursion};
-ghost use Rattle.std.specs.List.Sorted.{IsNonDecreasingBy};
+ghost use Rattle.std.specs.List.Sorted.{IsNonDecreasingBy, IsStrictlySortedBy};
+ghost use Rattle.std.specs.Map.{keys_of};
 ghost use Rattle.std.specs.Option.{option_map};
 ghost use Rattle.mvcc.specs.Inner.Chains.{newest_link, bytes_at, linked, taken_back_at, links_at, all_taken_back, and_entries, Turns};
 ghost use Rattle.mvcc.specs.Inner.Chains.{AreChains, AreChainsTakenBack, AreLinkable};
 ghost use Rattle.mvcc.specs.Inner.Columns.{columns_after};
-ghost use Rattle.mvcc.specs.Inner.Keys.{adds_column};
+ghost use Rattle.mvcc.specs.Inner.Images.{found_at, chains_of, inserts_of};
+ghost use Rattle.mvcc.specs.Inner.Keys.{adds_column, key_cmp};
 ghost use Rattle.mvcc.specs.Inner.RowBytes.{HasValue};
 ghost use Rattle.rows.specs.Shape.{Shape};
+ghost use Rattle.rows.specs.Spelling.{AreBytes};
 
 use crate::chain::Chain;
 use crate::columns::Columns;
+use crate::image::push_row;
+use rows::limits::TABLES_MAX;
 use rows::{Commit, Entry, RowId};
 use std::alloc::{AllocError, Global};
 use std::collections::BTreeMap;
@@ -61,6 +66,37 @@ impl Chains {
             None => None,
             Some(chain) => chain.bytes_at(version),
         }
+    }
+
+    /// How many rows were ever written.
+    pub fn len(&self) -> usize
+        ensures { result ≡ length self.now }
+    {
+        self.chains.len()
+    }
+
+    /// Adds to an image an insert for each row of the table that is there at a version, in rising
+    /// identifier, with the bytes of this blank row behind its own. Fails only if out of memory.
+    pub fn push_rows(
+        &self,
+        alloc: Global,
+        version: u64,
+        table: u8,
+        blank: &[u8],
+        image: &mut Vec<Entry>,
+    ) -> Result<(), AllocError>
+        requires table { table < TABLES_MAX }
+        requires sorted { (table row : ℕ) → IsNonDecreasingBy (λ link. link.version) (links_at self.now table row) }
+        ensures inserts { OnOk result
+            (image.new.items ≡ image.old.items ++ inserts_of table (found_at version blank.now (chains_of table self.now))) }
+        ensures bytes { OnOk result (AllByRecursion (λ row. AreBytes row.1) (found_at version blank.now (chains_of table self.now))) }
+        ensures ordered { IsStrictlySortedBy key_cmp (keys_of self.now) }
+    {
+        for (key, chain) in self.chains.range((table, 0)..(table + 1, 0)) {
+            let bytes = chain.bytes_at(version);
+            push_row(alloc, image, table, RowId(key.1), blank, bytes)?;
+        }
+        Ok(())
     }
 
     /// Adds links for the entries of the next commit, all of them or none, and the columns that they

@@ -11,10 +11,10 @@
 //! each row that it writes, an index has those of its entries that still matter; once it has added a
 //! column, it goes over all of them.
 //!
-//! Promised: a value at a version is that of the tables after so many commits; the newest version
-//! of a row is the last commit that wrote it or added a column to its table; a commit is absorbed
-//! wholly or not at all; each call of a transaction answers what `specs/Transactions.antt` specifies
-//! for what the transaction sees.
+//! Promised: a value at a version is that of the tables after so many commits, and the image of a
+//! version is that of these tables; the newest version of a row is the last commit that wrote it or
+//! added a column to its table; a commit is absorbed wholly or not at all; each call of a transaction
+//! answers what `specs/Transactions.antt` specifies for what the transaction sees.
 //!
 //! It uses only `rows`. If a call fails for lack of memory, its value is unchanged unless the call
 //! says otherwise.
@@ -27,6 +27,7 @@ mod chains;
 mod columns;
 mod defining;
 mod faults;
+mod image;
 mod kept_bytes;
 mod kind_buffer;
 mod last_commits;

@@ -1,17 +1,20 @@
 //! Every version of the database: the list of its commits.
 
-ghost use Rattle.std.specs.Prelude.{◌≡◌, ◌<◌, ◌≤◌, ◌-◌, ◌∷◌, [], ◌++◌, ℕ, length, true, IfOk, IfErr, OnOk, OnErr, slice_get, take, None};
+ghost use Rattle.std.specs.Prelude.{◌≡◌, ◌<◌, ◌≤◌, ◌-◌, ◌∷◌, [], ◌++◌, ℕ, length, true, slice_get, take, drop};
+ghost use Rattle.std.specs.Prelude.{None, IfOk, IfErr, OnOk, OnErr};
 ghost use Rattle.std.specs.Prelude.{IsOk, IfSome};
 ghost use Rattle.std.specs.Prelude.{if◌then◌else◌, ◌==◌};
 ghost use Rattle.std.specs.Bool.{OnTrue};
-ghost use Rattle.std.specs.List.{AllByRecursion};
+ghost use Rattle.std.specs.List.{AllByRecursion, list_all};
 ghost use Rattle.std.specs.Option.{option_map};
-ghost use Rattle.rows.specs.Shape.{shape_of, AreColumns};
+ghost use Rattle.rows.specs.Image.{image_of};
+ghost use Rattle.rows.specs.Shape.{shape_of, kinds_in, is_good, AreColumns};
 ghost use Rattle.rows.specs.Tables.{opening, shape_in, is_row_at};
 ghost use Rattle.rows.specs.Commits.{apply_commits, last_touching};
 ghost use Rattle.rows.specs.Spelling.{HasSpelling};
 ghost use Rattle.mvcc.specs.VersionList.{absorbed, defined_at, tables_at};
 ghost use Rattle.mvcc.specs.Newest.{newest_of, newest_in, newest_added};
+ghost use Rattle.mvcc.specs.Inner.Images.{image_at};
 ghost use Rattle.mvcc.specs.Inner.Newest.{newest_for};
 ghost use Rattle.mvcc.specs.Values.{value_in};
 
@@ -19,14 +22,15 @@ use crate::cells::value_in_wide;
 use crate::chains::Chains;
 use crate::columns::Columns;
 use crate::defining::are_defined;
+use crate::image::push_columns;
 use crate::last_commits::LastCommits;
 use crate::laws::rows_have_their_bytes;
 use rows::laws::{
     changes_tell_kinds, columns_are_of_their_width, commits_are_defined_one_by_one,
-    entries_are_defined_one_by_one,
+    entries_are_defined_one_by_one, images_rebuild_tables,
 };
 use rows::limits::TABLES_MAX;
-use rows::{Commit, Entry, EntryList, Kind, RowId, Schema, Value};
+use rows::{Commit, Entry, EntryList, Kind, RowId, Schema, Value, width_of_row};
 use std::alloc::{AllocError, Global};
 use std::marker::Model;
 
@@ -243,6 +247,71 @@ impl Versions {
         let bytes = self.chains.bytes_at(version, table, row)?;
         let kinds = self.kinds_at(version, table)?;
         value_in_wide(kinds, self.columns.blank(table), bytes, column)
+    }
+
+    /// The image of the tables at that version: entries that rebuild them from those that the schema
+    /// opens. Table by table it has an added column, with zeros, for each column that commits added,
+    /// and then an insert for each row, in rising identifier. It costs a search for each row that was
+    /// ever written, and copies each row's bytes. Fails only if out of memory.
+    pub fn image(&self, version: u64) -> Result<Vec<Entry>, AllocError>
+        ensures { IfOk result
+            (λ entries. entries.items ≡ image_of (shape_of self.now.schema) (tables_at self.now version)) }
+    {
+        changes_tell_kinds();
+        self.schema.keeps_limits();
+        let mut image = Vec::with_capacity(self.alloc, self.image_len_max(version))?;
+        for table in 0..TABLES_MAX as u8 {
+            self.push_table(version, table, &mut image)?;
+        }
+        Ok(image)
+    }
+
+    /// How many entries the image of the tables at that version has at most: one for each column that
+    /// was added, and one for each row that was ever written.
+    fn image_len_max(&self, version: u64) -> usize {
+        let mut count = self.chains.len();
+        for table in 0..TABLES_MAX as u8 {
+            count = count.saturating_add(self.added_at(version, table).len());
+        }
+        count
+    }
+
+    /// The kinds of the columns that a table has at that version behind those that it was opened
+    /// with; none if there is no table of that number.
+    fn added_at(&self, version: u64, table: u8) -> &[Kind]
+        ensures value { result.now ≡ drop (length (kinds_in (shape_of self.now.schema) table))
+            (kinds_in (shape_in (tables_at self.now version)) table) }
+        ensures good { list_all is_good result.now ≡ true }
+    {
+        commits_are_defined_one_by_one();
+        changes_tell_kinds();
+        let Some(opened) = self.schema.kinds(table as usize) else {
+            return &[];
+        };
+        let Some(kinds) = self.kinds_at(version, table) else {
+            return &[];
+        };
+        let (_, added) = kinds.split_at(opened.len());
+        added
+    }
+
+    /// Adds the image of one table at that version, if there is one of that number. Fails only if out
+    /// of memory.
+    fn push_table(&self, version: u64, table: u8, image: &mut Vec<Entry>) -> Result<(), AllocError>
+        ensures { OnOk result
+            (image.new.items ≡ image.old.items ++ image_at (shape_of self.now.schema) (tables_at self.now version) table) }
+    {
+        rows_have_their_bytes();
+        images_rebuild_tables();
+        commits_are_defined_one_by_one();
+        changes_tell_kinds();
+        let Some(kinds) = self.kinds_at(version, table) else {
+            return Ok(());
+        };
+        push_columns(image, table, self.added_at(version, table))?;
+        let (blank, _) = self.columns.blank(table).split_at(width_of_row(kinds));
+        self.chains
+            .push_rows(self.alloc, version, table, blank, image)
     }
 
     /// The number of the last commit with an entry of that row; 0 if there is none. A commit that

@@ -42,10 +42,10 @@ moved_many commits durable count moved h =
     )
 
 -- the primary after the move
-pub flushed_is : (versions : VersionList) (durable count moved workers : ℕ) (failed : Bool)
+pub flushed_is : (versions : VersionList) (durable count moved workers : ℕ) (failed : Bool) (base : ℕ)
     → moved ≡ min count (length (drop durable versions.commits))
-    → primary_of versions (durable + moved) workers failed ≡ flushed (primary_of versions durable workers failed) count
-flushed_is versions durable count moved workers failed h =
+    → primary_of versions (durable + moved) workers failed base ≡ flushed (primary_of versions durable workers failed base) count
+flushed_is versions durable count moved workers failed base h =
     let parts = moved_many versions.commits durable count moved h in
     rw (take-add durable moved versions.commits, parts.0, parts.1)
 

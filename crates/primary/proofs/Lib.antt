@@ -1,8 +1,10 @@
 pub mod Streams
+pub mod Behind
 pub mod Flushing
 pub mod Lending
 pub mod Rebuilding
 pub mod Wanting
 pub mod Opening
+pub mod Cut
 pub mod Committing
 pub mod Elements

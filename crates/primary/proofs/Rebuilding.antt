@@ -1,6 +1,7 @@
 -- A list of commits rebuilt one by one: each is defined where it stands, and its frames can be sent.
 use Rattle.std.proofs.Common.{◌≡◌, ◌+◌, ◌<◌, ◌≤◌, ℕ, true, false, List, [], ◌∷◌, ◌++◌, length, take, drop, get_or}
 use Rattle.std.proofs.Common.{sym, ap, subst, ◌∙◌, arith, refl}
+use Rattle.std.specs.List.{AllByRecursion}
 use Rattle.std.specs.Result.{is_ok}
 use Rattle.std.proofs.lemmas.List.{take_all, drop_more, take-append-drop}
 use Rattle.std.proofs.Math.ListN.{drop_of_length-le}
@@ -8,7 +9,7 @@ use Rattle.rows.specs.declared.commit.Commit.{Commit}
 use Rattle.rows.specs.declared.kind.Kind.{Kind}
 use Rattle.rows.specs.Commits.{IsCommit, apply_commits, tables_after}
 use Rattle.rows.specs.Limits.{commit_entries_max, workers_max}
-use Rattle.rows.specs.Shape.{Shape, shape_of}
+use Rattle.rows.specs.Shape.{shape_of}
 use Rattle.rows.specs.Tables.{opening, apply_entries}
 use Rattle.rows.specs.ListLaws.{EachIsDefined}
 use Rattle.mvcc.specs.VersionList.{VersionList, defined_at}
@@ -39,14 +40,14 @@ defined-next each versions schema workers commits i commit h e journaled same ta
     ∙ each shape (take i commits) commit rest (ap (λ cs. is_ok (apply_commits (opening shape) cs)) whole ∙ journaled.legal.defined)
 
 -- and it can be cut into frames, each of which has a seq
-pub cuttable-next : (workers : ℕ) (shape : Shape) (commits : List Commit) (i : ℕ) (commit : Commit) (streams : List (List Span))
-    (number : ℕ) → i < length commits → commit ≡ get_or commits i commit → workers ≤ workers_max → IsJournaled workers shape commits
+pub cuttable-next : (commits : List Commit) (i : ℕ) (commit : Commit) (streams : List (List Span)) (number : ℕ) → i < length commits
+    → commit ≡ get_or commits i commit → AllByRecursion (IsCommit workers_max) commits → AllByRecursion HasRecord commits
     → AreNumbered commits → AreStreamsOf streams (take i commits) → 0 < number
     → IsCuttable commit number (length (stream_at streams commit.worker)) × (length commit.entries ≤ commit_entries_max)
-cuttable-next workers shape commits i commit streams number h e few journaled numbered are some =
-    let own : IsCommit workers commit = subst (IsCommit workers) (sym e) (all-get_or
-    (IsCommit workers) commits i commit h journaled.legal.each) in
-    let record_held : HasRecord commit = subst HasRecord (sym e) (all-get_or HasRecord commits i commit h journaled.records) in (
+cuttable-next commits i commit streams number h e each records numbered are some =
+    let own : IsCommit workers_max commit = subst (IsCommit workers_max) (sym e) (all-get_or
+    (IsCommit workers_max) commits i commit h each) in
+    let record_held : HasRecord commit = subst HasRecord (sym e) (all-get_or HasRecord commits i commit h records) in (
       record {
         worker_below = omega (arith, own.worker);
         numbered = some;
@@ -57,11 +58,20 @@ cuttable-next workers shape commits i commit streams number h e few journaled nu
     )
 
 -- the primary of versions that are all durable
-pub started-is : (versions : VersionList) (schema : List (List ℕ × List Kind)) (durable workers : ℕ) (commits : List Commit)
-    → versions.schema ≡ schema → versions.commits ≡ commits → durable ≡ length commits
-    → primary_of versions durable workers false ≡ started_primary schema workers commits
-started-is versions schema durable workers commits same are counted =
+pub started-is : (versions : VersionList) (schema : List (List ℕ × List Kind)) (durable workers base : ℕ) (commits : List Commit)
+    → versions.schema ≡ schema → versions.commits ≡ commits → durable ≡ length commits → base ≡ 0
+    → primary_of versions durable workers false base ≡ started_primary schema workers commits
+started-is versions schema durable workers base commits same are counted opening =
     let within : length versions.commits ≤ durable = omega (arith, ap length are) in
     let all : take durable versions.commits ≡ commits = take_all durable versions.commits within ∙ are in
     let none : drop durable versions.commits ≡ [] = drop_of_length-le versions.commits within in
-    rw (same, all, none) refl
+    rw (same, all, none, opening) refl
+
+-- commits of so many workers are of the most that there can be
+pub each-of_most : (workers : ℕ) (commits : List Commit) → workers ≤ workers_max → AllByRecursion (IsCommit workers) commits
+    → AllByRecursion (IsCommit workers_max) commits
+each-of_most workers [] few each = tt
+each-of_most workers (commit ∷ commits) few each = (
+  record { worker = omega (arith, each.0.worker); some = each.0.some; few = each.0.few },
+  each-of_most workers commits few each.1,
+)

@@ -1,24 +1,31 @@
 -- A worker's stream: of the first commits and of those behind, and how long it can be.
 use Rattle.std.proofs.Common.{◌≡◌, ◌+◌, ◌^◌, ◌<◌, ◌≤◌, ◌==◌, ℕ, suc, zero, Bool, true, false, cond, List, [], ◌∷◌, ◌++◌, length, take, drop}
-use Rattle.std.proofs.Common.{get_or, slice_get, refl, sym, ap, ◌∙◌, append_assoc, append-nil, length-append, arith, inl, inr}
+use Rattle.std.proofs.Common.{get_or, slice_get, nat_le, refl, sym, ap, subst, ◌∙◌, append_assoc, append-nil, length-append, arith}
+use Rattle.std.proofs.Common.{inl, inr}
+use Rattle.std.specs.Cmp.Lexicographic.{pointwise}
 use Rattle.std.specs.List.{flat_map, AllByRecursion}
-use Rattle.std.proofs.lemmas.Bool.{eq-eqb, cases_eq, ne_eqb}
+use Rattle.std.proofs.lemmas.Bool.{eq-eqb, and_from, and_parts, le-leb, cases_eq, ne_eqb}
+use Rattle.std.proofs.Math.Seq.{take-take}
 use Rattle.std.proofs.lemmas.List.{take-append-drop, take_all, length_push, take_more}
 use Rattle.rows.specs.declared.commit.Commit.{Commit}
 use Rattle.rows.specs.declared.entry.Entry.{Entry}
 use Rattle.rows.specs.declared.entry.Entry.TheVariants.{Insert, Patch, Delete, AddColumn}
-use Rattle.rows.specs.Commits.{IsCommit}
+use Rattle.rows.specs.Commits.{IsCommit, tables_after}
+use Rattle.rows.specs.Image.{image_of}
 use Rattle.rows.specs.Limits.{workers_max}
+use Rattle.rows.specs.Shape.{Shape}
 use Rattle.rows.specs.Spelling.{entry_spelling}
 use Rattle.update_log.specs.declared.frame.Frame.{Frame}
 use Rattle.update_log.specs.Frames.{IsSendable, IsCuttable, frames_from, frames_of}
 use Rattle.update_log.specs.Parts.{parts_of}
 use Rattle.update_log.specs.Streams.{stream_from, stream_of, frame_count}
+use Rattle.primary.proofs.Cut.{some-base}
 use Rattle.primary.proofs.Elements.{all-append}
-use Rattle.update_log.specs.Laws.{CutIsShort, FramesAreSendable}
+use Rattle.update_log.specs.Images.{pieces_at}
+use Rattle.update_log.specs.Laws.{CutIsShort, FramesAreSendable, PiecesAreSome}
 use Rattle.journal.specs.Recovery.{HasRecord, IsBeginning}
 use Rattle.journal.specs.Text.{record_of, records_from}
-use Rattle.wire.specs.Spelling.{AreCounts}
+use Rattle.wire.specs.Spelling.{AreMarks}
 use Rattle.primary.specs.Journaling.{AreNumbered}
 use Rattle.primary.specs.Sending.{counts_of}
 
@@ -249,7 +256,7 @@ counts_below commits version (suc workers) numbered =
     all_push (λ count. count < 2 ^ 64) (counts_of commits version workers) (frame_count commits workers version)
     (counts_below commits version workers numbered) ((numbered-front commits version numbered).frames_below workers)
 
-length_counts : (commits : List Commit) (version workers : ℕ) → length (counts_of commits version workers) ≡ workers
+pub length_counts : (commits : List Commit) (version workers : ℕ) → length (counts_of commits version workers) ≡ workers
 length_counts commits version zero = refl
 length_counts commits version (suc workers) =
     omega (
@@ -258,14 +265,81 @@ length_counts commits version (suc workers) =
       length_push (counts_of commits version workers) (frame_count commits workers version),
     )
 
--- the counts of 1 to 16 workers are those of a Head
-pub counts_for_head : (commits : List Commit) (version workers : ℕ) → AreNumbered commits → 0 < workers → workers ≤ 16
-    → AreCounts (counts_of commits version workers)
-counts_for_head commits version workers numbered some few = record {
-  some = omega (arith, length_counts commits version workers);
-  few = omega (arith, length_counts commits version workers);
-  below = counts_below commits version workers numbered;
+-- no more frames at a base than at a version behind it
+counts-rise : (commits : List Commit) (worker base version : ℕ) → base ≤ version
+    → frame_count commits worker base ≤ frame_count commits worker version
+counts-rise commits worker base version h =
+    let begins = stream-front worker base (take version commits) in
+    omega (
+      arith,
+      ap (λ cs. length (stream_of cs worker)) (take-take base version commits h),
+      ap length begins.1,
+      length-append (stream_of (take base (take version commits)) worker) begins.0,
+    )
+
+within-push : (xs ys : List ℕ) (x y : ℕ) → pointwise nat_le xs ys ≡ true → x ≤ y → pointwise nat_le (xs ++ x ∷ []) (ys ++ y ∷ []) ≡ true
+within-push [] [] x y all last = and_from (nat_le x y) true (le-leb x y last) refl
+within-push [] (b ∷ ys) x y all last = absurd cc
+within-push (a ∷ xs) [] x y all last = absurd cc
+within-push (a ∷ xs) (b ∷ ys) x y all last =
+    let parts = and_parts (nat_le a b) (pointwise nat_le xs ys) all in
+    and_from (nat_le a b) (pointwise nat_le (xs ++ x ∷ []) (ys ++ y ∷ [])) parts.0 (within-push xs ys x y parts.1 last)
+
+counts-within : (commits : List Commit) (base version workers : ℕ) → base ≤ version
+    → pointwise nat_le (counts_of commits base workers) (counts_of commits version workers) ≡ true
+counts-within commits base version zero h = refl
+counts-within commits base version (suc workers) h =
+    within-push (counts_of commits base workers) (counts_of commits version workers) (frame_count commits workers base)
+    (frame_count commits workers version) (counts-within commits base version workers h) (counts-rise commits workers base version h)
+
+-- none at the opening
+zeros-counted : (commits : List Commit) (workers : ℕ) → AllByRecursion (λ (low : ℕ). low ≡ 0) (counts_of commits 0 workers)
+zeros-counted commits zero = tt
+zeros-counted commits (suc workers) =
+    all_push (λ (low : ℕ). low ≡ 0) (counts_of commits 0 workers) 0 (zeros-counted commits workers) refl
+
+-- there are pieces where there is a base
+none-counted : (some : PiecesAreSome) (shape : Shape) (commits : List Commit) (base : ℕ) → length (pieces_at shape commits base) ≡ 0
+    → base ≡ 0
+none-counted some shape commits zero none = refl
+none-counted some shape commits (suc base) none =
+    absurd (omega (
+      arith,
+      none,
+      ap length (some-base shape commits (suc base) (omega arith)),
+      some (image_of shape (tables_after shape commits (suc base))),
+    ))
+
+-- the counts of 1 to 16 workers at a base and at a version are those of a Head
+pub marks_for_head : (some : PiecesAreSome) (shape : Shape) (commits : List Commit) (base version workers pieces : ℕ) → version < 2 ^ 64
+    → base ≤ version → pieces < 2 ^ 64 → pieces ≡ length (pieces_at shape commits base)
+    → AreNumbered commits → 0 < workers → workers ≤ 16
+    → AreMarks version base pieces (counts_of commits base workers) (counts_of commits version workers)
+marks_for_head some shape commits base version workers pieces below within pieces_below many numbered some_workers few = record {
+  version_below = below;
+  pieces_below = pieces_below;
+  counted = record {
+    some = omega (arith, length_counts commits version workers);
+    few = omega (arith, length_counts commits version workers);
+    below = counts_below commits version workers numbered;
+  };
+  base_within = within;
+  lows_within = counts-within commits base version workers within;
+  none = (
+    λ (e : base ≡ 0). many ∙ ap (λ b. length (pieces_at shape commits b)) e,
+    λ (e : pieces ≡ 0). none-counted some shape commits base (sym many ∙ e),
+  );
+  opening = λ (e : base ≡ 0).
+      subst (λ b. AllByRecursion (λ (low : ℕ). low ≡ 0) (counts_of commits b workers)) (sym e) (zeros-counted commits workers);
 }
+
+-- the counts at a base that is within what is durable
+pub counts-at_base : (commits : List Commit) (base durable workers : ℕ) → base ≤ durable
+    → counts_of (take durable commits) base workers ≡ counts_of commits base workers
+counts-at_base commits base durable zero h = refl
+counts-at_base commits base durable (suc workers) h =
+    ap (λ counts. counts ++ frame_count (take durable commits) workers base ∷ []) (counts-at_base commits base durable workers h)
+    ∙ ap (λ cs. counts_of commits base workers ++ length (stream_of cs workers) ∷ []) (take-take base durable commits h)
 
 -- the counts of the durable list are those at its length
 pub counts-durable : (commits : List Commit) (durable workers : ℕ) → durable ≤ length commits

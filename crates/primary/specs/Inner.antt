@@ -2,4 +2,5 @@
 -- rests on these.
 pub mod Opening
 pub mod Parts
+pub mod Tail
 pub mod Invariant

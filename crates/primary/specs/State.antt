@@ -1,17 +1,19 @@
--- The state of a primary: the durable list of commits, the pending list after it, and whether its journal has failed. Its schema
--- (the names and kinds of its tables) and its number of workers never change.
+-- The state of a primary: the durable list of commits, the pending list after it, whether its journal has failed, and its base. Its
+-- schema (the names and kinds of its tables) and its number of workers never change.
 use Rattle.std.specs.Prelude.{ℕ, List, [], Bool, false, Option, None, Some}
 use Rattle.rows.specs.declared.commit.Commit.{Commit}
 use Rattle.rows.specs.declared.kind.Kind.{Kind}
 use Rattle.journal.specs.declared.form.Form.{Form}
 
--- a primary: its schema, its number of workers, its durable and its pending commits, and whether its journal has failed
+-- a primary: its schema, its number of workers, its durable and its pending commits, whether its journal has failed, and its base: the
+-- frames of the first so many commits are not kept, but the tables after them, in pieces
 pub record Primary : Type 0 where
   pub schema : List (List ℕ × List Kind)
   pub workers : ℕ
   pub durable : List Commit
   pub pending : List Commit
   pub failed : Bool
+  pub base : ℕ
 
 -- a primary with its journal, which is not there while it is lent out for a write, and the form of the journal's text
 pub record Core (J : Type 0) : Type 0 where

@@ -1,4 +1,4 @@
--- One step of a primary: what a commit answers, and what it, a flush and a failed flush leave.
+-- One step of a primary: what a commit answers, and what it, a flush, a failed flush and a base leave.
 use Rattle.std.specs.Prelude.{ℕ, ◌+◌, ◌^◌, List, [], ◌∷◌, ◌++◌, length, take, drop, Bool, true, false, Result, Ok, Err, nat_lt, ◌==◌}
 use Rattle.std.specs.Prelude.{◌||◌, ◌&&◌, not}
 use Rattle.std.specs.Prelude.{if◌then◌else◌}
@@ -14,9 +14,16 @@ use Rattle.update_log.specs.Parts.{parts_of}
 use Rattle.update_log.specs.Streams.{stream_of}
 use Rattle.primary.specs.State.{Primary}
 
--- a primary as it starts: these commits are durable, and no other is there
+-- a primary as it starts: these commits are durable, no other is there, and all frames are kept
 abbrev pub started_primary : List (List ℕ × List Kind) → ℕ → List Commit → Primary
-started_primary schema workers commits = record { schema = schema; workers = workers; durable = commits; pending = []; failed = false }
+started_primary schema workers commits = record {
+  schema = schema;
+  workers = workers;
+  durable = commits;
+  pending = [];
+  failed = false;
+  base = 0;
+}
 
 -- the versions that a transaction may begin on: those of the durable list
 abbrev pub durable_versions : Primary → VersionList
@@ -61,3 +68,7 @@ flushed p count = record p { durable = p.durable ++ take count p.pending; pendin
 -- the primary whose journal has failed
 abbrev pub failed_primary : Primary → Primary
 failed_primary p = record p { failed = true }
+
+-- the primary whose base is what is durable
+abbrev pub based : Primary → Primary
+based p = record p { base = length p.durable }

@@ -1,6 +1,6 @@
 //! The durable list and the pending list.
 
-ghost use Rattle.std.specs.Prelude.{◌≡◌, ◌<◌, ◌≤◌, ◌++◌, ℕ, length, take, Ok, IfOk, IfErr, OnErr};
+ghost use Rattle.std.specs.Prelude.{◌≡◌, ◌<◌, ◌≤◌, ◌^◌, ◌++◌, ℕ, length, map, take, Ok, IfOk, IfErr, OnErr};
 ghost use Rattle.std.specs.List.{AllByRecursion};
 ghost use Rattle.rows.specs.Faults.{IsFaultOf};
 ghost use Rattle.rows.specs.Limits.{workers_max};
@@ -9,34 +9,38 @@ ghost use Rattle.update_log.specs.Frames.{IsSendable};
 ghost use Rattle.update_log.specs.Streams.{stream_of};
 ghost use Rattle.journal.specs.Recovery.{IsJournaled};
 ghost use Rattle.journal.specs.Text.{records_from};
-ghost use Rattle.wire.specs.Spelling.{IsAsk, spelling};
+ghost use Rattle.wire.specs.Spelling.{IsAsk, HasDatagramSpelling, spelling};
 ghost use Rattle.primary.specs.Journaling.{AreNumbered, offered};
-ghost use Rattle.primary.specs.Sending.{pushed, head_for, answers};
-ghost use Rattle.primary.specs.Steps.{started_primary, commit_answer, committed, flushed, failed_primary};
+ghost use Rattle.primary.specs.Sending.{low_of, pushed, wanted, frame_to, pieces_of_base, pulled, piece_to, head_for, answers};
+ghost use Rattle.primary.specs.Steps.{started_primary, commit_answer, committed, flushed, failed_primary, based};
 
 use crate::faults::CommitFault;
 use crate::judging::judge;
-use crate::keeping::{keep, rebuild};
-use crate::sending::{counts, frame_packet, wanted_outs};
+use crate::keeping::{keep, streams_of, versions_of};
+use crate::pieces::{piece_packets, pulled_outs};
+use crate::sending::{frame_packet, wanted_outs};
+use crate::tail::Tail;
 use crate::ticket::Ticket;
 use journal::records;
 use mvcc::{Transaction, Versions};
 use rows::{Commit, Schema};
 use std::alloc::{AllocError, Global};
 use std::marker::Model;
-use update_log::{Streams, one_cut};
-use wire::{Datagram, Out, Packet, To, read};
+use update_log::{one_cut, pieces_are_cut};
+use wire::{Datagram, Head, Out, Packet, To, read};
 
-/// A primary without its journal: the durable list of commits, the pending list, and whether the
-/// journal has failed.
+/// A primary without its journal: the durable list of commits, the pending list, whether the
+/// journal has failed, and the base.
 ///
-/// The versions contain the commits; the streams know for each frame which entries of its commit it
-/// has. Both contain the pending commits too, after the durable ones.
+/// The versions contain the commits; the tail knows for each frame behind the base which entries of
+/// its commit it has. Both contain the pending commits too, after the durable ones. The pieces of the
+/// base are kept as they are sent.
 #[derive(Drop)]
 pub struct Lists {
     alloc: Global,
     versions: Versions,
-    streams: Streams,
+    tail: Tail,
+    pieces: Vec<Packet>,
     durable: usize,
     workers: u8,
     failed: bool,
@@ -49,9 +53,9 @@ impl Model for Lists {
 
     ghost Value = { Primary };
 
-    ghost view = { λ p. primary_of p.versions p.durable p.workers p.failed };
+    ghost view = { λ p. primary_of p.versions p.durable p.workers p.failed p.tail.base };
 
-    ghost invariant = { λ p. AreLists p.versions p.streams.streams p.durable p.workers };
+    ghost invariant = { λ p. AreLists p.versions p.tail p.pieces.items p.durable p.workers };
 }
 
 impl Lists {
@@ -68,11 +72,13 @@ impl Lists {
         requires numbered { AreNumbered commits.now }
         ensures { IfOk result (λ lists. lists ≡ started_primary schema.now workers commits.now) }
     {
-        let rebuilt = rebuild(alloc, schema, workers, commits)?;
+        let versions = versions_of(alloc, schema, workers, commits)?;
+        let streams = streams_of(alloc, commits)?;
         Ok(Lists {
             alloc,
-            versions: rebuilt.versions,
-            streams: rebuilt.streams,
+            versions,
+            tail: Tail::of(streams),
+            pieces: Vec::new(alloc),
             durable: commits.len(),
             workers,
             failed: false,
@@ -87,9 +93,18 @@ impl Lists {
         ensures sendable { (worker : ℕ) → AllByRecursion IsSendable (stream_of self.now.durable worker) }
         ensures some_workers { 0 < self.now.workers }
         ensures few_workers { self.now.workers ≤ workers_max }
+        ensures based { self.now.base ≤ length self.now.durable }
+        ensures pieces { length (pieces_of_base (shape_of self.now.schema) self.now.durable self.now.base) < 2 ^ 64 }
+        ensures pieces_spelled { AllByRecursion HasDatagramSpelling
+            (pieces_of_base (shape_of self.now.schema) self.now.durable self.now.base) }
     {
         one_cut();
+        pieces_are_cut();
+        rows::laws::images_rebuild_tables();
+        self.versions.schema().keeps_limits();
         self.versions.keeps_defined();
+        // A look at the length makes its range known to the proof.
+        let _ = self.pieces.as_slice().len();
     }
 
     /// How many commits are durable.
@@ -143,7 +158,7 @@ impl Lists {
     {
         let number = match judge(
             &self.versions,
-            &self.streams,
+            &self.tail,
             self.durable,
             self.workers,
             self.failed,
@@ -155,7 +170,7 @@ impl Lists {
         };
         let kept = keep(
             &mut self.versions,
-            &mut self.streams,
+            &mut self.tail,
             worker,
             transaction.entries(),
         );
@@ -198,13 +213,40 @@ impl Lists {
         self.failed = true;
     }
 
-    /// The packet of that `seq` of the worker's stream of the durable list, if the stream has it.
-    /// Takes no memory.
+    /// Makes what is durable the base, as `PrimaryCore::take_base` specifies.
+    pub fn take_base(&mut self) -> Result<(u64, u64), AllocError>
+        ensures ok { IfOk result (λ taken. (self.new ≡ based self.old) × (taken.0 ≡ self.new.base)
+            × (taken.1 ≡ length (pieces_of_base (shape_of self.new.schema) self.new.durable self.new.base))) }
+        ensures err { OnErr result ((self.new ≡ self.old) × (self.old.base < length self.old.durable)) }
+    {
+        let base = self.durable as u64;
+        if self.tail.base < self.durable {
+            rows::laws::images_rebuild_tables();
+            self.versions.schema().keeps_limits();
+            let image = self.versions.image(base)?;
+            let pieces = piece_packets(self.alloc, base, &image)?;
+            let commits = self.versions.commits();
+            let tail = self.tail.moved(self.alloc, commits, self.durable)?;
+            self.pieces = pieces;
+            self.tail = tail;
+        }
+        Ok((base, self.pieces.as_slice().len() as u64))
+    }
+
+    /// How many frames of the worker are not kept, as `PrimaryCore::low` specifies.
+    pub fn low(&self, worker: u8) -> u64
+        ensures { result ≡ low_of self.now worker }
+    {
+        self.tail.low(worker)
+    }
+
+    /// The packet of that `seq` of the worker's stream of the durable list, if the stream has it and
+    /// it is kept. Takes no memory.
     pub fn push(&self, worker: u8, seq: u64) -> Option<Packet>
         ensures { result ≡ pushed self.now worker seq }
     {
         let durable = self.durable as u64;
-        frame_packet(&self.streams, self.versions.commits(), durable, worker, seq)
+        frame_packet(&self.tail, self.versions.commits(), durable, worker, seq)
     }
 
     /// What is sent for bytes that arrived, as `PrimaryCore::on_bytes` specifies.
@@ -230,41 +272,68 @@ impl Lists {
                     worker,
                     from,
                 },
-            ) => {
-                let commits = self.versions.commits();
-                let durable = self.durable as u64;
-                wanted_outs(
-                    self.alloc,
-                    &self.streams,
-                    commits,
-                    durable,
+            ) => self.wanted(replica, worker, from),
+            Ok(
+                Datagram::Pull {
                     replica,
-                    worker,
+                    base,
                     from,
-                )
-            }
-            Ok(Datagram::Frame { .. } | Datagram::Head { .. }) | Err(_) => {
+                },
+            ) => self.pulled(replica, base, from),
+            Ok(Datagram::Frame { .. } | Datagram::Head(_) | Datagram::Piece { .. }) | Err(_) => {
                 Ok(Vec::new(self.alloc))
             }
         }
     }
 
+    /// The frames that answer a Want.
+    fn wanted(&self, replica: u8, worker: u8, from: u64) -> Result<Vec<Out>, AllocError>
+        ensures ok { IfOk result (λ outs. outs.items ≡ map (frame_to replica) (wanted self.now worker from)) }
+        ensures err { OnErr result (0 < length (map (frame_to replica) (wanted self.now worker from))) }
+    {
+        let durable = self.durable as u64;
+        wanted_outs(
+            self.alloc,
+            &self.tail,
+            self.versions.commits(),
+            durable,
+            replica,
+            worker,
+            from,
+        )
+    }
+
+    /// The Pieces that answer a Pull.
+    fn pulled(&self, replica: u8, base: u64, from: u64) -> Result<Vec<Out>, AllocError>
+        ensures ok { IfOk result (λ outs. outs.items ≡ map (piece_to replica) (pulled self.now base from)) }
+        ensures err { OnErr result (0 < length (map (piece_to replica) (pulled self.now base from))) }
+    {
+        if base != self.tail.base as u64 {
+            return Ok(Vec::new(self.alloc));
+        }
+        pulled_outs(self.alloc, &self.pieces, replica, from)
+    }
+
     /// The Head that answers an Ask. Takes no memory.
     fn head(&self, replica: u8, boot: u64, request: u64) -> Out
         requires { IsAsk replica boot request }
-        ensures { result ≡ record { to = To.Replica replica; packet = spelling (head_for self.now replica boot request) } }
+        ensures { result ≡ record { to = To.Replica replica; packet = spelling (Datagram.Head (head_for self.now replica boot request)) } }
     {
+        pieces_are_cut();
         let version = self.durable as u64;
-        let head = Datagram::Head {
+        let head = Head {
             replica,
             boot,
             request,
             version,
-            counts: counts(&self.streams, version, self.workers),
+            base: self.tail.base as u64,
+            pieces: self.pieces.as_slice().len() as u64,
+            lows: self.tail.low_counts(self.workers),
+            counts: self.tail.counts(version, self.workers),
         };
         Out {
             to: To::Replica(replica),
-            packet: Packet::of(&head),
+            packet: Packet::of(&Datagram::Head(head)),
         }
     }
 }

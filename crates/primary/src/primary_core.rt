@@ -1,6 +1,7 @@
 //! The primary's core: bytes and values in, bytes and values out.
 
-ghost use Rattle.std.specs.Prelude.{◌≡◌, ◌<◌, ◌≤◌, ℕ, length, take, [], ◌++◌, true, false, Ok, IfOk, IfErr, OnOk, OnErr, is_some, is_none};
+ghost use Rattle.std.specs.Prelude.{◌≡◌, ◌<◌, ◌≤◌, ◌^◌, ℕ, length, take, [], ◌++◌, true, false, Ok, IfOk, IfErr, OnOk, OnErr};
+ghost use Rattle.std.specs.Prelude.{is_some, is_none};
 ghost use Rattle.std.specs.List.{AllByRecursion};
 ghost use Rattle.rows.specs.Faults.{IsFaultOf};
 ghost use Rattle.rows.specs.Limits.{workers_max};
@@ -13,9 +14,10 @@ ghost use Rattle.journal.specs.Text.{records_from};
 ghost use Rattle.primary.specs.Journaling.{IsWritten, IsFormOf, IsUnchanged, offered, IsFlushRefusal, StandsAfterFlush, CountsFlushFault};
 ghost use Rattle.primary.specs.Journaling.{IsKeptOf, KeepsSame, IsStartRefusal, TellsRefusal, LeavesBytes, CountsStartFault, AreNumbered};
 ghost use Rattle.primary.specs.Lending.{IsLentBy, EndsWritten, ended, end_answer};
-ghost use Rattle.primary.specs.Sending.{pushed, answers};
+ghost use Rattle.wire.specs.Spelling.{HasDatagramSpelling};
+ghost use Rattle.primary.specs.Sending.{low_of, pushed, pieces_of_base, answers};
 ghost use Rattle.primary.specs.State.{is_honest_in, standing_in, faults_in};
-ghost use Rattle.primary.specs.Steps.{started_primary, commit_answer, committed, flushed};
+ghost use Rattle.primary.specs.Steps.{started_primary, commit_answer, committed, flushed, based};
 
 use crate::done::Done;
 use crate::faults::{CommitFault, FlushFault, StartFault};
@@ -30,8 +32,8 @@ use std::alloc::{AllocError, Global};
 use std::marker::Model;
 use wire::{Out, Packet};
 
-/// A primary: its durable list of commits, its pending list, whether it has failed, and its
-/// journal.
+/// A primary: its durable list of commits, its pending list, whether it has failed, its base, and
+/// its journal.
 ///
 /// Contracts see these lists with the schema and the number of workers, and the journal, unless it
 /// is lent out for a write. A journal that is honest and has not failed contains the text of the
@@ -57,7 +59,7 @@ impl<J: JournalStore> Model for PrimaryCore<J> {
 
 impl<J: JournalStore> PrimaryCore<J> {
     /// A primary for a schema and 1 to 16 workers, on a journal: the commits that the journal keeps
-    /// are durable. Before anything else, what a crash left behind them is truncated; then a header
+    /// are durable, and all their frames are kept. Before anything else, what a crash left behind them is truncated; then a header
     /// is written where nothing is kept, and the mark behind a journal of version 1, which goes on
     /// as version 2 from there.
     ///
@@ -106,7 +108,8 @@ impl<J: JournalStore> PrimaryCore<J> {
     /// The durable list followed by the pending one is legal for the primary's schema and workers,
     /// and a journal may be of it, and also of the durable list alone. A datagram spells each frame
     /// of the durable list. The journal's form is one that the text of the durable list may have,
-    /// and of version 2 at its end. It does nothing: its contract is the law.
+    /// and of version 2 at its end. The base is within the durable list, and a datagram spells each of
+    /// its pieces. It does nothing: its contract is the law.
     pub fn keeps_legal(&self)
         ensures all { IsJournaled self.now.primary.workers (shape_of self.now.primary.schema)
             (self.now.primary.durable ++ self.now.primary.pending) }
@@ -115,6 +118,11 @@ impl<J: JournalStore> PrimaryCore<J> {
         ensures sendable { (worker : ℕ) → AllByRecursion IsSendable (stream_of self.now.primary.durable worker) }
         ensures some_workers { 0 < self.now.primary.workers }
         ensures few_workers { self.now.primary.workers ≤ workers_max }
+        ensures based { self.now.primary.base ≤ length self.now.primary.durable }
+        ensures pieces { length
+            (pieces_of_base (shape_of self.now.primary.schema) self.now.primary.durable self.now.primary.base) < 2 ^ 64 }
+        ensures pieces_spelled { AllByRecursion HasDatagramSpelling
+            (pieces_of_base (shape_of self.now.primary.schema) self.now.primary.durable self.now.primary.base) }
         ensures form { IsFormOf self.now.form self.now.primary.durable }
     {
         self.lists.keeps_legal();
@@ -257,19 +265,48 @@ impl<J: JournalStore> PrimaryCore<J> {
         }
     }
 
-    /// The packet of that `seq` of the worker's stream of the durable list, if the stream has it.
-    /// Takes no memory.
+    /// Makes what is durable the base: the tables after those commits are kept in pieces, and the
+    /// frames of those commits are not kept any more, so their memory is free again. Answers the base,
+    /// which is how many commits are durable, and how many pieces it has. At the base that the
+    /// primary has already nothing is done. A base may be taken while commits are pending, while the
+    /// journal is lent out, and after it has failed.
+    ///
+    /// It costs the image (`mvcc::Versions::image`) and a look at each commit that is pending. Fails
+    /// only if out of memory, and then nothing has changed.
+    pub fn take_base(&mut self) -> Result<(u64, u64), AllocError>
+        ensures ok { IfOk result (λ taken. (self.new.primary ≡ based self.old.primary) × (taken.0 ≡ self.new.primary.base)
+            × (taken.1 ≡ length (pieces_of_base (shape_of self.new.primary.schema) self.new.primary.durable self.new.primary.base))) }
+        ensures err { OnErr result ((self.new.primary ≡ self.old.primary)
+            × (self.old.primary.base < length self.old.primary.durable)) }
+        ensures journal { self.new.journal ≡ self.old.journal }
+        ensures form { self.new.form ≡ self.old.form }
+        ensures written { IsWritten J.is_honest J.standing self.old → IsWritten J.is_honest J.standing self.new }
+    {
+        self.lists.take_base()
+    }
+
+    /// How many frames of the worker are not kept: those of the commits up to the base. Takes no
+    /// memory.
+    pub fn low(&self, worker: u8) -> u64
+        ensures { result ≡ low_of self.now.primary worker }
+    {
+        self.lists.low(worker)
+    }
+
+    /// The packet of that `seq` of the worker's stream of the durable list, if the stream has it and
+    /// it is kept. Takes no memory.
     pub fn push(&self, worker: u8, seq: u64) -> Option<Packet>
         ensures { result ≡ pushed self.now.primary worker seq }
     {
         self.lists.push(worker, seq)
     }
 
-    /// What the primary sends for bytes that arrived: to an Ask, one Head with what is durable and
-    /// each worker's frame count at that version; to a Want, the durable frames of the worker from
-    /// the one that it names on, at most 16, and none if there is no such worker; to anything else
-    /// nothing. Each goes to the replica that asked. Fails only if out of memory, and only if
-    /// something is to be sent.
+    /// What the primary sends for bytes that arrived: to an Ask, one Head with what is durable, the
+    /// base, how many pieces it has, and each worker's frame counts at both; to a Want, the durable
+    /// frames of the worker from the one that it names on, at most 16, without those that are not
+    /// kept, and none if there is no such worker; to a Pull of the base that it has, the pieces from
+    /// the one that it names on, at most 16; to anything else nothing. Each goes to the replica that
+    /// asked. Fails only if out of memory, and only if something is to be sent.
     pub fn on_bytes(&self, bytes: &[u8]) -> Result<Vec<Out>, AllocError>
         ensures ok { IfOk result (λ outs. outs.items ≡ answers self.now.primary bytes.now) }
         ensures err { OnErr result (0 < length (answers self.now.primary bytes.now)) }

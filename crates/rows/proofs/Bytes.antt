@@ -50,7 +50,7 @@ byte-below : (k x : ℕ) → byte_at k x < 256
 byte-below zero x = mod-lt x (omega arith)
 byte-below (suc k) x = mod-lt (x / 256 ^ suc k) (omega arith)
 
-AreBytes-big : (n x : ℕ) → AreBytes (big_bytes n x)
+pub AreBytes-big : (n x : ℕ) → AreBytes (big_bytes n x)
 AreBytes-big zero x i = omega arith
 AreBytes-big (suc n) x zero = byte-below n x
 AreBytes-big (suc n) x (suc i) = AreBytes-big n x i

@@ -12,3 +12,9 @@ pub mod EntryReading
 pub mod EntriesFilling
 pub mod Fronts
 pub mod EntryFits
+pub mod ReadBack
+pub mod Kept
+pub mod Imaging
+pub mod Rebuilding
+pub mod Replacing
+pub mod ImageSpelling

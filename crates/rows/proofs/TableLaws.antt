@@ -35,13 +35,13 @@ and_then-assoc f g h (Ok between) same = same between
 and_then-assoc f g h (Err refusal) same = refl
 
 -- entries behind others, and commits behind others
-apply_entries-append : (tables : Tables) (before entries : List Entry)
+pub apply_entries-append : (tables : Tables) (before entries : List Entry)
     → apply_entries tables (before ++ entries) ≡ and_then (λ after. apply_entries after entries) (apply_entries tables before)
 apply_entries-append tables [] entries = refl
 apply_entries-append tables (entry ∷ before) entries =
     and_then-assoc _ _ _ (apply_entry tables entry) (λ between. apply_entries-append between before entries)
 
-apply_commits-append : (tables : Tables) (before commits : List Commit)
+pub apply_commits-append : (tables : Tables) (before commits : List Commit)
     → apply_commits tables (before ++ commits) ≡ and_then (λ after. apply_commits after commits) (apply_commits tables before)
 apply_commits-append tables [] commits = refl
 apply_commits-append tables (commit ∷ before) commits =

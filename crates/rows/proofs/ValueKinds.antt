@@ -107,7 +107,7 @@ module _ (shape : Shape) (table row : ℕ) where
   abbrev AreOfKinds : List Kind → Option (List Value) → Type 0
   AreOfKinds columns was = IfSome was (λ values. are_of_kinds values columns ≡ true)
 
-  sized-wide : (found : Option (List Kind)) (size : ℕ) → slice_get shape table ≡ found → is_ok (sized found size) ≡ true
+  pub sized-wide : (found : Option (List Kind)) (size : ℕ) → slice_get shape table ≡ found → is_ok (sized found size) ≡ true
       → row_width (kinds_in shape table) ≡ size
   sized-wide None size e h = absurd cc
   sized-wide (Some columns) size e h = rw e (by (size == row_width columns) (eqb-true size (row_width columns)) h)

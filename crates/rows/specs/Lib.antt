@@ -10,6 +10,9 @@ pub mod Commits
 pub mod Laws
 pub mod EntryLaws
 pub mod ListLaws
+pub mod Image
+pub mod ImageLaws
+pub mod Worked
 pub mod Presence
 pub mod RowAfter
 pub mod Spelling

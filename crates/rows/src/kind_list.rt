@@ -48,6 +48,13 @@ impl KindList {
         let _ = self.items.pop();
     }
 
+    /// Takes away all kinds but the first so many; if there are no more, nothing changes.
+    pub fn truncate(&mut self, len: usize)
+        ensures { self.new ≡ take len self.old }
+    {
+        self.items.truncate(len);
+    }
+
     /// The kinds, lent.
     pub fn as_slice(&self) -> &[Kind]
         ensures { result.now ≡ self.now }

@@ -9,6 +9,7 @@ ghost use Rattle.rows.specs.ListLaws.{BeginningsAreDefined, EachIsDefined, EachF
 ghost use Rattle.rows.specs.ListLaws.{UndefinedStayUndefined, OneMoreEntryIsDefined, UntouchedStayDefined, PresenceIsTold};
 ghost use Rattle.rows.specs.ListLaws.{RowsAreLeft, RowsAreSeen};
 ghost use Rattle.rows.specs.EntryLaws.{EntryIsMade, FitsWithin, EntryLeavesRows, RowIsPut, ReplacedTable, OtherTables};
+ghost use Rattle.rows.specs.ImageLaws.{ImageRebuilds, VersionsRise, VersionsHaveImages, ImagesAreSpelled, BytesAreBack, ImagesReplace};
 
 /// The kinds of the tables' columns after entries and commits follow from these alone; entries add
 /// columns behind those that are there, within the limits. It does nothing: its contract is the law.
@@ -69,6 +70,18 @@ pub fn entries_are_defined_one_by_one()
 pub fn rows_are_as_entries_leave_them()
     ensures left { RowsAreLeft }
     ensures seen { RowsAreSeen }
+{}
+
+/// The image of tables rebuilds them from those of an opening. The tables at each version have one,
+/// whose entries have spellings, and which stands for all commits up to that version. It does
+/// nothing: its contract is the law.
+pub fn images_rebuild_tables()
+    ensures rebuilds { ImageRebuilds }
+    ensures rise { VersionsRise }
+    ensures versions { VersionsHaveImages }
+    ensures spelled { ImagesAreSpelled }
+    ensures back { BytesAreBack }
+    ensures replace { ImagesReplace }
 {}
 
 /// A column is as wide as its bytes, and the bytes determine its value. It does nothing: its

@@ -4,7 +4,8 @@
 //! one physical change of one row, or a column more in a table; a commit is the entries of one
 //! transaction. The definitions are in `specs/`: what an entry does to the tables (`Tables.antt`),
 //! which lists of commits are legal (`Commits.antt`), the one spelling of an entry
-//! (`Spelling.antt`), and how values and lines of words are written (`Text.antt`).
+//! (`Spelling.antt`), the entries that rebuild tables (`Image.antt`), and how values and lines of
+//! words are written (`Text.antt`).
 //!
 //! Promised: `fits` decides exactly which entries fit a schema; `write_entry` writes an entry's
 //! spelling, `read_entry` reads it, and `read_entries` reads entries that fill bytes; `row_values`
@@ -36,6 +37,7 @@ mod row_presence;
 mod schema;
 mod text;
 mod value;
+mod worked;
 mod writing;
 
 pub use byte_list::ByteList;

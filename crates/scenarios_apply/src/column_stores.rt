@@ -31,6 +31,10 @@ enum Step {
     /// Commits are applied, one of each of these lists, or refused, and the store is broken, as it is
     /// where memory is refused.
     Apply(&'static [&'static [Wanted<'static>]], Result<(), ApplyFault>),
+    /// It is cleared.
+    Clear,
+    /// It is broken.
+    IsBroken,
 }
 
 /// The kind of the fault with which a store refuses a change; 0 where it makes it.
@@ -140,6 +144,11 @@ fn is_answered<R: Threads + Sync>(
             let commits = made_commits(alloc, lists)?;
             Ok(is_applied(rt, store, &commits, *expected))
         }
+        Step::Clear => {
+            store.clear();
+            Ok(true)
+        }
+        Step::IsBroken => Ok(is_broken(rt, store)),
     }
 }
 
@@ -235,6 +244,56 @@ const WIDER: [Step; 16] = [
     Step::Change(Wanted::Insert(0, 64, &FOUR), 0),
     Step::Ids(&[3, 4, 64]),
 ];
+
+/// Rows of several partitions and added columns go, and come again by the same changes.
+const CLEARED: [Step; 19] = [
+    Step::Change(Wanted::Insert(0, 64, &FIVE), 0),
+    Step::Change(Wanted::Insert(0, 3, &FIVE), 0),
+    Step::Add(0, 3, 0),
+    Step::Add(1, -1, 0),
+    Step::Change(Wanted::Insert(0, 4, &THREE), 0),
+    Step::Columns(3, 2),
+    Step::Ids(&[3, 4, 64]),
+    Step::Clear,
+    Step::Columns(2, 1),
+    Step::Ids(&[]),
+    Step::Change(Wanted::Delete(0, 64), 2),
+    Step::Change(Wanted::Insert(0, 4, &THREE), 3),
+    Step::Change(Wanted::Insert(0, 64, &FIVE), 0),
+    Step::Change(Wanted::Insert(0, 3, &FIVE), 0),
+    Step::Add(0, 3, 0),
+    Step::Add(1, -1, 0),
+    Step::Change(Wanted::Insert(0, 4, &THREE), 0),
+    Step::Columns(3, 2),
+    Step::Ids(&[3, 4, 64]),
+];
+
+/// A store without rows, of which nothing goes.
+const CLEARED_EMPTY: [Step; 5] = [
+    Step::Clear,
+    Step::Columns(2, 1),
+    Step::Ids(&[]),
+    Step::Change(Wanted::Insert(0, 7, &FIVE), 0),
+    Step::Ids(&[7]),
+];
+
+/// A broken store stays broken.
+const CLEARED_BROKEN: [Step; 3] = [
+    Step::Apply(
+        &[&[Wanted::Insert(0, 1, &FIVE), Wanted::Insert(0, 1, &FIVE)]],
+        Err(ApplyFault::Inconsistent),
+    ),
+    Step::Clear,
+    Step::IsBroken,
+];
+
+#[test]
+fn what_was_cleared_comes_again(rt: HostRuntime) -> Result<(), Fail> {
+    for story in [&CLEARED[..], &CLEARED_EMPTY, &CLEARED_BROKEN] {
+        assert_eq!(rt; other_answer(&rt, rt.alloc(), story)?, None);
+    }
+    Ok(())
+}
 
 #[test]
 fn columns_come_in_all_partitions(rt: HostRuntime) -> Result<(), Fail> {

@@ -5,12 +5,12 @@ ghost use Rattle.std.specs.Prelude.{◌≡◌, ◌<◌, ◌≤◌, true};
 ghost use Rattle.apply.specs.Limits.{partitions_max};
 
 use apply::ColumnStore;
-use rows::{Commit, Kind, Schema};
+use rows::{Commit, Entry, Kind, Schema, Value};
 use scenarios_common::wanted::{Table, Wanted, all_made};
 use std::alloc::{AllocError, Global};
 use std::test::Fail;
 use std::thread::Threads;
-use store::{Lent, Store};
+use store::{ApplyStore, Lent, Store};
 
 /// Numbers of partitions.
 const PARTITIONS: [usize; 4] = [1, 2, 7, 64];
@@ -149,6 +149,49 @@ fn count_inserted<R: Threads + Sync>(
         return Ok(None);
     }
     Ok(count_all(&store))
+}
+
+/// Whether these commits are applied, and then a column of sevens comes.
+fn is_widened<R: Threads + Sync>(rt: &R, store: &mut ColumnStore, commits: &[Commit]) -> bool {
+    let default = Value::Int(7);
+    store.apply_together(rt, commits).is_ok()
+        && store
+            .change(&Entry::AddColumn { table: 0, default })
+            .is_ok()
+}
+
+/// How many rows a store of so many partitions lends that was cleared, once they are inserted again.
+/// `None` if it lends others, or if a row or an added column is left after `clear`.
+fn count_inserted_again<R: Threads + Sync>(
+    rt: &R,
+    alloc: Global,
+    partitions: usize,
+) -> Result<Option<usize>, Fail>
+    requires some { 0 < partitions }
+    requires few { partitions ≤ partitions_max }
+{
+    let schema = Schema::new(alloc, &ITEMS)?;
+    let mut store = ColumnStore::new(alloc, &schema, partitions)?;
+    let commits = all_inserts(alloc)?;
+    if !is_widened(rt, &mut store, &commits) {
+        return Ok(None);
+    }
+    store.clear();
+    if store.len(0) != 0 || store.apply_together(rt, &commits).is_err() || !lends_no_other(&store) {
+        return Ok(None);
+    }
+    Ok(count_all(&store))
+}
+
+#[test]
+fn rows_of_a_cleared_store_are_lent_once(rt: HostRuntime) -> Result<(), Fail> {
+    for partitions in PARTITIONS {
+        assert_eq!(rt;
+            count_inserted_again(&rt, rt.alloc(), partitions)?,
+            Some(ROWS as usize)
+        );
+    }
+    Ok(())
 }
 
 #[test]

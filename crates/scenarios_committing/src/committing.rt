@@ -81,7 +81,9 @@ fn tellers_of<L: Origin, J: JournalStore, R: Wait + Drop, W: Wait>(
             reads: 0,
             is_right: false,
         };
-        tellers.push(teller).ok()?;
+        if tellers.push(teller).is_err() {
+            return None;
+        }
     }
     Some(tellers)
 }
@@ -132,7 +134,9 @@ fn parted<L: Origin>(alloc: Global, tellers: Vec<Teller<L>>) -> Option<(Vec<Seat
         if !is_right {
             return None;
         }
-        seats.push(seat).ok()?;
+        if seats.push(seat).is_err() {
+            return None;
+        }
         reads = reads.saturating_add(more);
     }
     Some((seats, reads))
@@ -157,11 +161,15 @@ fn measured<
     if core.workers() < WORKERS {
         return None;
     }
-    let line = Line::<L, J, &R>::new(alloc, rt, core, start).ok()?;
+    let Ok(line) = Line::<L, J, &R>::new(alloc, rt, core, start) else {
+        return None;
+    };
     let mut tellers = tellers_of(rt, alloc, &line, crew)?;
     let taken = work_timed(rt, alloc, &line, &mut tellers, crew.committers)?;
     let (seats, reads) = parted(alloc, tellers)?;
-    let core = line.end(seats).ok()?;
+    let Ok(core) = line.end(seats) else {
+        return None;
+    };
     Some(Measurement {
         taken,
         reads,

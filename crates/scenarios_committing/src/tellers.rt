@@ -37,11 +37,17 @@ impl<L: Origin> Teller<L> {
 
     /// A transaction that inserts one row.
     fn insertion(&mut self, alloc: Global, row: u64) -> Option<Transaction> {
-        let mut transaction = self.seat.begin(alloc).ok()?;
+        let Ok(mut transaction) = self.seat.begin(alloc) else {
+            return None;
+        };
         let values = [Value::Int(5), Value::Int(-1)];
-        self.seat
+        if self
+            .seat
             .insert(&mut transaction, 0, RowId(row), &values)
-            .ok()?;
+            .is_err()
+        {
+            return None;
+        }
         Some(transaction)
     }
 

@@ -1,4 +1,5 @@
-//! Commits that are cut into frames, and the streams of several workers.
+//! Commits that are cut into frames, images that are cut into pieces, and the streams of several
+//! workers.
 
 ghost use Rattle.std.specs.Prelude.{◌≡◌, ◌+◌, ◌^◌, ◌<◌, ◌≤◌, false, length, IfOk, OnOk};
 ghost use Rattle.std.specs.List.{AllByRecursion};
@@ -9,9 +10,11 @@ ghost use Rattle.update_log.specs.Streams.{AreStreamsOf, stream_at};
 
 use rows::{Commit, Entry, EntryList, RowId, Schema, Value, fits, row_bytes};
 use scenarios_common::wanted::NUMBERS;
-use std::alloc::Global;
+use std::alloc::{AllocError, Global};
 use std::test::Fail;
-use update_log::{Frame, Streams, cut, one_cut, worked_cuts};
+use update_log::{
+    Frame, Streams, cut, one_cut, piece_len, pieces_are_cut, streams_go_on, worked_cuts,
+};
 use wire::write_frame;
 
 /// Adds an entry that fits the schema.
@@ -73,15 +76,83 @@ fn entries_of(alloc: Global, inserts: u64, deletes: u64) -> Result<EntryList, Fa
     Ok(entries)
 }
 
+/// Adds so many columns of numbers to the accounts.
+fn push_columns(entries: &mut EntryList, schema: &Schema, count: u64) -> Result<(), Fail>
+    requires { AllByRecursion HasSpelling entries.old }
+    ensures { OnOk result (AllByRecursion HasSpelling entries.new) }
+{
+    for _ in 0..count {
+        let default = Value::Int(0);
+        push(entries, schema, Entry::AddColumn { table: 0, default })?;
+    }
+    Ok(())
+}
+
+/// So many added columns, and then inserts of so many accounts.
+fn image_of(alloc: Global, columns: u64, inserts: u64) -> Result<EntryList, Fail>
+    ensures { IfOk result (AllByRecursion HasSpelling) }
+{
+    let schema = Schema::new(alloc, &NUMBERS)?;
+    let mut entries = EntryList::new(alloc);
+    push_columns(&mut entries, &schema, columns)?;
+    push_inserts(alloc, &mut entries, &schema, inserts)?;
+    Ok(entries)
+}
+
+/// How many entries each piece has, which are cut off one after the other.
+fn piece_lens(alloc: Global, entries: &[Entry]) -> Result<Vec<usize>, AllocError>
+    requires { AllByRecursion HasSpelling entries.now }
+{
+    let mut lens = Vec::new(alloc);
+    let mut rest = entries;
+    while !rest.is_empty() {
+        let len = piece_len(rest);
+        lens.push(len)?;
+        rest = rest.split_at(len).1;
+    }
+    Ok(lens)
+}
+
+/// How many columns are added by an image, how many accounts it inserts, and how many entries each
+/// of its pieces has. A column takes 11 bytes, an account 28, and a piece without entries 25. So 42
+/// accounts take 1201, and 5 columns with 40 accounts 1200.
+static PIECES: [(u64, u64, &'static [usize]); 6] = [
+    (1, 0, &[1]),
+    (0, 41, &[41]),
+    (0, 42, &[41, 1]),
+    (5, 40, &[45]),
+    (5, 41, &[45, 1]),
+    (2, 125, &[43, 41, 41, 2]),
+];
+
+/// The index of the first image that is cut otherwise.
+fn other_pieces(alloc: Global) -> Result<Option<usize>, Fail> {
+    for (index, (columns, inserts, expected)) in PIECES.iter().enumerate() {
+        let entries = image_of(alloc, *columns, *inserts)?;
+        let lens = piece_lens(alloc, entries.as_slice())?;
+        if lens.as_slice() != *expected {
+            return Ok(Some(index));
+        }
+    }
+    Ok(None)
+}
+
+#[test]
+fn an_image_is_cut_into_full_pieces(rt: HostRuntime) -> Result<(), Fail> {
+    assert_eq!(rt; other_pieces(rt.alloc())?, None);
+    pieces_are_cut();
+    streams_go_on();
+    Ok(())
+}
+
 /// A frame as it was cut: its seq, how many entries it has, and whether it is the last.
 type Cut = (u64, usize, bool);
 
-/// The frames of a commit of so many inserts and deletes, whose first has the seq 7.
-fn cut_of(alloc: Global, inserts: u64, deletes: u64) -> Result<Vec<Cut>, Fail> {
-    let commit = Commit {
-        worker: 3,
-        entries: entries_of(alloc, inserts, deletes)?,
-    };
+/// The frames of a commit of these entries, whose first has the seq 7.
+fn cut_of(alloc: Global, entries: EntryList) -> Result<Vec<Cut>, Fail>
+    requires { AllByRecursion HasSpelling entries }
+{
+    let commit = Commit { worker: 3, entries };
     let mut cuts = Vec::new(alloc);
     for frame in frames_of(alloc, &commit)? {
         if frame.worker != 3 || frame.commit != 9 {
@@ -107,12 +178,15 @@ fn frames_of(alloc: Global, commit: &Commit) -> Result<Vec<Frame>, Fail>
 #[test]
 fn a_commit_is_cut_into_full_frames(rt: HostRuntime) -> Result<(), Fail> {
     worked_cuts();
-    let two = cut_of(rt.alloc(), 42, 0)?;
+    let two = cut_of(rt.alloc(), entries_of(rt.alloc(), 42, 0)?)?;
     assert_eq!(rt; two.as_slice(), [(7, 41, false), (8, 1, true)].as_slice());
-    let one = cut_of(rt.alloc(), 38, 11)?;
+    let one = cut_of(rt.alloc(), entries_of(rt.alloc(), 38, 11)?)?;
     assert_eq!(rt; one.as_slice(), [(7, 49, true)].as_slice());
-    let none = cut_of(rt.alloc(), 0, 0)?;
+    let none = cut_of(rt.alloc(), entries_of(rt.alloc(), 0, 0)?)?;
     assert!(rt; none.is_empty());
+    // As a piece these are 1200 bytes, and as a frame one more.
+    let piece = cut_of(rt.alloc(), image_of(rt.alloc(), 5, 40)?)?;
+    assert_eq!(rt; piece.as_slice(), [(7, 44, false), (8, 1, true)].as_slice());
     Ok(())
 }
 

@@ -12,14 +12,14 @@ use std::alloc::Global;
 use std::test::Fail;
 use update_log::{Frame, cut, one_cut};
 use wire::{
-    Counts, Datagram, LentEntries, Packet, TooSmall, WireFault, one_spelling, read, write,
+    Counts, Datagram, Head, LentEntries, Packet, TooSmall, WireFault, one_spelling, read, write,
     write_frame,
 };
 
 /// The seq and commit of `FRAME` with three entries, all of row 7 of table 0: its insert, a
 /// patch of the second column to 6, and a delete.
 const THREE: [u8; 86] = [
-    0x42, 0x44, 0x02, 0x01, 0x00, 0x56, 0x00, 0x00, 0x00, 0x00, 0x00, 0x00, 0x00, 0x00, 0x00, 0x00,
+    0x42, 0x44, 0x03, 0x01, 0x00, 0x56, 0x00, 0x00, 0x00, 0x00, 0x00, 0x00, 0x00, 0x00, 0x00, 0x00,
     0x00, 0x00, 0x00, 0x00, 0x00, 0x00, 0x01, 0x01, 0x00, 0x03, 0x01, 0x00, 0x00, 0x00, 0x00, 0x00,
     0x00, 0x00, 0x00, 0x07, 0x00, 0x10, 0x00, 0x00, 0x00, 0x00, 0x00, 0x00, 0x00, 0x05, 0xff, 0xff,
     0xff, 0xff, 0xff, 0xff, 0xff, 0xff, 0x02, 0x00, 0x00, 0x00, 0x00, 0x00, 0x00, 0x00, 0x00, 0x07,
@@ -29,7 +29,7 @@ const THREE: [u8; 86] = [
 
 /// The seq and commit of `FRAME` with one entry, which adds a column of the number 3 to table 0.
 const ADDED: [u8; 37] = [
-    0x42, 0x44, 0x02, 0x01, 0x00, 0x25, 0x00, 0x00, 0x00, 0x00, 0x00, 0x00, 0x00, 0x00, 0x00, 0x00,
+    0x42, 0x44, 0x03, 0x01, 0x00, 0x25, 0x00, 0x00, 0x00, 0x00, 0x00, 0x00, 0x00, 0x00, 0x00, 0x00,
     0x00, 0x00, 0x00, 0x00, 0x00, 0x00, 0x01, 0x01, 0x00, 0x01, 0x04, 0x00, 0x00, 0x00, 0x00, 0x00,
     0x00, 0x00, 0x00, 0x00, 0x03,
 ];
@@ -50,18 +50,17 @@ fn is_frame(bytes: &[u8], count: usize, expected: &[u8]) -> bool {
     }
 }
 
-/// Whether the bytes read as the Head at version 1 that answers request 1, with these counts.
-fn is_head(bytes: &[u8], expected: &[u64]) -> bool {
+/// Whether the bytes read as the Head at version 1 that answers request 1, with these counts and no
+/// base.
+fn is_head(bytes: &[u8], lows: &[u64], counts: &[u64]) -> bool {
     match read(bytes) {
-        Ok(
-            Datagram::Head {
-                replica: 0,
-                boot: 1,
-                request: 1,
-                version: 1,
-                counts,
-            },
-        ) => counts.as_slice() == expected,
+        Ok(Datagram::Head(head)) => {
+            head.replica == 0
+                && (head.boot, head.request, head.version) == (1, 1, 1)
+                && (head.base, head.pieces) == (0, 0)
+                && head.lows.as_slice() == lows
+                && head.counts.as_slice() == counts
+        }
         _ => false,
     }
 }
@@ -98,8 +97,8 @@ fn are_read() -> bool {
         && is_frame(&THREE, 3, &THREE[26..])
         && is_frame(&ADDED, 1, &ADDED[26..])
         && is_ask(&ASK)
-        && is_head(&HEAD, &[1])
-        && is_head(&HEAD_OF_TWO, &[1, 0])
+        && is_head(&HEAD, &[0], &[1])
+        && is_head(&HEAD_OF_TWO, &[0, 0], &[1, 0])
         && is_want(&WANT, 0)
         && is_want(&want_from(260), 260)
 }
@@ -298,18 +297,24 @@ fn head_of(others: u8) -> Datagram<'static>
     requires { others ≤ 1 }
     ensures { HasDatagramSpelling result }
 {
+    let mut lows = Counts::new();
     let mut counts = Counts::new();
+    lows.push(0);
     counts.push(1);
     if others == 1 {
+        lows.push(0);
         counts.push(0);
     }
-    Datagram::Head {
+    Datagram::Head(Head {
         replica: 0,
         boot: 1,
         request: 1,
         version: 1,
+        base: 0,
+        pieces: 0,
+        lows,
         counts,
-    }
+    })
 }
 
 /// Whether a buffer that it fills, and `Packet`, have these bytes.
@@ -391,13 +396,15 @@ fn datagrams_are_read_and_written(rt: HostRuntime) -> Result<(), Fail> {
 }
 
 /// An index of the frame, another byte there, and the first fault.
-static FAULTS: [(usize, u8, WireFault); 10] = [
+static FAULTS: [(usize, u8, WireFault); 12] = [
     (1, 0x45, WireFault::Magic),
-    (2, 1, WireFault::Version),
-    (2, 3, WireFault::Version),
-    (3, 5, WireFault::Kind),
+    (2, 2, WireFault::Version),
+    (2, 4, WireFault::Version),
+    (3, 7, WireFault::Kind),
     (3, 0, WireFault::Kind),
     (3, 4, WireFault::Body),
+    (3, 5, WireFault::Body),
+    (3, 6, WireFault::Body),
     (6, 16, WireFault::Body),
     (22, 0, WireFault::Body),
     (23, 2, WireFault::Body),

@@ -1,8 +1,9 @@
-//! An intake of two workers: what each frame is answered, what is missing, what is kept, and what
-//! refused memory leaves.
+//! An intake of two workers: what each frame is answered, what is missing, what is kept, what is
+//! gained, and what refused memory leaves.
 
 use intake::{
-    Intake, Taken, arrivals_stay_of_streams, first_missing_is_least, known_frames_stay_kept,
+    Intake, Taken, arrivals_stay_of_streams, first_missing_is_least, frames_are_gained,
+    known_frames_stay_kept,
 };
 use scenarios_common::wanted::{Wanted, all_made};
 use std::alloc::{AllocError, Global};
@@ -14,16 +15,24 @@ use update_log::Frame;
 enum Step {
     /// The frame of a worker's seq comes; it is of the commit of that number.
     Take(u8, u64, u64),
-    /// The same, and the frame itself is taken.
-    TakeOwned(u8, u64, u64),
+    /// The same with these bases, and the frame itself is taken.
+    TakeOwned(&'static [u64], u8, u64, u64),
     /// The first seq that is missing of a worker.
     Contiguous(u8),
+    /// The same at or above its base, of these.
+    ContiguousFrom(&'static [u64], u8),
     /// The first frame that is missing below these counts.
     FirstMissing(&'static [u64]),
+    /// The same at or above these bases; the counts come second.
+    FirstMissingFrom(&'static [u64], &'static [u64]),
     /// The number of the commit of which the frame of a worker's seq is, where it is kept.
     CommitAt(u8, u64),
     /// The frames below these counts are dropped; how many workers there are.
     DropBelow(&'static [u64]),
+    /// Calls with these bases are made faster; how many workers there are.
+    Aim(&'static [u64]),
+    /// The frames below these bases are gained; how many workers there are.
+    Gain(&'static [u64]),
 }
 
 /// What a call answers.
@@ -98,16 +107,113 @@ static DROPPED: [Line; 12] = [
 
 /// A frame that is taken itself is known and kept as one of which a copy is.
 static OWNED: [Line; 10] = [
-    (Step::TakeOwned(0, 4096, 1), AHEAD),
-    (Step::TakeOwned(0, 18446744073709551615, 1), AHEAD),
-    (Step::TakeOwned(0, 1, 7), STORED),
-    (Step::TakeOwned(0, 1, 7), REPEAT),
+    (Step::TakeOwned(&[], 0, 4096, 1), AHEAD),
+    (Step::TakeOwned(&[], 0, 18446744073709551615, 1), AHEAD),
+    (Step::TakeOwned(&[], 0, 1, 7), STORED),
+    (Step::TakeOwned(&[], 0, 1, 7), REPEAT),
     (Step::Take(0, 1, 7), REPEAT),
     (Step::CommitAt(0, 1), Answer::Commit(Some(7))),
-    (Step::TakeOwned(0, 0, 6), STORED),
+    (Step::TakeOwned(&[], 0, 0, 6), STORED),
     (Step::Contiguous(0), Answer::Seq(2)),
     (Step::DropBelow(&[1]), Answer::Workers(2)),
-    (Step::TakeOwned(0, 0, 6), REPEAT),
+    (Step::TakeOwned(&[], 0, 0, 6), REPEAT),
+];
+
+/// With a base the window is 4096 seqs from the first that is missing at or above it. A frame below
+/// the base is taken too, and a worker without one has the base 0.
+static FROM_BASE: [Line; 15] = [
+    (Step::TakeOwned(&[5000], 0, 9096, 1), AHEAD),
+    (Step::TakeOwned(&[5000], 0, 9095, 1), STORED),
+    (Step::TakeOwned(&[], 0, 9094, 1), AHEAD),
+    (Step::TakeOwned(&[5000], 1, 4096, 1), AHEAD),
+    (Step::TakeOwned(&[5000, 1], 1, 4096, 1), STORED),
+    (Step::TakeOwned(&[5000], 0, 5000, 1), STORED),
+    (Step::ContiguousFrom(&[5000], 0), Answer::Seq(5001)),
+    (Step::TakeOwned(&[5000], 0, 9097, 1), AHEAD),
+    (Step::TakeOwned(&[5000], 0, 9096, 1), STORED),
+    (Step::TakeOwned(&[5000], 0, 4999, 1), STORED),
+    (Step::TakeOwned(&[5000], 0, 4999, 1), REPEAT),
+    (Step::Contiguous(0), Answer::Seq(0)),
+    (Step::TakeOwned(&[u64::MAX], 0, u64::MAX, 1), AHEAD),
+    (Step::TakeOwned(&[u64::MAX], 0, u64::MAX - 1, 1), STORED),
+    (Step::ContiguousFrom(&[u64::MAX], 0), Answer::Seq(u64::MAX)),
+];
+
+/// What is missing from a base on, with calls for another base and before and after calls are made
+/// faster. A base above the count leaves nothing to be missing.
+static MISSING_FROM: [Line; 19] = [
+    (Step::Aim(&[100, 7, 9]), Answer::Workers(2)),
+    (Step::TakeOwned(&[100], 0, 101, 1), STORED),
+    (Step::ContiguousFrom(&[100], 0), Answer::Seq(100)),
+    (Step::TakeOwned(&[100], 0, 100, 1), STORED),
+    (Step::ContiguousFrom(&[100], 0), Answer::Seq(102)),
+    (Step::ContiguousFrom(&[101], 0), Answer::Seq(102)),
+    (Step::ContiguousFrom(&[99], 0), Answer::Seq(99)),
+    (Step::ContiguousFrom(&[], 0), Answer::Seq(0)),
+    (Step::ContiguousFrom(&[100, 7, 9], 2), Answer::Seq(9)),
+    (Step::Aim(&[101]), Answer::Workers(2)),
+    (Step::ContiguousFrom(&[100], 0), Answer::Seq(102)),
+    (Step::ContiguousFrom(&[101], 0), Answer::Seq(102)),
+    (
+        Step::FirstMissingFrom(&[100], &[102]),
+        Answer::Missing(None),
+    ),
+    (
+        Step::FirstMissingFrom(&[100], &[103]),
+        Answer::Missing(Some((0, 102))),
+    ),
+    (
+        Step::FirstMissingFrom(&[100, 5], &[102, 6]),
+        Answer::Missing(Some((1, 5))),
+    ),
+    (
+        Step::FirstMissingFrom(&[100], &[102, 6]),
+        Answer::Missing(Some((1, 0))),
+    ),
+    (Step::FirstMissingFrom(&[9], &[5]), Answer::Missing(None)),
+    (
+        Step::FirstMissingFrom(&[u64::MAX], &[u64::MAX]),
+        Answer::Missing(None),
+    ),
+    (Step::FirstMissing(&[1]), Answer::Missing(Some((0, 0)))),
+];
+
+/// Frames are gained below 0, below the first gap, up to a frame behind it, above one that is kept,
+/// below what is known already, and below the greatest number; of a worker without a base none is.
+static GAINED: [Line; 30] = [
+    (Step::Take(0, 0, 1), STORED),
+    (Step::Take(0, 1, 2), STORED),
+    (Step::Take(0, 3, 4), STORED),
+    (Step::Gain(&[0]), Answer::Workers(2)),
+    (Step::Contiguous(0), Answer::Seq(2)),
+    (Step::Gain(&[2]), Answer::Workers(2)),
+    (Step::Contiguous(0), Answer::Seq(2)),
+    (Step::Gain(&[3]), Answer::Workers(2)),
+    (Step::Contiguous(0), Answer::Seq(4)),
+    (Step::Take(0, 2, 3), REPEAT),
+    (Step::CommitAt(0, 2), Answer::Commit(None)),
+    (Step::CommitAt(0, 3), Answer::Commit(Some(4))),
+    (Step::Take(0, 6, 7), STORED),
+    (Step::Take(0, 9, 10), STORED),
+    (Step::Gain(&[8, 0, 5]), Answer::Workers(2)),
+    (Step::Contiguous(0), Answer::Seq(8)),
+    (Step::CommitAt(0, 6), Answer::Commit(Some(7))),
+    (Step::Take(0, 7, 8), REPEAT),
+    (Step::Take(0, 8, 9), STORED),
+    (Step::Contiguous(0), Answer::Seq(10)),
+    (Step::Gain(&[1]), Answer::Workers(2)),
+    (Step::Contiguous(0), Answer::Seq(10)),
+    (Step::Contiguous(1), Answer::Seq(0)),
+    (Step::Gain(&[u64::MAX, 1]), Answer::Workers(2)),
+    (Step::Contiguous(0), Answer::Seq(u64::MAX)),
+    (Step::Take(0, u64::MAX - 1, 11), REPEAT),
+    (Step::Take(0, u64::MAX, 11), AHEAD),
+    (Step::CommitAt(0, 6), Answer::Commit(Some(7))),
+    (Step::Take(1, 0, 1), REPEAT),
+    (
+        Step::FirstMissing(&[u64::MAX, 2]),
+        Answer::Missing(Some((1, 1))),
+    ),
 ];
 
 /// The frame of a worker's seq, with one entry of the commit of that number.
@@ -126,17 +232,17 @@ fn take(intake: &mut Intake, frame: &Frame) -> Result<Taken, Fail> {
     if frame.worker >= intake.workers() {
         return Err("no such worker".into());
     }
-    let told = intake.would_take(frame.worker, frame.seq);
+    let told = intake.would_take(&[], frame.worker, frame.seq);
     as_told(intake.take(frame), told)
 }
 
-/// The same, and the frame itself is taken.
-fn take_owned(intake: &mut Intake, frame: Frame) -> Result<Taken, Fail> {
+/// The same with these bases, and the frame itself is taken.
+fn take_owned(intake: &mut Intake, bases: &[u64], frame: Frame) -> Result<Taken, Fail> {
     if frame.worker >= intake.workers() {
         return Err("no such worker".into());
     }
-    let told = intake.would_take(frame.worker, frame.seq);
-    as_told(intake.take_owned(frame), told)
+    let told = intake.would_take(bases, frame.worker, frame.seq);
+    as_told(intake.take_owned(bases, frame), told)
 }
 
 /// What became of a frame, which is what was told before it came; or it was refused for memory,
@@ -155,15 +261,29 @@ fn answer_of(alloc: Global, intake: &mut Intake, step: Step) -> Result<Answer, F
             let frame = frame_of(alloc, worker, seq, commit)?;
             Ok(Answer::Taken(take(intake, &frame)?))
         }
-        Step::TakeOwned(worker, seq, commit) => {
+        Step::TakeOwned(bases, worker, seq, commit) => {
             let frame = frame_of(alloc, worker, seq, commit)?;
-            Ok(Answer::Taken(take_owned(intake, frame)?))
+            Ok(Answer::Taken(take_owned(intake, bases, frame)?))
         }
         Step::Contiguous(worker) => Ok(Answer::Seq(intake.contiguous(worker))),
+        Step::ContiguousFrom(bases, worker) => {
+            Ok(Answer::Seq(intake.contiguous_from(bases, worker)))
+        }
         Step::FirstMissing(counts) => Ok(Answer::Missing(intake.first_missing(counts))),
+        Step::FirstMissingFrom(bases, counts) => {
+            Ok(Answer::Missing(intake.first_missing_from(bases, counts)))
+        }
         Step::CommitAt(worker, seq) => Ok(Answer::Commit(commit_at(intake, worker, seq))),
         Step::DropBelow(counts) => {
             intake.drop_below(counts);
+            Ok(Answer::Workers(intake.workers()))
+        }
+        Step::Aim(bases) => {
+            intake.aim(bases);
+            Ok(Answer::Workers(intake.workers()))
+        }
+        Step::Gain(bases) => {
+            intake.gain(bases);
             Ok(Answer::Workers(intake.workers()))
         }
     }
@@ -206,6 +326,20 @@ fn what_is_missing_is_named_and_what_is_dropped_stays_known(rt: HostRuntime) -> 
     Ok(())
 }
 
+#[test]
+fn a_base_moves_the_window_and_what_is_missing(rt: HostRuntime) -> Result<(), Fail> {
+    assert_eq!(rt; other_answer(rt.alloc(), &FROM_BASE)?, None);
+    assert_eq!(rt; other_answer(rt.alloc(), &MISSING_FROM)?, None);
+    Ok(())
+}
+
+#[test]
+fn frames_below_a_base_are_gained(rt: HostRuntime) -> Result<(), Fail> {
+    assert_eq!(rt; other_answer(rt.alloc(), &GAINED)?, None);
+    frames_are_gained();
+    Ok(())
+}
+
 /// Whether a frame is stored; or it was refused for memory, which left it unknown and not kept, and
 /// is stored when it comes again.
 fn is_stored_at_last(intake: &mut Intake, frame: &Frame) -> Result<bool, Fail> {
@@ -223,13 +357,13 @@ fn is_stored_at_last(intake: &mut Intake, frame: &Frame) -> Result<bool, Fail> {
 /// unknown and not kept, and it is stored when it comes again.
 fn is_owned_at_last(alloc: Global, intake: &mut Intake) -> Result<bool, Fail> {
     let first = frame_of(alloc, 0, 4, 5)?;
-    match take_owned(intake, first)? {
+    match take_owned(intake, &[], first)? {
         Taken::Stored => Ok(true),
         Taken::Repeat | Taken::Ahead => Ok(false),
         Taken::Memory => {
             let is_kept = intake.frame(0, 4).is_some();
             let again = frame_of(alloc, 0, 4, 5)?;
-            Ok(!is_kept && take_owned(intake, again)? == Taken::Stored)
+            Ok(!is_kept && take_owned(intake, &[], again)? == Taken::Stored)
         }
     }
 }

@@ -71,6 +71,7 @@ enum Choice {
     Commit,
     Abort,
     Flush,
+    Base,
     Stop,
     Start,
     Push,
@@ -86,7 +87,7 @@ enum Choice {
 }
 
 /// What is drawn, and how often.
-static WEIGHTS: [(Choice, usize); 23] = [
+static WEIGHTS: [(Choice, usize); 24] = [
     (Choice::Round, 60),
     (Choice::Write, 60),
     (Choice::Begin, 3),
@@ -98,6 +99,7 @@ static WEIGHTS: [(Choice, usize); 23] = [
     (Choice::Commit, 4),
     (Choice::Abort, 2),
     (Choice::Flush, 9),
+    (Choice::Base, 2),
     (Choice::Stop, 2),
     (Choice::Start, 1),
     (Choice::Push, 9),
@@ -202,6 +204,8 @@ struct Taste {
     patience: usize,
     /// Whether many queries are opened.
     opens: bool,
+    /// Whether bases are taken: what a base drops no replica can get before the next start.
+    bases: bool,
 }
 
 /// The next event.
@@ -224,6 +228,8 @@ fn draw_event(
         Choice::Round => Ok(draw_round(state, world, number)),
         Choice::Write => draw_write(state, alloc, world, taste.patience.max(1)),
         Choice::Flush => Ok(draw_flush(state)),
+        Choice::Base if taste.bases => Ok(Event::Base),
+        Choice::Base => Ok(draw_flush(state)),
         Choice::Stop => draw_stop(state, alloc, world),
         Choice::Start => Ok(Event::Start),
         Choice::Push => draw_push(state, alloc, world),
@@ -298,11 +304,13 @@ fn draw_events(
     let mut world = World::new(alloc, script.settings)?;
     let patience = pick(state, &[3, 4, 6, 20]);
     let opens = is_drawn(state, 16);
+    let bases = is_drawn(state, 2);
     let mut lines = String::new(alloc);
     for index in 0..count {
         let taste = Taste {
             patience,
             opens: opens && index > 40 && index < 150,
+            bases,
         };
         let event = draw_event(state, alloc, &world, &mut script.raws, taste)?;
         step(&mut world, alloc, script, &event, &mut lines)?;

@@ -16,7 +16,7 @@ const SCRIPTS: u64 = 1000;
 /// What each kind of event must answer in some script. Left out is what comes seldom or never:
 /// `too many entries` wants 4096 changes of one transaction, `ahead` 4096 frames of one worker, and
 /// `numbers used up` 2 to the 64th commits; a script has 200 events.
-const MUST: [(&str, &[&str]); 23] = [
+const MUST: [(&str, &[&str]); 24] = [
     ("begin", &["tx ", "stopped\n"]),
     (
         "insert",
@@ -44,6 +44,7 @@ const MUST: [(&str, &[&str]); 23] = [
     ),
     ("abort", &["ok\n", "no tx\n", "stopped\n"]),
     ("flush", &["durable ", "stopped\n"]),
+    ("base", &["base ", "stopped\n"]),
     ("stop", &["stopped\n"]),
     ("start", &["durable ", "running\n"]),
     ("push", &["sent ", "no frame\n", "stopped\n"]),
@@ -58,10 +59,10 @@ const MUST: [(&str, &[&str]); 23] = [
     (
         "show",
         &[
-            "42440201",
-            "42440202",
-            "42440203",
-            "42440204",
+            "42440301",
+            "42440302",
+            "42440303",
+            "42440304",
             "never sent\n",
         ],
     ),
@@ -133,6 +134,7 @@ fn drawn_scripts_print_what_is_allowed(rt: HostRuntime) -> Result<(), Fail> {
         tally.column_conflicts() != 0,
         "no commit is refused for a column"
     );
+    assert!(rt; tally.cut_wants() != 0, "no Want is cut by a base");
     assert_eq!(rt; tally.count_of_answer("memory\n"), 0);
     assert_eq!(rt; tally.count_of_answer("broken\n"), 0);
     Ok(())

@@ -98,7 +98,7 @@ const ROUND: [Event; 13] = [
 
 /// What the events before the runs print.
 const FRONT: &str = "tx 0 at 0\nok\nticket 1\ndurable 1\nsent 0 54\nstored\nopened 1\nsent 1 23\n\
-    sent 2 48\nhead 1\n";
+    sent 2 80\nhead 1\n";
 
 /// What a report prints.
 const REPORT: &str = "version 1 queries 1\nquery 0 rows 1\n1\n";
@@ -202,6 +202,8 @@ enum Before {
     Nothing,
     Begun,
     Committed,
+    Flushed,
+    Based,
     Stopped,
     Opened,
     Asked,
@@ -213,6 +215,10 @@ fn story_of(alloc: Global, before: Before, last: Event) -> Result<Vec<Event>, Al
         Before::Nothing => Vec::new(alloc),
         Before::Begun => Vec::from_slice(alloc, &[Event::Begin])?,
         Before::Committed => Vec::from_slice(alloc, &[Event::Begin, INSERT, COMMIT])?,
+        Before::Flushed => Vec::from_slice(alloc, &[Event::Begin, INSERT, COMMIT, FLUSH])?,
+        Before::Based => {
+            Vec::from_slice(alloc, &[Event::Begin, INSERT, COMMIT, FLUSH, Event::Base])?
+        }
         Before::Stopped => Vec::from_slice(alloc, &[STOP])?,
         Before::Opened => Vec::from_slice(alloc, &[OPEN])?,
         Before::Asked => Vec::from_slice(alloc, &[OPEN, ASK])?,
@@ -227,6 +233,8 @@ fn printed_before(before: Before) -> &'static str {
         Before::Nothing => "",
         Before::Begun => "tx 0 at 0\n",
         Before::Committed => "tx 0 at 0\nok\nticket 1\n",
+        Before::Flushed => "tx 0 at 0\nok\nticket 1\ndurable 1\n",
+        Before::Based => "tx 0 at 0\nok\nticket 1\ndurable 1\nbase 1 pieces 1\n",
         Before::Stopped => "stopped\n",
         Before::Opened => "opened 1\n",
         Before::Asked => "opened 1\nsent 0 23\n",
@@ -235,7 +243,7 @@ fn printed_before(before: Before) -> &'static str {
 
 /// Stories by what happened before and the last event, and whether that one may answer `memory`: an
 /// event that asks for no memory may not.
-const LAST: [(Before, Event, bool); 26] = [
+const LAST: [(Before, Event, bool); 31] = [
     (Before::Nothing, VERSION, false),
     (Before::Nothing, Event::Abort { transaction: 0 }, false),
     (Before::Begun, Event::Abort { transaction: 0 }, false),
@@ -246,6 +254,11 @@ const LAST: [(Before, Event, bool); 26] = [
     (Before::Nothing, INSERT, false),
     (Before::Nothing, COMMIT, false),
     (Before::Begun, COMMIT, false),
+    (Before::Nothing, Event::Base, false),
+    (Before::Committed, Event::Base, false),
+    (Before::Flushed, Event::Base, true),
+    (Before::Based, Event::Base, false),
+    (Before::Stopped, Event::Base, false),
     (Before::Begun, STOP, true),
     (Before::Stopped, STOP, false),
     (Before::Stopped, Event::Begin, false),
@@ -323,24 +336,24 @@ const RESTARTS: [Event; 12] = [
     DUMP,
 ];
 
-const RESTARTED: &str = "opened 1\nsent 0 23\nsent 1 48\nboot 2\nopened 1\nsent 2 23\nignored\n\
+const RESTARTED: &str = "opened 1\nsent 0 23\nsent 1 80\nboot 2\nopened 1\nsent 2 23\nignored\n\
     waiting head\nboot used\nboot used\nversion 0\nversion 0 rows 0\n";
 
 /// The frame of the commit of the round.
-const FRAME: [u8; 54] = *b"\x42\x44\x02\x01\x00\x36\x00\0\0\0\0\0\0\0\0\0\0\0\0\0\0\0\x01\
+const FRAME: [u8; 54] = *b"\x42\x44\x03\x01\x00\x36\x00\0\0\0\0\0\0\0\0\0\0\0\0\0\0\0\x01\
     \x01\x00\x01\x01\x00\0\0\0\0\0\0\0\x07\x00\x10\0\0\0\0\0\0\0\x05\
     \xff\xff\xff\xff\xff\xff\xff\xff";
 
 /// That frame with another magic, of the version before, and with another `last`.
-const OTHER_MAGIC: [u8; 54] = *b"\x42\x45\x02\x01\x00\x36\x00\0\0\0\0\0\0\0\0\0\0\0\0\0\0\0\x01\
+const OTHER_MAGIC: [u8; 54] = *b"\x42\x45\x03\x01\x00\x36\x00\0\0\0\0\0\0\0\0\0\0\0\0\0\0\0\x01\
     \x01\x00\x01\x01\x00\0\0\0\0\0\0\0\x07\x00\x10\0\0\0\0\0\0\0\x05\
     \xff\xff\xff\xff\xff\xff\xff\xff";
 
-const OTHER_VERSION: [u8; 54] = *b"\x42\x44\x01\x01\x00\x36\x00\0\0\0\0\0\0\0\0\0\0\0\0\0\0\0\x01\
+const OTHER_VERSION: [u8; 54] = *b"\x42\x44\x02\x01\x00\x36\x00\0\0\0\0\0\0\0\0\0\0\0\0\0\0\0\x01\
     \x01\x00\x01\x01\x00\0\0\0\0\0\0\0\x07\x00\x10\0\0\0\0\0\0\0\x05\
     \xff\xff\xff\xff\xff\xff\xff\xff";
 
-const OTHER_LAST: [u8; 54] = *b"\x42\x44\x02\x01\x00\x36\x00\0\0\0\0\0\0\0\0\0\0\0\0\0\0\0\x01\
+const OTHER_LAST: [u8; 54] = *b"\x42\x44\x03\x01\x00\x36\x00\0\0\0\0\0\0\0\0\0\0\0\0\0\0\0\x01\
     \x02\x00\x01\x01\x00\0\0\0\0\0\0\0\x07\x00\x10\0\0\0\0\0\0\0\x05\
     \xff\xff\xff\xff\xff\xff\xff\xff";
 

@@ -2,6 +2,7 @@
 //! nothing with the cores, and judges what a script prints. No test stands here.
 #![tactic(auto)]
 
+pub mod slow_bases;
 pub mod slow_batches;
 pub mod slow_bytes;
 pub mod slow_datagrams;

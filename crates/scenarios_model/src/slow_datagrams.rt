@@ -17,10 +17,17 @@ pub enum Datagram {
     Head {
         request: Request,
         version: u64,
+        base: u64,
         counts: [u64; WORKERS],
     },
     Want {
         worker: u8,
+        from: u64,
+    },
+    /// Of an image, which nobody takes.
+    Piece,
+    Pull {
+        base: u64,
         from: u64,
     },
 }
@@ -37,7 +44,7 @@ pub struct Request {
 pub fn spelled(alloc: Global, kind: u64, body: &[u8]) -> Result<Vec<u8>, AllocError> {
     let mut bytes = Vec::new(alloc);
     push_number(&mut bytes, 0x4244, 2)?;
-    push_number(&mut bytes, 2, 1)?;
+    push_number(&mut bytes, 3, 1)?;
     push_number(&mut bytes, kind, 1)?;
     push_number(&mut bytes, body.len().saturating_add(6) as u64, 2)?;
     bytes.extend_from_slice(body)?;
@@ -77,7 +84,7 @@ fn below_sixteen(bytes: &[u8], from: usize) -> Option<u8> {
 
 /// The datagram that the bytes are; none where they are none.
 pub fn read(bytes: &[u8]) -> Option<Datagram> {
-    if number_at(bytes, 0, 2)? != 0x4244 || number_at(bytes, 2, 1)? != 2 {
+    if number_at(bytes, 0, 2)? != 0x4244 || number_at(bytes, 2, 1)? != 3 {
         return None;
     }
     let kind = number_at(bytes, 3, 1)?;
@@ -90,6 +97,8 @@ pub fn read(bytes: &[u8]) -> Option<Datagram> {
         2 if len == 23 => Some(Datagram::Ask(read_request(bytes)?)),
         3 => read_head(bytes),
         4 if len == 16 => read_want(bytes),
+        5 => read_piece(bytes),
+        6 if len == 23 => read_pull(bytes),
         _ => None,
     }
 }
@@ -118,19 +127,52 @@ fn read_request(bytes: &[u8]) -> Option<Request> {
 fn read_head(bytes: &[u8]) -> Option<Datagram> {
     let request = read_request(bytes)?;
     let version = number_at(bytes, 23, 8)?;
-    let workers = number_at(bytes, 31, 1)?;
-    let len = workers.saturating_mul(8).saturating_add(32);
+    let base = number_at(bytes, 31, 8)?;
+    let pieces = number_at(bytes, 39, 8)?;
+    let workers = number_at(bytes, 47, 1)?;
+    let len = workers.saturating_mul(16).saturating_add(48);
     if workers < 1 || workers > 16 || len != bytes.len() as u64 {
+        return None;
+    }
+    if base > version || (base == 0) != (pieces == 0) {
         return None;
     }
     let mut counts = [0; WORKERS];
     for (index, count) in counts.iter_mut().enumerate() {
-        *count = number_at(bytes, index.saturating_mul(8).saturating_add(32), 8).unwrap_or(0);
+        let at = index.saturating_mul(16).saturating_add(48);
+        let low = number_at(bytes, at, 8).unwrap_or(0);
+        *count = number_at(bytes, at.saturating_add(8), 8).unwrap_or(0);
+        if low > *count || (base == 0 && low != 0) {
+            return None;
+        }
     }
     Some(Datagram::Head {
         request,
         version,
+        base,
         counts,
+    })
+}
+
+fn read_piece(bytes: &[u8]) -> Option<Datagram> {
+    let base = number_at(bytes, 6, 8)?;
+    let number = number_at(bytes, 14, 8)?;
+    let last = number_at(bytes, 22, 1)?;
+    let count = number_at(bytes, 23, 2)?;
+    let may_be_empty = number == 0 && last == 1;
+    let is_good = base >= 1 && last <= 1 && (count >= 1 || may_be_empty);
+    if is_good && are_changes(behind(bytes, 25), count) {
+        Some(Datagram::Piece)
+    } else {
+        None
+    }
+}
+
+fn read_pull(bytes: &[u8]) -> Option<Datagram> {
+    below_sixteen(bytes, 6)?;
+    Some(Datagram::Pull {
+        base: number_at(bytes, 7, 8)?,
+        from: number_at(bytes, 15, 8)?,
     })
 }
 

@@ -58,6 +58,7 @@ pub enum Event {
     Flush {
         count: u64,
     },
+    Base,
     Stop {
         count: u64,
     },

@@ -1,8 +1,10 @@
 //! The slow world's frames: each time all commits of a worker are cut again.
 
+use crate::slow_bases::cut_image;
 use crate::slow_bytes::{change_len, push_change, push_number};
 use crate::slow_datagrams::{Request, push_request, spelled};
-use crate::slow_rows::{Settings, Written};
+use crate::slow_rows::Written;
+use crate::slow_world::World;
 use std::alloc::{AllocError, Global};
 
 /// How many bytes a frame has at the most.
@@ -108,20 +110,20 @@ fn push_changes(body: &mut Vec<u8>, framed: &[Framed], seq: u64) -> Result<(), A
     Ok(())
 }
 
-/// The Head that answers a request where so many commits are durable.
-pub fn head(
-    alloc: Global,
-    settings: &Settings,
-    written: &[Written],
-    durable: u64,
-    request: &Request,
-) -> Result<Vec<u8>, AllocError> {
+/// The Head that answers a request.
+pub fn head(alloc: Global, world: &World, request: &Request) -> Result<Vec<u8>, AllocError> {
+    let written = world.written.as_slice();
+    let workers = world.settings.workers;
     let mut body = Vec::new(alloc);
     push_request(&mut body, request)?;
-    push_number(&mut body, durable, 8)?;
-    push_number(&mut body, u64::from(settings.workers), 1)?;
-    for worker in 0..settings.workers {
-        let count = count_of(alloc, written, worker, durable)?;
+    push_number(&mut body, world.durable, 8)?;
+    push_number(&mut body, world.base, 8)?;
+    push_number(&mut body, cut_image(alloc, world)?.count, 8)?;
+    push_number(&mut body, u64::from(workers), 1)?;
+    for worker in 0..workers {
+        let low = count_of(alloc, written, worker, world.base)?;
+        let count = count_of(alloc, written, worker, world.durable)?;
+        push_number(&mut body, low, 8)?;
         push_number(&mut body, count, 8)?;
     }
     spelled(alloc, 3, body.as_slice())

@@ -2,7 +2,9 @@
 
 use crate::slow_batches::missing;
 use crate::slow_bytes::behind;
-use crate::slow_events::{Event, Script};
+use crate::slow_datagrams::{Datagram, read};
+use crate::slow_events::{Event, Node, Script};
+use crate::slow_frames::count_of;
 use crate::slow_replicas::{Batch, put_replica, replica_of};
 use crate::slow_tally::Tally;
 use crate::slow_transactions::meets_row;
@@ -27,6 +29,9 @@ pub fn judge(
                 if is_refused_by_column(&world, event, rest) {
                     tally.add_column_conflict();
                 }
+                if is_cut_want(&world, alloc, event, rest)? {
+                    tally.add_cut_want();
+                }
                 rest = behind(rest, len);
             }
         }
@@ -47,6 +52,30 @@ fn is_refused_by_column(world: &World, event: &Event, lines: &[u8]) -> bool {
         }
         _ => false,
     }
+}
+
+/// Whether an event is a Want that was answered without the first frames that it wants.
+fn is_cut_want(
+    world: &World,
+    alloc: Global,
+    event: &Event,
+    lines: &[u8],
+) -> Result<bool, AllocError> {
+    let Event::Deliver {
+        index,
+        node: Node::Primary,
+    } = event
+    else {
+        return Ok(false);
+    };
+    let Some(bytes) = world.sent.get(*index as usize) else {
+        return Ok(false);
+    };
+    let Some(Datagram::Want { worker, from }) = read(bytes.as_slice()) else {
+        return Ok(false);
+    };
+    let low = count_of(alloc, world.written.as_slice(), worker, world.base)?;
+    Ok(lines.starts_with(b"sent ") && from < low)
 }
 
 /// Judges what an event answers, in front of what is printed: of how many bytes its lines are; none
@@ -121,6 +150,7 @@ fn takes_memory(world: &World, event: &Event, lines: &[u8]) -> bool {
         Event::Flush { count } => {
             lines.starts_with(b"durable ") && *count != 0 && world.durable < world.last
         }
+        Event::Base => lines.starts_with(b"base ") && world.base < world.durable,
         Event::Stop { .. } => !world.stopped,
         Event::Start => lines.starts_with(b"durable "),
         Event::Push { .. } | Event::Ask { .. } => lines.starts_with(b"sent "),

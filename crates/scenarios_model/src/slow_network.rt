@@ -1,15 +1,16 @@
 //! The slow world's network: what was sent, and what nodes answer to what is delivered to them.
 
+use crate::slow_bases::{cut_image, piece};
 use crate::slow_datagrams::{Datagram, Request, read};
 use crate::slow_events::Node;
-use crate::slow_frames::{frame, head, stream};
+use crate::slow_frames::{count_of, frame, head, stream};
 use crate::slow_replicas::receive;
 use crate::slow_text::push_hex;
 use crate::slow_world::World;
 use std::alloc::{AllocError, Global};
 
-/// How many frames answer a Want at the most.
-const WANT_FRAMES: u64 = 16;
+/// How many frames answer a Want at the most, and how many pieces a Pull.
+const ANSWERS: u64 = 16;
 
 /// Sends a datagram.
 pub fn send(sent: &mut Vec<Vec<u8>>, bytes: Vec<u8>, text: &mut String) -> Result<(), AllocError> {
@@ -19,25 +20,7 @@ pub fn send(sent: &mut Vec<Vec<u8>>, bytes: Vec<u8>, text: &mut String) -> Resul
     write!(text, "sent {index} {len}\n")
 }
 
-/// The primary sends a frame of a worker's durable stream, if it is there; answers whether.
-fn send_frame(
-    world: &mut World,
-    alloc: Global,
-    worker: u8,
-    seq: u64,
-    text: &mut String,
-) -> Result<bool, AllocError> {
-    let framed = stream(alloc, world.written.as_slice(), worker, world.durable)?;
-    match frame(alloc, framed.as_slice(), worker, seq)? {
-        None => Ok(false),
-        Some(bytes) => {
-            send(&mut world.sent, bytes, text)?;
-            Ok(true)
-        }
-    }
-}
-
-/// The primary pushes a frame.
+/// The primary pushes a frame of a worker's durable stream, if it is there and kept.
 pub fn push(
     world: &mut World,
     alloc: Global,
@@ -45,10 +28,14 @@ pub fn push(
     seq: u64,
     text: &mut String,
 ) -> Result<(), AllocError> {
-    if send_frame(world, alloc, worker, seq, text)? {
-        Ok(())
-    } else {
-        text.push_str("no frame\n")
+    let written = world.written.as_slice();
+    if seq < count_of(alloc, written, worker, world.base)? {
+        return text.push_str("no frame\n");
+    }
+    let framed = stream(alloc, written, worker, world.durable)?;
+    match frame(alloc, framed.as_slice(), worker, seq)? {
+        None => text.push_str("no frame\n"),
+        Some(bytes) => send(&mut world.sent, bytes, text),
     }
 }
 
@@ -128,6 +115,9 @@ fn receive_at_primary(
     match datagram {
         Some(Datagram::Ask(request)) => answer_ask(world, alloc, &request, text),
         Some(Datagram::Want { worker, from }) => answer_want(world, alloc, worker, from, text),
+        Some(Datagram::Pull { base, from }) if base == world.base => {
+            answer_pull(world, alloc, from, text)
+        }
         _ => text.push_str("ignored\n"),
     }
 }
@@ -138,8 +128,7 @@ fn answer_ask(
     request: &Request,
     text: &mut String,
 ) -> Result<(), AllocError> {
-    let written = world.written.as_slice();
-    let bytes = head(alloc, &world.settings, written, world.durable, request)?;
+    let bytes = head(alloc, world, request)?;
     send(&mut world.sent, bytes, text)
 }
 
@@ -150,18 +139,46 @@ fn answer_want(
     from: u64,
     text: &mut String,
 ) -> Result<(), AllocError> {
-    for count in 0..WANT_FRAMES {
-        let is_there = match from.checked_add(count) {
-            None => false,
-            Some(seq) => send_frame(world, alloc, worker, seq, text)?,
-        };
-        if !is_there {
-            return if count == 0 {
-                text.push_str("ignored\n")
-            } else {
-                Ok(())
-            };
+    let before = world.sent.len();
+    let written = world.written.as_slice();
+    let low = count_of(alloc, written, worker, world.base)?;
+    let framed = stream(alloc, written, worker, world.durable)?;
+    for count in 0..ANSWERS {
+        if let Some(seq) = from.checked_add(count) {
+            if seq >= low {
+                if let Some(bytes) = frame(alloc, framed.as_slice(), worker, seq)? {
+                    send(&mut world.sent, bytes, text)?;
+                }
+            }
         }
     }
-    Ok(())
+    ignored_if_none(world, before, text)
+}
+
+/// The primary answers a Pull of its base.
+fn answer_pull(
+    world: &mut World,
+    alloc: Global,
+    from: u64,
+    text: &mut String,
+) -> Result<(), AllocError> {
+    let before = world.sent.len();
+    let pieces = cut_image(alloc, world)?;
+    for count in 0..ANSWERS {
+        if let Some(number) = from.checked_add(count) {
+            if let Some(bytes) = piece(alloc, world.base, &pieces, number)? {
+                send(&mut world.sent, bytes, text)?;
+            }
+        }
+    }
+    ignored_if_none(world, before, text)
+}
+
+/// What is printed where nothing was sent: before, so many datagrams were.
+fn ignored_if_none(world: &World, before: usize, text: &mut String) -> Result<(), AllocError> {
+    if world.sent.len() == before {
+        text.push_str("ignored\n")
+    } else {
+        Ok(())
+    }
 }

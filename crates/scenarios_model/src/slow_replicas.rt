@@ -105,9 +105,10 @@ pub fn receive(
             Datagram::Head {
                 request,
                 version,
+                base,
                 counts,
             },
-        ) => receive_head(
+        ) if base <= replica_of(world, number).version => receive_head(
             world,
             number,
             &request,
@@ -178,7 +179,7 @@ pub fn restart(
 }
 
 /// The first row behind that one, by table and identifier; the first of all, behind none.
-fn next_row(rows: &[Row], last: Option<(u8, u64)>) -> Option<Row> {
+pub fn next_row(rows: &[Row], last: Option<(u8, u64)>) -> Option<Row> {
     let mut next: Option<Row> = None;
     for row in rows {
         let is_behind = match last {

@@ -5,7 +5,7 @@ use crate::slow_events::{Event, Node};
 use std::alloc::{AllocError, Global};
 
 /// Kinds of events, by the words with which they begin.
-pub const KINDS: [&str; 23] = [
+pub const KINDS: [&str; 24] = [
     "begin",
     "insert",
     "set",
@@ -29,10 +29,11 @@ pub const KINDS: [&str; 23] = [
     "raw p",
     "raw r",
     "column",
+    "base",
 ];
 
 /// Kinds of answers, by what they begin with; where two fit, the first is meant.
-pub const ANSWERS: [&str; 41] = [
+pub const ANSWERS: [&str; 42] = [
     "tx ",
     "ok\n",
     "exists\n",
@@ -46,6 +47,7 @@ pub const ANSWERS: [&str; 41] = [
     "read only\n",
     "numbers used up\n",
     "durable ",
+    "base ",
     "stopped\n",
     "running\n",
     "sent ",
@@ -56,10 +58,10 @@ pub const ANSWERS: [&str; 41] = [
     "head ",
     "ignored\n",
     "never sent\n",
-    "42440201",
-    "42440202",
-    "42440203",
-    "42440204",
+    "42440301",
+    "42440302",
+    "42440303",
+    "42440304",
     "opened ",
     "batch full\n",
     "bad plan ",
@@ -108,6 +110,7 @@ fn kind_of(event: &Event) -> usize {
         } => 20,
         Event::Raw { .. } => 21,
         Event::AddColumn { .. } => 22,
+        Event::Base => 23,
     }
 }
 
@@ -119,6 +122,8 @@ pub struct Tally {
     long_commits: u64,
     /// How many commits were refused for added columns alone.
     column_conflicts: u64,
+    /// How many Wants were answered without the first frames that they want, which are not kept.
+    cut_wants: u64,
 }
 
 impl Tally {
@@ -128,6 +133,7 @@ impl Tally {
             counts,
             long_commits: 0,
             column_conflicts: 0,
+            cut_wants: 0,
         })
     }
 
@@ -149,6 +155,11 @@ impl Tally {
         self.column_conflicts = self.column_conflicts.saturating_add(1);
     }
 
+    /// Counts a Want that was answered without the first frames that it wants.
+    pub fn add_cut_want(&mut self) {
+        self.cut_wants = self.cut_wants.saturating_add(1);
+    }
+
     /// Counts the frames among these datagrams that do not end their commit.
     pub fn add_sent(&mut self, sent: &[Vec<u8>]) {
         for bytes in sent {
@@ -168,6 +179,11 @@ impl Tally {
     /// How many commits were refused for added columns alone.
     pub fn column_conflicts(&self) -> u64 {
         self.column_conflicts
+    }
+
+    /// How many Wants were answered without the first frames that they want, which are not kept.
+    pub fn cut_wants(&self) -> u64 {
+        self.cut_wants
     }
 
     /// How often events of that kind gave answers of that kind, which is one of the lists above.

@@ -156,6 +156,7 @@ fn push_words(text: &mut String, script: &Script, event: &Event) -> Result<(), A
         } => write!(text, "commit {transaction} {worker}"),
         Event::Abort { transaction } => write!(text, "abort {transaction}"),
         Event::Flush { count } => write!(text, "flush {count}"),
+        Event::Base => text.push_str("base"),
         Event::Stop { count } => write!(text, "stop {count}"),
         Event::Start => text.push_str("start"),
         Event::Push { worker, seq } => write!(text, "push {worker} {seq}"),

@@ -1,6 +1,7 @@
 //! The slow world: what the simulator may print, told once more over plain lists. It shares nothing
 //! with the cores. Each question is answered by walking the lists anew.
 
+use crate::slow_bases::take_base;
 use crate::slow_batches::{ask, open, run};
 use crate::slow_events::{Event, Node, Script};
 use crate::slow_journal::kept_at_stop;
@@ -24,6 +25,8 @@ pub struct World {
     pub durable: u64,
     /// How many there are, durable or pending.
     pub last: u64,
+    /// Up to which of them the primary keeps no frames.
+    pub base: u64,
     pub stopped: bool,
     /// Transactions by their numbers.
     pub transactions: Vec<Transaction>,
@@ -50,6 +53,7 @@ impl World {
             written: Vec::new(alloc),
             durable: 0,
             last: 0,
+            base: 0,
             stopped: false,
             transactions: Vec::new(alloc),
             changes: Vec::new(alloc),
@@ -85,6 +89,7 @@ fn needs_primary(event: &Event) -> bool {
         | Event::Commit { .. }
         | Event::Abort { .. }
         | Event::Flush { .. }
+        | Event::Base
         | Event::Stop { .. }
         | Event::Push { .. } => true,
         Event::Deliver { node, .. } | Event::Raw { node, .. } => matches!(node, Node::Primary),
@@ -119,6 +124,7 @@ pub fn step(
         } => commit(world, *transaction, *worker, text),
         Event::Abort { transaction } => text.push_str(abort(world, *transaction)),
         Event::Flush { count } => flush(world, *count, text),
+        Event::Base => take_base(world, alloc, text),
         Event::Stop { count } => stop(world, alloc, *count, text),
         Event::Start => start(world, text),
         Event::Push { worker, seq } => push(world, alloc, *worker, *seq, text),
@@ -265,6 +271,7 @@ fn start(world: &mut World, text: &mut String) -> Result<(), AllocError> {
         return text.push_str("running\n");
     }
     world.stopped = false;
+    world.base = 0;
     let durable = world.durable;
     write!(text, "durable {durable}\n")
 }

@@ -42,6 +42,8 @@ impl Store for CountedStore {
 
     ghost is_whole = { λ s. s.inner.whole };
 
+    ghost base_shape = { λ s. s.inner.base_shape };
+
     ghost values_at = { λ s table place. row_at (rows_of s.inner.tables table) place.0 };
 
     ghost kind_of = { number_of };

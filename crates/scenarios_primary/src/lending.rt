@@ -17,8 +17,8 @@ static BEFORE: [Line; 2] = [
 ];
 
 /// While it is written: a commit is numbered after both, one of the same row conflicts, and what the
-/// flush offers is not durable yet; no other flush begins.
-static MEANWHILE: [Line; 6] = [
+/// flush offers is not durable yet; no other flush begins. A base is of what is durable.
+static MEANWHILE: [Line; 7] = [
     (Step::Commit(1, 0, &[Change::Insert(9)], Ok(3)), 0, 3),
     (
         Step::Commit(0, 0, &[Change::Insert(7)], Err(CommitFault::Conflict(1))),
@@ -32,6 +32,7 @@ static MEANWHILE: [Line; 6] = [
     ),
     (Step::FlushRefused(1, FlushFault::Busy), 0, 3),
     (Step::Push(0, 0, None), 0, 3),
+    (Step::Base(0, 0), 0, 3),
     (Step::Receive(&ASK, Some(&HEAD_OF_NOTHING)), 0, 3),
 ];
 

@@ -5,7 +5,11 @@
 #[cfg(test)]
 mod accounts;
 #[cfg(test)]
+mod bases;
+#[cfg(test)]
 mod commits;
+#[cfg(test)]
+mod images;
 #[cfg(test)]
 mod lending;
 #[cfg(test)]

@@ -308,7 +308,7 @@ const INSERT_7: Line = (Step::Commit(0, 0, &[Change::Insert(7)], Ok(1)), 0, 1);
 
 /// Once the journal has failed each commit and flush is refused for that, first of all; what was
 /// durable is sent, and nothing else.
-pub const FAILED: [Line; 11] = [
+pub const FAILED: [Line; 12] = [
     (Step::Flush(0, 0), 0, 0),
     (Step::Flush(usize::MAX, 0), 0, 0),
     INSERT_7,
@@ -323,6 +323,7 @@ pub const FAILED: [Line; 11] = [
     (Step::Commit(1, 0, &[], Err(CommitFault::Failed)), 0, 1),
     (Step::FlushRefused(1, FlushFault::Failed), 0, 1),
     (Step::FlushRefused(0, FlushFault::Failed), 0, 1),
+    (Step::Base(0, 0), 0, 1),
     (Step::Receive(&ASK, Some(&HEAD_OF_NOTHING)), 0, 1),
 ];
 
@@ -344,14 +345,18 @@ pub const RECOVERED: [Line; 3] = [
     (Step::Commit(0, 2, &[Change::Insert(7)], Ok(3)), 2, 1),
 ];
 
-/// What is durable stays so behind a flush that failed.
-const SECOND_FAILED: [Line; 6] = [
+/// What is durable stays so behind a flush that failed. A base can be taken then; the next start has
+/// all frames again.
+const SECOND_FAILED: [Line; 9] = [
     INSERT_7,
     (Step::Flush(1, 1), 1, 0),
     (Step::Commit(0, 1, &[Change::Delete(7)], Ok(2)), 1, 1),
     (Step::FlushRefused(1, FlushFault::Journal), 1, 1),
     (Step::FlushRefused(1, FlushFault::Failed), 1, 1),
     (Step::Push(0, 0, Some(&FRAME)), 1, 1),
+    (Step::Base(1, 1), 1, 1),
+    (Step::Push(0, 0, None), 1, 1),
+    (Step::FlushRefused(1, FlushFault::Failed), 1, 1),
 ];
 
 /// Two commits, one of each worker, are offered at once.

@@ -9,7 +9,7 @@ use mvcc::{Transaction, Versions};
 use primary::{CommitFault, FlushFault, PrimaryCore, StartFault, Ticket};
 use rows::{RowId, Schema, Value};
 use scenarios_common::wanted::{NUMBERS, Wanted};
-use scenarios_common::worker_datagrams::want_of;
+use scenarios_common::worker_datagrams::{pull_of, want_of};
 use std::alloc::{AllocError, Global};
 use std::test::Fail;
 use wire::{Datagram, Out, To, read};
@@ -49,6 +49,14 @@ pub enum Step {
     /// A replica wants a worker's frames from a seq on. It is sent as many datagrams as there are
     /// lengths, each of its length, and each with the next frame.
     Want(u8, u8, u64, &'static [usize]),
+    /// Replica 0 wants worker 0's frames from a seq on, of which those before the second seq are not
+    /// kept. It is sent those from there on, as above.
+    WantAcross(u64, u64, &'static [usize]),
+    /// A base is taken: it is that version, in so many pieces.
+    Base(u64, u64),
+    /// A replica wants the pieces of a base from a number on. It is sent as many datagrams as there
+    /// are lengths, each of its length, and each with the next piece.
+    Pull(u8, u64, u64, &'static [usize]),
 }
 
 /// A line of a story: a step, and how many commits are then to be durable and how many pending.
@@ -144,7 +152,19 @@ fn is_answered<J: JournalStore + Drop>(
         Step::PendingText(expected) => is_pending_text(primary, expected),
         Step::Push(worker, seq, expected) => Ok(is_pushed(primary, *worker, *seq, *expected)),
         Step::Receive(bytes, expected) => is_received(primary, bytes, *expected),
-        Step::Want(replica, worker, from, lens) => is_sent(primary, *replica, *worker, *from, lens),
+        Step::Want(replica, worker, from, lens) => {
+            let outs = sent(primary, &want_of(*replica, *worker, *from))?;
+            Ok(are_frames(outs.as_slice(), *replica, *worker, *from, lens))
+        }
+        Step::WantAcross(from, kept, lens) => {
+            let outs = sent(primary, &want_of(0, 0, *from))?;
+            Ok(are_frames(outs.as_slice(), 0, 0, *kept, lens))
+        }
+        Step::Base(base, pieces) => is_based(primary, (*base, *pieces)),
+        Step::Pull(replica, base, from, lens) => {
+            let outs = sent(primary, &pull_of(*replica, *base, *from))?;
+            Ok(are_pieces(outs.as_slice(), *replica, *base, *from, lens))
+        }
     }
 }
 
@@ -312,16 +332,22 @@ fn is_received<J: JournalStore>(
     }
 }
 
-/// Whether a replica that wants a worker's frames from a seq on is sent datagrams of these lengths.
-fn is_sent<J: JournalStore>(
-    primary: &PrimaryCore<J>,
-    replica: u8,
-    worker: u8,
-    from: u64,
-    lens: &[usize],
-) -> Result<bool, Fail> {
-    let outs = sent(primary, &want_of(replica, worker, from))?;
-    Ok(are_frames(outs.as_slice(), replica, worker, from, lens))
+/// Whether a base is taken and answered so. Where memory is refused, the base is the one before, and
+/// it is taken once more.
+fn is_based<J: JournalStore>(
+    primary: &mut PrimaryCore<J>,
+    expected: (u64, u64),
+) -> Result<bool, Fail>
+    ensures { primary.new.primary.workers ≡ primary.old.primary.workers }
+{
+    let before = (counts(primary), primary.low(0));
+    match primary.take_base() {
+        Ok(taken) => Ok(taken == expected),
+        Err(_) => {
+            let after = (counts(primary), primary.low(0));
+            Ok(after == before && primary.take_base()? == expected)
+        }
+    }
 }
 
 /// Whether these are as many datagrams to a replica as there are lengths, each of its length, and
@@ -350,6 +376,36 @@ fn is_frame(bytes: &[u8], worker: u8, seq: u64, len: usize) -> bool {
                 ..
             },
         ) => found == worker && at == seq && bytes.len() == len,
+        _ => false,
+    }
+}
+
+/// Whether these are as many datagrams to a replica as there are lengths, each of its length, and
+/// with the pieces of a base from a number on.
+fn are_pieces(outs: &[Out], replica: u8, base: u64, from: u64, lens: &[usize]) -> bool {
+    if outs.len() != lens.len() {
+        return false;
+    }
+    for (index, len) in lens.iter().enumerate() {
+        let out = &outs[index];
+        let number = from.wrapping_add(index as u64);
+        if out.to != To::Replica(replica) || !is_piece(out.packet.bytes(), base, number, *len) {
+            return false;
+        }
+    }
+    true
+}
+
+/// Whether these are so many bytes, and the piece of that number of a base.
+fn is_piece(bytes: &[u8], base: u64, number: u64, len: usize) -> bool {
+    match read(bytes) {
+        Ok(
+            Datagram::Piece {
+                base: found,
+                number: at,
+                ..
+            },
+        ) => found == base && at == number && bytes.len() == len,
         _ => false,
     }
 }

@@ -2,7 +2,9 @@
 //! an Ask is answered, and which frames a Want.
 
 use crate::primary_steps::{Change, Line, Step, other_story};
-use scenarios_common::worker_datagrams::{ASK, FRAME, HEAD, HEAD_OF_BOTH, SECOND_FRAME};
+use scenarios_common::worker_datagrams::{
+    ASK, FRAME, HEAD, HEAD_OF_BOTH, PIECE, PULL, SECOND_FRAME,
+};
 use std::test::Fail;
 
 /// A commit becomes durable.
@@ -14,14 +16,16 @@ const DURABLE: [Line; 5] = [
     (Step::Flush(1, 1), 1, 0),
 ];
 
-/// A frame is pushed, and an Ask alone is answered.
-const ANSWERED: [Line; 7] = [
+/// A frame is pushed, and an Ask alone is answered; also a Pull is not, since there is no image.
+const ANSWERED: [Line; 9] = [
     (Step::Commit(0, 0, &[Change::Insert(7)], Ok(1)), 0, 1),
     (Step::Flush(usize::MAX, 1), 1, 0),
     (Step::Push(0, 0, Some(&FRAME)), 1, 0),
     (Step::Push(0, 1, None), 1, 0),
     (Step::Receive(&ASK, Some(&HEAD)), 1, 0),
     (Step::Receive(&FRAME, None), 1, 0),
+    (Step::Receive(&PULL, None), 1, 0),
+    (Step::Receive(&PIECE, None), 1, 0),
     (Step::Receive(b"garbage", None), 1, 0),
 ];
 

@@ -150,7 +150,9 @@ fn published_to_both<L: Line, R: Wait + Drop>(
     let index = telling.told();
     let mut telling = telling.told_next()?;
     if let Some(commit) = telling.commits().get(index) {
-        versions.apply(commit).ok()?;
+        if versions.apply(commit).is_err() {
+            return None;
+        }
     }
     if !telling.publish() {
         return None;
@@ -170,7 +172,9 @@ fn players_of<L: Line, R: Wait + Drop>(
             transaction: Transaction::begin(alloc, 0),
             plain: Transaction::begin(alloc, 0),
         };
-        players.push(player).ok()?;
+        if players.push(player).is_err() {
+            return None;
+        }
     }
     Some(players)
 }
@@ -189,7 +193,9 @@ fn other_answered<L: Line, R: Wait>(
     requires workers { workers ≡ L.workers }
     requires legal { IsJournaled workers (shape_of schema.now) commits.items }
 {
-    let mut versions = Versions::new(alloc, schema).ok()?;
+    let Ok(mut versions) = Versions::new(alloc, schema) else {
+        return None;
+    };
     let mut telling = Telling::<L, &R>::new(alloc, rt, opened, schema, commits, 3)?;
     let mut players = players_of(alloc, &telling)?;
     let mut state = 7;

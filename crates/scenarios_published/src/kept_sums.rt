@@ -47,7 +47,9 @@ fn are_of_version(
 
 /// The version that a transaction reads which begins now; `None` if what it reads is of no version.
 pub fn version_read<L: Line>(seat: &mut Seat<L>, alloc: Global) -> Option<u64> {
-    let transaction = seat.begin(alloc).ok()?;
+    let Ok(transaction) = seat.begin(alloc) else {
+        return None;
+    };
     let first = seat.value(&transaction, 0, RowId(0), 0);
     let second = seat.value(&transaction, 0, RowId(1), 0);
     let version = transaction.snapshot();

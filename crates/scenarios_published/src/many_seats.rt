@@ -30,7 +30,9 @@ pub fn seats_of<L: Line, R: Wait + Drop>(
 ) -> Option<Vec<Seat<L>>> {
     let mut seats = Vec::new(alloc);
     for _ in 0..count {
-        seats.push(telling.seat()?).ok()?;
+        if seats.push(telling.seat()?).is_err() {
+            return None;
+        }
     }
     Some(seats)
 }

@@ -87,7 +87,9 @@ fn found<L: Line + Send + Sync, R: Threads + Wait + Sync>(
     let (first, last) = inside?;
     let telling = telling?;
     let mut seat = telling.seat()?;
-    let transaction = seat.begin(alloc).ok()?;
+    let Ok(transaction) = seat.begin(alloc) else {
+        return None;
+    };
     Some((first, last, transaction.snapshot()))
 }
 

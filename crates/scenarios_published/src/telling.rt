@@ -54,7 +54,9 @@ impl<L: Line, R: Wait + Drop> Telling<L, R> {
         requires readers { (0 < readers) × (readers < 2 ^ 32) }
     {
         let keeper = opened.named::<L>();
-        let publisher = Publisher::new(alloc, rt, schema, &keeper.seen(), readers).ok()?;
+        let Ok(publisher) = Publisher::new(alloc, rt, schema, &keeper.seen(), readers) else {
+            return None;
+        };
         Some(Telling {
             commits,
             told: 0,
@@ -109,7 +111,9 @@ impl<L: Line, R: Wait + Drop> Telling<L, R> {
             seen: keeper.seen(),
         };
         if let Err(back) = publisher.push(publication) {
-            publisher.push(back).ok()?;
+            if publisher.push(back).is_err() {
+                return None;
+            }
         }
         Some(Telling {
             commits,

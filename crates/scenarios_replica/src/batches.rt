@@ -6,7 +6,8 @@ use queries::PlanFault;
 use rows::Kind;
 use scenarios_common::wanted::{NUMBERS, Table, bank};
 use scenarios_common::worker_datagrams::{
-    FRAME, HEAD, HEAD_AT_2, HEAD_OF_TWO, HEAD_WITHOUT_FRAMES, PATCH_AND_DELETE, TWO_ROWS,
+    FRAME, HEAD, HEAD_AT_2, HEAD_OF_BASE, HEAD_OF_TWO, HEAD_WITHOUT_FRAMES, PATCH_AND_DELETE,
+    PIECE, PULL, TWO_ROWS,
 };
 use scenarios_plans_common::wishes::{COUNT, Wish, plan_of};
 use std::alloc::Global;
@@ -42,6 +43,34 @@ const HEADS: [Step<'static>; 10] = [
     Step::Get(&HEAD, Got::Ignored),
     Step::Request(1),
     Step::AskRefused(AskFault::Busy),
+];
+
+/// The Head of replica 0, its boot 1 and request 2, at version 2 of two workers with one frame each.
+/// Its base is 1, whose image has one piece; worker 0 has its frame up to the base.
+const SECOND_HEAD_OF_BASE: [u8; 80] = [
+    0x42, 0x44, 0x03, 0x03, 0x00, 0x50, 0x00, 0x00, 0x00, 0x00, 0x00, 0x00, 0x00, 0x00, 0x01, 0x00,
+    0x00, 0x00, 0x00, 0x00, 0x00, 0x00, 0x02, 0x00, 0x00, 0x00, 0x00, 0x00, 0x00, 0x00, 0x02, 0x00,
+    0x00, 0x00, 0x00, 0x00, 0x00, 0x00, 0x01, 0x00, 0x00, 0x00, 0x00, 0x00, 0x00, 0x00, 0x01, 0x02,
+    0x00, 0x00, 0x00, 0x00, 0x00, 0x00, 0x00, 0x01, 0x00, 0x00, 0x00, 0x00, 0x00, 0x00, 0x00, 0x01,
+    0x00, 0x00, 0x00, 0x00, 0x00, 0x00, 0x00, 0x00, 0x00, 0x00, 0x00, 0x00, 0x00, 0x00, 0x00, 0x01,
+];
+
+/// A Head whose base is above the replica's version is ignored, and so are a Piece and a Pull. A Head
+/// whose base is that version is taken.
+const BASES: [Step<'static>; 13] = [
+    Step::Open(0, 1),
+    Step::Ask,
+    Step::Get(&HEAD_OF_BASE, Got::Ignored),
+    Step::Get(&PIECE, Got::Ignored),
+    Step::Get(&PULL, Got::Ignored),
+    Step::Run(Ran::WaitingHead),
+    Step::GetHead(1, 1, [1, 0], Got::Head(1)),
+    Step::Get(&FRAME, Got::Stored),
+    Step::Run(Ran::Answered(ONE_ROW)),
+    Step::Open(0, 1),
+    Step::AskOf(2),
+    Step::Get(&SECOND_HEAD_OF_BASE, Got::Head(2)),
+    Step::Run(Ran::Waiting(1, 0)),
 ];
 
 /// A batch is answered at its version.
@@ -102,9 +131,10 @@ const MANY: [Step<'static>; 2] = [
     Step::OpenRefused(0, OpenFault::BatchFull),
 ];
 
-static STORIES: [Story; 8] = [
+static STORIES: [Story; 9] = [
     (1, &NUMBERS, &REPEATED_ASK),
     (1, &NUMBERS, &HEADS),
+    (2, &NUMBERS, &BASES),
     (1, &NUMBERS, &ANSWERED),
     (1, &WITH_BYTES, &COUNTED),
     (1, &NUMBERS, &NO_LIST),

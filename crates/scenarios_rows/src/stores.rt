@@ -38,6 +38,10 @@ enum Step {
     Has(u64, bool),
     /// It is whole.
     IsWhole,
+    /// It is cleared.
+    Clear,
+    /// It is broken.
+    IsBroken,
 }
 
 /// The first of these stories that goes otherwise, and the index of its step; each begins at a
@@ -109,6 +113,11 @@ fn is_answered<R: Threads + Sync>(
         Step::Audits(count) => Ok(store.len(1) == *count),
         Step::Has(row, expected) => Ok(has(store, *row) == *expected),
         Step::IsWhole => Ok(store.whole()),
+        Step::Clear => {
+            store.clear();
+            Ok(true)
+        }
+        Step::IsBroken => Ok(is_broken(rt, store)),
     }
 }
 
@@ -318,7 +327,51 @@ const REFUSED: [Step; 1] = [Step::Apply(
     Err(ApplyFault::Inconsistent),
 )];
 
-const STORIES: [&[Step]; 7] = [
+/// Rows of both tables and an added column go, and come again by the same changes.
+const CLEARED: [Step; 20] = [
+    Step::Change(Wanted::Insert(0, 7, &FIVE), 0),
+    Step::Change(Wanted::Insert(1, 7, &SIX), 0),
+    Step::Add(0, 3, 0),
+    Step::Change(Wanted::Insert(0, 8, &THREE), 0),
+    Step::Columns(3, 1),
+    Step::Ids(&[7, 8]),
+    Step::Clear,
+    Step::IsWhole,
+    Step::Columns(2, 1),
+    Step::Ids(&[]),
+    Step::Audits(0),
+    Step::Change(Wanted::Delete(0, 7), 2),
+    Step::Change(Wanted::Insert(0, 8, &THREE), 3),
+    Step::Change(Wanted::Insert(0, 7, &FIVE), 0),
+    Step::Change(Wanted::Insert(1, 7, &SIX), 0),
+    Step::Add(0, 3, 0),
+    Step::Change(Wanted::Insert(0, 8, &THREE), 0),
+    Step::Columns(3, 1),
+    Step::Ids(&[7, 8]),
+    Step::Audits(1),
+];
+
+/// A store without rows, of which nothing goes.
+const CLEARED_EMPTY: [Step; 6] = [
+    Step::Clear,
+    Step::IsWhole,
+    Step::Columns(2, 1),
+    Step::Ids(&[]),
+    Step::Change(Wanted::Insert(0, 7, &FIVE), 0),
+    Step::Ids(&[7]),
+];
+
+/// A broken store stays broken.
+const CLEARED_BROKEN: [Step; 3] = [
+    Step::Apply(
+        &[&[Wanted::Insert(0, 1, &FIVE), Wanted::Insert(0, 1, &FIVE)]],
+        Err(ApplyFault::Inconsistent),
+    ),
+    Step::Clear,
+    Step::IsBroken,
+];
+
+const STORIES: [&[Step]; 10] = [
     &NO_COLUMN,
     &ROWS_THERE_OR_NOT,
     &STOP,
@@ -326,6 +379,9 @@ const STORIES: [&[Step]; 7] = [
     &WIDER,
     &APPLIED,
     &REFUSED,
+    &CLEARED,
+    &CLEARED_EMPTY,
+    &CLEARED_BROKEN,
 ];
 
 #[test]
@@ -406,6 +462,7 @@ fn owned(alloc: Global, lent: &EntryRef<'_>) -> Result<Entry, AllocError>
 fn make(alloc: Global, store: &mut PlainStore, lent: &EntryRef<'_>) -> Result<(), Fail>
     ensures made { OnOk result (apply_entry store.old.tables (entry_of lent.now) ≡ Ok store.new.tables) }
     ensures whole { store.new.whole ≡ store.old.whole }
+    ensures base { store.new.base_shape ≡ store.old.base_shape }
 {
     store.change(&owned(alloc, lent)?)?;
     Ok(())
@@ -413,8 +470,9 @@ fn make(alloc: Global, store: &mut PlainStore, lent: &EntryRef<'_>) -> Result<()
 
 /// A store of accounts, each a number, three octets and a number.
 fn accounts_with_octets(alloc: Global) -> Result<PlainStore, Fail>
-    ensures { IfOk result (λ store.
-        store ≡ record { tables = record { kinds = Int ∷ OctetsOf 3 ∷ Int ∷ []; rows = [] } ∷ []; whole = true }) }
+    ensures tables { IfOk result (λ store. store.tables ≡ record { kinds = Int ∷ OctetsOf 3 ∷ Int ∷ []; rows = [] } ∷ []) }
+    ensures whole { IfOk result (λ store. store.whole ≡ true) }
+    ensures base { IfOk result (λ store. store.base_shape ≡ (Int ∷ OctetsOf 3 ∷ Int ∷ []) ∷ []) }
 {
     let kinds = [Kind::Int, Kind::Octets(3), Kind::Int];
     let schema = Schema::new(alloc, &[("accounts", kinds.as_slice())])?;
@@ -473,41 +531,65 @@ fn a_patch_writes_one_column_of_one_row(rt: HostRuntime) -> Result<(), Fail> {
     Ok(())
 }
 
-/// A store whose account 7 was put in before a column came that is 3 in each row, and account 8 after
-/// it, with 4 there. Then another column came, `x`.
-fn with_added_columns(alloc: Global) -> Result<PlainStore, Fail>
-    ensures whole { IfOk result (λ store. store.whole ≡ true) }
-    ensures first { IfOk result (λ store. IsSome (column_of (row_at (rows_of store.tables 0) 7) 1)) }
-    ensures second { IfOk result (λ store. IsSome (column_of (row_at (rows_of store.tables 0) 7) 3)) }
-    ensures third { IfOk result (λ store. IsSome (column_of (row_at (rows_of store.tables 0) 7) 4)) }
-    ensures other_second { IfOk result (λ store. IsSome (column_of (row_at (rows_of store.tables 0) 8) 3)) }
-    ensures other_third { IfOk result (λ store. IsSome (column_of (row_at (rows_of store.tables 0) 8) 4)) }
+/// Puts in account 7, adds a column that is 3 in each row, puts in account 8 with 4 there, and adds
+/// another column, `x`.
+fn fill(alloc: Global, store: &mut PlainStore) -> Result<(), Fail>
+    requires tables { store.old.tables ≡ record { kinds = Int ∷ OctetsOf 3 ∷ Int ∷ []; rows = [] } ∷ [] }
+    requires whole { store.old.whole ≡ true }
+    ensures whole { OnOk result (store.new.whole ≡ true) }
+    ensures base { OnOk result (store.new.base_shape ≡ store.old.base_shape) }
+    ensures first { OnOk result (IsSome (column_of (row_at (rows_of store.new.tables 0) 7) 1)) }
+    ensures second { OnOk result (IsSome (column_of (row_at (rows_of store.new.tables 0) 7) 3)) }
+    ensures third { OnOk result (IsSome (column_of (row_at (rows_of store.new.tables 0) 7) 4)) }
+    ensures other_second { OnOk result (IsSome (column_of (row_at (rows_of store.new.tables 0) 8) 3)) }
+    ensures other_third { OnOk result (IsSome (column_of (row_at (rows_of store.new.tables 0) 8) 4)) }
 {
-    let mut store = accounts_with_octets(alloc)?;
     let table = 0;
     let row = RowId(7);
     let bytes = b"\0\0\0\0\0\0\0\x05abc\xff\xff\xff\xff\xff\xff\xff\xff";
-    make(alloc, &mut store, &EntryRef::Insert { table, row, bytes })?;
+    make(alloc, store, &EntryRef::Insert { table, row, bytes })?;
     let default = Value::Int(3);
-    make(alloc, &mut store, &EntryRef::AddColumn { table, default })?;
+    make(alloc, store, &EntryRef::AddColumn { table, default })?;
     let row = RowId(8);
     let bytes = b"\0\0\0\0\0\0\0\x06xyz\0\0\0\0\0\0\0\0\0\0\0\0\0\0\0\x04";
-    make(alloc, &mut store, &EntryRef::Insert { table, row, bytes })?;
+    make(alloc, store, &EntryRef::Insert { table, row, bytes })?;
     let default = Value::Octets(Octets::from_slice(b"x").ok_or("too long")?);
-    make(alloc, &mut store, &EntryRef::AddColumn { table, default })?;
-    Ok(store)
+    make(alloc, store, &EntryRef::AddColumn { table, default })?;
+    Ok(())
 }
 
-/// The octets of account 7 and the added columns of both accounts in that store.
-fn added_columns(alloc: Global) -> Result<[Option<Value>; 5], Fail> {
-    let store = with_added_columns(alloc)?;
-    Ok([
-        column(&store, 7, 1),
-        column(&store, 7, 3),
-        column(&store, 7, 4),
-        column(&store, 8, 3),
-        column(&store, 8, 4),
-    ])
+/// The octets of account 7 and the added columns of both accounts.
+fn added_columns(store: &PlainStore) -> [Option<Value>; 5]
+    requires whole { store.now.whole ≡ true }
+    requires first { IsSome (column_of (row_at (rows_of store.now.tables 0) 7) 1) }
+    requires second { IsSome (column_of (row_at (rows_of store.now.tables 0) 7) 3) }
+    requires third { IsSome (column_of (row_at (rows_of store.now.tables 0) 7) 4) }
+    requires other_second { IsSome (column_of (row_at (rows_of store.now.tables 0) 8) 3) }
+    requires other_third { IsSome (column_of (row_at (rows_of store.now.tables 0) 8) 4) }
+{
+    [
+        column(store, 7, 1),
+        column(store, 7, 3),
+        column(store, 7, 4),
+        column(store, 8, 3),
+        column(store, 8, 4),
+    ]
+}
+
+/// These of a store that was filled.
+fn filled_columns(alloc: Global) -> Result<[Option<Value>; 5], Fail> {
+    let mut store = accounts_with_octets(alloc)?;
+    fill(alloc, &mut store)?;
+    Ok(added_columns(&store))
+}
+
+/// These of a store that was filled, cleared and filled again.
+fn refilled_columns(alloc: Global) -> Result<[Option<Value>; 5], Fail> {
+    let mut store = accounts_with_octets(alloc)?;
+    fill(alloc, &mut store)?;
+    store.clear();
+    fill(alloc, &mut store)?;
+    Ok(added_columns(&store))
 }
 
 #[test]
@@ -520,6 +602,7 @@ fn an_added_column_is_in_each_row(rt: HostRuntime) -> Result<(), Fail> {
         Some(Value::Int(4)),
         letter,
     ];
-    assert!(rt; added_columns(rt.alloc())? == expected);
+    assert!(rt; filled_columns(rt.alloc())? == expected);
+    assert!(rt; refilled_columns(rt.alloc())? == expected);
     Ok(())
 }

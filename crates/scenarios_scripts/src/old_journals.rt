@@ -67,7 +67,7 @@ stored
 stored
 opened 1
 sent 2 23
-sent 3 48
+sent 3 80
 head 2
 version 2 queries 1
 query 0 rows 1

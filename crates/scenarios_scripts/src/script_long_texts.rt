@@ -96,7 +96,7 @@ fn wide_story(alloc: Global) -> Result<Story, AllocError> {
     add_wide_commit(alloc, &mut story)?;
     story.add("open 0 query wide get count", "opened 1")?;
     story.add("ask 0", "sent 11 23")?;
-    story.add("deliver 11 p", "sent 12 40")?;
+    story.add("deliver 11 p", "sent 12 64")?;
     story.add("deliver 12 r0", "head 1")?;
     story.add("run 0", "version 1 queries 1\nquery 0 rows 1\n21")?;
     let mut dump = String::from_str(alloc, "version 1 rows 21")?;
@@ -167,7 +167,7 @@ fn batch_story(alloc: Global) -> Result<Story, AllocError> {
     }
     story.add("open 0 query acct get count", "batch full")?;
     story.add("ask 0", "sent 0 23")?;
-    story.add("deliver 0 p", "sent 1 40")?;
+    story.add("deliver 0 p", "sent 1 64")?;
     story.add("deliver 1 r0", "head 0")?;
     story.add("run 0", report.as_str())?;
     Ok(story)

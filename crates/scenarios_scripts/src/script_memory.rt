@@ -8,11 +8,12 @@ use world::{Echo, RunFault, run_script};
 
 /// Every kind of event: changes of the primary, of what was sent, and of a replica, and looks at
 /// them, each beside the lines that it answers.
-const STORY: [(&str, &str); 38] = [
+const STORY: [(&str, &str); 39] = [
     ("begin", "tx 0 at 0"),
     ("insert 0 acct 7 5 -1", "ok"),
     ("commit 0 0", "ticket 1"),
     ("flush 1", "durable 1"),
+    ("base", "base 1 pieces 1"),
     ("begin", "tx 1 at 1"),
     ("begin", "tx 2 at 1"),
     ("set 1 acct 7 1 6", "ok"),
@@ -35,16 +36,16 @@ const STORY: [(&str, &str); 38] = [
         "opened 2",
     ),
     ("ask 0", "sent 1 23"),
-    ("deliver 1 p", "sent 2 40"),
+    ("deliver 1 p", "sent 2 64"),
     ("deliver 2 r0", "head 3"),
     ("push 0 1", "sent 3 48"),
     ("deliver 3 r0", "stored"),
     ("deliver 3 r0", "repeat"),
     ("run 0", "waiting 0 2\nsent 4 16"),
-    ("show 4", "42440204001000000000000000000002"),
-    ("raw p 42440204001000000000000000000002", "sent 5 54"),
+    ("show 4", "42440304001000000000000000000002"),
+    ("raw p 42440304001000000000000000000002", "sent 5 54"),
     (
-        "raw r0 42440201003600000000000000000200000000000000030100010100000000000000000800100000000000000007ffffffffffffffff",
+        "raw r0 42440301003600000000000000000200000000000000030100010100000000000000000800100000000000000007ffffffffffffffff",
         "stored",
     ),
     (
@@ -59,7 +60,7 @@ const STORY: [(&str, &str); 38] = [
 ];
 
 /// The index of the run that changes tables. A restart forgets what it left of them.
-const RUN: usize = 32;
+const RUN: usize = 33;
 
 /// What that run and the two looks behind it answer where it was out of memory and yet changed the
 /// replica: it brought the tables to the fetched version, or broke the replica on the way there.

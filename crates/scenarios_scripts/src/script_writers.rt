@@ -218,7 +218,7 @@ fn long_script(alloc: Global) -> Result<String, Fail> {
 
 /// The datagram of that script: a frame of worker 0, seq 0, commit 1, with one insert.
 const FRAME: &str =
-    "42440201003600000000000000000000000000000000010100010100000000000000000700100000000000000005ffffffffffffffff\n";
+    "42440301003600000000000000000000000000000000010100010100000000000000000700100000000000000005ffffffffffffffff\n";
 
 /// Whether a text is what that script prints.
 fn is_long_text(text: &[u8]) -> bool {

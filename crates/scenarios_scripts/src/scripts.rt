@@ -131,7 +131,7 @@ const STORY: [(&str, &str); 36] = [
     ("deliver 0 p", "ignored"),
     ("deliver 9 p", "never sent"),
     ("show 9", "never sent"),
-    ("deliver 2 p", "sent 3 40"),
+    ("deliver 2 p", "sent 3 64"),
     ("deliver 3 r0", "head 1"),
     ("deliver 3 r0", "ignored"),
     ("ask 0", "busy"),
@@ -164,7 +164,7 @@ const BYTES: [(&str, &str); 6] = [
     ("push 0 0", "sent 0 48"),
     (
         "show 0",
-        "424402010030000000000000000000000000000000000101000101010000000000000007000a0000000000000005abcd",
+        "424403010030000000000000000000000000000000000101000101010000000000000007000a0000000000000005abcd",
     ),
 ];
 
@@ -180,7 +180,7 @@ const REPORT: [(&str, &str); 13] = [
     ("open 0 query acct get count", "opened 1"),
     ("open 0 query item get count", "opened 2"),
     ("ask 0", "sent 1 23"),
-    ("deliver 1 p", "sent 2 40"),
+    ("deliver 1 p", "sent 2 64"),
     ("deliver 2 r0", "head 1"),
     (
         "run 0",
@@ -203,7 +203,7 @@ const SHOWN: &str = "workers 1\nreplicas 1\ntable acct int int\n\
 
 /// How that frame is shown.
 const FRAME: &str = "\
-    42440201003600000000000000000000000000000000010100010100000000000000000700100000000000000005ffffffffffffffff\n";
+    42440301003600000000000000000000000000000000010100010100000000000000000700100000000000000005ffffffffffffffff\n";
 
 #[test]
 fn a_frame_is_shown_to_the_byte(rt: HostRuntime) -> Result<(), Fail> {
@@ -240,15 +240,16 @@ fn reads_as_its_events(alloc: Global) -> Result<bool, Fail> {
     Ok(are_read(&setup, events.as_slice()))
 }
 
-/// Events of a replica, and of bytes by themselves.
+/// A base, events of a replica, and of bytes by themselves.
 const MORE_EVENTS: &str = "workers 1\nreplicas 2\ntable acct int int\n\
-    version 1\ndump 0\nrestart 1 18446744073709551615\nraw r1 00ff0a\nraw p -\n";
+    base\nversion 1\ndump 0\nrestart 1 18446744073709551615\nraw r1 00ff0a\nraw p -\n";
 
 /// Whether that script reads as them.
 fn reads_as_more_events(alloc: Global) -> Result<bool, Fail> {
     let (_, events) = read_script(alloc, MORE_EVENTS.as_bytes())?;
     Ok(match events.as_slice() {
         [
+            Event::Base,
             Event::Version { replica: 1 },
             Event::Dump { replica: 0 },
             Event::Restart {
@@ -268,7 +269,7 @@ fn reads_as_more_events(alloc: Global) -> Result<bool, Fail> {
     })
 }
 
-/// Whether a run on this schema answers each event.
+/// Whether a run on this schema answers each event, a base before any commit among them.
 fn answers_each_event<R: Threads + Sync>(
     rt: &R,
     alloc: Global,
@@ -279,7 +280,12 @@ fn answers_each_event<R: Threads + Sync>(
         workers: 1,
         replicas: 1,
     };
-    let outputs = run(rt, alloc, &setup, &[Event::Begin, Event::Show { index: 0 }])?;
+    let outputs = run(
+        rt,
+        alloc,
+        &setup,
+        &[Event::Begin, Event::Base, Event::Show { index: 0 }],
+    )?;
     Ok(matches!(
         outputs.as_slice(),
         [
@@ -287,6 +293,7 @@ fn answers_each_event<R: Threads + Sync>(
                 number: 0,
                 snapshot: 0
             },
+            Output::Based { base: 0, pieces: 0 },
             Output::NeverSent
         ]
     ))

@@ -14,6 +14,9 @@ use std::sync::Wait;
 /// Rows between which amounts are moved.
 pub const ROWS: u64 = 100;
 
+/// Of every so many transfers of a clerk the first is followed by a base.
+const BASES_EVERY: u32 = 8;
+
 /// Tries of one transfer, at most.
 const TRIES: u32 = 100_000;
 
@@ -65,7 +68,9 @@ fn add<L: Origin>(
 
 /// The sum of all rows, in a transaction that begins now.
 pub fn sum_of_all<L: Origin>(alloc: Global, seat: &mut Seat<L>) -> Option<i64> {
-    let transaction = seat.begin(alloc).ok()?;
+    let Ok(transaction) = seat.begin(alloc) else {
+        return None;
+    };
     let mut sum: i64 = 0;
     for row in 0..ROWS {
         sum = sum.wrapping_add(amount(seat, &transaction, row)?);
@@ -87,7 +92,9 @@ impl<L: Origin> Clerk<L> {
         let further = draw(&mut self.state, ROWS as usize - 1) as u64;
         let to = from.wrapping_add(1).wrapping_add(further) % ROWS;
         let amount = draw(&mut self.state, 9) as i64;
-        let mut transaction = self.seat.begin(alloc).ok()?;
+        let Ok(mut transaction) = self.seat.begin(alloc) else {
+            return None;
+        };
         add(
             &mut self.seat,
             &mut transaction,
@@ -177,8 +184,20 @@ impl<L: Origin> Clerk<L> {
         Tried::Wrong
     }
 
-    /// Makes so many transfers, or as many as it can until the journal fails. It answers whether each
-    /// answer was one that may be.
+    /// Whether a base is taken, of all that the clerk has then seen.
+    fn takes_base<J: JournalStore, R: Wait + Drop, W: Wait>(
+        &mut self,
+        rt: &W,
+        line: &Line<L, J, R>,
+    ) -> bool {
+        match line.take_base(rt, &mut self.seat) {
+            Ok((base, pieces)) => base == self.seat.len() && pieces > 0,
+            Err(_) => false,
+        }
+    }
+
+    /// Makes so many transfers, or as many as it can until the journal fails, and takes a base now and
+    /// then. It answers whether each answer was one that may be.
     pub fn works<J: JournalStore + Drop, R: Wait + Drop, W: Wait>(
         &mut self,
         rt: &W,
@@ -188,7 +207,7 @@ impl<L: Origin> Clerk<L> {
     ) -> bool
         requires { 1 < L.workers }
     {
-        for _ in 0..count {
+        for number in 0..count {
             match self.tries_again(rt, alloc, line) {
                 Tried::Settled => {}
                 Tried::Failed => {
@@ -196,6 +215,9 @@ impl<L: Origin> Clerk<L> {
                     return true;
                 }
                 _ => return false,
+            }
+            if number % BASES_EVERY == 0 && !self.takes_base(rt, line) {
+                return false;
             }
         }
         true

@@ -10,7 +10,7 @@ use primary::{CommitFault, FlushFault, PrimaryCore, Ticket};
 use published::LineFault;
 use rows::{RowId, Value};
 use scenarios_common::drawn_numbers::draw;
-use scenarios_common::worker_datagrams::{ask_of, want_of};
+use scenarios_common::worker_datagrams::{ask_of, pull_of, want_of};
 use shared::{Flushed, Line, Origin, Seat, Settled, Start};
 use std::alloc::{AllocError, Global};
 use std::marker::Brand;
@@ -330,6 +330,27 @@ impl<L: Origin> Player<L> {
         self.answers(rt, line, core, &want_of(replica, worker, seq))
     }
 
+    /// Whether the same base is taken, with the same pieces; one of sixteen times, and else nothing is done.
+    fn takes_base<R: Wait + Drop, W: Wait>(
+        &mut self,
+        rt: &W,
+        line: &Line<L, MemJournal, R>,
+        core: &mut PrimaryCore<MemJournal>,
+        state: &mut u64,
+    ) -> bool {
+        if draw(state, 16) != 0 {
+            return true;
+        }
+        match (line.take_base(rt, &mut self.seat), core.take_base()) {
+            (Ok((base, pieces)), Ok((other, others))) => {
+                base == other
+                    && pieces == others
+                    && self.answers(rt, line, core, &pull_of(0, base, 0))
+            }
+            _ => false,
+        }
+    }
+
     /// Whether a call that is drawn is answered the same.
     fn plays<R: Wait + Drop, W: Wait>(
         &mut self,
@@ -342,13 +363,14 @@ impl<L: Origin> Player<L> {
     ) -> bool
         requires { 1 < L.workers }
     {
-        match draw(state, 14) {
+        match draw(state, 15) {
             0 => self.begins(alloc, core),
             1 | 2 => self.commits(rt, alloc, line, core, tickets),
             3 => self.flushes(rt, line, core, draw(state, 4)),
             4 => self.settles(rt, line, core, tickets, state),
             5 => self.pushes(rt, line, core, state),
             6 => self.answers_drawn(rt, line, core, state),
+            7 => self.takes_base(rt, line, core, state),
             _ => self.changes(core, state),
         }
     }
@@ -368,7 +390,9 @@ fn players_of<L: Origin, R: Wait + Drop, W: Wait>(
             plain: Transaction::begin(alloc, 0),
             number,
         };
-        players.push(player).ok()?;
+        if players.push(player).is_err() {
+            return None;
+        }
     }
     Some(players)
 }

@@ -44,7 +44,9 @@ fn clerks_of<L: Origin, J: JournalStore, R: Wait + Drop, W: Wait>(
             tickets: Vec::new(alloc),
             has_failed: false,
         };
-        clerks.push(clerk).ok()?;
+        if clerks.push(clerk).is_err() {
+            return None;
+        }
     }
     Some(clerks)
 }
@@ -80,8 +82,12 @@ fn parted<L: Origin>(alloc: Global, clerks: Vec<Clerk<L>>) -> Option<(Vec<Seat<L
             mut tickets,
             ..
         } = clerk;
-        seats.push(seat).ok()?;
-        all.append(&mut tickets).ok()?;
+        if seats.push(seat).is_err() {
+            return None;
+        }
+        if all.append(&mut tickets).is_err() {
+            return None;
+        }
     }
     Some((seats, all))
 }
@@ -246,9 +252,9 @@ fn are_recovered(
         return Ok(false);
     }
     let schema = Schema::new(alloc, &NUMBERS)?;
-    let recovered = recover(alloc, outcome.core.journal().content(), &schema, WORKERS)
-        .ok()
-        .ok_or("the journal is refused")?;
+    let Ok(recovered) = recover(alloc, outcome.core.journal().content(), &schema, WORKERS) else {
+        return Err("the journal is refused".into());
+    };
     Ok(outcome.came.sum == 0 && are_among(&outcome.tickets, &recovered.commits))
 }
 

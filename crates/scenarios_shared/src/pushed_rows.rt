@@ -1,4 +1,5 @@
-//! Rows of packets that are pushed at a seat, each as its packets are when they are pushed one by one.
+//! Rows of packets that are pushed at a seat, each as its packets are when they are pushed one by one,
+//! before a base is taken and behind it.
 
 ghost use Rattle.std.specs.Prelude.{◌≡◌, ◌<◌};
 
@@ -29,6 +30,17 @@ const ROWS: [(u64, usize, usize); 9] = [
     (u64::MAX, 4, 0),
 ];
 
+/// Rows of worker 0 once these frames are dropped and as many have come behind them: where each is asked for,
+/// how many packets it is to have at most, where it begins, and how many it has.
+const ROWS_BEHIND: [(u64, usize, u64, usize); 6] = [
+    (0, 9, 3, 3),
+    (0, 2, 3, 2),
+    (2, 0, 3, 0),
+    (3, 9, 3, 3),
+    (5, 9, 5, 1),
+    (6, 9, 6, 0),
+];
+
 /// Whether a row is put in by one commit of worker 0.
 fn commits<L: Origin, R: Wait + Drop, W: Wait>(
     rt: &W,
@@ -47,21 +59,23 @@ fn commits<L: Origin, R: Wait + Drop, W: Wait>(
         && line.commit(rt, seat, transaction, 0).is_ok()
 }
 
-/// Whether all commits of worker 0 are made, and are durable.
+/// Whether the commits of worker 0 with these rows are made, and with those before them are durable.
 fn is_filled<L: Origin, R: Wait + Drop, W: Wait>(
     rt: &W,
     alloc: Global,
     line: &Line<L, MemJournal, R>,
     seat: &mut Seat<L>,
+    first: u64,
+    end: u64,
 ) -> bool
     requires { 0 < L.workers }
 {
-    for id in 0..FRAMES {
+    for id in first..end {
         if !commits(rt, alloc, line, seat, id) {
             return false;
         }
     }
-    line.flush(rt, seat, usize::MAX) == Ok(Flushed::Published(FRAMES))
+    line.flush(rt, seat, usize::MAX) == Ok(Flushed::Published(end))
 }
 
 /// Whether this packet is the one that is pushed for that seq; for none, whether none is pushed.
@@ -73,26 +87,29 @@ fn is_pushed<L: Origin, R: Wait + Drop, W: Wait>(
     seq: u64,
     packet: Option<&Packet>,
 ) -> bool {
-    match (line.push(rt, seat, worker, seq), packet) {
-        (Ok(Some(pushed)), Some(packet)) => pushed.bytes() == packet.bytes(),
-        (Ok(None), None) => true,
-        _ => false,
+    match line.push(rt, seat, worker, seq) {
+        Ok(Some(pushed)) => match packet {
+            Some(packet) => pushed.bytes() == packet.bytes(),
+            None => false,
+        },
+        Ok(None) => packet.is_none(),
+        Err(_) => false,
     }
 }
 
-/// Whether a row from that seq on has so many packets, each as it is pushed alone, and after a row with
-/// fewer than `most` none is pushed.
+/// Whether a row that begins at that seq has its packets as each is pushed alone, and after a row with fewer
+/// than `most` none is pushed.
 fn is_row<L: Origin, R: Wait + Drop, W: Wait>(
     rt: &W,
     line: &Line<L, MemJournal, R>,
     seat: &mut Seat<L>,
     row: &[Packet],
     worker: u8,
-    from: u64,
+    start: u64,
     most: usize,
 ) -> bool {
     for index in 0..most.min(row.len().saturating_add(1)) {
-        let seq = from.saturating_add(index as u64);
+        let seq = start.saturating_add(index as u64);
         if !is_pushed(rt, line, seat, worker, seq, row.get(index)) {
             return false;
         }
@@ -100,7 +117,7 @@ fn is_row<L: Origin, R: Wait + Drop, W: Wait>(
     row.len() <= most
 }
 
-/// The length of the row that is pushed, if each packet is as it is pushed alone.
+/// Where the row that is pushed begins, and its length, if each packet is as it is pushed alone.
 fn pushed_row<L: Origin, R: Wait + Drop, W: Wait>(
     rt: &W,
     line: &Line<L, MemJournal, R>,
@@ -109,9 +126,9 @@ fn pushed_row<L: Origin, R: Wait + Drop, W: Wait>(
     worker: u8,
     from: u64,
     most: usize,
-) -> Option<usize> {
+) -> Option<(u64, usize)> {
     match line.push_row(rt, seat, worker, from, most, row) {
-        Ok(()) if is_row(rt, line, seat, row, worker, from, most) => Some(row.len()),
+        Ok(start) if is_row(rt, line, seat, row, worker, start, most) => Some((start, row.len())),
         _ => None,
     }
 }
@@ -126,16 +143,46 @@ fn are_rows<L: Origin, R: Wait + Drop, W: Wait>(
 ) -> bool {
     let mut row = Vec::new(alloc);
     for (from, most, len) in ROWS {
-        if pushed_row(rt, line, seat, &mut row, 0, from, most) != Some(len) {
+        if pushed_row(rt, line, seat, &mut row, 0, from, most) != Some((from, len)) {
             return false;
         }
     }
-    pushed_row(rt, line, seat, &mut row, 0, 0, 3) == Some(3)
-        && pushed_row(rt, line, seat, &mut row, 1, 0, 3) == Some(0)
+    pushed_row(rt, line, seat, &mut row, 0, 0, 3) == Some((0, 3))
+        && pushed_row(rt, line, seat, &mut row, 1, 0, 3) == Some((0, 0))
+}
+
+/// Whether each row behind the base is as it is written here, no dropped frame is pushed, and a worker without
+/// commits has no row.
+fn are_rows_behind<L: Origin, R: Wait + Drop, W: Wait>(
+    rt: &W,
+    alloc: Global,
+    line: &Line<L, MemJournal, R>,
+    seat: &mut Seat<L>,
+) -> bool {
+    let mut row = Vec::new(alloc);
+    for (from, most, start, len) in ROWS_BEHIND {
+        if pushed_row(rt, line, seat, &mut row, 0, from, most) != Some((start, len)) {
+            return false;
+        }
+    }
+    is_pushed(rt, line, seat, 0, FRAMES - 1, None)
+        && pushed_row(rt, line, seat, &mut row, 1, 0, 3) == Some((0, 0))
+}
+
+/// Whether a base is taken of all frames.
+fn is_based<L: Origin, R: Wait + Drop, W: Wait>(
+    rt: &W,
+    line: &Line<L, MemJournal, R>,
+    seat: &mut Seat<L>,
+) -> bool {
+    match line.take_base(rt, seat) {
+        Ok((base, pieces)) => base == FRAMES && pieces == 1,
+        Err(_) => false,
+    }
 }
 
 /// Whether rows are pushed so on a line of this primary: before anything is durable none, then those of
-/// three frames.
+/// three frames, and once these are dropped those of the next three.
 fn is_pushed_in_rows<L: Origin, R: Wait>(
     rt: &R,
     alloc: Global,
@@ -158,15 +205,20 @@ fn is_pushed_in_rows<L: Origin, R: Wait>(
         return false;
     };
     let mut row = Vec::new(alloc);
-    pushed_row(rt, &line, &mut seat, &mut row, 0, 0, 3) == Some(0)
-        && is_filled(rt, alloc, &line, &mut seat)
+    pushed_row(rt, &line, &mut seat, &mut row, 0, 0, 3) == Some((0, 0))
+        && is_filled(rt, alloc, &line, &mut seat, 0, FRAMES)
         && are_rows(rt, alloc, &line, &mut seat)
+        && is_based(rt, &line, &mut seat)
+        && is_filled(rt, alloc, &line, &mut seat, FRAMES, 2 * FRAMES)
+        && are_rows_behind(rt, alloc, &line, &mut seat)
 }
 
 #[test]
 fn a_row_has_the_packets_that_are_pushed_one_by_one(rt: HostRuntime) -> Result<(), Fail> {
     let core = core_on(rt.alloc(), MemJournal::new(rt.alloc()))?;
-    let start = Start::new(1).ok().ok_or("start")?;
+    let Ok(start) = Start::new(1) else {
+        return Err("start".into());
+    };
     assert!(rt; is_pushed_in_rows::<Brand, _>(&rt, rt.alloc(), core, start));
     Ok(())
 }

@@ -19,11 +19,16 @@ use std::test::Fail;
 fn insertion<L: Origin>(alloc: Global, seat: &mut Seat<L>) -> Option<Transaction> {
     let mut transaction = match seat.begin(alloc) {
         Ok(transaction) => transaction,
-        Err(_) => seat.begin(alloc).ok()?,
+        Err(_) => match seat.begin(alloc) {
+            Ok(transaction) => transaction,
+            Err(_) => return None,
+        },
     };
     let values = [Value::Int(5), Value::Int(-1)];
     if seat.insert(&mut transaction, 0, RowId(7), &values).is_err() {
-        seat.insert(&mut transaction, 0, RowId(7), &values).ok()?;
+        if seat.insert(&mut transaction, 0, RowId(7), &values).is_err() {
+            return None;
+        }
     }
     Some(transaction)
 }
@@ -143,8 +148,31 @@ fn is_answered<L: Origin, R: Wait + Drop, W: Wait>(
     false
 }
 
-/// Whether a row is committed, made durable, settled, changed and sent, whichever request is refused. A line that
-/// is not made for want of memory hands its primary back.
+/// Whether a base of one piece is taken, and then no frame is pushed: at once, or nothing has changed and it is
+/// the next time.
+fn is_based<L: Origin, R: Wait + Drop, W: Wait>(
+    rt: &W,
+    line: &Line<L, MemJournal, R>,
+    seat: &mut Seat<L>,
+) -> bool {
+    let taken = match line.take_base(rt, seat) {
+        Ok(taken) => Ok(taken),
+        Err(error) => {
+            if is_pushed(rt, line, seat) {
+                line.take_base(rt, seat)
+            } else {
+                Err(error)
+            }
+        }
+    };
+    match taken {
+        Ok((base, pieces)) => base == 1 && pieces == 1 && !is_pushed(rt, line, seat),
+        Err(_) => false,
+    }
+}
+
+/// Whether a row is committed, made durable, settled, changed and sent, and becomes a base, whichever request is
+/// refused. A line that is not made for want of memory hands its primary back.
 fn is_served<L: Origin, R: Wait>(
     rt: &R,
     alloc: Global,
@@ -175,12 +203,15 @@ fn is_served<L: Origin, R: Wait>(
         && is_changed(alloc, &mut seat)
         && is_pushed(rt, &line, &mut seat)
         && is_answered(rt, &line, &mut seat)
+        && is_based(rt, &line, &mut seat)
 }
 
 #[test]
 fn a_line_without_memory_serves_when_asked_again(rt: HostRuntime) -> Result<(), Fail> {
     let core = core_on(rt.alloc(), MemJournal::new(rt.alloc()))?;
-    let start = Start::new(1).ok().ok_or("start")?;
+    let Ok(start) = Start::new(1) else {
+        return Err("start".into());
+    };
     assert!(rt; is_served::<Brand, _>(&rt, rt.alloc(), core, start));
     Ok(())
 }

@@ -1,5 +1,5 @@
-//! While one thread flushes, and its append to the journal has begun and not ended, another one reads or
-//! commits.
+//! While one thread flushes, and its append to the journal has begun and not ended, another one reads,
+//! commits or takes a base.
 
 ghost use Rattle.std.specs.Prelude.{◌≡◌, ◌<◌};
 
@@ -24,6 +24,8 @@ enum Meanwhile {
     Read,
     /// It puts in row 1 by commit 2.
     Commit,
+    /// It takes a base of nothing, since nothing is durable yet.
+    Base,
 }
 
 /// The number of a commit that puts in a row.
@@ -36,11 +38,20 @@ fn inserted<L: Origin, R: Wait + Drop, W: Wait>(
 ) -> Option<u64>
     requires { 0 < L.workers }
 {
-    let mut transaction = seat.begin(alloc).ok()?;
+    let Ok(mut transaction) = seat.begin(alloc) else {
+        return None;
+    };
     let values = [Value::Int(5), Value::Int(-1)];
-    seat.insert(&mut transaction, 0, RowId(row), &values).ok()?;
-    let ticket = line.commit(rt, seat, transaction, 0).ok()?;
-    Some(ticket.number)
+    if seat
+        .insert(&mut transaction, 0, RowId(row), &values)
+        .is_err()
+    {
+        return None;
+    }
+    match line.commit(rt, seat, transaction, 0) {
+        Ok(ticket) => Some(ticket.number),
+        Err(_) => None,
+    }
 }
 
 /// Whether a transaction that begins now is on nothing, and finds no row 0.
@@ -50,6 +61,20 @@ fn finds_nothing<L: Origin>(alloc: Global, seat: &mut Seat<L>) -> bool {
     };
     transaction.snapshot() == 0
         && seat.value(&transaction, 0, RowId(0), 0) == Err(LineFault::Tx(TxFault::Missing))
+}
+
+/// Whether a base is taken, with so many pieces.
+fn is_based<L: Origin, R: Wait + Drop, W: Wait>(
+    rt: &W,
+    line: &Line<L, GatedJournal, R>,
+    seat: &mut Seat<L>,
+    wanted: u64,
+    wanted_pieces: u64,
+) -> bool {
+    match line.take_base(rt, seat) {
+        Ok((base, pieces)) => base == wanted && pieces == wanted_pieces,
+        Err(_) => false,
+    }
 }
 
 /// Whether this is done while an append waits at the gate.
@@ -69,6 +94,7 @@ fn is_done<L: Origin, R: Wait + Drop, W: Wait>(
     let is_done = match meanwhile {
         Meanwhile::Read => finds_nothing(alloc, seat),
         Meanwhile::Commit => inserted(rt, alloc, line, seat, 1) == Some(2),
+        Meanwhile::Base => is_based(rt, line, seat, 0, 0),
     };
     is_let_pass(gate) && is_done
 }
@@ -108,10 +134,13 @@ fn is_passed<L: Origin + Send + Sync, R: Threads + Wait + Sync>(
         { is_done(rt, alloc, line, other, gate, meanwhile) },
     );
     let durable = match meanwhile {
-        Meanwhile::Read => 1,
+        Meanwhile::Read | Meanwhile::Base => 1,
         Meanwhile::Commit => 2,
     };
-    is_written && is_done && is_flushed(rt, line, other, durable)
+    is_written
+        && is_done
+        && is_flushed(rt, line, other, durable)
+        && is_based(rt, line, writer, durable, 1)
 }
 
 /// Whether the other thread is done while the journal of this primary is written.
@@ -154,7 +183,9 @@ fn is_let_into_new<R: Threads + Wait + Sync>(
     let gate = Arc::new(alloc, AtomicU64::new(OPEN))?;
     let theirs = Arc::try_clone(&gate)?;
     let core = core_on(alloc, GatedJournal::new(alloc, theirs))?;
-    let start = Start::new(2).ok().ok_or("start")?;
+    let Ok(start) = Start::new(2) else {
+        return Err("start".into());
+    };
     Ok(is_let_in::<Brand, R>(rt, alloc, core, start, &gate, meanwhile))
 }
 
@@ -167,5 +198,11 @@ fn a_read_ends_while_the_journal_is_written(rt: HostRuntime) -> Result<(), Fail>
 #[test]
 fn a_commit_is_answered_while_the_journal_is_written(rt: HostRuntime) -> Result<(), Fail> {
     assert!(rt; is_let_into_new(&rt, rt.alloc(), Meanwhile::Commit)?);
+    Ok(())
+}
+
+#[test]
+fn a_base_is_taken_while_the_journal_is_written(rt: HostRuntime) -> Result<(), Fail> {
+    assert!(rt; is_let_into_new(&rt, rt.alloc(), Meanwhile::Base)?);
     Ok(())
 }

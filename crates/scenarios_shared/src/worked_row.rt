@@ -24,10 +24,17 @@ fn inserted<L: Origin, R: Wait + Drop, W: Wait>(
 ) -> Option<Ticket>
     requires { 0 < L.workers }
 {
-    let mut transaction = seat.begin(alloc).ok()?;
+    let Ok(mut transaction) = seat.begin(alloc) else {
+        return None;
+    };
     let values = [Value::Int(5), Value::Int(-1)];
-    seat.insert(&mut transaction, 0, RowId(7), &values).ok()?;
-    line.commit(rt, seat, transaction, 0).ok()
+    if seat.insert(&mut transaction, 0, RowId(7), &values).is_err() {
+        return None;
+    }
+    match line.commit(rt, seat, transaction, 0) {
+        Ok(ticket) => Some(ticket),
+        Err(_) => None,
+    }
 }
 
 /// Whether the first packet of worker 0's stream has these bytes, or there is none.
@@ -77,6 +84,23 @@ fn is_flushed<L: Origin, R: Wait + Drop, W: Wait>(
         && is_pushed(rt, line, reader, Some(&FRAME))
 }
 
+/// Whether the row becomes a base of one piece, also when it is taken again, and its frame is dropped.
+fn is_based<L: Origin, R: Wait + Drop, W: Wait>(
+    rt: &W,
+    line: &Line<L, MemJournal, R>,
+    seat: &mut Seat<L>,
+) -> bool {
+    for _ in 0..2 {
+        let Ok((base, pieces)) = line.take_base(rt, seat) else {
+            return false;
+        };
+        if base != 1 || pieces != 1 || !is_pushed(rt, line, seat, None) {
+            return false;
+        }
+    }
+    true
+}
+
 /// Whether each answer of the two seats is the one that is written here.
 fn is_told<L: Origin, R: Wait + Drop, W: Wait>(
     rt: &W,
@@ -100,6 +124,7 @@ fn is_told<L: Origin, R: Wait + Drop, W: Wait>(
     reader.value(&old, 0, RowId(7), 0) == Err(LineFault::Tx(TxFault::Missing))
         && reads_five(alloc, reader)
         && adds_column(alloc, reader)
+        && is_based(rt, line, reader)
 }
 
 /// Whether the line is handed back while a seat is missing, and ends with both.
@@ -162,7 +187,9 @@ fn is_worked<L: Origin, R: Wait>(
 #[test]
 fn a_row_goes_from_seat_to_seat(rt: HostRuntime) -> Result<(), Fail> {
     let core = core_on(rt.alloc(), MemJournal::new(rt.alloc()))?;
-    let start = Start::new(2).ok().ok_or("start")?;
+    let Ok(start) = Start::new(2) else {
+        return Err("start".into());
+    };
     assert!(rt; is_worked::<Brand, _>(&rt, rt.alloc(), core, start));
     Ok(())
 }

@@ -1,7 +1,9 @@
 //! Scenarios of `sockets`, by its public calls: ports that fail at each call in turn, datagrams that no node
-//! sends, what a drain takes, and what single turns come to.
+//! sends, what a drain takes, what single turns come to, and bases that are taken meanwhile.
 #![tactic(auto)]
 
+#[cfg(test)]
+mod bases;
 #[cfg(test)]
 mod cores;
 #[cfg(test)]

@@ -33,7 +33,7 @@ fn sends_odd_ones(alloc: Global, socket: &UdpSocket, to: SocketAddr) -> io::Resu
     socket.send_to(&long, to)?;
     socket.send_to(greatest.as_slice(), to)?;
     for byte in 0..100u8 {
-        socket.send_to(&[0x42, 0x44, 0x02, byte], to)?;
+        socket.send_to(&[0x42, 0x44, 0x03, byte], to)?;
     }
     Ok(())
 }

@@ -62,7 +62,9 @@ fn ran<
     requires seats { start.seats ≡ L.seats }
 {
     let workers = core.workers();
-    let line = Line::<L, J, &R>::new(alloc, rt, core, start).ok()?;
+    let Ok(line) = Line::<L, J, &R>::new(alloc, rt, core, start) else {
+        return None;
+    };
     run_checked(rt, alloc, &line, workers, jobs, gate)
 }
 
@@ -78,7 +80,9 @@ fn answered<R: Threads + Wait + Sync, G: Gate + Sync>(
     if seats == 0 || seats > 2 {
         return None;
     }
-    let start = Start::new(seats).ok()?;
+    let Ok(start) = Start::new(seats) else {
+        return None;
+    };
     ran::<Brand, MemJournal, R, G>(rt, alloc, core, start, jobs, gate)
 }
 

@@ -39,7 +39,9 @@ fn crew_of<L: Origin, J: JournalStore, R: Wait + Drop, W: Wait>(
 ) -> Option<Vec<Worker<L>>> {
     let mut crew = Vec::new(alloc);
     for _ in 0..WORKERS {
-        crew.push(Worker::new(alloc, line.seat(rt)?)).ok()?;
+        if crew.push(Worker::new(alloc, line.seat(rt)?)).is_err() {
+            return None;
+        }
     }
     Some(crew)
 }
@@ -49,10 +51,16 @@ fn parted<L: Origin>(alloc: Global, crew: Vec<Worker<L>>) -> Option<(Vec<Seat<L>
     let mut seats = Vec::new(alloc);
     let mut done = Vec::new(alloc);
     for worker in crew {
-        let answers = worker.answers().to_vec(alloc).ok()?;
+        let Ok(answers) = worker.answers().to_vec(alloc) else {
+            return None;
+        };
         let fault = worker.fault();
-        done.push(Done { answers, fault }).ok()?;
-        seats.push(worker.into_seat()).ok()?;
+        if done.push(Done { answers, fault }).is_err() {
+            return None;
+        }
+        if seats.push(worker.into_seat()).is_err() {
+            return None;
+        }
     }
     Some((seats, done))
 }
@@ -106,11 +114,15 @@ fn ended<
     requires whole { L.parts ≡ L.seats }
 {
     let workers = core.workers();
-    let line = Line::<L, J, &R>::new(alloc, rt, core, start).ok()?;
+    let Ok(line) = Line::<L, J, &R>::new(alloc, rt, core, start) else {
+        return None;
+    };
     let mut crew = crew_of(rt, alloc, &line)?;
     let result = ran(rt, alloc, &line, &mut crew, workers, jobs, gate)?;
     let (seats, done) = parted(alloc, crew)?;
-    let core = line.end(seats).ok()?;
+    let Ok(core) = line.end(seats) else {
+        return None;
+    };
     Some(Outcome { core, result, done })
 }
 

@@ -6,7 +6,7 @@ use Rattle.rows.specs.declared.row_id.RowId.{RowId}
 use Rattle.rows.specs.declared.value.Value.{Value}
 use Rattle.script.specs.declared.event.Event.{Event}
 use Rattle.script.specs.declared.event.Event.TheVariants.{Begin, Insert, Set, Delete, Get, Commit, Abort, Flush, Push, Deliver, Show, Open}
-use Rattle.script.specs.declared.event.Event.TheVariants.{Ask, Run, Stop, Start, Version, Dump, Restart, Raw, AddColumn}
+use Rattle.script.specs.declared.event.Event.TheVariants.{Ask, Run, Stop, Start, Version, Dump, Restart, Raw, AddColumn, Base}
 use Rattle.script.specs.declared.event.Node.{Node}
 use Rattle.script.specs.declared.event.Node.TheVariants.{Primary, Replica}
 use Rattle.script.specs.declared.setup.Setup.{Setup}
@@ -17,7 +17,7 @@ use Rattle.script.specs.Events.{HasLine, IsPossible, IsThere}
 use Rattle.script.specs.Tables.{table_called}
 use Rattle.script.specs.Inner.Reading.{on_table, row_of, node_of, begin_of, commit_of, abort_of, flush_of}
 use Rattle.script.specs.Inner.WordReading.{or_no_table}
-use Rattle.script.specs.Inner.Reading.{pair_of, stop_of, start_of, raw_of}
+use Rattle.script.specs.Inner.Reading.{pair_of, base_of, stop_of, start_of, raw_of}
 use Rattle.script.specs.Inner.Reading.{deliver_of, show_of, replica_of, insert_of, set_of, delete_of, add_column_of, get_of, open_of}
 use Rattle.script.specs.Inner.PlanReading.{plan_of}
 use Rattle.script.specs.Inner.Reading.{open_event}
@@ -75,8 +75,9 @@ node_of-text replicas (Replica number) h there = rw (below_of-decimal replicas n
 pub complete : (setup : Setup) (naming : ℕ → List ℕ) (event : Event) → setup.workers < 2 ^ 64 → setup.replicas < 2 ^ 64
     → AreNamed naming (tables_in event) → HasLine event → IsPossible setup.workers setup.replicas event
     → words_event setup (event_words naming event) ≡ at_tables setup naming event
-unfolding event_of primary_event network_event replica_event begin_of commit_of abort_of flush_of stop_of start_of pair_of deliver_of
-    raw_of show_of replica_of insert_of set_of delete_of add_column_of get_of open_of one_of two_of three_of four_of five_of three_and_more
+unfolding event_of primary_event network_event replica_event begin_of commit_of abort_of flush_of base_of stop_of start_of pair_of
+    deliver_of raw_of show_of replica_of insert_of set_of delete_of add_column_of get_of open_of one_of two_of three_of four_of five_of
+    three_and_more
 complete setup naming Begin w r named form possible = refl
 complete setup naming (Insert transaction table row []) w r named form possible = absurd (omega arith)
 complete setup naming (Insert transaction table row (value ∷ values)) w r named form possible =
@@ -112,6 +113,7 @@ complete setup naming (Commit transaction worker) w r named form possible =
     rw (number_of-decimal transaction form) (rw (below_of-decimal setup.workers worker possible (omega arith)) refl)
 complete setup naming (Abort transaction) w r named form possible = rw (number_of-decimal transaction form) refl
 complete setup naming (Flush count) w r named form possible = rw (below_of-decimal (2 ^ 32) count form (omega arith)) refl
+complete setup naming Base w r named form possible = refl
 complete setup naming (Stop bytes) w r named form possible = rw (number_of-decimal bytes form) refl
 complete setup naming Start w r named form possible = refl
 complete setup naming (Push worker seq) w r named form possible =

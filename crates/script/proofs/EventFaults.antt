@@ -8,7 +8,7 @@ use Rattle.queries.specs.declared.plan.Join.{Join}
 use Rattle.queries.specs.declared.plan.Plan.{Plan}
 use Rattle.script.specs.declared.event.Event.{Event}
 use Rattle.script.specs.declared.event.Event.TheVariants.{Begin, Insert, Set, Delete, Get, Commit, Abort, Flush, Push, Deliver, Show, Open}
-use Rattle.script.specs.declared.event.Event.TheVariants.{Ask, Run, Stop, Start, Version, Dump, Restart, Raw, AddColumn}
+use Rattle.script.specs.declared.event.Event.TheVariants.{Ask, Run, Stop, Start, Version, Dump, Restart, Raw, AddColumn, Base}
 use Rattle.script.specs.declared.faults.Reason.{Reason}
 use Rattle.script.specs.declared.faults.Reason.TheVariants.{NotText, BadSetting, UnknownEvent, BadWords, NoTable}
 use Rattle.script.specs.declared.setup.Setup.{Setup}
@@ -101,6 +101,7 @@ event-missing setup naming (Get transaction table row column) other form named m
 event-missing setup naming (Commit transaction worker) other form named missing h = none-missing setup.schema naming missing
 event-missing setup naming (Abort transaction) other form named missing h = none-missing setup.schema naming missing
 event-missing setup naming (Flush count) other form named missing h = none-missing setup.schema naming missing
+event-missing setup naming Base other form named missing h = none-missing setup.schema naming missing
 event-missing setup naming (Stop bytes) other form named missing h = none-missing setup.schema naming missing
 event-missing setup naming Start other form named missing h = none-missing setup.schema naming missing
 event-missing setup naming (Push worker seq) other form named missing h = none-missing setup.schema naming missing
@@ -137,6 +138,7 @@ first-event-word naming (Get transaction table row column) = first-of (codes "ge
 first-event-word naming (Commit transaction worker) = first-of (codes "commit") _ refl refl
 first-event-word naming (Abort transaction) = first-of (codes "abort") _ refl refl
 first-event-word naming (Flush count) = first-of (codes "flush") _ refl refl
+first-event-word naming Base = first-of (codes "base") _ refl refl
 first-event-word naming (Stop bytes) = first-of (codes "stop") _ refl refl
 first-event-word naming Start = first-of (codes "start") _ refl refl
 first-event-word naming (Push worker seq) = first-of (codes "push") _ refl refl

@@ -6,7 +6,7 @@ use Rattle.std.proofs.lemmas.List.Splits.{join_with_byte-slice_split}
 use Rattle.rows.specs.Text.{words_text}
 use Rattle.script.specs.declared.event.Event.{Event}
 use Rattle.script.specs.declared.event.Event.TheVariants.{Begin, Insert, Set, Delete, Get, Commit, Abort, Flush, Push, Deliver, Show, Open}
-use Rattle.script.specs.declared.event.Event.TheVariants.{Ask, Run, Stop, Start, Version, Dump, Restart, Raw, AddColumn}
+use Rattle.script.specs.declared.event.Event.TheVariants.{Ask, Run, Stop, Start, Version, Dump, Restart, Raw, AddColumn, Base}
 use Rattle.script.specs.declared.setup.Setup.{Setup}
 use Rattle.script.specs.declared.faults.Reason.{Reason}
 use Rattle.script.specs.declared.faults.Reason.TheVariants.{NotText, BadSetting, UnknownEvent, BadWords, NoTable}
@@ -49,6 +49,7 @@ some_words naming (Get transaction table row column) = omega arith
 some_words naming (Commit transaction worker) = omega arith
 some_words naming (Abort transaction) = omega arith
 some_words naming (Flush count) = omega arith
+some_words naming Base = omega arith
 some_words naming (Stop bytes) = omega arith
 some_words naming Start = omega arith
 some_words naming (Push worker seq) = omega arith
@@ -96,6 +97,7 @@ at_tables-fine setup naming (Get transaction table row column) named form h = ta
 at_tables-fine setup naming (Commit transaction worker) named form h = cc
 at_tables-fine setup naming (Abort transaction) named form h = cc
 at_tables-fine setup naming (Flush count) named form h = cc
+at_tables-fine setup naming Base named form h = cc
 at_tables-fine setup naming (Stop bytes) named form h = cc
 at_tables-fine setup naming Start named form h = cc
 at_tables-fine setup naming (Push worker seq) named form h = cc
@@ -162,6 +164,7 @@ kept_tables setup line (Get transaction table row column) s = rw s.found.0 refl
 kept_tables setup line (Commit transaction worker) s = refl
 kept_tables setup line (Abort transaction) s = refl
 kept_tables setup line (Flush count) s = refl
+kept_tables setup line Base s = refl
 kept_tables setup line (Stop bytes) s = refl
 kept_tables setup line Start s = refl
 kept_tables setup line (Push worker seq) s = refl

@@ -12,7 +12,7 @@ use Rattle.rows.specs.Spelling.{AreBytes}
 use Rattle.rows.specs.Text.{value_text}
 use Rattle.script.specs.declared.event.Event.{Event}
 use Rattle.script.specs.declared.event.Event.TheVariants.{Begin, Insert, Set, Delete, Get, Commit, Abort, Flush, Push, Deliver, Show, Open}
-use Rattle.script.specs.declared.event.Event.TheVariants.{Ask, Run, Stop, Start, Version, Dump, Restart, Raw, AddColumn}
+use Rattle.script.specs.declared.event.Event.TheVariants.{Ask, Run, Stop, Start, Version, Dump, Restart, Raw, AddColumn, Base}
 use Rattle.script.specs.declared.event.Node.{Node}
 use Rattle.script.specs.declared.event.Node.TheVariants.{Primary, Replica}
 use Rattle.script.specs.declared.setup.Setup.{Setup}
@@ -28,7 +28,7 @@ use Rattle.script.specs.Inner.WordReading.{both, two, made, number_of, below_of,
 use Rattle.script.specs.Inner.PlanReading.{plan_of}
 use Rattle.script.specs.Inner.Reading.{given_as_wanted, on_table, or_bad_words, row_id, row_of, node_of, pair_of, replica_of}
 use Rattle.script.specs.Inner.Reading.{one_of, two_of, three_of, four_of, five_of, three_and_more}
-use Rattle.script.specs.Inner.Reading.{begin_of, commit_of, abort_of, flush_of, stop_of, start_of, deliver_of, show_of, raw_of}
+use Rattle.script.specs.Inner.Reading.{begin_of, commit_of, abort_of, flush_of, base_of, stop_of, start_of, deliver_of, show_of, raw_of}
 use Rattle.script.specs.Inner.Reading.{insert_of, set_of, delete_of, add_column_of, get_of, open_event, open_of}
 use Rattle.script.specs.Inner.Reading.{replica_event, network_event, primary_event, event_of}
 use Rattle.queries.specs.declared.plan.Plan.{Plan}
@@ -321,7 +321,8 @@ no_event false e unknown = record { holds = (e, unknown) }
 
 -- the fact named for an event says that the first word is another
 of-first : (setup : Setup) (first : List ℕ) (words : List (List ℕ)) → Sound setup first words (event_of setup first words)
-unfolding event_of primary_event network_event replica_event begin_of commit_of abort_of flush_of stop_of start_of deliver_of show_of raw_of
+unfolding event_of primary_event network_event replica_event begin_of commit_of abort_of flush_of base_of stop_of start_of deliver_of
+    show_of raw_of
 of-first setup first words =
     chosen (codes "insert") (insert-sound setup words) (λ insert.
     chosen (codes "set") (set-sound setup words) (λ set.
@@ -334,6 +335,7 @@ of-first setup first words =
     chosen (codes "commit") (two-sound words number (below setup.workers) Commit refl (λ t w low is. (refl, low, is, refl))) (λ commit.
     chosen (codes "abort") (one-sound words number Abort refl (λ t low. (refl, low, tt, refl))) (λ abort.
     chosen (codes "flush") (one-sound words (below (2 ^ 32)) Flush refl (λ count low. (refl, low, tt, refl))) (λ flush.
+    chosen (codes "base") (none-sound words base_of Base refl refl (λ word more. refl) (refl, tt, tt, refl)) (λ base.
     chosen (codes "stop") (one-sound words number Stop refl (λ bytes low. (refl, low, tt, refl))) (λ stop.
     chosen (codes "start") (none-sound words start_of Start refl refl (λ word more. refl) (refl, tt, tt, refl)) (λ start.
     chosen (codes "push") (pair-sound words setup.workers Push refl (λ w seq is low. (refl, low, is, refl))) (λ push.
@@ -344,7 +346,7 @@ of-first setup first words =
     chosen (codes "version") (replica-sound words setup.replicas Version refl (λ r is. (refl, tt, is, refl))) (λ version.
     chosen (codes "dump") (replica-sound words setup.replicas Dump refl (λ r is. (refl, tt, is, refl))) (λ dump.
     chosen (codes "restart") (pair-sound words setup.replicas Restart refl (λ r boot is low. (refl, low, (is, low), refl))) (λ restart.
-    no_event (sets first) refl (cc))))))))))))))))))))))
+    no_event (sets first) refl (cc)))))))))))))))))))))))
 
 -- what the words of a line give says of them what it has to
 pub event-sound : (setup : Setup) (first : List ℕ) (words : List (List ℕ)) → IsSound setup first words (event_of setup first words)

@@ -6,7 +6,7 @@ use Rattle.std.proofs.lemmas.List.Elements.{All-cons}
 use Rattle.rows.specs.Text.{value_text}
 use Rattle.script.specs.declared.event.Event.{Event}
 use Rattle.script.specs.declared.event.Event.TheVariants.{Begin, Insert, Set, Delete, Get, Commit, Abort, Flush, Push, Deliver, Show, Open}
-use Rattle.script.specs.declared.event.Event.TheVariants.{Ask, Run, Stop, Start, Version, Dump, Restart, Raw, AddColumn}
+use Rattle.script.specs.declared.event.Event.TheVariants.{Ask, Run, Stop, Start, Version, Dump, Restart, Raw, AddColumn, Base}
 use Rattle.script.specs.declared.event.Node.{Node}
 use Rattle.script.specs.declared.event.Node.TheVariants.{Primary, Replica}
 use Rattle.script.specs.Text.{is_name}
@@ -61,6 +61,8 @@ event-plain workers replicas naming (Abort transaction) w r named form possible 
     (plain-by-test (codes "abort") refl, (decimal-plain transaction form, tt))
 event-plain workers replicas naming (Flush count) w r named form possible =
     (plain-by-test (codes "flush") refl, (decimal-plain count (omega arith), tt))
+event-plain workers replicas naming Base w r named form possible =
+    (plain-by-test (codes "base") refl, tt)
 event-plain workers replicas naming (Stop bytes) w r named form possible =
     (plain-by-test (codes "stop") refl, (decimal-plain bytes form, tt))
 event-plain workers replicas naming Start w r named form possible =

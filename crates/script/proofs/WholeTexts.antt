@@ -7,7 +7,7 @@ use Rattle.rows.specs.Limits.{workers_max, replicas_max}
 use Rattle.rows.specs.Text.{words_text}
 use Rattle.script.specs.declared.event.Event.{Event}
 use Rattle.script.specs.declared.event.Event.TheVariants.{Begin, Insert, Set, Delete, Get, Commit, Abort, Flush, Push, Deliver, Show, Open}
-use Rattle.script.specs.declared.event.Event.TheVariants.{Ask, Run, Stop, Start, Version, Dump, Restart, Raw, AddColumn}
+use Rattle.script.specs.declared.event.Event.TheVariants.{Ask, Run, Stop, Start, Version, Dump, Restart, Raw, AddColumn, Base}
 use Rattle.script.specs.declared.setup.Setup.{Setup}
 use Rattle.script.specs.declared.settings.Settings.TheVariants.{Ready}
 use Rattle.script.specs.Tables.{name_in}
@@ -35,6 +35,7 @@ event-no-table naming (Get transaction at row column) table same = let heads : 1
 event-no-table naming (Commit transaction worker) table same = let heads : 99 ≡ 116 = ap first_byte same in omega (arith, heads)
 event-no-table naming (Abort transaction) table same = let heads : 97 ≡ 116 = ap first_byte same in omega (arith, heads)
 event-no-table naming (Flush count) table same = let heads : 102 ≡ 116 = ap first_byte same in omega (arith, heads)
+event-no-table naming Base table same = let heads : 98 ≡ 116 = ap first_byte same in omega (arith, heads)
 event-no-table naming (Stop bytes) table same = let heads : 115 ≡ 116 = ap first_byte same in omega (arith, heads)
 event-no-table naming Start table same = let heads : 115 ≡ 116 = ap first_byte same in omega (arith, heads)
 event-no-table naming (Push worker seq) table same = let heads : 112 ≡ 116 = ap first_byte same in omega (arith, heads)

@@ -41,8 +41,8 @@ pub record IsPlanText (schema : List (List ℕ × List Kind)) (text : List ℕ) 
 abbrev pub event_names : List (List ℕ)
 event_names =
     codes "begin" ∷ codes "insert" ∷ codes "set" ∷ codes "delete" ∷ codes "column" ∷ codes "get" ∷ codes "commit" ∷ codes "abort"
-    ∷ codes "flush" ∷ codes "stop" ∷ codes "start" ∷ codes "push" ∷ codes "deliver" ∷ codes "show" ∷ codes "open" ∷ codes "ask"
-    ∷ codes "run" ∷ codes "version" ∷ codes "dump" ∷ codes "restart" ∷ codes "raw" ∷ []
+    ∷ codes "flush" ∷ codes "base" ∷ codes "stop" ∷ codes "start" ∷ codes "push" ∷ codes "deliver" ∷ codes "show" ∷ codes "open"
+    ∷ codes "ask" ∷ codes "run" ∷ codes "version" ∷ codes "dump" ∷ codes "restart" ∷ codes "raw" ∷ []
 
 -- what lines of settings begin with
 abbrev pub setting_names : List (List ℕ)

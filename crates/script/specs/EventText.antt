@@ -6,7 +6,7 @@ use Rattle.script.specs.PlanText.{plan_words, plan_tables}
 use Rattle.script.specs.Tables.{name_in}
 use Rattle.script.specs.declared.event.Event.{Event}
 use Rattle.script.specs.declared.event.Event.TheVariants.{Begin, Insert, Set, Delete, Get, Commit, Abort, Flush, Push, Deliver, Show, Open}
-use Rattle.script.specs.declared.event.Event.TheVariants.{Ask, Run, Stop, Start, Version, Dump, Restart, Raw, AddColumn}
+use Rattle.script.specs.declared.event.Event.TheVariants.{Ask, Run, Stop, Start, Version, Dump, Restart, Raw, AddColumn, Base}
 use Rattle.script.specs.declared.event.Node.{Node}
 use Rattle.script.specs.declared.event.Node.TheVariants as nodes
 use Rattle.script.specs.declared.output.Output.{Output}
@@ -37,6 +37,7 @@ event_words naming (Get transaction table row column) =
 event_words naming (Commit transaction worker) = codes "commit" ∷ decimal transaction ∷ decimal worker ∷ []
 event_words naming (Abort transaction) = codes "abort" ∷ decimal transaction ∷ []
 event_words naming (Flush count) = codes "flush" ∷ decimal count ∷ []
+event_words naming Base = codes "base" ∷ []
 event_words naming (Stop bytes) = codes "stop" ∷ decimal bytes ∷ []
 event_words naming Start = codes "start" ∷ []
 event_words naming (Push worker seq) = codes "push" ∷ decimal worker ∷ decimal seq ∷ []

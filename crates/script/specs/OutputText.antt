@@ -12,6 +12,7 @@ use Rattle.script.specs.declared.output.Output.TheVariants.{Conflict, ReadOnly, 
 use Rattle.script.specs.declared.output.Output.TheVariants.{NeverSent, Stored, Repeat, Ahead, Head, Ignored, Shown, Opened, BatchFull}
 use Rattle.script.specs.declared.output.Output.TheVariants.{BadPlan, Busy, Empty, NoBatch, WaitingHead, Waiting, Report, Inconsistent}
 use Rattle.script.specs.declared.output.Output.TheVariants.{Broken, Memory, Stopped, Running, Version, Dump, Boot, BootUsed, Forged}
+use Rattle.script.specs.declared.output.Output.TheVariants.{Based}
 
 -- the number of a plan's fault
 abbrev pub fault_number : PlanFault → ℕ
@@ -72,6 +73,7 @@ output_text (Value value) = line_text (codes "value" ∷ value_text value ∷ []
 output_text (Ticket number) = numbered (codes "ticket") number
 output_text (Conflict number) = numbered (codes "conflict") number
 output_text (Durable count) = numbered (codes "durable") count
+output_text (Based base pieces) = line_text (codes "base" ∷ decimal base ∷ codes "pieces" ∷ decimal pieces ∷ [])
 output_text (Head version) = numbered (codes "head") version
 output_text (Opened count) = numbered (codes "opened") count
 output_text (BadPlan fault) = numbered (codes "bad plan") (fault_number fault)

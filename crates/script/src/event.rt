@@ -60,6 +60,9 @@ pub enum Event {
     Flush {
         count: u32,
     },
+    /// The primary takes what is durable as its base: it keeps the tables there in pieces, and drops
+    /// the frames of the commits up to there.
+    Base,
     /// The primary stops, and its journal keeps this many bytes beyond what it acknowledged: the
     /// first of the pending commits' records, or all of them if there are fewer.
     Stop {

@@ -8,8 +8,8 @@ ghost use Rattle.script.specs.Inner.Reading.{is_setting, or_bad_words, replica_e
 use crate::event::Event;
 use crate::faults::{LineFault, Reason};
 use crate::node_reading::{
-    read_deliver, read_flush, read_open, read_pair, read_raw, read_replica, read_show, read_start,
-    read_stop,
+    read_base, read_deliver, read_flush, read_open, read_pair, read_raw, read_replica, read_show,
+    read_start, read_stop,
 };
 use crate::setup::Setup;
 use crate::transaction_reading::{
@@ -78,6 +78,8 @@ fn read_primary_event(setup: &Setup, first: &[u8], words: &[&[u8]]) -> Result<Ev
         or_bad_words(read_abort(words))
     } else if first == b"flush".as_slice() {
         or_bad_words(read_flush(words))
+    } else if first == b"base".as_slice() {
+        or_bad_words(read_base(words))
     } else if first == b"stop".as_slice() {
         or_bad_words(read_stop(words))
     } else if first == b"start".as_slice() {

@@ -88,6 +88,7 @@ fn push_event(text: &mut Vec<u8>, schema: &Schema, event: &Event) -> Result<(), 
         ),
         Event::Abort { transaction } => push_one(text, "abort", *transaction),
         Event::Flush { count } => push_one(text, "flush", u64::from(*count)),
+        Event::Base => push_words(text, "base", &[]),
         Event::Stop { bytes } => push_one(text, "stop", *bytes),
         Event::Start => push_words(text, "start", &[]),
         Event::Push { worker, seq } => {

@@ -3,8 +3,8 @@
 ghost use Rattle.std.specs.Prelude.{◌≡◌, ◌^◌, map};
 ghost use Rattle.script.specs.Inner.LineFaults.{Gives};
 ghost use Rattle.script.specs.Inner.WordReading.{below_of};
-ghost use Rattle.script.specs.Inner.Reading.{flush_of, stop_of, start_of, pair_of, deliver_of, show_of, raw_of, replica_of, open_of};
-ghost use Rattle.script.specs.Inner.Reading.{node_of, or_bad_words};
+ghost use Rattle.script.specs.Inner.Reading.{flush_of, base_of, stop_of, start_of, pair_of, deliver_of, show_of, raw_of, replica_of};
+ghost use Rattle.script.specs.Inner.Reading.{open_of, node_of, or_bad_words};
 
 use crate::event::{Event, Node};
 use crate::faults::{LineFault, Reason};
@@ -25,6 +25,17 @@ pub fn read_flush(words: &[&[u8]]) -> Option<Event>
     Some(Event::Flush {
         count: count_of(count)?,
     })
+}
+
+/// Reads `base`.
+#[tactic(auto, unfolding(crate::specs::Inner::Reading::base_of))]
+pub fn read_base(words: &[&[u8]]) -> Option<Event>
+    ensures { result ≡ base_of (map (λ word. word.now) words.now) }
+{
+    match words {
+        [] => Some(Event::Base),
+        _ => None,
+    }
 }
 
 /// Reads `stop B`.

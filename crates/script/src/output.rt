@@ -36,6 +36,9 @@ pub enum Output {
     Failed,
     /// This many commits are durable.
     Durable(u64),
+    /// The primary's base is this number of commits, and the tables after these are in that many
+    /// pieces.
+    Based { base: u64, pieces: u64 },
     /// The primary has stopped, or it was stopped already and nothing was done.
     Stopped,
     /// The primary runs, so it was not started.

@@ -21,6 +21,7 @@ pub fn push_output(text: &mut Vec<u8>, output: &Output) -> Result<(), AllocError
         Output::Ticket(number) => push_numbered(text, "ticket", *number),
         Output::Conflict(number) => push_numbered(text, "conflict", *number),
         Output::Durable(count) => push_numbered(text, "durable", *count),
+        Output::Based { base, pieces } => push_based(text, *base, *pieces),
         Output::Head(version) => push_numbered(text, "head", *version),
         Output::Opened(count) => push_numbered(text, "opened", *count as u64),
         Output::BadPlan(fault) => push_numbered(text, "bad plan", fault_number(*fault)),
@@ -58,6 +59,17 @@ fn push_tx(text: &mut Vec<u8>, number: u64, snapshot: u64) -> Result<(), AllocEr
         Word::Number(snapshot),
     ];
     push_line(text, "tx", &words)
+}
+
+fn push_based(text: &mut Vec<u8>, base: u64, pieces: u64) -> Result<(), AllocError>
+    ensures { OnOk result (text.new.items ≡ text.old.items ++ output_text (Output.Based base pieces)) }
+{
+    let words = [
+        Word::Number(base),
+        Word::Text("pieces"),
+        Word::Number(pieces),
+    ];
+    push_line(text, "base", &words)
 }
 
 fn push_waiting(text: &mut Vec<u8>, worker: u8, seq: u64) -> Result<(), AllocError>
@@ -135,6 +147,7 @@ fn word_of(output: &Output) -> &'static str
         Output::Ticket(_) => "",
         Output::Conflict(_) => "",
         Output::Durable(_) => "",
+        Output::Based { .. } => "",
         Output::Sent(_) => "",
         Output::Head(_) => "",
         Output::Shown(_) => "",

@@ -1,13 +1,14 @@
 //! One primary for many threads.
 //!
 //! A `Line` has a primary under a lock, and gives out seats, one for each thread. A seat reads what
-//! is published without waiting; it commits, flushes, settles, pushes and answers datagrams through
-//! the line, which holds the lock for one call of the primary at a time. A flush is a group commit:
-//! it takes its turn, and the lock is released while the journal is written, so that others commit
-//! and read meanwhile and are part of the next flush. Under the lock is a `desk::Desk`, whose
-//! methods have the whole contract. Contracts cannot state the order in which threads took the
-//! lock, so those of a line state what a call answers, and what the seat has then seen. `Start` is
-//! the name of a new line; a program makes it first, and the type of the line refers to it.
+//! is published without waiting; it commits, flushes, settles, takes bases, pushes and answers
+//! datagrams through the line, which holds the lock for one call of the primary at a time. A flush
+//! is a group commit: it takes its turn, and the lock is released while the journal is written, so
+//! that others commit and read meanwhile and are part of the next flush. Under the lock is a
+//! `desk::Desk`, whose methods have the whole contract. Contracts cannot state the order in which
+//! threads took the lock, so those of a line state what a call answers, and what the seat has then
+//! seen. `Start` is the name of a new line; a program makes it first, and the type of the line refers
+//! to it.
 //!
 //! Promised, whatever the schedule: what a seat has seen is a legal list that only grows, and what
 //! it reads, sends or learns about a ticket agrees with that list (`desk::specs::Answers`); a

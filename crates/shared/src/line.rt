@@ -4,8 +4,9 @@ ghost use Rattle.std.specs.Prelude.{◌≡◌, ◌+◌, ◌<◌, ◌≤◌, ℕ,
 ghost use mathlib.Core.List.{IsPrefix};
 ghost use Rattle.rows.specs.Shape.{shape_of};
 ghost use Rattle.journal.specs.Recovery.{IsJournaled};
-ghost use Rattle.primary.specs.Sending.{pushed, answers};
-ghost use Rattle.desk.specs.Answers.{IsCommitRefusal, IsFlushed, IsSettled, IsReadable, primary_of, row_of};
+ghost use Rattle.primary.specs.Sending.{pushed, answers, pieces_of_base};
+ghost use Rattle.desk.specs.Answers.{IsCommitRefusal, IsFlushed, IsSettled, IsReadable, IsBaseOf, primary_of, packet_at};
+ghost use Rattle.desk.specs.Answers.{row_of, kept_from};
 ghost use Rattle.desk.specs.Keeping.{commit_count};
 ghost use Rattle.desk.specs.State.{IsNew};
 
@@ -113,9 +114,9 @@ impl<L: Origin, J: JournalStore, R: Wait + Drop> Line<L, J, R> {
         self.desk.lock(rt).settle(seat, ticket)
     }
 
-    /// The packet of that `seq` of the worker's stream of what is durable, if the stream has it,
-    /// after what is durable was published. It may wait. Fails only if out of memory, and then
-    /// hands nothing out.
+    /// The packet of that `seq` of the worker's stream of what is durable, if the stream has it and
+    /// it is kept, after what is durable was published. It may wait. Fails only if out of memory,
+    /// and then hands nothing out.
     pub fn push<W: Wait>(
         &self,
         rt: &W,
@@ -124,7 +125,8 @@ impl<L: Origin, J: JournalStore, R: Wait + Drop> Line<L, J, R> {
         seq: u64,
     ) -> Result<Option<Packet>, AllocError>
         ensures legal { IsJournaled L.workers (shape_of L.schema) seat.new.list }
-        ensures ok { IfOk result (λ packet. packet ≡ pushed (primary_of L.schema L.workers seat.new.list) worker seq) }
+        ensures ok { IfOk result (λ packet. (base : ℕ) × IsBaseOf (shape_of L.schema) seat.new.list base
+            × (packet ≡ pushed (primary_of L.schema L.workers seat.new.list base) worker seq)) }
         ensures readable { IfOk result (λ _. IsReadable L.workers (shape_of L.schema) seat.new.list) }
         ensures later { IsPrefix seat.old.list seat.new.list }
         ensures seat { seat.new ≡ record seat.old { list = seat.new.list } }
@@ -132,11 +134,13 @@ impl<L: Origin, J: JournalStore, R: Wait + Drop> Line<L, J, R> {
         self.desk.lock(rt).push(seat, worker, seq)
     }
 
-    /// The packets of the worker's stream of what is durable from the seq `from` on, in order: as
-    /// many as the stream has, and at most `most`. They replace what the row contains, after what is
-    /// durable was published, and the lock is taken once for all of them. So if the row is shorter
-    /// than `most`, the stream ends there. It may wait; takes memory for the row only if the row has
-    /// no room for `most`. Fails only if out of memory; the row is then empty.
+    /// The packets of the worker's stream of what is durable from the seq `from` on, or from the first
+    /// frame on that is kept if that is a later one, in order: as many as the stream has, and at most
+    /// `most`. They replace what the row contains, after what is durable was published, and the lock
+    /// is taken once for all of them. So if the row is shorter than `most`, the stream ends there. It
+    /// answers the seq of the first packet, which is also where the stream ends if there is none: if
+    /// that is above `from`, the frames between were dropped. It may wait; takes memory for the row
+    /// only if the row has no room for `most`. Fails only if out of memory; the row is then empty.
     pub fn push_row<W: Wait>(
         &self,
         rt: &W,
@@ -145,13 +149,14 @@ impl<L: Origin, J: JournalStore, R: Wait + Drop> Line<L, J, R> {
         from: u64,
         most: usize,
         row: &mut Vec<Packet>,
-    ) -> Result<(), AllocError>
+    ) -> Result<u64, AllocError>
         ensures legal { IsJournaled L.workers (shape_of L.schema) seat.new.list }
-        ensures ok { OnOk result (row.new.items ≡ row_of (primary_of L.schema L.workers seat.new.list) worker from most) }
-        ensures each { OnOk result ((index : ℕ) → index < most
-            → slice_get row.new.items index ≡ pushed (primary_of L.schema L.workers seat.new.list) worker (from + index)) }
+        ensures ok { IfOk result (λ start. (base : ℕ) × IsBaseOf (shape_of L.schema) seat.new.list base
+            × (start ≡ kept_from seat.new.list base worker from) × (row.new.items ≡ row_of seat.new.list worker start most)) }
+        ensures each { IfOk result (λ start. (index : ℕ) → index < most
+            → slice_get row.new.items index ≡ packet_at seat.new.list worker (start + index)) }
         ensures few { length row.new.items ≤ most }
-        ensures below { from + length row.new.items ≤ u64.MAX }
+        ensures below { IfOk result (λ start. start + length row.new.items ≤ u64.MAX) }
         ensures readable { OnOk result (IsReadable L.workers (shape_of L.schema) seat.new.list) }
         ensures err { OnErr result (row.new.items ≡ []) }
         ensures later { IsPrefix seat.old.list seat.new.list }
@@ -166,8 +171,9 @@ impl<L: Origin, J: JournalStore, R: Wait + Drop> Line<L, J, R> {
     }
 
     /// What the primary sends for bytes that arrived, after what is durable was published: to an
-    /// Ask one Head, to a Want the frames that it names, 16 at most, to anything else nothing. It
-    /// may wait. Fails only if out of memory, and then hands nothing out.
+    /// Ask one Head, to a Want those of the frames that it names, 16 at most, that are kept, to a Pull
+    /// of its own base the pieces that it names, 16 at most, to anything else nothing. It may wait.
+    /// Fails only if out of memory, and then hands nothing out.
     pub fn on_bytes<W: Wait>(
         &self,
         rt: &W,
@@ -175,12 +181,29 @@ impl<L: Origin, J: JournalStore, R: Wait + Drop> Line<L, J, R> {
         bytes: &[u8],
     ) -> Result<Vec<Out>, AllocError>
         ensures legal { IsJournaled L.workers (shape_of L.schema) seat.new.list }
-        ensures ok { IfOk result (λ outs. outs.items ≡ answers (primary_of L.schema L.workers seat.new.list) bytes.now) }
+        ensures ok { IfOk result (λ outs. (base : ℕ) × IsBaseOf (shape_of L.schema) seat.new.list base
+            × (outs.items ≡ answers (primary_of L.schema L.workers seat.new.list base) bytes.now)) }
         ensures readable { IfOk result (λ _. IsReadable L.workers (shape_of L.schema) seat.new.list) }
         ensures later { IsPrefix seat.old.list seat.new.list }
         ensures seat { seat.new ≡ record seat.old { list = seat.new.list } }
     {
         self.desk.lock(rt).on_bytes(seat, bytes)
+    }
+
+    /// Publishes what is durable, and makes it the primary's base: the frames of these commits are
+    /// dropped, and the tables after them are kept in pieces. Answers the base, which is how many
+    /// commits are durable, and how many pieces it has. It may wait; commits and flushes wait until
+    /// the pieces are made. Reads do not.
+    ///
+    /// Fails only if out of memory; the base is then the one before.
+    pub fn take_base<W: Wait>(&self, rt: &W, seat: &mut Seat<L>) -> Result<(u64, u64), AllocError>
+        ensures legal { IsJournaled L.workers (shape_of L.schema) seat.new.list }
+        ensures base { IfOk result (λ taken. taken.0 ≡ length seat.new.list) }
+        ensures pieces { IfOk result (λ taken. taken.1 ≡ length (pieces_of_base (shape_of L.schema) seat.new.list taken.0)) }
+        ensures later { IsPrefix seat.old.list seat.new.list }
+        ensures seat { seat.new ≡ record seat.old { list = seat.new.list } }
+    {
+        self.desk.lock(rt).take_base(seat)
     }
 
     /// The primary, if every seat that was given out is handed in. Beyond the commits with which

@@ -1,5 +1,5 @@
 -- When a replica is broken, by what its calls answer.
-use Rattle.std.proofs.Common.{◌≡◌, ℕ, Bool, true, false, cond, List, Option, Some, None, Result, Ok, Err, refl, sym, ap, ◌∙◌, inl, inr}
+use Rattle.std.proofs.Common.{◌≡◌, ℕ, Bool, true, false, cond, List, [], Option, Some, None, Result, Ok, Err, refl, sym, ap, ◌∙◌, inl, inr}
 use Rattle.std.proofs.Common.{length, not, ◌||◌, nat_lt}
 use Rattle.std.proofs.lemmas.Bool.{cond_both}
 use Rattle.std.specs.List.{list_all}
@@ -11,6 +11,7 @@ use Rattle.intake.specs.Steps.{taken}
 use Rattle.wire.specs.declared.datagram.Datagram.{Datagram}
 use Rattle.wire.specs.declared.datagram.Datagram.TheVariants as datagrams
 use Rattle.wire.specs.declared.faults.WireFault.{WireFault}
+use Rattle.wire.specs.declared.head.Head.{Head}
 use Rattle.wire.specs.Reading.{reading}
 use Rattle.queries.specs.declared.plan.Plan.{Plan}
 use Rattle.dispatcher.specs.State.{Replica, Batch, Fetched, protocol_of}
@@ -33,20 +34,20 @@ got_of-other takens.Stored = λ is. absurd (cc)
 frame-other : (r : Replica) (frame : Frame) → IsOther (frame_comes r frame).0
 frame-other r frame =
     cond_both (not (nat_lt frame.worker r.workers) || not (list_all (λ entry. nat_lt (table_of entry) (length r.tables)) frame.entries))
-    (got.Ignored, r) (got_of (taken r.arrivals frame).0, record r { arrivals = (taken r.arrivals frame).1 })
-    (λ (answer : Got × Replica). IsOther answer.0) (λ not_taken is. absurd (cc)) (λ takes. got_of-other (taken r.arrivals frame).0)
+    (got.Ignored, r) (got_of (taken r.arrivals [] frame).0, record r { arrivals = (taken r.arrivals [] frame).1 })
+    (λ (answer : Got × Replica). IsOther answer.0) (λ not_taken is. absurd (cc)) (λ takes. got_of-other (taken r.arrivals [] frame).0)
 
-head-other : (r : Replica) (version : ℕ) (counts : List ℕ) → IsOther (own_head_comes r version counts).0
-head-other r version counts =
-    cond_both (goes_on r version counts) (headed r (takes_head (protocol_of r) version counts r.batch)) (got.Ignored, r)
+head-other : (r : Replica) (head : Head) → IsOther (own_head_comes r head).0
+head-other r head =
+    cond_both (goes_on r head) (headed r (takes_head (protocol_of r) head r.batch)) (got.Ignored, r)
     (λ (answer : Got × Replica). IsOther answer.0) (λ goes. by_batch r.batch) (λ other is. absurd (cc))
   where
     by_fetched : (plans : List Plan) (fetched : Option Fetched)
-        → IsOther (takes_head (protocol_of r) version counts (Some (record { plans = plans; fetched = fetched }))).0
+        → IsOther (takes_head (protocol_of r) head (Some (record { plans = plans; fetched = fetched }))).0
     by_fetched plans (Some fetched) = λ is. absurd (cc)
     by_fetched plans None = λ is. absurd (cc)
 
-    by_batch : (batch : Option Batch) → IsOther (takes_head (protocol_of r) version counts batch).0
+    by_batch : (batch : Option Batch) → IsOther (takes_head (protocol_of r) head batch).0
     by_batch None = λ is. absurd (cc)
     by_batch (Some batch) = by_fetched batch.plans batch.fetched
 
@@ -55,10 +56,12 @@ datagram-other r (Err fault) = λ is. absurd (cc)
 datagram-other r (Ok (datagrams.Frame worker seq commit last entries)) =
     frame-other r (record { worker = worker; seq = seq; commit = commit; last = last; entries = entries })
 datagram-other r (Ok (datagrams.Ask replica boot request)) = λ is. absurd (cc)
-datagram-other r (Ok (datagrams.Head replica boot request version counts)) =
-    cond_both (is_own (protocol_of r) replica boot request) (own_head_comes r version counts) (got.Ignored, r)
-    (λ (answer : Got × Replica). IsOther answer.0) (λ own. head-other r version counts) (λ other is. absurd (cc))
+datagram-other r (Ok (datagrams.Head head)) =
+    cond_both (is_own (protocol_of r) head) (own_head_comes r head) (got.Ignored, r)
+    (λ (answer : Got × Replica). IsOther answer.0) (λ own. head-other r head) (λ other is. absurd (cc))
 datagram-other r (Ok (datagrams.Want replica worker from)) = λ is. absurd (cc)
+datagram-other r (Ok (datagrams.Piece base number last entries)) = λ is. absurd (cc)
+datagram-other r (Ok (datagrams.Pull replica base from)) = λ is. absurd (cc)
 
 -- a replica that answers so is broken
 pub heard_is_broken : (r s : Replica) (bytes : List ℕ) → MayTake r (received r bytes) got.Broken s → s.broken ≡ true

@@ -1,19 +1,21 @@
 -- What the steps of a primary's turn do, one after the other.
-use Rattle.std.proofs.Common.{◌≡◌, ◌==◌, ◌<◌, ◌≤◌, ◌+◌, ◌*◌, ℕ, zero, suc, List, [], ◌∷◌, ◌++◌}
+use Rattle.std.proofs.Common.{◌≡◌, ◌==◌, ◌<◌, ◌≤◌, ◌+◌, ◌-◌, ◌*◌, ℕ, zero, suc, List, [], ◌∷◌, ◌++◌}
 use Rattle.std.proofs.Common.{length, Bool, true, false, cond, ◌&&◌, is_err, refl, sym, ap, subst, ◌∙◌, map}
-use Rattle.std.proofs.Common.{Result, Ok, Err, Some, None, OnOk, OnErr, arith, slice_index, slice_set, nat_lt, ◌⊎◌, inl, inr, ◌≢◌}
+use Rattle.std.proofs.Common.{Result, Ok, Err, Some, None, IfOk, OnOk, OnErr, arith, slice_index, slice_set, nat_lt, ◌⊎◌, inl, inr, ◌≢◌}
 use Rattle.std.proofs.lemmas.List.{append-nil, map-append, get_or-set_same, get_or-set_other, length-set}
 use Rattle.std.proofs.lemmas.Grind.{flat_map-append}
 use Rattle.std.proofs.lemmas.Bool.{eq-eqb, ne_eqb, eqb-true, eqb-false, ltb-true, ltb-false}
 use Rattle.std.proofs.lemmas.Bool.Decides.{nat_tests}
 use Rattle.std.specs.List.{range_with_len, sum_by, slice_get}
+use Rattle.std.specs.Result.{result_unwrap_or}
 use Rattle.std.proofs.lemmas.List.Sums.{sum_by-cons}
 use mathlib.Core.List.{IsPrefix}
 use Rattle.journal.specs.Storing.{CountsFault, faults_max}
 use Rattle.rows.specs.declared.commit.Commit.{Commit}
 use Rattle.rows.specs.declared.kind.Kind.{Kind}
-use Rattle.primary.specs.Sending.{pushed, answers}
-use Rattle.desk.specs.Answers.{primary_of}
+use Rattle.rows.specs.Shape.{shape_of}
+use Rattle.update_log.specs.Streams.{frame_count}
+use Rattle.desk.specs.Answers.{packet_at, kept_from, row_of, IsBaseOf}
 use Rattle.desk.specs.State.{SeatState}
 use Rattle.wire.specs.declared.out.Out.{Out}
 use Rattle.sockets.specs.Carrying.{Sending, Lost, out_of, Carried}
@@ -23,7 +25,7 @@ use Rattle.sockets.specs.Traffic.{with_more, with_heard, with_sent, stored_as, i
 use Rattle.sockets.specs.Asking.{noted}
 use Rattle.sockets.specs.declared.traffic.Traffic.{Traffic}
 use Rattle.sockets.specs.declared.asked.Asked.{Asked}
-use Rattle.sockets.specs.Primaries.{Call, Looks, Lacks, Pushes, Answers, Loses, Makes, hears, says, pushes_of, pushes_in, GoesOn}
+use Rattle.sockets.specs.Primaries.{Call, Looks, Lacks, Skips, Pushes, Answers, Loses, Tells, Makes, hears, says, seqs_of, seqs_in, GoesOn}
 use Rattle.sockets.specs.Primaries.{looks_of, counted_as, ignored, traffic_after, asked_by, asked_after, DoesPrimary}
 use Rattle.sockets.specs.Inner.Sending.{SendsAll, to_replicas}
 use Rattle.sockets.specs.Inner.Deeds.{looked_if, looked_by, looked_before}
@@ -33,14 +35,14 @@ use Rattle.sockets.proofs.Counting.{with_more-same, with_more-then, heard-append
 use Rattle.sockets.proofs.Served.{serves_nothing, serves_then}
 use Rattle.sockets.proofs.Stepping.{joined_are}
 
-pub pushes-append : (worker : ℕ) (xs ys : List (Act Call)) → pushes_in worker (xs ++ ys) ≡ pushes_in worker xs ++ pushes_in worker ys
-pushes-append worker xs ys = flat_map-append (λ (act : Act Call). pushes_of worker act.call) xs ys
+pub pushes-append : (worker : ℕ) (xs ys : List (Act Call)) → seqs_in worker (xs ++ ys) ≡ seqs_in worker xs ++ seqs_in worker ys
+pushes-append worker xs ys = flat_map-append (λ (act : Act Call). seqs_of worker act.call) xs ys
 
 -- that one worker's pushes go on
 abbrev GoesOnOf : List ℕ → List ℕ → List (Act Call) → ℕ → Type 0
 GoesOnOf old new acts worker =
     (count : ℕ) × (slice_index new worker ≡ slice_index old worker + count)
-    × (pushes_in worker acts ≡ range_with_len (slice_index old worker) count)
+    × (seqs_in worker acts ≡ range_with_len (slice_index old worker) count)
 
 -- numbers are equal or not
 same_or_other : (m n : ℕ) → (m ≡ n) ⊎ (m ≢ n)
@@ -76,14 +78,14 @@ goes_on_then old mid new xs ys same x y worker within =
       first.0 + second.0,
       omega (arith, first.1, second.1),
       pushes-append worker xs ys
-          ∙ ap (λ (l : List ℕ). l ++ pushes_in worker ys) first.2
+          ∙ ap (λ (l : List ℕ). l ++ seqs_in worker ys) first.2
           ∙ ap (λ (l : List ℕ). range_with_len (slice_index old worker) first.0 ++ l)
           (second.2 ∙ ap (λ (n : ℕ). range_with_len n second.0) first.1)
           ∙ sym (range-append (slice_index old worker) first.0 second.0),
     )
 
 -- acts without pushes, after which the counters are the same
-pub goes_on_same : (old new : List ℕ) (acts : List (Act Call)) → new ≡ old → ((worker : ℕ) → pushes_in worker acts ≡ [])
+pub goes_on_same : (old new : List ℕ) (acts : List (Act Call)) → new ≡ old → ((worker : ℕ) → seqs_in worker acts ≡ [])
     → GoesOn old new acts
 goes_on_same old new acts same none worker within =
     let stays : slice_index old worker ≡ slice_index old worker + 0 = omega arith in
@@ -208,7 +210,7 @@ row-asked asked worker seq (packet ∷ row) [] = refl
 row-asked asked worker seq (packet ∷ row) (sending ∷ sendings) = row-asked asked worker (seq + 1) row sendings
 
 row-pushes : (pusher worker seq : ℕ) (row : List (List ℕ)) (sendings : List Sending) → Spell sendings row
-    → pushes_in worker (row_acts pusher seq row sendings) ≡ cond (pusher == worker) (range_with_len seq (length row)) []
+    → seqs_in worker (row_acts pusher seq row sendings) ≡ cond (pusher == worker) (range_with_len seq (length row)) []
 row-pushes pusher worker seq [] sendings all = none (pusher == worker)
   where
     none : (own : Bool) → [] ≡ cond {A = List ℕ} own [] []
@@ -273,7 +275,7 @@ end-asked asked worker seq Full = refl
 end-asked asked worker seq Ends = refl
 end-asked asked worker seq Short = refl
 
-end-pushes : (pusher worker seq : ℕ) (ending : Ending) → pushes_in worker (end_acts pusher seq ending) ≡ []
+end-pushes : (pusher worker seq : ℕ) (ending : Ending) → seqs_in worker (end_acts pusher seq ending) ≡ []
 end-pushes pusher worker seq Full = refl
 end-pushes pusher worker seq Ends = refl
 end-pushes pusher worker seq Short = refl
@@ -281,7 +283,7 @@ end-pushes pusher worker seq Short = refl
 -- that a row ends so
 abbrev EndsAs : List (List ℕ × List Kind) → ℕ → List Commit → ℕ → ℕ → ℕ → ℕ → Ending → Type 0
 EndsAs schema workers list worker seq count most Full = count ≡ most
-EndsAs schema workers list worker seq count most Ends = pushed (primary_of schema workers list) worker seq ≡ None
+EndsAs schema workers list worker seq count most Ends = packet_at list worker seq ≡ None
 EndsAs schema workers list worker seq count most Short = count ≡ 0
 
 -- a worker is looked at, if a frame of it may be pushed
@@ -318,18 +320,18 @@ end-looks schema workers list pusher worker seq count most ending is = by (pushe
 module _ (schema : List (List ℕ × List Kind)) (workers : ℕ) (list : List Commit) where
   -- each of these packets is that of its seq
   abbrev Tell : ℕ → ℕ → List (List ℕ) → Type 0
-  Tell worker seq row = (i : ℕ) → i < length row → slice_get row i ≡ pushed (primary_of schema workers list) worker (seq + i)
+  Tell worker seq row = (i : ℕ) → i < length row → slice_get row i ≡ packet_at list worker (seq + i)
 
   tell-first : (worker seq : ℕ) (packet : List ℕ) (row : List (List ℕ)) → Tell worker seq (packet ∷ row)
-      → pushed (primary_of schema workers list) worker seq ≡ Some packet
+      → packet_at list worker seq ≡ Some packet
   tell-first worker seq packet row each =
       let here : seq ≡ seq + 0 = omega arith in
-      ap (λ (n : ℕ). pushed (primary_of schema workers list) worker n) here ∙ sym (each 0 (omega arith))
+      ap (packet_at list worker) here ∙ sym (each 0 (omega arith))
 
   tell-rest : (worker seq : ℕ) (packet : List ℕ) (row : List (List ℕ)) → Tell worker seq (packet ∷ row) → Tell worker (seq + 1) row
   tell-rest worker seq packet row each i below =
       let there : seq + suc i ≡ (seq + 1) + i = omega arith in
-      each (suc i) (omega (arith, below)) ∙ ap (λ (n : ℕ). pushed (primary_of schema workers list) worker n) there
+      each (suc i) (omega (arith, below)) ∙ ap (packet_at list worker) there
 
   says-first : (packet : List ℕ) (row : List (List ℕ)) (sending : Sending) (sendings : List Sending)
       → Spell (sending ∷ sendings) (packet ∷ row) → map out_of (sending ∷ []) ≡ to_replicas packet ∷ []
@@ -373,6 +375,12 @@ module _ (schema : List (List ℕ × List Kind)) (workers : ℕ) (list : List Co
 get-end : {A : Type 0} (xs : List A) → slice_get xs (length xs) ≡ None
 get-end [] = refl
 get-end (x ∷ xs) = get-end xs
+
+-- a number that is set twice is the last one
+set-again : (xs : List ℕ) (i x y : ℕ) → slice_set (slice_set xs i x) i y ≡ slice_set xs i y
+set-again [] i x y = refl
+set-again (z ∷ xs) zero x y = refl
+set-again (z ∷ xs) (suc i) x y = ap (λ (l : List ℕ). z ∷ l) (set-again xs i x y)
 
 -- ---- what a node does
 
@@ -483,7 +491,7 @@ module _ {P : Type 0} (honest : Bool) (came : P → List (List ℕ)) (sent : P �
 
   -- bytes that came, and were answered
   pub does_answer : (a b : PrimaryState P) (between : P) (bytes : List ℕ) (outs : List Out) → IsPrefix a.seat.list b.seat.list
-      → outs ≡ answers (primary_of schema workers b.seat.list) bytes
+      → Tells schema workers b.seat.list (Answers bytes outs)
       → (honest ≡ true → came between ≡ came a.port ++ bytes ∷ []) → (honest ≡ true → sent between ≡ sent a.port)
       → faults between ≡ faults a.port
       → SendsAll honest came sent faults between b.port (with_heard a.traffic (counted_as outs)) b.traffic outs
@@ -612,7 +620,7 @@ module _ {P : Type 0} (honest : Bool) (came : P → List (List ℕ)) (sent : P �
             end-ignored worker next ending,
           )
 
-      pushes : (v : ℕ) → pushes_in v acts ≡ cond (worker == v) (range_with_len from (length row)) []
+      pushes : (v : ℕ) → seqs_in v acts ≡ cond (worker == v) (range_with_len from (length row)) []
       pushes v =
           pushes-append v (row_acts worker from row x.sendings) more
           ∙ joined_are _ _ (cond (worker == v) (range_with_len from (length row)) []) [] (row-pushes worker v from row x.sendings x.all)
@@ -639,30 +647,118 @@ module _ {P : Type 0} (honest : Bool) (came : P → List (List ℕ)) (sent : P �
                 ∙ ap (λ (test : Bool). cond test (range_with_len from (length row)) []) (ne_eqb worker v (λ e. other (sym e))),
           )
 
-  -- the same, by how it was taken
-  pub does_row_as : {A F : Type 0} (a b : PrimaryState P) (worker from most : ℕ) (row : List (List ℕ)) (result : Result A F)
+  -- frames that were dropped are skipped
+  does_skip : (a : PrimaryState P) (seat : SeatState) (worker from to : ℕ) → worker < length a.counters
+      → from ≡ slice_index a.counters worker → IsPrefix a.seat.list seat.list → Tells schema workers seat.list (Skips worker from to)
+      → seat ≡ record a.seat { list = seat.list }
+      → DoesPrimary schema workers honest came sent faults a (record a { seat = seat; counters = slice_set a.counters worker to }) 0
+      (λ _. 0)
+  does_skip a seat worker from to there is begins tells same = record {
+    acts = acts;
+    serves = record {
+      done = (seat.list, (begins, tells), refl, refl);
+      carried = carried_nothing honest came sent faults a.port;
+    };
+    goes_on = λ v within. by_worker v (same_or_other v worker);
+    looks = λ v within. omega arith;
+    counts = refl;
+    asks = refl;
+    seat = same;
+    as_many = length-set a.counters worker to;
+  }
+    where
+      acts : List (Act Call)
+      acts = record { call = Skips worker from to; sendings = [] } ∷ []
+
+      set : List ℕ
+      set = slice_set a.counters worker to
+
+      seqs : (v : ℕ) → seqs_in v acts ≡ cond (worker == v) (range_with_len from (to - from)) []
+      seqs v = append-nil (cond (worker == v) (range_with_len from (to - from)) [])
+
+      own : GoesOnOf a.counters set acts worker
+      own =
+          let ahead = tells.3 in (
+            to - from,
+            get_or-set_same a.counters worker to 0 there ∙ omega (arith, is, ahead),
+            seqs worker
+                ∙ ap (λ (test : Bool). cond test (range_with_len from (to - from)) []) (eq-eqb worker worker refl)
+                ∙ ap (λ (n : ℕ). range_with_len n (to - from)) is,
+          )
+
+      by_worker : (v : ℕ) → (v ≡ worker) ⊎ (v ≢ worker) → GoesOnOf a.counters set acts v
+      by_worker v (inl same) = subst (GoesOnOf a.counters set acts) (sym same) own
+      by_worker v (inr other) =
+          let none : slice_index a.counters v ≡ slice_index a.counters v + 0 = omega arith in (
+            0,
+            get_or-set_other a.counters worker v to 0 other ∙ none,
+            seqs v
+                ∙ ap (λ (test : Bool). cond test (range_with_len from (to - from)) []) (ne_eqb worker v (λ e. other (sym e))),
+          )
+
+  -- a row of frames that begins where they are kept, behind those that are skipped
+  does_skip_row : (a b : PrimaryState P) (worker from start most : ℕ) (row : List (List ℕ)) (ending : Ending)
       → worker < length a.counters → from ≡ slice_index a.counters worker → 0 < most → IsPrefix a.seat.list b.seat.list
-      → OnOk result ((i : ℕ) → i < most → slice_get row i ≡ pushed (primary_of schema workers b.seat.list) worker (from + i))
+      → (base : ℕ) × IsBaseOf (shape_of schema) b.seat.list base × (start ≡ kept_from b.seat.list base worker from)
+      → Tell schema workers b.seat.list worker start row
+      → EndsAs schema workers b.seat.list worker (start + length row) (length row) most ending
+      → SendsAll honest came sent faults a.port b.port a.traffic b.traffic (map to_replicas row)
+      → b.asked ≡ a.asked → b.counters ≡ slice_set a.counters worker (start + length row) → b.seat ≡ record a.seat { list = b.seat.list }
+      → DoesPrimary schema workers honest came sent faults a b 0 (looked_by worker most)
+  does_skip_row a b worker from start most row ending there is some begins kept each ends x asked set seat = by (nat_lt from start) refl
+    where
+      low : ℕ
+      low = frame_count b.seat.list worker kept.0
+
+      passed : PrimaryState P
+      passed = record a { seat = b.seat; counters = slice_set a.counters worker start }
+
+      by : (test : Bool) → nat_lt from start ≡ test
+          → DoesPrimary schema workers honest came sent faults a b 0 (looked_by worker most)
+      by true ahead =
+          let above = ltb-true from start ahead in
+          let lowest : start ≡ low = omega (arith, above, kept.2) in
+          does_then a passed b 0 (λ _. 0) (looked_by worker most) (looked_by worker most) (λ v within. omega arith)
+          (does_skip a b.seat worker from start there is begins (kept.0, kept.1, lowest, above) seat)
+          (does_row passed b worker start most row ending (omega (arith, there, length-set a.counters worker start))
+          (sym (get_or-set_same a.counters worker start 0 there)) some (prefix_self b.seat.list) each ends x asked
+          (set ∙ sym (set-again a.counters worker start (start + length row))) refl)
+      by false here =
+          let same : start ≡ from = omega (arith, ltb-false from start here, kept.2) in
+          does_row a b worker start most row ending there (same ∙ is) some begins each ends x asked set seat
+
+  -- the same, by how it was taken
+  pub does_row_as : {F : Type 0} (a b : PrimaryState P) (worker from start most : ℕ) (row : List (List ℕ)) (result : Result ℕ F)
+      → worker < length a.counters → from ≡ slice_index a.counters worker → 0 < most → IsPrefix a.seat.list b.seat.list
+      → start ≡ result_unwrap_or result from
+      → IfOk result (λ at. (base : ℕ) × IsBaseOf (shape_of schema) b.seat.list base × (at ≡ kept_from b.seat.list base worker from)
+      × (row ≡ row_of b.seat.list worker at most))
+      → IfOk result (λ at. (i : ℕ) → i < most → slice_get row i ≡ packet_at b.seat.list worker (at + i))
       → OnErr result (row ≡ []) → length row ≤ most
       → SendsAll honest came sent faults a.port b.port a.traffic b.traffic (map to_replicas row)
-      → b.asked ≡ a.asked → b.counters ≡ slice_set a.counters worker (from + length row) → b.seat ≡ record a.seat { list = b.seat.list }
+      → b.asked ≡ a.asked → b.counters ≡ slice_set a.counters worker (start + length row) → b.seat ≡ record a.seat { list = b.seat.list }
       → DoesPrimary schema workers honest came sent faults a b 0 (looked_by worker most)
-  does_row_as a b worker from most row (Err fault) there is some begins each empty few x asked set seat =
-      does_row a b worker from most row Short there is some begins (λ i below. absurd (omega (arith, below, ap length empty)))
+  does_row_as a b worker from start most row (Err fault) there is some begins at kept each empty few x asked set seat =
+      does_row a b worker start most row Short there (at ∙ is) some begins (λ i below. absurd (omega (arith, below, ap length empty)))
       (ap length empty) x asked set seat
-  does_row_as a b worker from most row (Ok done) there is some begins each empty few x asked set seat =
+  does_row_as a b worker from start most row (Ok first) there is some begins at kept each empty few x asked set seat =
       by (nat_lt (length row) most) refl
     where
-      tells : Tell schema workers b.seat.list worker from row
-      tells i below = each i (omega (arith, below, few))
+      tells : Tell schema workers b.seat.list worker start row
+      tells i below =
+          each i (omega (arith, below, few)) ∙ ap (λ (n : ℕ). packet_at b.seat.list worker (n + i)) (sym at)
+
+      is_kept : (base : ℕ) × IsBaseOf (shape_of schema) b.seat.list base × (start ≡ kept_from b.seat.list base worker from)
+      is_kept = (kept.0, kept.1, at ∙ kept.2)
 
       by : (test : Bool) → nat_lt (length row) most ≡ test
           → DoesPrimary schema workers honest came sent faults a b 0 (looked_by worker most)
       by true fewer =
-          does_row a b worker from most row Ends there is some begins tells
-          (sym (each (length row) (ltb-true (length row) most fewer)) ∙ get-end row) x asked set seat
+          does_skip_row a b worker from start most row Ends there is some begins is_kept tells
+          (ap (λ (n : ℕ). packet_at b.seat.list worker (n + length row)) at
+          ∙ sym (each (length row) (ltb-true (length row) most fewer)) ∙ get-end row) x asked set seat
       by false full =
-          does_row a b worker from most row Full there is some begins tells
+          does_skip_row a b worker from start most row Full there is some begins is_kept tells
           (omega (arith, few, ltb-false (length row) most full)) x asked set seat
 
 -- ---- how much of each worker

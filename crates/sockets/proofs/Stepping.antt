@@ -11,7 +11,7 @@ use Rattle.journal.specs.Storing.{faults_max}
 use Rattle.wire.specs.declared.out.Out.{Out}
 use Rattle.queries.specs.declared.plan.Plan.{Plan}
 use Rattle.rows.specs.Faults.{IsFaultOf}
-use Rattle.primary.specs.Sending.{want_frames_max}
+use Rattle.update_log.specs.Limits.{want_frames_max}
 use Rattle.dispatcher.specs.State.{Replica}
 use Rattle.dispatcher.specs.Protocol.{want_for}
 use Rattle.dispatcher.specs.Gaps.{gaps_of}

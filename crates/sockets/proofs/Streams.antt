@@ -1,20 +1,24 @@
 -- Each frame of a stream is of its worker, by its seq; and the counts of a Head.
 use Rattle.std.proofs.Common.{◌≡◌, ℕ, zero, suc, ◌+◌, ◌^◌, ◌<◌, ◌≤◌, Bool, true, false, cond, ◌==◌, List, [], ◌∷◌, ◌++◌, length, take}
-use Rattle.std.proofs.Common.{Some, get_or, refl, sym, ap, subst, ◌∙◌, ◌⊎◌, inl, inr, arith}
+use Rattle.std.proofs.Common.{Some, get_or, nat_le, refl, sym, ap, subst, ◌∙◌, ◌⊎◌, inl, inr, arith}
+use Rattle.std.specs.Cmp.Lexicographic.{pointwise}
 use Rattle.std.specs.List.{slice_get, AllByRecursion}
-use Rattle.std.proofs.lemmas.Bool.{cases_lt, eqb-true}
-use Rattle.std.proofs.lemmas.List.{get_or_append_left, get_or_past, get_or-append-add, length-append}
+use Rattle.std.proofs.lemmas.Bool.{cases_lt, eqb-true, and_from, and_parts, le-leb}
+use Rattle.std.proofs.lemmas.List.{get_or_append_left, get_or_past, get_or-append-add, length-append, take-take}
 use Rattle.std.proofs.lemmas.Option.{none-some}
 use Rattle.rows.specs.declared.commit.Commit.{Commit}
 use Rattle.rows.specs.declared.entry.Entry.{Entry}
-use Rattle.rows.specs.Commits.{IsCommit}
+use Rattle.rows.specs.Commits.{IsCommit, tables_after}
+use Rattle.rows.specs.Image.{image_of}
+use Rattle.rows.specs.Shape.{Shape}
 use Rattle.update_log.specs.declared.frame.Frame.{Frame}
 use Rattle.update_log.specs.Frames.{frames_from, frames_of}
-use Rattle.update_log.specs.Parts.{parts_of}
+use Rattle.update_log.specs.Images.{pieces_at}
+use Rattle.update_log.specs.Parts.{parts_of, pieces_of, piece_front_len, cut_from, fits_in}
 use Rattle.update_log.specs.Streams.{stream_from, stream_of, frame_count}
 use Rattle.ordering.specs.Cutting.{AreFrameCounts}
-use Rattle.primary.specs.Sending.{counts_of}
-use Rattle.wire.specs.Spelling.{AreCounts}
+use Rattle.primary.specs.Sending.{counts_of, pieces_from, pieces_of_base}
+use Rattle.wire.specs.Spelling.{AreMarks}
 
 pub all-get : {A : Type 0} (P : A → Type 0) (list : List A) → AllByRecursion P list → (i : ℕ) (x : A) → slice_get list i ≡ Some x → P x
 all-get P [] all i x h = absurd (none-some x h)
@@ -146,19 +150,6 @@ all-append : {A : Type 0} (P : A → Type 0) (one other : List A) → AllByRecur
 all-append P [] other all more = more
 all-append P (first ∷ one) other all more = (all.0, all-append P one other all.1 more)
 
--- and can be spelled
-pub counts-spelled : (commits : List Commit) (version workers : ℕ) → 0 < workers → workers ≤ 16
-    → ((worker : ℕ) → frame_count commits worker version < 2 ^ 64) → AreCounts (counts_of commits version workers)
-counts-spelled commits version workers some few below =
-    let size = counts-length commits version workers in
-    record { some = omega arith; few = omega arith; below = all workers }
-  where
-    all : (workers : ℕ) → AllByRecursion (λ count. count < 2 ^ 64) (counts_of commits version workers)
-    all zero = tt
-    all (suc workers) =
-        all-append (λ count. count < 2 ^ 64) (counts_of commits version workers) (frame_count commits workers version ∷ []) (all workers)
-        (below workers, tt)
-
 -- the frames up to a version are no more than those of the list
 stream-front : (worker before first : ℕ) (version : ℕ) (commits : List Commit)
     → length (stream_from worker before first (take version commits)) ≤ length (stream_from worker before first commits)
@@ -176,3 +167,90 @@ stream-front worker before first (suc version) (commit ∷ commits) =
 
 pub counts-below : (commits : List Commit) (version worker : ℕ) → frame_count commits worker version ≤ length (stream_of commits worker)
 counts-below commits version worker = stream-front worker 0 0 version commits
+
+-- nor are those up to a base more than those up to a version behind it
+counts-rise : (commits : List Commit) (base version worker : ℕ) → base ≤ version
+    → frame_count commits worker base ≤ frame_count commits worker version
+counts-rise commits base version worker le =
+    let same : length (stream_of (take base (take version commits)) worker) ≡ frame_count commits worker base =
+    ap (λ (l : List Commit). length (stream_of l worker)) (take-take base version commits le) in
+    omega (arith, same, stream-front worker 0 0 base (take version commits))
+
+pointwise-snoc : (xs ys : List ℕ) (x y : ℕ) → length xs ≡ length ys → pointwise nat_le xs ys ≡ true → x ≤ y
+    → pointwise nat_le (xs ++ x ∷ []) (ys ++ y ∷ []) ≡ true
+pointwise-snoc [] [] x y same within le = and_from (nat_le x y) true (le-leb x y le) refl
+pointwise-snoc [] (b ∷ ys) x y same within le = absurd (omega (arith, same))
+pointwise-snoc (a ∷ xs) [] x y same within le = absurd (omega (arith, same))
+pointwise-snoc (a ∷ xs) (b ∷ ys) x y same within le =
+    let both = and_parts (nat_le a b) (pointwise nat_le xs ys) within in
+    and_from (nat_le a b) (pointwise nat_le (xs ++ x ∷ []) (ys ++ y ∷ [])) both.0 (pointwise-snoc xs ys x y (omega (arith, same)) both.1 le)
+
+-- no base count is above its worker's count
+lows-within : (commits : List Commit) (base version workers : ℕ) → base ≤ version
+    → pointwise nat_le (counts_of commits base workers) (counts_of commits version workers) ≡ true
+lows-within commits base version zero le = refl
+lows-within commits base version (suc workers) le =
+    pointwise-snoc (counts_of commits base workers) (counts_of commits version workers) (frame_count commits workers base)
+    (frame_count commits workers version) (counts-length commits base workers ∙ sym (counts-length commits version workers))
+    (lows-within commits base version workers le) (counts-rise commits base version workers le)
+
+-- without a base they are 0
+lows-none : (commits : List Commit) (workers : ℕ) → AllByRecursion (λ low. low ≡ 0) (counts_of commits 0 workers)
+lows-none commits zero = tt
+lows-none commits (suc workers) =
+    all-append (λ low. low ≡ 0) (counts_of commits 0 workers) (frame_count commits workers 0 ∷ []) (lows-none commits workers) (refl, tt)
+
+-- ---- pieces
+
+-- entries that are cut have a part
+cut-some : (front : ℕ) (part entries : List Entry) → 0 < length (cut_from front part entries)
+cut-some front part [] = omega arith
+cut-some front part (entry ∷ entries) = by (fits_in front part entry) (cut-some front (part ++ entry ∷ []) entries)
+  where
+    by : (fits : Bool) → 0 < length (cut_from front (part ++ entry ∷ []) entries)
+        → 0 < length (cond fits [] (part ∷ []) ++ cut_from front (cond fits (part ++ entry ∷ []) (entry ∷ [])) entries)
+    by true some = some
+    by false some = omega arith
+
+-- there are pieces exactly if there is a base
+pieces-none : (shape : Shape) (commits : List Commit) (base : ℕ) → length (pieces_at shape commits base) ≡ 0 → base ≡ 0
+pieces-none shape commits base none = by (base == 0) refl none
+  where
+    some : (entries : List Entry) → 0 < length (pieces_of entries)
+    some [] = omega arith
+    some (entry ∷ entries) = cut-some piece_front_len (entry ∷ []) entries
+
+    by : (test : Bool) → (base == 0) ≡ test
+        → length (cond test [] (pieces_of (image_of shape (tables_after shape commits base)))) ≡ 0 → base ≡ 0
+    by true is none = eqb-true base 0 is
+    by false is none = absurd (omega (arith, none, some (image_of shape (tables_after shape commits base))))
+
+-- there are as many Pieces as pieces
+pub pieces-many : (base number : ℕ) (pieces : List (List Entry)) → length (pieces_from base number pieces) ≡ length pieces
+pieces-many base number [] = refl
+pieces-many base number (piece ∷ pieces) = ap suc (pieces-many base (number + 1) pieces)
+
+-- ---- Heads
+
+-- the numbers of a Head can be spelled
+pub marks-spelled : (shape : Shape) (commits : List Commit) (base version workers : ℕ) → 0 < workers → workers ≤ 16 → base ≤ version
+    → version < 2 ^ 64 → ((worker : ℕ) → frame_count commits worker version < 2 ^ 64) → length (pieces_of_base shape commits base) < 2 ^ 64
+    → AreMarks version base (length (pieces_at shape commits base)) (counts_of commits base workers) (counts_of commits version workers)
+marks-spelled shape commits base version workers some few within numbered below cut =
+    let size = counts-length commits version workers in
+    record {
+      version_below = numbered;
+      pieces_below = omega (arith, cut, pieces-many base 0 (pieces_at shape commits base));
+      counted = record { some = omega arith; few = omega arith; below = all workers };
+      base_within = within;
+      lows_within = lows-within commits base version workers within;
+      none = (λ is. ap (λ (n : ℕ). length (pieces_at shape commits n)) is, pieces-none shape commits base);
+      opening = λ is.
+          subst (λ (n : ℕ). AllByRecursion (λ low. low ≡ 0) (counts_of commits n workers)) (sym is) (lows-none commits workers);
+    }
+  where
+    all : (workers : ℕ) → AllByRecursion (λ count. count < 2 ^ 64) (counts_of commits version workers)
+    all zero = tt
+    all (suc workers) =
+        all-append (λ count. count < 2 ^ 64) (counts_of commits version workers) (frame_count commits workers version ∷ []) (all workers)
+        (below workers, tt)

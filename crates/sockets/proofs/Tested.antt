@@ -1,5 +1,5 @@
 -- What bytes read as, by the tests of their parts.
-use Rattle.std.proofs.Common.{Bool, true, false, cond, not, ◌||◌, ◌&&◌, ◌==◌, ℕ, List, length, drop, Result, Err, nat_lt}
+use Rattle.std.proofs.Common.{Bool, true, false, cond, not, ◌||◌, ◌==◌, ℕ, List, length, drop, Result, Err, nat_lt}
 use Rattle.std.specs.List.{slice_index}
 use Rattle.std.specs.Option.{ok_or}
 use Rattle.byteorder.specs.Endian.{big_number}
@@ -7,14 +7,13 @@ use Rattle.rows.specs.declared.limits.TheConstants.{DATAGRAM_MAX}
 use Rattle.wire.specs.declared.datagram.Datagram.{Datagram}
 use Rattle.wire.specs.declared.faults.WireFault.{WireFault}
 use Rattle.wire.specs.declared.faults.WireFault.TheVariants.{Short, Magic, Version, Kind, Length, Body}
-use Rattle.wire.specs.Reading.{reading, body_at}
+use Rattle.wire.specs.Reading.{reading, is_unknown, body_at}
 
 -- what holds of each fault, and of what the body may be, holds of what bytes read as
 pub tested : (P : Result Datagram WireFault → Type 0) (bytes : List ℕ) → ((fault : WireFault) → P (Err fault))
     → P (ok_or (body_at (slice_index bytes 3) (drop 6 bytes)) Body) → P (reading bytes)
 tested P bytes faults read =
-    by (nat_lt (length bytes) 6) (not (big_number 2 bytes == 0x4244)) (not (slice_index bytes 2 == 2))
-    (not (slice_index bytes 3 == 1) && not (slice_index bytes 3 == 2) && not (slice_index bytes 3 == 3) && not (slice_index bytes 3 == 4))
+    by (nat_lt (length bytes) 6) (not (big_number 2 bytes == 0x4244)) (not (slice_index bytes 2 == 3)) (is_unknown (slice_index bytes 3))
     (not (big_number 2 (drop 4 bytes) == length bytes) || nat_lt DATAGRAM_MAX (length bytes))
   where
     by : (a b c d e : Bool) → P (cond a (Err Short)

@@ -7,6 +7,7 @@ use Rattle.wire.specs.declared.datagram.Datagram.TheVariants.{Ask, Head}
 use Rattle.wire.specs.declared.faults.WireFault.{WireFault}
 use Rattle.wire.specs.declared.out.Out.{Out}
 use Rattle.wire.specs.Reading.{reading}
+use Rattle.wire.specs.Spelling.{ask_len}
 use Rattle.sockets.specs.declared.asked.Asked.{Asked}
 
 abbrev pub nothing_asked : Asked
@@ -25,13 +26,9 @@ told asked boot request version = record {
   is_news = asked.is_news || not ((asked.boot == boot) && (asked.request == request));
 }
 
--- bytes of an Ask
-abbrev pub ask_len : ℕ
-ask_len = 23
-
 -- the version that a Head tells
 abbrev pub version_at : Result Datagram WireFault → Option ℕ
-version_at (Ok (Head replica boot request version counts)) = Some version
+version_at (Ok (Head head)) = Some head.version
 version_at other = None
 
 -- after bytes that read so, if they are an Ask whose replica was told this version

@@ -13,5 +13,5 @@ use Rattle.shared.specs.Laws.{IsOfList}
 abbrev pub SentKeepsFed : Type 0
 SentKeepsFed =
     (shape : Shape) (workers : ℕ) (sent list : List Commit) (r : Replica) (packet : List ℕ) → IsReadable workers shape sent
-    → IsPrefix sent list → IsOfList workers sent packet → r.workers ≡ workers → IsFedFrom shape list r
+    → IsPrefix sent list → IsOfList shape workers sent packet → r.workers ≡ workers → IsFedFrom shape list r
     → IsFedFrom shape list (received r packet).1

@@ -8,7 +8,7 @@ use Rattle.wire.specs.declared.faults.WireFault.{WireFault}
 use Rattle.wire.specs.declared.out.Out.{Out}
 use Rattle.wire.specs.Reading.{reading}
 use Rattle.queries.specs.declared.plan.Plan.{Plan}
-use Rattle.primary.specs.Sending.{want_frames_max}
+use Rattle.update_log.specs.Limits.{want_frames_max}
 use Rattle.dispatcher.specs.State.{Replica}
 use Rattle.dispatcher.specs.Steps.{opened, asked, received, MayTake, MayRun}
 use Rattle.dispatcher.specs.Protocol.{want_for}
@@ -127,7 +127,7 @@ traffic_after traffic acts =
 
 -- how many frames there are of all workers at a Head, as far as 64 bits can tell
 abbrev pub frames_at : Result Datagram WireFault → Option ℕ
-frames_at (Ok (datagrams.Head replica boot request version counts)) = Some (min 18446744073709551615 (sum counts))
+frames_at (Ok (datagrams.Head head)) = Some (min 18446744073709551615 (sum head.counts))
 frames_at other = None
 
 -- how many are expected after bytes that the replica answered so: those at the newest Head that it took

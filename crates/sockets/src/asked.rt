@@ -4,7 +4,7 @@ ghost use Rattle.std.specs.Prelude.{◌≡◌, slice_index_or};
 ghost use Rattle.wire.specs.Reading.{reading};
 ghost use Rattle.sockets.specs.Asking.{nothing_asked, told, version_at, noted, noted_as, news_of, without_news};
 
-use wire::{Datagram, Out, read};
+use wire::{ASK_LEN, Datagram, Out, read};
 
 /// What a replica asked for last: its boot, the number of its request, and the version that it was told.
 #[derive(Clone, Copy, Debug, PartialEq, Eq)]
@@ -15,9 +15,6 @@ pub struct Asked {
     /// Whether it asked anew since this was looked up last.
     pub is_news: bool,
 }
-
-/// How many bytes an Ask has.
-const ASK_LEN: usize = 23;
 
 impl Asked {
     /// Nothing.
@@ -95,7 +92,7 @@ fn version_told(bytes: &[u8]) -> Option<u64>
     ensures { result ≡ version_at (reading bytes.now) }
 {
     match read(bytes) {
-        Ok(Datagram::Head { version, .. }) => Some(version),
+        Ok(Datagram::Head(head)) => Some(head.version),
         _ => None,
     }
 }

@@ -3,8 +3,8 @@
 //! A `Port` receives and sends datagrams: a `MemPort` in memory, which can be made to fail at one
 //! of its calls, or a `UdpPort`, a UDP socket with the addresses of the primary and of the
 //! replicas. From the latter a `Drain` in another thread takes what comes while its node is at
-//! work. A `PrimaryNode` pushes a line's durable frames to all replicas and answers their Asks and
-//! Wants. A `ReplicaNode` asks the primary for the newest durable version, receives frames, asks
+//! work. A `PrimaryNode` pushes a line's durable frames to all replicas and answers their Asks,
+//! Wants and Pulls. A `ReplicaNode` asks the primary for the newest durable version, receives frames, asks
 //! for missing ones, and gives each batch's report. Both give out single turns, each of which
 //! continues where the last one stopped, and count what goes through their port. `serve_primary`
 //! and `serve_replica` are loops over these turns, the latter with queries from a queue. A `Job` is
@@ -17,9 +17,10 @@
 //! what arrived, and what was sent is exactly what the cores answered, except for lost datagrams,
 //! each of which is a fault that the port counted; what a node counted is what its acts took in and
 //! sent. A replica hands on each report once, and was offered the queries of the queue, in order; a
-//! primary pushes each frame once. A loop uses up a turn only by taking it. So what is proved
-//! of a fed replica and of a line's seats holds for the nodes, and what a line sends of a list keeps
-//! a replica fed that is fed from it (`laws::what_is_sent_keeps_replicas_fed`).
+//! primary pushes each frame once, or skips it if it was dropped when a base was taken. A loop uses up
+//! a turn only by taking it. So what is proved of a fed replica and of a line's seats holds for the
+//! nodes, and what a line sends of a list keeps a replica fed that is fed from it
+//! (`laws::what_is_sent_keeps_replicas_fed`).
 //!
 //! Promised, whatever the schedule of workers: an acknowledged ticket belongs to a commit that is
 //! durable and has the ticket's number in the list that the seat has seen, with the job's worker

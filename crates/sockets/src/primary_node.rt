@@ -6,7 +6,8 @@ ghost use Rattle.rows.specs.Limits.{workers_max};
 ghost use Rattle.sockets.specs.Traffic.{no_traffic};
 ghost use Rattle.sockets.specs.Asking.{nothing_asked, nothing_asked_yet, news_of, without_news};
 ghost use Rattle.primary.specs.Sending.{counts_of};
-ghost use Rattle.sockets.specs.Primaries.{DoesPrimary, counted_as, passed, counts_in};
+ghost use Rattle.wire.specs.Reading.{reading};
+ghost use Rattle.sockets.specs.Primaries.{DoesPrimary, counted_as, passed, counts_in, counts_at};
 ghost use Rattle.sockets.specs.Replicas.{failures};
 ghost use Rattle.sockets.specs.Inner.Deeds.{looked_if, looked_by};
 ghost use Rattle.sockets.specs.declared.faults.ServeFault.TheVariants.{Socket};
@@ -23,7 +24,7 @@ use shared::{Line, Origin, Seat};
 use std::alloc::{AllocError, Global};
 use std::marker::Model;
 use std::sync::Wait;
-use wire::{Datagram, Out, Packet, one_spelling, read};
+use wire::{Counts, Datagram, Head, Out, Packet, one_spelling, read};
 
 /// How many frames are pushed in a turn, at most, over all workers.
 const TURN_PUSHES: usize = 1024;
@@ -195,9 +196,10 @@ impl<L: Origin, P: Port> PrimaryNode<L, P> {
     }
 
     /// One turn: it pushes the next durable frames of each worker, 1024 at most, to all replicas, each
-    /// once; then it answers what arrives, and waits while nothing does, at most 10 ms, or 1 ms if it has
-    /// pushed a frame, since the next ones would soon be more than a replica's socket holds. A datagram
-    /// for which there is no memory counts as lost, and so does one that cannot be sent.
+    /// once, and skips those that were dropped when a base was taken; then it answers what arrives,
+    /// and waits while nothing does, at most 10 ms, or 1 ms if it has pushed a frame, since the next
+    /// ones would soon be more than a replica's socket holds. A datagram for which there is no memory
+    /// counts as lost, and so does one that cannot be sent.
     ///
     /// Fails with `Socket` if a receive failed; it may be called again.
     pub fn turn<J: JournalStore, H: Wait + Drop, R: Wait>(
@@ -252,7 +254,8 @@ impl<L: Origin, P: Port> PrimaryNode<L, P> {
         has_pushed
     }
 
-    /// Pushes at most this many of the next frames of a worker, and answers how many there were.
+    /// Pushes at most this many of the next frames of a worker that are kept, and answers how many there
+    /// were.
     fn push_row<J: JournalStore, H: Wait + Drop, R: Wait>(
         &mut self,
         rt: &R,
@@ -269,11 +272,14 @@ impl<L: Origin, P: Port> PrimaryNode<L, P> {
             return 0;
         }
         let from = self.counters[worker];
-        // If there is no memory for the row it has no packet, and the next turn tries again.
-        let _ = line.push_row(rt, &mut self.seat, worker as u8, from, most, &mut self.row);
+        // Frames that were dropped meanwhile are skipped. If there is no memory for the row it has no
+        // packet, and the next turn tries again.
+        let start = line
+            .push_row(rt, &mut self.seat, worker as u8, from, most, &mut self.row)
+            .unwrap_or(from);
         let pushed = self.row.len();
         send_row(&mut self.port, &mut self.traffic, &mut self.row);
-        self.counters[worker] = from + pushed as u64;
+        self.counters[worker] = start + pushed as u64;
         pushed
     }
 
@@ -340,9 +346,20 @@ fn pass_told(counters: &mut [u64], outs: &[Out])
     if outs.len() != 1 {
         return;
     }
-    match read(outs[0].packet.bytes()) {
-        Ok(Datagram::Head { counts, .. }) => pass(counters, counts.as_slice()),
-        _ => {}
+    let counts = counts_told(outs[0].packet.bytes());
+    pass(counters, counts.as_slice());
+}
+
+/// The frame counts that a Head tells; none if the bytes are no Head.
+fn counts_told(bytes: &[u8]) -> Counts
+    ensures { result ≡ counts_at (reading bytes.now) }
+{
+    match read(bytes) {
+        Ok(Datagram::Head(head)) => {
+            let Head { counts, .. } = head;
+            counts
+        }
+        _ => Counts::new(),
     }
 }
 

@@ -3,7 +3,7 @@
 ghost use Rattle.std.specs.Prelude.{◌≡◌, ◌<◌, ◌⊎◌, ◌∷◌, [], true, None, Err, sum, min, IfOk, IfErr, OnOk, IsOk, All};
 ghost use Rattle.std.specs.List.{Contains};
 ghost use Rattle.rows.specs.Limits.{workers_max};
-ghost use Rattle.primary.specs.Sending.{want_frames_max};
+ghost use Rattle.update_log.specs.Limits.{want_frames_max};
 ghost use Rattle.dispatcher.specs.Gaps.{gaps_of};
 ghost use Rattle.wire.specs.Reading.{reading};
 ghost use Rattle.dispatcher.specs.Steps.{asked, received, MayTake};
@@ -20,7 +20,7 @@ use crate::sending::send;
 use crate::traffic::{Counted, Traffic};
 use crate::turned::Turned;
 use crate::turns::{BUFFER_LEN, ROUND_DATAGRAMS};
-use crate::under_way::{UnderWay, WANT_FRAMES, WANTS_MAX};
+use crate::under_way::{UnderWay, WANTS_MAX};
 use dispatcher::{AskFault, Gap, Got, OpenFault, ReplicaCore, Run};
 use queries::Plan;
 use rows::ByteList;
@@ -29,6 +29,7 @@ use std::marker::{Model, Sync};
 use std::mem;
 use std::thread::Threads;
 use store::ApplyStore;
+use update_log::limits::WANT_FRAMES_MAX;
 use wire::{Datagram, read};
 
 /// How many rounds of receives a turn has, at most.
@@ -271,7 +272,7 @@ impl<S: ApplyStore + Sync, P: Port> ReplicaNode<S, P> {
         gaps.clear();
         // Without memory for them none are sent in this round.
         if gaps.reserve(WANTS_MAX).is_ok() {
-            self.core.gaps(WANT_FRAMES, WANTS_MAX, &mut gaps);
+            self.core.gaps(WANT_FRAMES_MAX, WANTS_MAX, &mut gaps);
             self.under_way.keep(gaps.as_slice());
             self.send_each(gaps.as_slice());
         }
@@ -436,7 +437,7 @@ fn frames_told(bytes: &[u8]) -> Option<u64>
     ensures { result ≡ frames_at (reading bytes.now) }
 {
     match read(bytes) {
-        Ok(Datagram::Head { counts, .. }) => Some(sum_of(counts.as_slice())),
+        Ok(Datagram::Head(head)) => Some(sum_of(head.counts.as_slice())),
         _ => None,
     }
 }

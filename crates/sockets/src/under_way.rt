@@ -3,15 +3,13 @@
 use byteorder::{BigEndian, ByteOrder};
 use dispatcher::{Gap, Got};
 use rows::limits::WORKERS_MAX;
+use update_log::limits::WANT_FRAMES_MAX;
 
 /// How many Wants may be under way, at the least and at the most. A socket of Linux holds some 270 short frames and 90
 /// long ones, if it is asked for no more.
 const WANTS_LEAST: usize = 4;
 
 pub const WANTS_MAX: usize = 16;
-
-/// How many frames answer a Want, at most.
-pub const WANT_FRAMES: u64 = 16;
 
 /// After how many datagrams more an answer is late, at the least and at the most.
 const LATE_LEAST: u64 = 8;
@@ -46,7 +44,7 @@ impl Wanted {
     fn covers(&self, gap: Gap) -> bool {
         gap.worker == self.gap.worker
             && gap.seq >= self.gap.seq
-            && gap.seq - self.gap.seq < WANT_FRAMES
+            && gap.seq - self.gap.seq < WANT_FRAMES_MAX
     }
 }
 
@@ -185,7 +183,9 @@ impl UnderWay {
             return true;
         };
         let count = self.wants.iter().flatten().count() as u64;
-        let some = (count / 4).saturating_add(1).saturating_mul(WANT_FRAMES);
+        let some = (count / 4)
+            .saturating_add(1)
+            .saturating_mul(WANT_FRAMES_MAX);
         // Frames that were awaited without a Want are so no longer.
         let are_lost = self
             .pushed_until
@@ -264,7 +264,7 @@ impl UnderWay {
     /// When the answer to one Want more would be late, which comes after those of the Wants under way.
     fn late_after_wants(&self) -> u64 {
         let count = self.wants.iter().flatten().count() as u64;
-        self.late_after(count.saturating_add(1).saturating_mul(WANT_FRAMES))
+        self.late_after(count.saturating_add(1).saturating_mul(WANT_FRAMES_MAX))
     }
 
     /// When an answer is late that is sent now, if so many datagrams of other answers come before its last one.

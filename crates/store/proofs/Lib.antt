@@ -3,3 +3,5 @@ pub mod Ids
 pub mod Runs
 pub mod TableKinds
 pub mod Outcomes
+pub mod Beginnings
+pub mod Cleared

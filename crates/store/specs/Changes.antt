@@ -1,10 +1,12 @@
--- What a store answers: a row's columns, the rows in their order, and what stands after a change that is refused.
+-- What a store answers: a row's columns, the rows in their order, what stands after a change that is refused, and the columns that
+-- tables began with.
 use Rattle.std.specs.Prelude.{◌≡◌, ℕ, ◌<◌, List, length, take, Bool, true, false, Option, None, Some, Result, Ok, Err, slice_get, IfSome}
 use Rattle.std.specs.Prelude.{IsSomeAnd}
 use Rattle.std.specs.Option.{option_map}
 use Rattle.rows.specs.declared.entry.Entry.{Entry}
 use Rattle.rows.specs.declared.value.Value.{Value}
-use Rattle.rows.specs.Tables.{Rows, Tables, Refusal, Unfit, Exists, Missing, apply_entry, apply_entries}
+use Rattle.rows.specs.Shape.{Shape, kinds_in}
+use Rattle.rows.specs.Tables.{Rows, Tables, Refusal, Unfit, Exists, Missing, kinds_of, apply_entry, apply_entries}
 use Rattle.store.specs.declared.faults.StoreFault.TheVariants as faults
 use Rattle.store.specs.Faults.{number_of}
 
@@ -37,3 +39,9 @@ pub record StopsAt (whole : Bool) (old new : Tables) (entries : List Entry) (i k
   pub before : apply_entries old (take i entries) ≡ Ok new
   pub refused : IsSomeAnd (slice_get entries i) (λ entry. kind ≡ fault_kind whole (apply_entry new entry))
   pub first : whole ≡ false → i ≡ 0
+
+-- tables that began with these kinds, and to which columns may have been added since: as many tables, and the first columns of each are
+-- those that it began with
+pub record BeganWith (shape : Shape) (tables : Tables) : Type 0 where
+  pub many : length tables ≡ length shape
+  pub first : (table : ℕ) → take (length (kinds_in shape table)) (kinds_of tables table) ≡ kinds_in shape table

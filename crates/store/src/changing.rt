@@ -6,7 +6,7 @@ ghost use Rattle.rows.specs.Entries.{table_of};
 ghost use Rattle.rows.specs.Shape.{shape_of, row_width, AreColumns};
 ghost use Rattle.rows.specs.Values.{values_of, kind_of};
 ghost use Rattle.rows.specs.Tables.{Tables, opening, apply_entry, is_present, with_row, with_column};
-ghost use Rattle.store.specs.Changes.{fault_kind};
+ghost use Rattle.store.specs.Changes.{fault_kind, BeganWith};
 ghost use Rattle.store.specs.Faults.{number_of};
 
 use crate::faults::StoreFault;
@@ -26,6 +26,20 @@ pub fn empty_tables<T: TableRows>(alloc: Global, schema: &Schema) -> Result<Vec<
         tables.push(T::empty(alloc, kinds)?)?;
     }
     Ok(tables)
+}
+
+/// Deletes all rows of these tables, and all columns that were added to those of the schema. Takes
+/// no memory.
+pub fn clear_tables<T: TableRows>(tables: &mut [T], schema: &Schema)
+    requires { BeganWith (shape_of schema.now) (map T.table tables.old) }
+    ensures { map T.table tables.new ≡ opening (shape_of schema.now) }
+{
+    for k in 0..schema.len() {
+        let Some(kinds) = schema.kinds(k) else {
+            unreachable!();
+        };
+        tables[k].clear(kinds.len());
+    }
 }
 
 /// Makes the change of one entry, or refuses it and changes nothing.

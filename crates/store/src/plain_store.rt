@@ -6,8 +6,9 @@ ghost use Rattle.rows.specs.Shape.{shape_of};
 ghost use Rattle.rows.specs.Tables.{opening, rows_of, shape_in};
 
 use crate::apply_store::ApplyStore;
-use crate::changing::{change_tables, empty_tables};
+use crate::changing::{change_tables, clear_tables, empty_tables};
 use crate::faults::{ApplyFault, StoreFault};
+use crate::laws::first_columns_stay;
 use crate::running::run_commits;
 use crate::store::Store;
 use crate::table_map::TableMap;
@@ -19,7 +20,8 @@ use std::thread::Threads;
 
 /// A store that keeps the rows of each table in an ordered map, and their identifiers in a list.
 ///
-/// Contracts see its tables, and whether it is whole. It changes rows in place, and copies neither
+/// Contracts see its tables, whether it is whole, and the kinds of the tables' columns when it was
+/// made. It changes rows in place, and copies neither
 /// rows nor tables. Inserting or deleting a row moves the identifiers on its shorter side: none for
 /// the greatest identifier, and up to half of the table's for one in the middle.
 #[derive(Drop)]
@@ -27,6 +29,8 @@ pub struct PlainStore {
     alloc: Global,
     tables: Vec<TableMap>,
     whole: bool,
+    /// The schema that it was made for: `clear` goes back to its columns.
+    schema: Schema,
 }
 
 impl Model for PlainStore {
@@ -45,14 +49,16 @@ impl PlainStore {
     /// A store for the tables of a schema, each without rows. It is whole. Fails only if out of
     /// memory.
     pub fn new(alloc: Global, schema: &Schema) -> Result<PlainStore, AllocError>
-        ensures { IfOk result (λ store.
-            store ≡ record { tables = opening (shape_of schema.now); whole = true }) }
+        ensures { IfOk result (λ store. store
+            ≡ record { tables = opening (shape_of schema.now); whole = true; base_shape = shape_of schema.now }) }
     {
         laws::rows_are_of_kinds();
+        first_columns_stay();
         Ok(PlainStore {
             alloc,
             tables: empty_tables(alloc, schema)?,
             whole: true,
+            schema: schema.clone()?,
         })
     }
 
@@ -77,6 +83,8 @@ impl Store for PlainStore {
     ghost tables = { λ s. s.tables };
 
     ghost is_whole = { λ s. s.whole };
+
+    ghost base_shape = { λ s. s.base_shape };
 
     ghost values_at = { λ s table place. row_at (rows_of s.tables table) place.0 };
 
@@ -145,6 +153,7 @@ impl Store for PlainStore {
             return Err(StoreFault::Broken);
         }
         laws::rows_are_of_kinds();
+        first_columns_stay();
         change_tables(self.alloc, &mut self.tables, entry)
     }
 
@@ -169,5 +178,15 @@ impl ApplyStore for PlainStore {
         let applied = run_commits(self, commits);
         self.whole = applied.is_ok();
         applied
+    }
+
+    /// Deletes all rows, and all columns that were added. A store that is not whole stays as it is.
+    fn clear(&mut self) {
+        if !self.whole {
+            return;
+        }
+        laws::rows_are_of_kinds();
+        first_columns_stay();
+        clear_tables(&mut self.tables, &self.schema);
     }
 }

@@ -20,6 +20,7 @@ pub fn run<S: Store>(store: &mut S, entries: &[Entry]) -> Result<(), (usize, S::
     ensures err { IfErr result (λ stop. StopsAt (S.is_whole store.old) (S.tables store.old)
         (S.tables store.new) entries.now stop.0 (S.kind_of stop.1)) }
     ensures whole { S.is_whole store.new ≡ S.is_whole store.old }
+    ensures base { S.base_shape store.new ≡ S.base_shape store.old }
 {
     for (i, entry) in entries.iter().enumerate() {
         match store.change(entry) {
@@ -39,6 +40,7 @@ pub fn run_commits<S: Store>(store: &mut S, commits: &[Commit]) -> Result<(), Ap
     ensures ok { OnOk result (apply_commits (S.tables store.old) commits.now ≡ Ok (S.tables store.new)) }
     ensures err { IfErr result (FailsAs true (have_entries commits.now) (apply_commits (S.tables store.old) commits.now)) }
     ensures whole { S.is_whole store.new ≡ true }
+    ensures base { S.base_shape store.new ≡ S.base_shape store.old }
 {
     for commit in commits {
         run_commit(store, commit.entries.as_slice())?;
@@ -52,6 +54,7 @@ fn run_commit<S: Store>(store: &mut S, entries: &[Entry]) -> Result<(), ApplyFau
     ensures ok { OnOk result (apply_entries (S.tables store.old) entries.now ≡ Ok (S.tables store.new)) }
     ensures err { IfErr result (FailsAs true (nat_lt 0 (length entries.now)) (apply_entries (S.tables store.old) entries.now)) }
     ensures whole { S.is_whole store.new ≡ true }
+    ensures base { S.base_shape store.new ≡ S.base_shape store.old }
 {
     match run(store, entries) {
         Ok(()) => Ok(()),

@@ -19,6 +19,7 @@ use rows::{Entry, Kind, RowId, Value};
 pub trait Store {
     ghost use Rattle.std.specs.Prelude.{ℕ, List, Bool, Option};
     ghost use Rattle.rows.specs.declared.value.Value.{Value};
+    ghost use Rattle.rows.specs.Shape.{Shape};
     ghost use Rattle.rows.specs.Tables.{Tables};
 
     /// Where a row of a table is. It may be used only until the next change.
@@ -32,6 +33,9 @@ pub trait Store {
 
     /// Whether its tables are as its changes made them.
     ghost is_whole: { Self → Bool };
+
+    /// The kinds of each table's columns when it was made. No call changes them.
+    ghost base_shape: { Self → Shape };
 
     /// The values of the row of a table at a place.
     ghost values_at: { Self → ℕ → Self.Place → Option (List Value) };
@@ -140,7 +144,8 @@ pub trait Store {
         ensures err { OnErr result (tables self.new ≡ tables self.old) }
         ensures refused { IfErr result
             (λ fault. kind_of fault ≡ fault_kind (is_whole self.old) (apply_entry (tables self.old) entry.now)) }
-        ensures whole { is_whole self.new ≡ is_whole self.old };
+        ensures whole { is_whole self.new ≡ is_whole self.old }
+        ensures base { base_shape self.new ≡ base_shape self.old };
 
     /// The number of a fault: 1 Exists, 2 Missing, 3 Unfit, 4 Memory, 5 Broken.
     fn kind(fault: &Self::Fault) -> u8

@@ -149,6 +149,13 @@ impl TableRows for TableMap {
         self.rows = rows;
         Ok(())
     }
+
+    /// Deletes all rows, and all columns but the first so many.
+    fn clear(&mut self, columns: usize) {
+        self.kinds.truncate(columns);
+        self.rows.clear();
+        self.ids.clear();
+    }
 }
 
 /// The rows, whose identifiers these are, each with this value behind its others. Fails only if out

@@ -1,6 +1,6 @@
 //! The interface to the rows of one table.
 
-ghost use Rattle.std.specs.Prelude.{◌≡◌, ◌≤◌, ◌++◌, ◌∷◌, [], length, true, false, not, if◌then◌else◌, IfOk, OnOk, OnErr};
+ghost use Rattle.std.specs.Prelude.{◌≡◌, ◌≤◌, ◌++◌, ◌∷◌, [], length, take, true, false, not, if◌then◌else◌, IfOk, OnOk, OnErr};
 ghost use Rattle.rows.specs.Shape.{AreColumns, row_width};
 ghost use Rattle.rows.specs.Tables.{is_present, with_row, with_patch, without_row, with_column};
 ghost use Rattle.rows.specs.Values.{kind_of, values_of};
@@ -67,4 +67,10 @@ pub trait TableRows: Drop {
           rows = with_column default (table self.old).rows;
         }) }
         ensures err { OnErr result (table self.new ≡ table self.old) };
+
+    /// Deletes all rows, and all columns but the first so many, which a table may have. Takes no
+    /// memory.
+    fn clear(&mut self, columns: usize)
+        requires { AreColumns (take columns (table self.old).kinds) }
+        ensures { table self.new ≡ record { kinds = take columns (table self.old).kinds; rows = [] } };
 }

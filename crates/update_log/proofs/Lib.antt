@@ -1,7 +1,10 @@
 pub mod Elements
+pub mod Cuts
 pub mod Uniqueness
+pub mod Pieces
 pub mod Framing
 pub mod Spans
 pub mod Keeping
 pub mod Joining
 pub mod Splitting
+pub mod Shifting

@@ -1,223 +1,34 @@
 -- There is one list of parts: whatever has their property is what `parts_of` gives, and that has it.
-use Rattle.std.proofs.Common.{◌≡◌, ℕ, ◌+◌, ◌<◌, ◌≤◌, Bool, true, false, cond, List, [], ◌∷◌, ◌++◌, length, take, drop, get_or}
-use Rattle.std.proofs.Common.{refl, sym, ap, subst, ◌∙◌, append_assoc, length-append, arith}
-use Rattle.std.specs.List.{flat_map, AllByRecursion}
-use Rattle.std.proofs.lemmas.Bool.{leb-true, leb-false, le-leb, lt-leb}
-use Rattle.std.proofs.lemmas.List.{append-nil, take-append-drop, take_more, drop_more, length-take-le, length-drop}
-use Rattle.std.proofs.lemmas.List.Concat.{flat_map-append}
+use Rattle.std.proofs.Common.{◌≡◌, ℕ, ◌+◌, ◌<◌, ◌≤◌, List, ◌∷◌, ◌++◌, length, take, drop, arith}
+use Rattle.std.specs.List.{AllByRecursion}
 use Rattle.rows.specs.declared.entry.Entry.{Entry}
-use Rattle.rows.specs.declared.entry.Entry.TheVariants.{Insert, Patch, Delete, AddColumn}
-use Rattle.rows.specs.declared.value.Value.TheVariants.{Int, Octets}
 use Rattle.rows.specs.Limits.{datagram_max}
-use Rattle.rows.specs.Spelling.{HasSpelling, entry_spelling}
-use Rattle.update_log.specs.Parts.{frame_len, joined, IsFullBefore, AreFull, AreParts, has_room, parts_from, parts_of}
+use Rattle.rows.specs.Spelling.{HasSpelling}
+use Rattle.update_log.specs.Parts.{frame_front_len, frame_len, joined, AreParts, parts_from, parts_of}
+use Rattle.update_log.proofs.Cuts as cuts
 
--- ---- how long a frame is
-
-pub frame_len-append : (part more : List Entry) → frame_len (part ++ more) ≡ frame_len part + length (flat_map entry_spelling more)
-frame_len-append part more =
-    omega (
-      arith,
-      ap length (flat_map-append entry_spelling part more),
-      length-append (flat_map entry_spelling part) (flat_map entry_spelling more),
-    )
-
--- with one entry of more a frame is no longer than with all of them
-frame_len-first : (part : List Entry) (entry : Entry) (more : List Entry)
-    → frame_len (part ++ entry ∷ []) ≤ frame_len (part ++ entry ∷ more)
-frame_len-first part entry more =
-    omega (
-      arith,
-      frame_len-append part (entry ∷ []),
-      frame_len-append part (entry ∷ more),
-      length-append (entry_spelling entry) [],
-      length-append (entry_spelling entry) (flat_map entry_spelling more),
-    )
-
--- an entry's spelling is short
-pub short : (entry : Entry) → HasSpelling entry → length (entry_spelling entry) ≤ 524
-short (Insert table row bytes) h = omega (arith, h.few)
-short (Patch table row offset bytes) h = omega (arith, h.few)
-short (Delete table row) h = omega arith
-short (AddColumn table (Int number)) h = omega arith
-short (AddColumn table (Octets bytes)) h = omega (arith, h.value.1)
-
--- one more entry of a list
-pub frame_len-more : (entries : List Entry) (i : ℕ) (entry : Entry) → i < length entries → entry ≡ get_or entries i entry
-    → frame_len (take (i + 1) entries) ≡ frame_len (take i entries) + length (entry_spelling entry)
-frame_len-more entries i entry lt is =
-    omega (
-      arith,
-      ap frame_len (take_more entries i entry lt),
-      frame_len-append (take i entries) (get_or entries i entry ∷ []),
-      length-append (entry_spelling (get_or entries i entry)) [],
-      ap (λ (e : Entry). length (entry_spelling e)) is,
-    )
-
--- so each fits into a frame of its own
-alone : (entry : Entry) → HasSpelling entry → frame_len (entry ∷ []) ≤ datagram_max
-alone entry h = omega (arith, short entry h, length-append (entry_spelling entry) [])
-
--- ---- one step of the cutting
-
-taken : (part : List Entry) (entry : Entry) (rest : List Entry) → has_room part entry ≡ true
-    → parts_from part (entry ∷ rest) ≡ parts_from (part ++ entry ∷ []) rest
-taken part entry rest room = ap (λ (b : Bool). cond b [] (part ∷ []) ++ parts_from (cond b (part ++ entry ∷ []) (entry ∷ [])) rest) room
-
-begun : (part : List Entry) (entry : Entry) (rest : List Entry) → datagram_max < frame_len (part ++ entry ∷ [])
-    → parts_from part (entry ∷ rest) ≡ part ∷ parts_from (entry ∷ []) rest
-begun part entry rest full =
-    ap (λ (b : Bool). cond b [] (part ∷ []) ++ parts_from (cond b (part ++ entry ∷ []) (entry ∷ [])) rest)
-    (lt-leb (frame_len (part ++ entry ∷ [])) datagram_max full)
-
--- entries that are within a frame together stay in the part
-fill : (more part rest : List Entry) → frame_len (part ++ more) ≤ datagram_max
-    → parts_from part (more ++ rest) ≡ parts_from (part ++ more) rest
-fill [] part rest h = ap (λ (p : List Entry). parts_from p rest) (sym (append-nil part))
-fill (entry ∷ more) part rest h =
-    let same : (part ++ entry ∷ []) ++ more ≡ part ++ entry ∷ more = append_assoc part (entry ∷ []) more in
-    let room : frame_len (part ++ entry ∷ []) ≤ datagram_max = omega (arith, frame_len-first part entry more) in
-    let within : frame_len ((part ++ entry ∷ []) ++ more) ≤ datagram_max =
-    subst (λ (p : List Entry). frame_len p ≤ datagram_max) (sym same) h in
-    taken part entry (more ++ rest) (le-leb (frame_len (part ++ entry ∷ [])) datagram_max room)
-    ∙ fill more (part ++ entry ∷ []) rest within
-    ∙ ap (λ (p : List Entry). parts_from p rest) same
-
--- ---- no other parts
-
-others-are : (others : List (List Entry)) (first : List Entry) → AllByRecursion (λ part. 0 < length part) others
-    → AllByRecursion (λ part. frame_len part ≤ datagram_max) others → AreFull (first ∷ others)
-    → parts_from first (joined others) ≡ first ∷ others
-others-are [] first some within full = refl
-others-are ([] ∷ others) first some within full = absurd (omega (arith, some.0))
-others-are ((entry ∷ next) ∷ others) first some within full =
-    begun first entry (next ++ joined others) full.0
-    ∙ ap (λ (parts : List (List Entry)). first ∷ parts)
-    (fill next (entry ∷ []) (joined others) within.0 ∙ others-are others (entry ∷ next) some.1 within.1 full.1)
+few : frame_front_len ≤ frame_front_len
+few = omega arith
 
 pub cut-is_unique : (entries : List Entry) (parts : List (List Entry)) → AreParts entries parts → parts ≡ parts_of entries
-cut-is_unique entries [] are = ap parts_of are.all
-cut-is_unique entries ([] ∷ others) are = absurd (omega (arith, are.some.0))
-cut-is_unique entries ((entry ∷ first) ∷ others) are =
-    sym (fill first (entry ∷ []) (joined others) are.within.0
-    ∙ others-are others (entry ∷ first) are.some.1 are.within.1 are.full)
-    ∙ ap parts_of are.all
-
--- ---- and these
+cut-is_unique = cuts.cut-is_unique frame_front_len few
 
 pub joined-from : (rest part : List Entry) → joined (parts_from part rest) ≡ part ++ rest
-joined-from [] part = refl
-joined-from (entry ∷ rest) part = one (has_room part entry) (joined-from rest)
-  where
-    one : (b : Bool) → ((p : List Entry) → joined (parts_from p rest) ≡ p ++ rest)
-        → joined (cond b [] (part ∷ []) ++ parts_from (cond b (part ++ entry ∷ []) (entry ∷ [])) rest) ≡ part ++ entry ∷ rest
-    one true h = h (part ++ entry ∷ []) ∙ append_assoc part (entry ∷ []) rest
-    one false h = ap (λ (more : List Entry). part ++ more) (h (entry ∷ []))
-
-some-from : (rest part : List Entry) → 0 < length part → AllByRecursion (λ part. 0 < length part) (parts_from part rest)
-some-from [] part some = (some, tt)
-some-from (entry ∷ rest) part some = one (has_room part entry) (some-from rest)
-  where
-    one : (b : Bool) → ((p : List Entry) → 0 < length p → AllByRecursion (λ part. 0 < length part) (parts_from p rest))
-        → AllByRecursion (λ part. 0 < length part)
-        (cond b [] (part ∷ []) ++ parts_from (cond b (part ++ entry ∷ []) (entry ∷ [])) rest)
-    one true h = h (part ++ entry ∷ []) (omega (arith, length-append part (entry ∷ [])))
-    one false h = (some, h (entry ∷ []) (omega arith))
-
-within-from : (rest part : List Entry) → frame_len part ≤ datagram_max → AllByRecursion HasSpelling rest
-    → AllByRecursion (λ part. frame_len part ≤ datagram_max) (parts_from part rest)
-within-from [] part within spelled = (within, tt)
-within-from (entry ∷ rest) part within spelled =
-    one (has_room part entry) (λ e. leb-true (frame_len (part ++ entry ∷ [])) datagram_max e)
-    (λ p h. within-from rest p h spelled.1)
-  where
-    one : (b : Bool) → (b ≡ true → frame_len (part ++ entry ∷ []) ≤ datagram_max)
-        → ((p : List Entry) → frame_len p ≤ datagram_max → AllByRecursion (λ part. frame_len part ≤ datagram_max) (parts_from p rest))
-        → AllByRecursion (λ part. frame_len part ≤ datagram_max)
-        (cond b [] (part ∷ []) ++ parts_from (cond b (part ++ entry ∷ []) (entry ∷ [])) rest)
-    one true room h = h (part ++ entry ∷ []) (room refl)
-    one false room h = (within, h (entry ∷ []) (alone entry spelled.0))
-
-full-before : (rest part : List Entry) (entry : Entry) (first : List Entry) → datagram_max < frame_len (part ++ entry ∷ [])
-    → IsFullBefore part (parts_from (entry ∷ first) rest)
-full-before [] part entry first full = full
-full-before (next ∷ rest) part entry first full =
-    one (has_room (entry ∷ first) next) (λ more. full-before rest part entry more full)
-  where
-    one : (b : Bool) → ((more : List Entry) → IsFullBefore part (parts_from (entry ∷ more) rest))
-        → IsFullBefore part
-        (cond b [] ((entry ∷ first) ∷ []) ++ parts_from (cond b ((entry ∷ first) ++ next ∷ []) (next ∷ [])) rest)
-    one true h = h (first ++ next ∷ [])
-    one false h = full
-
-full-from : (rest part : List Entry) → AreFull (parts_from part rest)
-full-from [] part = (tt, tt)
-full-from (entry ∷ rest) part =
-    one (has_room part entry) (λ e. leb-false (frame_len (part ++ entry ∷ [])) datagram_max e) (full-from rest)
-  where
-    one : (b : Bool) → (b ≡ false → datagram_max < frame_len (part ++ entry ∷ [])) → ((p : List Entry) → AreFull (parts_from p rest))
-        → AreFull (cond b [] (part ∷ []) ++ parts_from (cond b (part ++ entry ∷ []) (entry ∷ [])) rest)
-    one true full h = h (part ++ entry ∷ [])
-    one false full h = (full-before rest part entry [] (full refl), h (entry ∷ []))
+joined-from = cuts.joined-from frame_front_len few
 
 pub joined-parts : (entries : List Entry) → joined (parts_of entries) ≡ entries
-joined-parts [] = refl
-joined-parts (entry ∷ entries) = joined-from entries (entry ∷ [])
+joined-parts = cuts.joined-parts frame_front_len few
 
 pub some-parts : (entries : List Entry) → AllByRecursion (λ part. 0 < length part) (parts_of entries)
-some-parts [] = tt
-some-parts (entry ∷ entries) = some-from entries (entry ∷ []) (omega arith)
+some-parts = cuts.some-parts frame_front_len few
 
 pub entries-are_cut : (entries : List Entry) → AllByRecursion HasSpelling entries → AreParts entries (parts_of entries)
-entries-are_cut [] spelled = record { all = refl; some = tt; within = tt; full = tt }
-entries-are_cut (entry ∷ entries) spelled = record {
-  all = joined-from entries (entry ∷ []);
-  some = some-from entries (entry ∷ []) (omega arith);
-  within = within-from entries (entry ∷ []) (alone entry spelled.0) spelled.1;
-  full = full-from entries (entry ∷ []);
-}
-
--- there are no more parts than entries
-few-parts : (parts : List (List Entry)) → AllByRecursion (λ part. 0 < length part) parts → length parts ≤ length (joined parts)
-few-parts [] some = omega arith
-few-parts (part ∷ parts) some = omega (arith, some.0, few-parts parts some.1, length-append part (joined parts))
+entries-are_cut = cuts.entries-are_cut frame_front_len few
 
 pub cut-is_short : (entries : List Entry) → length (parts_of entries) ≤ length entries
-cut-is_short [] = omega arith
-cut-is_short (entry ∷ entries) =
-    omega (
-      arith,
-      few-parts (parts_from (entry ∷ []) entries) (some-from entries (entry ∷ []) (omega arith)),
-      ap length (joined-from entries (entry ∷ [])),
-    )
-
--- ---- the first part
-
--- what fits into one frame and is full before the next entry is the first part
-fill-first : (first rest : List Entry) → 0 < length first → frame_len first ≤ datagram_max
-    → parts_of (first ++ rest) ≡ parts_from first rest
-fill-first [] rest some within = absurd (omega arith)
-fill-first (entry ∷ more) rest some within = fill more (entry ∷ []) rest within
-
-begun-behind : (rest first : List Entry)
-    → ((next : Entry) (more : List Entry) → rest ≡ next ∷ more → datagram_max < frame_len (first ++ next ∷ []))
-    → parts_from first rest ≡ first ∷ parts_of rest
-begun-behind [] first full = refl
-begun-behind (next ∷ more) first full = begun first next more (full next more refl)
+cut-is_short = cuts.cut-is_short frame_front_len few
 
 pub first-part : (entries : List Entry) (n : ℕ) → 0 < n → n ≤ length entries → frame_len (take n entries) ≤ datagram_max
     → (n < length entries → datagram_max < frame_len (take (n + 1) entries))
     → parts_of entries ≡ take n entries ∷ parts_of (drop n entries)
-first-part entries n some upto within full =
-    let long : 0 < length (take n entries) = omega (arith, length-take-le n entries upto) in
-    ap parts_of (sym (take-append-drop n entries))
-    ∙ fill-first (take n entries) (drop n entries) long within
-    ∙ begun-behind (drop n entries) (take n entries) (λ next more e. full-with next more e)
-  where
-    full-with : (next : Entry) (more : List Entry) → drop n entries ≡ next ∷ more → datagram_max < frame_len (take n entries ++ next ∷ [])
-    full-with next more e =
-        let lt : n < length entries = omega (arith, length-drop n entries, ap length e) in
-        let found : get_or entries n next ∷ drop (n + 1) entries ≡ next ∷ more = sym (drop_more entries n next lt) ∙ e in
-        let this : get_or entries n next ≡ next = cc in
-        subst (λ (part : List Entry). datagram_max < frame_len part)
-        (take_more entries n next lt ∙ ap (λ (x : Entry). take n entries ++ x ∷ []) this) (full lt)
+first-part = cuts.first-part frame_front_len few

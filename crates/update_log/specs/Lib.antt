@@ -1,7 +1,9 @@
+pub mod Limits
 pub mod Parts
 pub mod Frames
 pub mod State
 pub mod Streams
+pub mod Images
 pub mod Laws
 pub mod Worked
 pub mod Inner

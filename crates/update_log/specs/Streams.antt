@@ -24,6 +24,10 @@ stream_of commits worker = stream_from worker 0 0 commits
 abbrev pub frame_count : List Commit → ℕ → ℕ → ℕ
 frame_count commits worker version = length (stream_of (take version commits) worker)
 
+-- a frame of commits that are counted from the first on, where so many stand before them, of which the worker has so many frames
+abbrev pub shifted : (before frames : ℕ) → Frame → Frame
+shifted before frames frame = record frame { seq = frames + frame.seq; commit = before + frame.commit }
+
 -- the stream that is kept of a worker; none if there is no worker of that number
 abbrev pub stream_at : List (List Span) → ℕ → List Span
 stream_at streams worker = or_none (slice_get streams worker)

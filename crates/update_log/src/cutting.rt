@@ -1,21 +1,19 @@
-//! Cutting a commit into frames.
+//! Cutting a commit into frames, and an image into pieces.
 
-ghost use Rattle.std.specs.Prelude.{◌≡◌, ◌+◌, ◌^◌, ◌<◌, ◌≤◌, length, map, take, IfOk};
+ghost use Rattle.std.specs.Prelude.{◌≡◌, ◌+◌, ◌^◌, ◌<◌, ◌≤◌, ◌∷◌, length, map, take, drop, IfOk};
 ghost use Rattle.std.specs.List.{AllByRecursion};
 ghost use Rattle.rows.specs.Limits.{commit_entries_max};
 ghost use Rattle.rows.specs.Spelling.{HasSpelling};
-ghost use Rattle.update_log.specs.Parts.{AreParts, frame_len, parts_of};
+ghost use Rattle.update_log.specs.Parts.{AreParts, parts_of, frame_front_len, piece_front_len, part_len, cut_of};
 ghost use Rattle.update_log.specs.Frames.{IsCuttable, IsSendable, frames_of};
 ghost use Rattle.update_log.specs.Inner.Spans.{spans_of};
 
 use crate::frame::Frame;
+use crate::limits::{FRAME_FRONT_LEN, PIECE_FRONT_LEN};
 use crate::span::Span;
 use rows::limits::DATAGRAM_MAX;
 use rows::{Commit, Entry, EntryList, entry_len};
 use std::alloc::{AllocError, Global};
-
-/// Bytes of a frame before its entries.
-const FRAME_FRONT_LEN: usize = 26;
 
 /// The frames of a commit, by the commit's number and the seq of its first frame in its worker's
 /// stream. An entry goes into the frame of the one before it while that frame stays within 1200
@@ -50,7 +48,7 @@ pub fn part_count(entries: &[Entry]) -> usize
         if rest.is_empty() {
             return count;
         }
-        rest = rest.split_at(part_len(rest)).1;
+        rest = rest.split_at(first_part_len(FRAME_FRONT_LEN, rest)).1;
     }
     entries.len()
 }
@@ -72,7 +70,7 @@ fn cut_entries(
     let mut seq = first_seq;
     let mut rest = entries;
     while !rest.is_empty() {
-        let (part, behind) = rest.split_at(part_len(rest));
+        let (part, behind) = rest.split_at(first_part_len(FRAME_FRONT_LEN, rest));
         let copy = copied(alloc, part)?;
         frames.push(Frame {
             worker,
@@ -98,7 +96,7 @@ pub fn cut_spans(alloc: Global, entries: &[Entry], number: u64) -> Result<Vec<Sp
     let mut start = 0;
     let mut rest = entries;
     while !rest.is_empty() {
-        let len = part_len(rest);
+        let len = first_part_len(FRAME_FRONT_LEN, rest);
         let end = start + len as u32;
         spans.push(Span {
             commit: number,
@@ -111,16 +109,33 @@ pub fn cut_spans(alloc: Global, entries: &[Entry], number: u64) -> Result<Vec<Sp
     Ok(spans)
 }
 
-/// How many of the entries, from the first on, one frame holds.
-fn part_len(entries: &[Entry]) -> usize
+/// How many of an image's entries, from the first on, its first piece has: as many as fit into a
+/// datagram of 1200 bytes. The other pieces are those of the entries after them, so a caller that
+/// takes a piece at a time makes the pieces that `pieces_of` specifies. At least one entry is
+/// needed: the one piece of an empty image has none. Takes no memory.
+pub fn piece_len(entries: &[Entry]) -> usize
     requires some { 0 < length entries.now }
     requires spelled { AllByRecursion HasSpelling entries.now }
     ensures some { 0 < result }
     ensures within { result ≤ length entries.now }
-    ensures fits { frame_len (take result entries.now) ≤ DATAGRAM_MAX }
-    ensures full { result < length entries.now → DATAGRAM_MAX < frame_len (take (result + 1) entries.now) }
+    ensures fits { part_len piece_front_len (take result entries.now) ≤ DATAGRAM_MAX }
+    ensures cut { cut_of piece_front_len entries.now ≡ take result entries.now ∷ cut_of piece_front_len (drop result entries.now) }
 {
-    let mut len = FRAME_FRONT_LEN;
+    first_part_len(PIECE_FRONT_LEN, entries)
+}
+
+/// How many of the entries, from the first on, one datagram holds that has `front` bytes before
+/// them, at most as many as a frame.
+fn first_part_len(front: usize, entries: &[Entry]) -> usize
+    requires few { front ≤ frame_front_len }
+    requires some { 0 < length entries.now }
+    requires spelled { AllByRecursion HasSpelling entries.now }
+    ensures some { 0 < result }
+    ensures within { result ≤ length entries.now }
+    ensures fits { part_len front (take result entries.now) ≤ DATAGRAM_MAX }
+    ensures full { result < length entries.now → DATAGRAM_MAX < part_len front (take (result + 1) entries.now) }
+{
+    let mut len = front;
     for (index, entry) in entries.iter().enumerate() {
         len += entry_len(entry);
         if len > DATAGRAM_MAX {

@@ -1,9 +1,11 @@
 pub mod Passing
 pub mod Joining
-pub mod Lengths
+pub mod Lists
 pub mod Counting
+pub mod Sizes
+pub mod Bases
 pub mod Bodies
 pub mod ReadIsSpelled
 pub mod SpelledIsRead
 pub mod OneSpelling
-pub mod Fronts
+pub mod FirstSix

@@ -1,4 +1,4 @@
-use crate::counts::Counts;
+use crate::head::Head;
 use crate::lent_entries::LentEntries;
 
 /// A datagram, its entries lent by the bytes that it was read from.
@@ -19,19 +19,26 @@ pub enum Datagram<'a> {
         boot: u64,
         request: u64,
     },
-    /// From the primary, in answer to an Ask: the durable version, and how many frames each worker
-    /// has up to it.
-    Head {
-        replica: u8,
-        boot: u64,
-        request: u64,
-        version: u64,
-        counts: Counts,
-    },
+    /// From the primary, in answer to an Ask.
+    Head(Head),
     /// From a replica: it lacks the worker's frames from that number on.
     Want {
         replica: u8,
         worker: u8,
+        from: u64,
+    },
+    /// From the primary: entries of the image of the tables at version `base`, as its piece
+    /// `number`; `last` is set on the last piece of an image.
+    Piece {
+        base: u64,
+        number: u64,
+        last: bool,
+        entries: LentEntries<'a>,
+    },
+    /// From a replica: it lacks the pieces of that image from that number on.
+    Pull {
+        replica: u8,
+        base: u64,
         from: u64,
     },
 }

@@ -9,7 +9,7 @@ pub enum WireFault {
     /// The first two bytes are not 42 44.
     #[error("not a datagram of this system")]
     Magic,
-    /// The third byte is not 02.
+    /// The third byte is not 03.
     #[error("another version of the format")]
     Version,
     /// The fourth byte is not a kind of datagram.

@@ -7,3 +7,7 @@ pub const ASK_KIND: u8 = 2;
 pub const HEAD_KIND: u8 = 3;
 
 pub const WANT_KIND: u8 = 4;
+
+pub const PIECE_KIND: u8 = 5;
+
+pub const PULL_KIND: u8 = 6;

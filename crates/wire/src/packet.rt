@@ -2,13 +2,13 @@
 
 ghost use Rattle.std.specs.Prelude.{◌≡◌, ◌≤◌, length, Ok};
 ghost use Rattle.wire.specs.Reading.{reading};
-ghost use Rattle.wire.specs.Spelling.{spelling, HasDatagramSpelling, datagram_of_frame, frame_spelling, FrameHasSpelling};
+ghost use Rattle.wire.specs.Spelling.{spelling, HasDatagramSpelling, datagram_of_frame, frame_spelling, FrameHasSpelling, IsPiece};
 
 use crate::datagram::Datagram;
 use crate::faults::TooSmall;
-use crate::writing::{write, write_frame};
-use rows::laws;
+use crate::writing::{write, write_frame, write_piece};
 use rows::limits::DATAGRAM_MAX;
+use rows::{Entry, laws};
 use std::marker::Model;
 use update_log::FrameRef;
 
@@ -56,6 +56,30 @@ impl Packet {
         match write_frame(frame, &mut buffer) {
             Ok(len) => Packet { buffer, len },
             Err(TooSmall) => unreachable!(),
+        }
+    }
+
+    /// The spelling of a Piece. Takes no memory.
+    pub fn of_piece(base: u64, number: u64, last: bool, entries: &[Entry]) -> Packet
+        requires { IsPiece base number last entries.now }
+        ensures spelled { result ≡ spelling (Datagram.Piece base number last entries.now) }
+        ensures reads_back { reading result ≡ Ok (Datagram.Piece base number last entries.now) }
+    {
+        laws::entries_are_read_as_spelled();
+        let mut buffer = [0u8; DATAGRAM_MAX];
+        match write_piece(base, number, last, entries, &mut buffer) {
+            Ok(len) => Packet { buffer, len },
+            Err(TooSmall) => unreachable!(),
+        }
+    }
+
+    /// A copy. Takes no memory.
+    pub fn copy(&self) -> Packet
+        ensures { result ≡ self.now }
+    {
+        Packet {
+            buffer: self.buffer,
+            len: self.len,
         }
     }
 

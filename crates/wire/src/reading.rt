@@ -1,14 +1,17 @@
 //! Reading a datagram from bytes, with the first fault.
 
-ghost use Rattle.std.specs.Prelude.{◌≡◌, ◌≤◌, ◌*◌, ◌==◌, ◌&&◌, not, length, Ok, IfOk};
+ghost use Rattle.std.specs.Prelude.{◌≡◌, ◌≤◌, ◌*◌, ◌==◌, length, drop, Ok, IfOk};
+ghost use Rattle.std.specs.List.{list_all};
 ghost use Rattle.wire.specs.declared.datagram.Datagram.{Datagram};
-ghost use Rattle.wire.specs.Reading.{reading, body_at, frame_at, ask_at, head_at, want_at, counts_at};
-ghost use Rattle.wire.specs.Spelling.{HasDatagramSpelling, spelling, frame_kind, ask_kind, head_kind, want_kind};
+ghost use Rattle.wire.specs.Reading.{reading, body_at, frame_at, ask_at, head_at, want_at, piece_at, pull_at};
+ghost use Rattle.wire.specs.Reading.{is_unknown, has_base, counts_at, may_count};
+ghost use Rattle.wire.specs.Spelling.{HasDatagramSpelling, spelling};
 
 use crate::counts::Counts;
 use crate::datagram::Datagram;
 use crate::faults::WireFault;
-use crate::kinds::{ASK_KIND, FRAME_KIND, HEAD_KIND, WANT_KIND};
+use crate::head::Head;
+use crate::kinds::{ASK_KIND, FRAME_KIND, HEAD_KIND, PIECE_KIND, PULL_KIND, WANT_KIND};
 use crate::lent_entries::LentEntries;
 use byteorder::{BigEndian, ByteOrder};
 use rows::laws;
@@ -18,13 +21,13 @@ use rows::limits::{DATAGRAM_MAX, REPLICAS_MAX, WORKERS_MAX};
 pub const DATAGRAM_MAGIC: u16 = 0x4244;
 
 /// The version of the format.
-pub const DATAGRAM_VERSION: u8 = 2;
+pub const DATAGRAM_VERSION: u8 = 3;
 
 /// The datagram that the bytes spell, with parts lent by them. Otherwise the first of these faults:
 /// `Short`, there are fewer than 6 bytes; `Magic`, the first bytes are not 42 44; `Version`, the
-/// third byte is not 02; `Kind`, the fourth byte is not 01 (Frame), 02 (Ask), 03 (Head) or 04
-/// (Want); `Length`, the total length in bytes 5 and 6 is not the number of the bytes, or is above
-/// 1200; `Body`, the rest does not have the form of its kind. Takes no memory.
+/// third byte is not 03; `Kind`, the fourth byte is not 01 (Frame), 02 (Ask), 03 (Head), 04 (Want),
+/// 05 (Piece) or 06 (Pull); `Length`, the total length in bytes 5 and 6 is not the number of the
+/// bytes, or is above 1200; `Body`, the rest does not have the form of its kind. Takes no memory.
 pub fn read(bytes: &[u8]) -> Result<Datagram<'_>, WireFault>
     ensures exact { result ≡ reading bytes.now }
 
@@ -64,9 +67,9 @@ fn read_datagram(bytes: &[u8]) -> Result<Datagram<'_>, WireFault>
 
 /// Whether there is no datagram of this kind.
 fn is_unknown(kind: u8) -> bool
-    ensures { result ≡ (not (kind == frame_kind) && not (kind == ask_kind) && not (kind == head_kind) && not (kind == want_kind)) }
+    ensures { result ≡ is_unknown kind }
 {
-    kind != FRAME_KIND && kind != ASK_KIND && kind != HEAD_KIND && kind != WANT_KIND
+    kind < FRAME_KIND || kind > PULL_KIND
 }
 
 /// The datagram of this kind that the body spells.
@@ -77,7 +80,9 @@ fn read_body(kind: u8, body: &[u8]) -> Option<Datagram<'_>>
         FRAME_KIND => read_frame(body),
         ASK_KIND => read_ask(body),
         HEAD_KIND => read_head(body),
-        _ => read_want(body),
+        WANT_KIND => read_want(body),
+        PIECE_KIND => read_piece(body),
+        _ => read_pull(body),
     }
 }
 
@@ -123,25 +128,53 @@ fn read_ask(body: &[u8]) -> Option<Datagram<'_>>
 fn read_head(body: &[u8]) -> Option<Datagram<'_>>
     ensures { result ≡ head_at body.now }
 {
-    if body.len() < 26 {
+    if body.len() < 42 {
         return None;
     }
-    let workers = body[25];
-    let rest = body.split_at(26).1;
+    let workers = body[41];
+    let rest = body.split_at(42).1;
     if body[0] >= REPLICAS_MAX
         || workers == 0
         || workers > WORKERS_MAX
-        || rest.len() != 8 * workers as usize
+        || rest.len() != 16 * workers as usize
     {
         return None;
     }
-    Some(Datagram::Head {
+    let (lows, counts) = read_counts(workers, rest);
+    let head = Head {
         replica: body[0],
         boot: BigEndian::read_u64(&body[1..]),
         request: BigEndian::read_u64(&body[9..]),
         version: BigEndian::read_u64(&body[17..]),
-        counts: read_counts(workers, rest),
-    })
+        base: BigEndian::read_u64(&body[25..]),
+        pieces: BigEndian::read_u64(&body[33..]),
+        lows,
+        counts,
+    };
+    if !may_have_base(&head) {
+        return None;
+    }
+    Some(Datagram::Head(head))
+}
+
+/// Whether a Head may have its base.
+fn may_have_base(head: &Head) -> bool
+    ensures { result ≡ has_base head.now }
+{
+    if head.base > head.version || !head.lows.are_within(&head.counts) {
+        return false;
+    }
+    if head.base == 0 {
+        head.pieces == 0 && are_zero(head.lows.as_slice())
+    } else {
+        head.pieces != 0
+    }
+}
+
+fn are_zero(counts: &[u64]) -> bool
+    ensures { result ≡ list_all (λ count. count == 0) counts.now }
+{
+    counts.iter().all(|count| *count == 0)
 }
 
 fn read_want(body: &[u8]) -> Option<Datagram<'_>>
@@ -157,17 +190,63 @@ fn read_want(body: &[u8]) -> Option<Datagram<'_>>
     })
 }
 
-/// The frame counts of this many workers.
-fn read_counts(workers: u8, bytes: &[u8]) -> Counts
-    requires few { workers ≤ WORKERS_MAX }
-    requires whole { length bytes.now ≡ 8 * workers }
-    ensures { result ≡ counts_at workers bytes.now }
+fn read_piece(body: &[u8]) -> Option<Datagram<'_>>
+    ensures { result ≡ piece_at body.now }
 {
+    if body.len() < 19 {
+        return None;
+    }
+    let base = BigEndian::read_u64(body);
+    let number = BigEndian::read_u64(&body[8..]);
+    let flag = body[16];
+    let count = BigEndian::read_u16(&body[17..]);
+    if base == 0 || flag > 1 || !may_count(number, flag, count) {
+        return None;
+    }
+    let entries = LentEntries::filling(count, body.split_at(19).1)?;
+    let last = flag == 1;
+    Some(Datagram::Piece {
+        base,
+        number,
+        last,
+        entries,
+    })
+}
+
+/// Whether a Piece of this number and flag may have so many entries.
+fn may_count(number: u64, flag: u8, count: u16) -> bool
+    ensures { result ≡ may_count number flag count }
+{
+    count != 0 || (number == 0 && flag == 1)
+}
+
+fn read_pull(body: &[u8]) -> Option<Datagram<'_>>
+    ensures { result ≡ pull_at body.now }
+{
+    if body.len() != 17 || body[0] >= REPLICAS_MAX {
+        return None;
+    }
+    Some(Datagram::Pull {
+        replica: body[0],
+        base: BigEndian::read_u64(&body[1..]),
+        from: BigEndian::read_u64(&body[9..]),
+    })
+}
+
+/// The base counts of this many workers, and their counts.
+fn read_counts(workers: u8, bytes: &[u8]) -> (Counts, Counts)
+    requires few { workers ≤ WORKERS_MAX }
+    requires whole { length bytes.now ≡ 16 * workers }
+    ensures lows { result.0 ≡ counts_at workers bytes.now }
+    ensures counts { result.1 ≡ counts_at workers (drop 8 bytes.now) }
+{
+    let mut lows = Counts::new();
     let mut counts = Counts::new();
     let mut rest = bytes;
     for _ in 0..workers {
-        counts.push(BigEndian::read_u64(rest));
-        rest = rest.split_at(8).1;
+        lows.push(BigEndian::read_u64(rest));
+        counts.push(BigEndian::read_u64(&rest[8..]));
+        rest = rest.split_at(16).1;
     }
-    counts
+    (lows, counts)
 }

@@ -147,6 +147,7 @@ module _ (number : ℕ) (commit : Commit) where
           durable = w.primary.durable ++ take (whole_in (length w.primary.durable) w.primary.pending bytes) w.primary.pending;
           pending = [];
           failed = false;
+          base = 0;
         };
         stopped = true;
         transactions = [];
@@ -214,7 +215,7 @@ module _ (number : ℕ) (commit : Commit) where
       none-told : (given : Output) (left : Member) → given ≡ outputs.Durable durable → Change w event i m given left → ⊥
       none-told given left same (hears answer known is) = subst IsSilent same is.0
       none-told given left same (opens plan) = cc
-      none-told given left same (fetches plans version counts has sent) = cc
+      none-told given left same (fetches plans head has sent) = cc
       none-told given left same (reports plans fetched is has) = cc
       none-told given left same (moves plans fetched has) = cc
       none-told given left same breaks = cc

@@ -1,11 +1,11 @@
 -- What the primary does with transactions, commits and bytes leaves sound parts, and what a stop and a start leave.
-use Rattle.std.proofs.Common.{◌≡◌, ℕ, zero, suc, ◌+◌, ◌^◌, ◌<◌, ◌≤◌, Bool, true, false, cond, ◌==◌, List, [], ◌∷◌, ◌++◌}
+use Rattle.std.proofs.Common.{◌≡◌, ℕ, zero, suc, ◌+◌, ◌-◌, ◌^◌, ◌<◌, ◌≤◌, Bool, true, false, cond, ◌==◌, List, [], ◌∷◌, ◌++◌}
 use Rattle.std.proofs.Common.{length, take, drop, map}
 use Rattle.std.proofs.Common.{Option, Some, None, Result, Ok, Err, nat_lt, refl, sym, ap, subst, ◌∙◌, inl, inr, arith}
-use Rattle.std.specs.List.{slice_get, slice_set}
+use Rattle.std.specs.List.{slice_get, slice_set, slice_index}
 use Rattle.std.specs.Option.{option_map, option_and_then}
 use Rattle.std.proofs.lemmas.Bool.{ltb-true, and_parts}
-use Rattle.std.proofs.lemmas.List.{append_assoc, length-append, take-append-drop}
+use Rattle.std.proofs.lemmas.List.{append_assoc, length-append, take-append-drop, take_all}
 use Rattle.std.proofs.lemmas.Option.{none-some, same_Some}
 use Rattle.rows.specs.declared.commit.Commit.{Commit}
 use Rattle.rows.specs.declared.value.Value.{Value}
@@ -13,6 +13,7 @@ use Rattle.rows.specs.Shape.{Shape}
 use Rattle.rows.specs.Commits.{IsLegal, last_touching}
 use Rattle.update_log.specs.declared.frame.Frame.{Frame}
 use Rattle.update_log.specs.Frames.{IsSendable}
+use Rattle.update_log.specs.Limits.{want_frames_max}
 use Rattle.update_log.specs.Parts.{parts_of}
 use Rattle.update_log.specs.Streams.{stream_of}
 use Rattle.wire.specs.declared.datagram.Datagram.{Datagram}
@@ -27,7 +28,7 @@ use Rattle.primary.specs.declared.faults.CommitFault.TheVariants as faults
 use Rattle.mvcc.specs.Transaction.{Transaction}
 use Rattle.dispatcher.specs.Feeding.{Tells}
 use Rattle.primary.specs.Steps.{commit_answer, flushed, is_foreign, next_number, has_numbers}
-use Rattle.primary.specs.Sending.{answers, answers_to, head_for, counts_of, wanted, frame_to}
+use Rattle.primary.specs.Sending.{answers, answers_to, head_for, low_of, wanted, frame_to, pulled, piece_to}
 use Rattle.primary.specs.State.{Primary}
 use Rattle.script.specs.declared.event.Node.TheVariants as nodes
 use Rattle.script.specs.declared.output.Output.{Output}
@@ -35,6 +36,7 @@ use Rattle.script.specs.declared.output.Output.TheVariants as outputs
 use Rattle.world.specs.Outputs.{of_look, packets_of}
 use Rattle.world.specs.Cores.{Cores}
 use Rattle.world.specs.Steps.{World, open_transaction, change_happens, commit_happens, abort_happens, on_transaction, push_happens}
+use Rattle.world.specs.Steps.{base_happens}
 use Rattle.world.specs.Steps.{deliver_happens}
 use Rattle.world.specs.Steps.{stop_happens, delivered, raw_happens, is_forged}
 use Rattle.world.specs.Stops.{stopped_at, whole_in, closed}
@@ -42,12 +44,13 @@ use Rattle.world.specs.Inner.Sound.{Sound, PrimaryListsAreLegal}
 use Rattle.world.specs.Inner.Fresh.{Fresh}
 use Rattle.world.proofs.Arriving.{Means, sent-means, raw-means}
 use Rattle.world.specs.Standing.{world_of}
-use Rattle.world.proofs.Datagrams.{frame-read, head-read}
+use Rattle.world.proofs.Datagrams.{frame-read, HasCounts, head-reads}
 use Rattle.world.proofs.Durable.{legal-front, stream-grows}
 use Rattle.world.proofs.FedLaws.{FedLaws}
 use Rattle.world.proofs.Lists.{get-set, get-append, get-one, All-get}
 use Rattle.world.proofs.Moves.{Sound-transactions, Sound-sent, Sound-one, Sound-pending, Sound-grown, Sound-apart}
-use Rattle.world.proofs.Streams.{frame-at, get-take, get-drop, counts-length, counts-are, counts-spelled}
+use Rattle.world.proofs.Pieces.{pulled-read}
+use Rattle.world.proofs.Streams.{frame-at, get-take, get-drop, counts-length, counts-are, counts-below}
 use Rattle.world.proofs.Worlds.{beside_of}
 
 -- ---- transactions
@@ -205,14 +208,21 @@ stop-sound laws shape p bytes lists sound =
     Sound-grown laws shape (record p { transactions = closed p.transactions }) (take count p.primary.pending) []
     (legal-taken shape p count lists sound) ended in
     Sound-apart shape
-    (record p { primary = record (stopped_at p.primary bytes) { failed = p.primary.failed }; transactions = closed p.transactions })
-    false true p.journal p.form grown
+    (record p {
+      primary = record (stopped_at p.primary bytes) { failed = p.primary.failed; base = p.primary.base };
+      transactions = closed p.transactions;
+    }) false 0 true p.journal p.form grown
 
 pub start-sound : (shape : Shape) (p : Cores) (stopped : Bool) → Sound shape p
     → Sound shape (beside_of (cond {A = Output × World} stopped
     (outputs.Durable (length p.primary.durable), record (world_of p) { stopped = false }) (outputs.Running, world_of p)).1 p)
-start-sound shape p true sound = Sound-apart shape p p.primary.failed false p.journal p.form sound
+start-sound shape p true sound = Sound-apart shape p p.primary.failed p.primary.base false p.journal p.form sound
 start-sound shape p false sound = sound
+
+-- ---- bases
+
+pub base-sound : (shape : Shape) (p : Cores) → Sound shape p → Sound shape (beside_of (base_happens (world_of p)).1 p)
+base-sound shape p sound = Sound-apart shape p p.primary.failed (length p.primary.durable) p.stopped p.journal p.form sound
 
 -- ---- what the primary sends
 
@@ -228,12 +238,13 @@ frame-tells reads p worker seq frame lists h =
     (ap (λ (w : ℕ). slice_get (stream_of durable w) frame.seq) at.worker_is
     ∙ ap (slice_get (stream_of durable worker)) at.seq_is ∙ h)
 
-pub push-sound : (reads : SpelledAreRead) (shape : Shape) (p : Cores) (worker seq : ℕ) (found : Option Frame)
+pub push-sound : (reads : SpelledAreRead) (shape : Shape) (p : Cores) (worker seq : ℕ) (below : Bool) (found : Option Frame)
     → PrimaryListsAreLegal p.primary → Sound shape p
     → slice_get (stream_of p.primary.durable worker) seq ≡ found
-    → Sound shape (beside_of (push_happens (world_of p) (option_map frame_spelling found)).1 p)
-push-sound reads shape p worker seq None lists sound here = sound
-push-sound reads shape p worker seq (Some frame) lists sound here =
+    → Sound shape (beside_of (push_happens (world_of p) (cond below None (option_map frame_spelling found))).1 p)
+push-sound reads shape p worker seq true found lists sound here = sound
+push-sound reads shape p worker seq false None lists sound here = sound
+push-sound reads shape p worker seq false (Some frame) lists sound here =
     Sound-one shape p (frame_spelling frame) sound (frame-tells reads p worker seq frame lists here)
 
 -- the streams of the durable list have numbers of 64 bits
@@ -243,22 +254,31 @@ durable-below p lists worker =
     let grows = stream-grows p.durable p.pending worker in
     omega arith
 
-head-tells : (reads : SpelledAreRead) (shape : Shape) (p : Cores) (replica boot request : ℕ) → PrimaryListsAreLegal p.primary
+head-tells : (shape : Shape) (p : Cores) (replica boot request : ℕ) → PrimaryListsAreLegal p.primary
     → Sound shape p
     → IsAsk replica boot request
-    → Tells p.primary.workers p.primary.durable (reading (spelling (head_for p.primary replica boot request)))
-head-tells reads shape p replica boot request lists sound ask =
+    → Tells p.primary.workers p.primary.durable (reading (spelling (datagrams.Head (head_for p.primary replica boot request))))
+head-tells shape p replica boot request lists sound ask =
     let durable = p.primary.durable in
     let workers = p.primary.workers in
-    let counts = counts_of durable (length durable) workers in
     let legal = legal-front shape workers durable p.primary.pending (own-legal shape p lists sound) in
-    let below : length durable < 2 ^ 64 =
+    let version = length durable in
+    let below : version < 2 ^ 64 =
     let all = lists.numbered.commits_below in omega (arith, length-append durable p.primary.pending) in
-    let read =
-    head-read reads replica boot request (length durable) counts ask below
-    (counts-spelled durable workers sound.primary_is.workers_some sound.primary_is.workers_few (durable-below p.primary lists)) in
-    subst (Tells workers durable) (sym read)
-    (omega arith, counts-length durable (length durable) workers, counts-are durable workers legal.each)
+    let head = head_for p.primary replica boot request in
+    let has : HasCounts head = record {
+      each = counts-length durable p.primary.base workers ∙ sym (counts-length durable version workers);
+      below =
+          counts-below durable version workers (λ worker.
+          subst (λ (l : List Commit). length (stream_of l worker) < 2 ^ 64) (sym (take_all version durable (omega arith)))
+          (durable-below p.primary lists worker));
+    } in
+    head-reads (Tells workers durable) (λ fault. tt) head ask.boot_below ask.request_below below
+    (λ base pieces lows counts are. (
+      omega arith,
+      ap length (are has) ∙ counts-length durable version workers,
+      λ worker. ap (λ (l : List ℕ). slice_index l worker) (are has) ∙ counts-are durable workers legal.each worker,
+    ))
 
 -- the bytes that go to a replica, where frames are sent
 packets-at : (replica : ℕ) (frames : List Frame) (i : ℕ) (bytes : List ℕ)
@@ -273,10 +293,12 @@ want-tells : (reads : SpelledAreRead) (p : Cores) (replica worker from : ℕ) �
     → Tells p.primary.workers p.primary.durable (reading bytes)
 want-tells reads p replica worker from lists i bytes h =
     let stream = stream_of p.primary.durable worker in
+    let skipped = low_of p.primary worker - from in
     let found = packets-at replica (wanted p.primary worker from) i bytes h in
-    let at = sym (get-drop from stream i) ∙ get-take 16 (drop from stream) i found.0 found.1 in
+    let kept = sym (get-drop skipped (take want_frames_max (drop from stream)) i) ∙ found.1 in
+    let at = sym (get-drop from stream (skipped + i)) ∙ get-take want_frames_max (drop from stream) (skipped + i) found.0 kept in
     subst (λ (b : List ℕ). Tells p.primary.workers p.primary.durable (reading b)) found.2
-    (frame-tells reads p worker (from + i) found.0 lists at)
+    (frame-tells reads p worker (from + (skipped + i)) found.0 lists at)
 
 answers-tell : (reads : SpelledAreRead) (shape : Shape) (p : Cores) (datagram : Result Datagram WireFault)
     → PrimaryListsAreLegal p.primary → Sound shape p
@@ -287,10 +309,15 @@ answers-tell reads shape p (Err fault) lists sound means i bytes h = absurd (non
 answers-tell reads shape p (Ok (datagrams.Frame worker seq commit last entries)) lists sound means i bytes h = absurd (none-some bytes h)
 answers-tell reads shape p (Ok (datagrams.Ask replica boot request)) lists sound means i bytes h =
     subst (λ (b : List ℕ). Tells p.primary.workers p.primary.durable (reading b))
-    (sym (get-one (spelling (head_for p.primary replica boot request)) i bytes h))
-    (head-tells reads shape p replica boot request lists sound means.fresh.0)
-answers-tell reads shape p (Ok (datagrams.Head replica boot request version counts)) lists sound means i bytes h =
-    absurd (none-some bytes h)
+    (sym (get-one (spelling (datagrams.Head (head_for p.primary replica boot request))) i bytes h))
+    (head-tells shape p replica boot request lists sound means.fresh.0)
+answers-tell reads shape p (Ok (datagrams.Head head)) lists sound means i bytes h = absurd (none-some bytes h)
+answers-tell reads shape p (Ok (datagrams.Piece base number last entries)) lists sound means i bytes h = absurd (none-some bytes h)
+answers-tell reads shape p (Ok (datagrams.Pull replica base from)) lists sound means i bytes h =
+    let workers = p.primary.workers in
+    let durable = p.primary.durable in
+    All-get (λ bytes. Tells workers durable (reading bytes)) (packets_of (map (piece_to replica) (pulled p.primary base from)))
+    (pulled-read (Tells workers durable) (λ fault. tt) (λ base number last entries. tt) replica p.primary base from) i bytes h
 answers-tell reads shape p (Ok (datagrams.Want replica worker from)) lists sound means i bytes h =
     want-tells reads p replica worker from lists i bytes
     h

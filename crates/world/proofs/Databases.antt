@@ -82,12 +82,12 @@ module _ (w : World) (event : Event) (h : Fresh w) (i : ℕ) (m : Member) (here 
   change_tells : (output : Output) (new : Member) → Change w event i m output new → Tells w (output, with_member w new)
   change_tells output new (hears answer known is) = alike new answer refl refl is.0
   change_tells output new (opens plan) = alike new output refl refl tt
-  change_tells output new (fetches plans version counts has sent) =
-      seen_as (IsFetched w.primary.durable version) new refl (
+  change_tells output new (fetches plans head has sent) =
+      seen_as (IsFetched w.primary.durable head.version) new refl (
         plans,
         m.asked_at,
         ap (option_map (seen_batch m.asked_at)) has,
-        fetched-fresh w i m plans version counts h here has sent,
+        fetched-fresh w i m plans head h here has sent,
         refl,
       )
   change_tells output new (reports plans fetched is has) =

@@ -1,8 +1,8 @@
 -- What the datagrams that are sent read as.
-use Rattle.std.proofs.Common.{◌≡◌, ℕ, zero, suc, ◌+◌, ◌*◌, ◌^◌, ◌%◌, ◌<◌, Bool, true, false, cond, not, ◌||◌, ◌&&◌, ◌==◌, List, []}
+use Rattle.std.proofs.Common.{◌≡◌, ℕ, zero, suc, ◌+◌, ◌*◌, ◌^◌, ◌%◌, ◌<◌, Bool, true, false, cond, not, ◌||◌, ◌==◌, List, []}
 use Rattle.std.proofs.Common.{◌∷◌, ◌++◌, length, drop, get_or, Option, Some, None, Result, Ok, Err, nat_lt, refl, sym, ap, subst, ◌∙◌}
 use Rattle.std.proofs.Common.{arith}
-use Rattle.std.specs.List.{slice_index}
+use Rattle.std.specs.List.{slice_index, flat_map, AllByRecursion}
 use Rattle.std.specs.Option.{option_map, ok_or}
 use Rattle.std.specs.Int.{byte_at, w64, from_be_bytes}
 use Rattle.std.proofs.lemmas.Nat.{be_bytes_8}
@@ -13,24 +13,18 @@ use Rattle.rows.specs.declared.limits.TheConstants.{DATAGRAM_MAX, REPLICAS_MAX, 
 use Rattle.wire.specs.declared.datagram.Datagram.{Datagram}
 use Rattle.wire.specs.declared.datagram.Datagram.TheVariants as datagrams
 use Rattle.wire.specs.declared.faults.WireFault.{WireFault}
+use Rattle.wire.specs.declared.head.Head.{Head}
 use Rattle.wire.specs.declared.faults.WireFault.TheVariants.{Short, Magic, Version, Kind, Length, Body}
 use Rattle.update_log.specs.declared.frame.Frame.{Frame}
 use Rattle.update_log.specs.Frames.{IsSendable}
 use Rattle.rows.specs.Reading.{entries_filling}
-use Rattle.wire.specs.Reading.{reading, body_at, counts_at}
-use Rattle.wire.specs.Spelling.{datagram_of, datagram_of_frame, spelling, frame_spelling, IsAsk, AreCounts}
+use Rattle.wire.specs.Reading.{reading, is_unknown, body_at, counts_at, head_in, has_base, may_count}
+use Rattle.wire.specs.Spelling.{datagram_of, datagram_of_frame, in_turn, spelling, frame_spelling, IsAsk}
 use Rattle.wire.specs.Laws.{SpelledAreRead}
 
 -- a frame that is sent reads as itself
 pub frame-read : (reads : SpelledAreRead) (frame : Frame) → IsSendable frame → reading (frame_spelling frame) ≡ Ok (datagram_of_frame frame)
 frame-read reads frame sendable = reads (datagram_of_frame frame) sendable
-
--- a Head reads as itself
-pub head-read : (reads : SpelledAreRead) (replica boot request version : ℕ) (counts : List ℕ) → IsAsk replica boot request
-    → version < 2 ^ 64 → AreCounts counts
-    → reading (spelling (datagrams.Head replica boot request version counts)) ≡ Ok (datagrams.Head replica boot request version counts)
-head-read reads replica boot request version counts ask below spelled =
-    reads (datagrams.Head replica boot request version counts) (ask, below, spelled)
 
 byte-below : (k n : ℕ) → byte_at k n < 256
 byte-below zero n = omega arith
@@ -67,8 +61,7 @@ ask-read reads replica boot request replica_below boot_below =
 tested : (P : Result Datagram WireFault → Type 0) (bytes : List ℕ) → ((fault : WireFault) → P (Err fault))
     → P (ok_or (body_at (slice_index bytes 3) (drop 6 bytes)) Body) → P (reading bytes)
 tested P bytes faults read =
-    by (nat_lt (length bytes) 6) (not (big_number 2 bytes == 0x4244)) (not (slice_index bytes 2 == 2))
-    (not (slice_index bytes 3 == 1) && not (slice_index bytes 3 == 2) && not (slice_index bytes 3 == 3) && not (slice_index bytes 3 == 4))
+    by (nat_lt (length bytes) 6) (not (big_number 2 bytes == 0x4244)) (not (slice_index bytes 2 == 3)) (is_unknown (slice_index bytes 3))
     (not (big_number 2 (drop 4 bytes) == length bytes) || nat_lt DATAGRAM_MAX (length bytes))
   where
     by : (a b c d e : Bool) → P (cond a (Err Short)
@@ -108,43 +101,62 @@ frame-reads P faults frames frame =
     by false false (Some entries) =
         frames (slice_index body 0) (big_number 8 (drop 1 body)) (big_number 8 (drop 9 body)) (slice_index body 17 == 1) entries
 
--- a Head, also one of which no spelling is read, reads as no other datagram, and its boot, request and version as themselves
+-- as many base counts as counts, and these of 64 bits
+pub record HasCounts (head : Head) : Type 0 where
+  pub each : length head.lows ≡ length head.counts
+  pub below : AllByRecursion (λ count. count < 2 ^ 64) head.counts
+
+-- the counts are the second eight of each sixteen bytes
+counts-back : (lows counts : List ℕ) → length lows ≡ length counts → AllByRecursion (λ count. count < 2 ^ 64) counts
+    → counts_at (length counts) (drop 8 (flat_map (big_bytes 8) (in_turn lows counts))) ≡ counts
+counts-back [] [] each below = refl
+counts-back [] (count ∷ counts) each below = absurd (omega (arith, each))
+counts-back (low ∷ lows) [] each below = absurd (omega (arith, each))
+counts-back (low ∷ lows) (count ∷ counts) each below =
+    let first = big_number-reads_back 8 count (flat_map (big_bytes 8) (in_turn lows counts)) below.0 in
+    let rest = counts-back lows counts (omega (arith, each)) below.1 in
+    λ i. first i ∷ rest i
+
+-- a Head, also one of which no spelling is read, reads as no other datagram, and its boot, request and version as themselves, and so
+-- its counts
 pub head-reads : (P : Result Datagram WireFault → Type 0) → ((fault : WireFault) → P (Err fault))
-    → (replica boot request version : ℕ) (counts : List ℕ) → boot < 2 ^ 64 → request < 2 ^ 64 → version < 2 ^ 64
-    → ((counts' : List ℕ) → P (Ok (datagrams.Head replica boot request version counts')))
-    → P (reading (spelling (datagrams.Head replica boot request version counts)))
-head-reads P faults replica boot request version counts boot_below request_below version_below heads =
-    tested P bytes faults (by (nat_lt (length body) 26) refused)
+    → (head : Head) → head.boot < 2 ^ 64 → head.request < 2 ^ 64 → head.version < 2 ^ 64
+    → ((base pieces : ℕ) (lows counts : List ℕ) → (HasCounts head → counts ≡ head.counts)
+    → P (Ok (datagrams.Head (record head { base = base; pieces = pieces; lows = lows; counts = counts }))))
+    → P (reading (spelling (datagrams.Head head)))
+head-reads P faults head boot_below request_below version_below heads =
+    tested P bytes faults (by (nat_lt (length body) 42) refused (not (has_base (head_in body))))
   where
     bytes : List ℕ
-    bytes = spelling (datagrams.Head replica boot request version counts)
+    bytes = spelling (datagrams.Head head)
 
     body : List ℕ
     body = drop 6 bytes
 
     refused : Bool
     refused =
-        not (nat_lt (slice_index body 0) REPLICAS_MAX) || (slice_index body 25 == 0) || nat_lt WORKERS_MAX (slice_index body 25)
-        || not (length body == 26 + 8 * slice_index body 25)
+        not (nat_lt (slice_index body 0) REPLICAS_MAX) || (slice_index body 41 == 0) || nat_lt WORKERS_MAX (slice_index body 41)
+        || not (length body == 42 + 16 * slice_index body 41)
 
-    counts' : List ℕ
-    counts' = counts_at (slice_index body 25) (drop 26 body)
+    found : Head
+    found = head_in body
 
-    read : P (Ok (datagrams.Head replica (big_number 8 (drop 1 body)) (big_number 8 (drop 9 body)) (big_number 8 (drop 17 body)) counts'))
+    read : P (Ok (datagrams.Head found))
     read =
-        subst (λ (n : ℕ). P (Ok (datagrams.Head replica n (big_number 8 (drop 9 body)) (big_number 8 (drop 17 body)) counts')))
-        (sym (big_number-reads_back 8 boot (drop 9 body) boot_below))
-        (subst (λ (n : ℕ). P (Ok (datagrams.Head replica boot n (big_number 8 (drop 17 body)) counts')))
-        (sym (big_number-reads_back 8 request (drop 17 body) request_below))
-        (subst (λ (n : ℕ). P (Ok (datagrams.Head replica boot request n counts')))
-        (sym (big_number-reads_back 8 version (drop 25 body) version_below)) (heads counts')))
+        let boot = sym (big_number-reads_back 8 head.boot (drop 9 body) boot_below) in
+        let request = sym (big_number-reads_back 8 head.request (drop 17 body) request_below) in
+        let version = sym (big_number-reads_back 8 head.version (drop 25 body) version_below) in
+        let same : ◌≡◌ {A = Head}
+        (record head { base = found.base; pieces = found.pieces; lows = found.lows; counts = found.counts }) found =
+        λ i. record found { boot = boot i; request = request i; version = version i } in
+        subst (λ (h : Head). P (Ok (datagrams.Head h))) same
+        (heads found.base found.pieces found.lows found.counts (λ has. counts-back head.lows head.counts has.each has.below))
 
-    by : (a b : Bool) → P (ok_or (cond a None
-        (cond b None (Some (datagrams.Head replica (big_number 8 (drop 1 body)) (big_number 8 (drop 9 body)) (big_number 8 (drop 17 body))
-        counts')))) Body)
-    by true b = faults Body
-    by false true = faults Body
-    by false false = read
+    by : (a b c : Bool) → P (ok_or (cond a None (cond b None (cond c None (Some (datagrams.Head found))))) Body)
+    by true b c = faults Body
+    by false true c = faults Body
+    by false false true = faults Body
+    by false false false = read
 
 -- a Want, also one of which no spelling is read, reads as no other datagram
 pub want-reads : (P : Result Datagram WireFault → Type 0) → ((fault : WireFault) → P (Err fault))
@@ -163,3 +175,32 @@ want-reads P faults wants replica worker from = tested P (spelling (datagrams.Wa
         → P (ok_or (cond a None (Some (datagrams.Want (slice_index body 0) (slice_index body 1) (big_number 8 (drop 2 body))))) Body)
     by true = faults Body
     by false = wants (slice_index body 0) (slice_index body 1) (big_number 8 (drop 2 body))
+
+-- a Piece, also one of which no spelling is read, reads as no other datagram
+pub piece-reads : (P : Result Datagram WireFault → Type 0) → ((fault : WireFault) → P (Err fault))
+    → ((base number : ℕ) (last : Bool) (entries : List Entry) → P (Ok (datagrams.Piece base number last entries)))
+    → (base number : ℕ) (last : Bool) (entries : List Entry) → P (reading (spelling (datagrams.Piece base number last entries)))
+piece-reads P faults pieces base number last entries =
+    tested P bytes faults
+    (by (nat_lt (length body) 19) refused (entries_filling (big_number 2 (drop 17 body)) (drop 19 body)))
+  where
+    bytes : List ℕ
+    bytes = spelling (datagrams.Piece base number last entries)
+
+    body : List ℕ
+    body = drop 6 bytes
+
+    refused : Bool
+    refused =
+        (big_number 8 body == 0) || nat_lt 1 (slice_index body 16)
+        || not (may_count (big_number 8 (drop 8 body)) (slice_index body 16) (big_number 2 (drop 17 body)))
+
+    made : List Entry → Datagram
+    made entries = datagrams.Piece (big_number 8 body) (big_number 8 (drop 8 body)) (slice_index body 16 == 1) entries
+
+    by : (a b : Bool) (filling : Option (List Entry)) → P (ok_or (cond a None (cond b None (option_map made filling))) Body)
+    by true b filling = faults Body
+    by false true filling = faults Body
+    by false false None = faults Body
+    by false false (Some entries) =
+        pieces (big_number 8 body) (big_number 8 (drop 8 body)) (slice_index body 16 == 1) entries

@@ -15,7 +15,7 @@ use Rattle.wire.specs.Reading.{reading}
 use Rattle.mvcc.specs.Transaction.{Transaction}
 use Rattle.queries.specs.declared.plan.Plan.{Plan}
 use Rattle.dispatcher.specs.State.{Batch, Fetched}
-use Rattle.primary.specs.Steps.{committed, flushed}
+use Rattle.primary.specs.Steps.{committed, flushed, based}
 use Rattle.script.specs.declared.setup.Setup.{Setup}
 use Rattle.world.specs.Steps.{World, Member, fresh, fresh_from, opening_world, with_member, stop_happens}
 use Rattle.world.specs.Stops.{whole_in}
@@ -51,7 +51,6 @@ member-grows durable more number m h = record {
       let asked = (h.batch_is batch has).asked in
       record {
         asked = omega (arith, length-append durable more);
-        waits = (h.batch_is batch has).waits;
         fetched_is = λ fetched is. let found =
             (h.batch_is batch has).fetched_is fetched is in (found.0, found.1, omega (arith, length-append durable more));
       };
@@ -62,9 +61,11 @@ reading-grows : (durable more : List Commit) (members : List Member) (read : Res
 reading-grows durable more members (Err fault) h = tt
 reading-grows durable more members (Ok (datagrams.Frame worker seq commit last entries)) h = tt
 reading-grows durable more members (Ok (datagrams.Ask replica boot request)) h = h
-reading-grows durable more members (Ok (datagrams.Head replica boot request version counts)) h = let below =
+reading-grows durable more members (Ok (datagrams.Head head)) h = let below =
     h.0 in (omega (arith, length-append durable more), h.1)
 reading-grows durable more members (Ok (datagrams.Want replica worker from)) h = tt
+reading-grows durable more members (Ok (datagrams.Piece base number last entries)) h = tt
+reading-grows durable more members (Ok (datagrams.Pull replica base from)) h = tt
 
 -- pending commits become durable
 pub Fresh-flushed : (w : World) (count : ℕ) → Fresh w → Fresh (record w { primary = flushed w.primary count })
@@ -80,6 +81,10 @@ Fresh-flushed w count h =
       members_are = λ i m here. member-grows w.primary.durable front i m (h.members_are i m here);
       sent_is = λ i bytes here. reading-grows w.primary.durable front w.members (reading bytes) (h.sent_is i bytes here);
     }
+
+-- what is durable becomes the base
+pub Fresh-based : (w : World) → Fresh w → Fresh (record w { primary = based w.primary })
+Fresh-based w h = record { numbered = h.numbered; few = h.few; members_are = h.members_are; sent_is = h.sent_is }
 
 -- the primary stops
 pub Fresh-stopped : (w : World) (bytes : ℕ) → Fresh w → Fresh (stop_happens w bytes).1
@@ -138,7 +143,7 @@ alike durable number m known waiting broken h = record {
   boot_is = refl;
   batch_is = h.batch_is;
   asked = omega arith;
-  heads = λ request version head. record { asked = head.asked; above = head.above };
+  heads = λ request version head. record { asked = head.asked; above = head.above; on = head.on };
 }
 
 -- a replica that goes to the version that was fetched for its batch
@@ -155,14 +160,18 @@ moved durable number m batch fetched h has is =
       boot_is = refl;
       batch_is = λ other now. subst (IsFreshBatch durable fetched.version m.asked_at) (same_Some batch other (sym has ∙ now)) (record {
         asked = fresh.asked;
-        waits = λ none. absurd (none-some fetched (sym none ∙ is));
         fetched_is =
             λ new this.
             subst (λ (f : Fetched). (fetched.version ≤ f.version) × (m.asked_at ≤ f.version) × (f.version ≤ length durable))
             (same_Some fetched new (sym is ∙ this)) (omega arith, found.1, found.2);
       });
       asked = omega arith;
-      heads = λ request version head. record { asked = head.asked; above = head.above };
+      heads = λ request version head. record {
+        asked = head.asked;
+        above = head.above;
+        on = λ other now none same.
+            absurd (none-some fetched (sym none ∙ ap (λ (b : Batch). b.fetched) (sym (same_Some batch other (sym has ∙ now))) ∙ is));
+      };
     }
 
 reading-follows : (durable : List Commit) (members : List Member) (i : ℕ) (old new : Member) → slice_get members i ≡ Some old
@@ -182,17 +191,21 @@ reading-follows durable members i old new here follows (Ok (datagrams.Ask replic
     | inr stays ↦ h.1 m stays
   ],
 )
-reading-follows durable members i old new here follows (Ok (datagrams.Head replica boot request version counts)) h = (
+reading-follows durable members i old new here follows (Ok (datagrams.Head head)) h = (
   h.0,
-  λ m there. elim (get-set members i new replica m there) [
-    | inl same ↦ subst (λ (other : Member). IsOfBoot other.boots other.protocol.boot boot (IsFreshHead other request version)) (sym same.1)
-        (of-boot-stays old.boots new.boots old.protocol.boot new.protocol.boot boot (IsFreshHead old request version)
-        (IsFreshHead new request version) follows.boots_are follows.boot_is (follows.heads request version)
+  λ m there. elim (get-set members i new head.replica m there) [
+    | inl same ↦ subst
+        (λ (other : Member). IsOfBoot other.boots other.protocol.boot head.boot (IsFreshHead other head.request head.version))
+        (sym same.1)
+        (of-boot-stays old.boots new.boots old.protocol.boot new.protocol.boot head.boot (IsFreshHead old head.request head.version)
+        (IsFreshHead new head.request head.version) follows.boots_are follows.boot_is (follows.heads head.request head.version)
         (h.1 old (ap (slice_get members) same.0 ∙ here)))
     | inr stays ↦ h.1 m stays
   ],
 )
 reading-follows durable members i old new here follows (Ok (datagrams.Want replica worker from)) h = tt
+reading-follows durable members i old new here follows (Ok (datagrams.Piece base number last entries)) h = tt
+reading-follows durable members i old new here follows (Ok (datagrams.Pull replica base from)) h = tt
 
 changed : (w : World) (i : ℕ) (old new : Member) → Fresh w → slice_get w.members i ≡ Some old → Follows w.primary.durable old new
     → Fresh (record w { members = slice_set w.members i new })

@@ -7,9 +7,10 @@ use Rattle.rows.specs.declared.limits.TheConstants.{REPLICAS_MAX}
 use Rattle.wire.specs.declared.datagram.Datagram.{Datagram}
 use Rattle.wire.specs.declared.datagram.Datagram.TheVariants as datagrams
 use Rattle.wire.specs.declared.faults.WireFault.{WireFault}
+use Rattle.wire.specs.declared.head.Head.{Head}
 use Rattle.update_log.specs.declared.frame.Frame.{Frame}
 use Rattle.wire.specs.Reading.{reading}
-use Rattle.primary.specs.Sending.{counts_of, answers_to, wanted, frame_to}
+use Rattle.primary.specs.Sending.{answers_to, head_for, wanted, frame_to}
 use Rattle.queries.specs.declared.plan.Plan.{Plan}
 use Rattle.world.specs.Outputs.{packets_of}
 use Rattle.world.specs.Steps.{World, Member}
@@ -17,7 +18,8 @@ use Rattle.world.specs.Inner.Fresh.{IsFreshHead, IsFreshReading, Fresh}
 use Rattle.world.specs.Inner.StepLaws.{StepLaws}
 use Rattle.world.proofs.Boots.{of-boot}
 use Rattle.world.proofs.Datagrams.{ask-read, ask-kept, frame-reads, head-reads, want-reads}
-use Rattle.world.proofs.WorldMoves.{ask_bytes, WasSent, AreSent, framed, answered, repeated, asked_for}
+use Rattle.world.proofs.Pieces.{pulled-read}
+use Rattle.world.proofs.WorldMoves.{ask_bytes, own_head, WasSent, AreSent, framed, answered, repeated, asked_for}
 
 -- what was sent is fresh, and so is what is no datagram
 pub told-fresh : (w : World) (read : Result Datagram WireFault) → Fresh w → WasSent w read → IsFreshReading w.primary.durable w.members read
@@ -41,20 +43,24 @@ answers-fresh w (Ok (datagrams.Frame worker seq commit last entries)) h told = t
 answers-fresh w (Ok (datagrams.Ask replica boot request)) h told =
     let version = length w.primary.durable in
     let numbered = h.numbered in (
-      head-reads (IsFreshReading w.primary.durable w.members) (λ fault. tt) replica boot request version
-          (counts_of w.primary.durable version w.primary.workers) told.0.boot_below told.0.request_below (omega arith)
-          (λ counts'. (
+      head-reads (IsFreshReading w.primary.durable w.members) (λ fault. tt) (head_for w.primary replica boot request)
+          told.0.boot_below told.0.request_below (omega arith)
+          (λ base pieces lows counts are. (
             omega arith,
             λ m there. of-boot m.boots m.protocol.boot boot (request ≤ m.protocol.request) (IsFreshHead m request version)
                 (λ asked. record {
                   asked = asked;
                   above = λ batch has same. ((h.members_are replica m there).batch_is batch has).asked;
+                  on = λ batch has none same. (h.members_are replica m there).below;
                 }) (told.1 m there),
           )),
       tt,
     )
-answers-fresh w (Ok (datagrams.Head replica boot request version counts)) h told = tt
+answers-fresh w (Ok (datagrams.Head head)) h told = tt
 answers-fresh w (Ok (datagrams.Want replica worker from)) h told = frames-fresh w replica (wanted w.primary worker from)
+answers-fresh w (Ok (datagrams.Piece base number last entries)) h told = tt
+answers-fresh w (Ok (datagrams.Pull replica base from)) h told =
+    pulled-read (IsFreshReading w.primary.durable w.members) (λ fault. tt) (λ base number last entries. tt) replica w.primary base from
 
 -- an Ask of a request that its replica has made
 pub ask-fresh : (laws : StepLaws) (w : World) (members : List Member) (i : ℕ) (m : Member) (request : ℕ) → Fresh w
@@ -101,14 +107,13 @@ sent-fresh laws w more h (asked_for number worker from) = (
 )
 
 -- a version that is fetched for a batch is no older than the batch or its replica, and durable
-pub fetched-fresh : (w : World) (i : ℕ) (m : Member) (plans : List Plan) (version : ℕ) (counts : List ℕ) → Fresh w
+pub fetched-fresh : (w : World) (i : ℕ) (m : Member) (plans : List Plan) (head : Head) → Fresh w
     → slice_get w.members i ≡ Some m → m.protocol.batch ≡ Some (record { plans = plans; fetched = None })
-    → WasSent w (Ok (datagrams.Head m.protocol.number m.protocol.boot m.protocol.request version counts))
-    → (m.protocol.version ≤ version) × (m.asked_at ≤ version) × (version ≤ length w.primary.durable)
-fetched-fresh w i m plans version counts h here has sent =
+    → WasSent w (Ok (datagrams.Head (own_head m.protocol head)))
+    → (m.protocol.version ≤ head.version) × (m.asked_at ≤ head.version) × (head.version ≤ length w.primary.durable)
+fetched-fresh w i m plans head h here has sent =
     let is = h.members_are i m here in
     let told = told-fresh w _ h sent in
-    let head = (told.1 m (ap (slice_get w.members) is.number_is ∙ here)).holds refl in
-    let above = head.above _ has refl in
-    let waits = (is.batch_is _ has).waits refl in
-    (omega arith, above, told.0)
+    let fresh = (told.1 m (ap (slice_get w.members) is.number_is ∙ here)).holds refl in
+    let above = fresh.above _ has refl in
+    (fresh.on _ has refl refl, above, told.0)

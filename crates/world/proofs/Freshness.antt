@@ -1,10 +1,11 @@
 -- Each step of a fresh world leaves one, and a report that it answers is that of the batch of the replica that ran.
-use Rattle.std.proofs.Common.{◌≡◌, ℕ, ◌+◌, ◌≤◌, true, List, [], ◌∷◌, ◌++◌, length, Some, None, refl, sym, ap, subst, arith}
+use Rattle.std.proofs.Common.{◌≡◌, ℕ, ◌+◌, ◌≤◌, true, List, [], ◌∷◌, ◌++◌, length, Some, None, refl, sym, ap, subst, ◌∙◌, arith}
 use Rattle.std.specs.List.{slice_get, slice_set, AllByRecursion}
 use Rattle.std.proofs.lemmas.Option.{none-some, same_Some}
 use Rattle.rows.specs.declared.commit.Commit.{Commit}
 use Rattle.queries.specs.declared.plan.Plan.{Plan}
-use Rattle.dispatcher.specs.State.{Fetched}
+use Rattle.dispatcher.specs.State.{Batch, Fetched}
+use Rattle.dispatcher.specs.Protocol.{fetched_by}
 use Rattle.script.specs.Events.{IsPossible}
 use Rattle.script.specs.declared.event.Event.{Event}
 use Rattle.script.specs.declared.event.Event.TheVariants as events
@@ -19,12 +20,12 @@ use Rattle.world.specs.Inner.StepLaws.{StepLaws}
 use Rattle.world.proofs.Committing.{commit-numbered}
 use Rattle.world.proofs.Lists.{get-set_same}
 use Rattle.world.proofs.Restarts.{never-had, Fresh-restarted}
-use Rattle.world.proofs.Fresh.{Fresh-transactions, Fresh-committed, Fresh-flushed, Fresh-stopped, Fresh-started, Fresh-sent, Fresh-member}
-use Rattle.world.proofs.Fresh.{Follows, alike, moved}
+use Rattle.world.proofs.Fresh.{Fresh-transactions, Fresh-committed, Fresh-flushed, Fresh-based, Fresh-stopped, Fresh-started, Fresh-sent}
+use Rattle.world.proofs.Fresh.{Fresh-member, Follows, alike, moved}
 use Rattle.world.proofs.FreshDatagrams.{ask-fresh, sent-fresh, fetched-fresh}
 use Rattle.world.proofs.WorldMoves.{ask_bytes, new_batch, IsSilent, commit-silent, Change, hears, opens, fetches, reports, moves, breaks}
-use Rattle.world.proofs.WorldMoves.{restarts, Move, idle, dumps, begins, changes, ends, refuses, commits, flushes, stops, starts, sends}
-use Rattle.world.proofs.WorldMoves.{asks, becomes, step-moves}
+use Rattle.world.proofs.WorldMoves.{restarts, Move, idle, dumps, begins, changes, ends, refuses, commits, flushes, bases, stops, starts}
+use Rattle.world.proofs.WorldMoves.{sends, asks, becomes, step-moves}
 
 -- what a step is to be
 pub record Serves (old : World) (event : Event) (answer : Output × World) : Type 0 where
@@ -47,9 +48,13 @@ new-follows w m below = record {
   boot_is = refl;
   batch_is =
       λ batch has. subst (IsFreshBatch w.primary.durable m.protocol.version (length w.primary.durable)) (same_Some _ batch has)
-      (record { asked = omega arith; waits = λ none. below; fetched_is = λ fetched this. absurd (none-some fetched this) });
+      (record { asked = omega arith; fetched_is = λ fetched this. absurd (none-some fetched this) });
   asked = omega arith;
-  heads = λ request version head. let asked = head.asked in record { asked = omega arith; above = λ batch has same. absurd (omega arith) };
+  heads = λ request version head. let asked = head.asked in record {
+    asked = omega arith;
+    above = λ batch has same. absurd (omega arith);
+    on = λ batch has none same. absurd (omega arith);
+  };
 }
 
 -- the batch is over, at the version that was fetched for it
@@ -62,7 +67,11 @@ done-follows w i m version below = record {
   boot_is = refl;
   batch_is = λ batch has. absurd (none-some batch has);
   asked = omega arith;
-  heads = λ request other head. record { asked = head.asked; above = λ batch has same. absurd (none-some batch has) };
+  heads = λ request other head. record {
+    asked = head.asked;
+    above = λ batch has same. absurd (none-some batch has);
+    on = λ batch has none same. absurd (none-some batch has);
+  };
 }
 
 -- a version is fetched for the batch
@@ -77,14 +86,18 @@ head-follows durable number m plans came is has serves = record {
   boot_is = refl;
   batch_is = λ batch now. subst (IsFreshBatch durable m.protocol.version m.asked_at) (same_Some _ batch now) (record {
     asked = (is.batch_is _ has).asked;
-    waits = λ none. absurd (none-some came (sym none));
     fetched_is =
         λ fetched this.
         subst (λ (f : Fetched). (m.protocol.version ≤ f.version) × (m.asked_at ≤ f.version) × (f.version ≤ length durable))
         (same_Some came fetched this) serves;
   });
   asked = omega arith;
-  heads = λ request other head. record { asked = head.asked; above = λ batch now same. head.above _ has same };
+  heads = λ request other head. record {
+    asked = head.asked;
+    above = λ batch now same. head.above _ has same;
+    on = λ batch now none same.
+        absurd (none-some came (sym none ∙ ap (λ (b : Batch). b.fetched) (sym (same_Some _ batch now))));
+  };
 }
 
 module _ (w : World) (event : Event) (h : Fresh w) (i : ℕ) (m : Member) (here : slice_get w.members i ≡ Some m) where
@@ -99,10 +112,10 @@ module _ (w : World) (event : Event) (h : Fresh w) (i : ℕ) (m : Member) (here 
   change_fresh output new boots (opens plan) =
       Fresh-member w i m new h here
       (alike w.primary.durable i m m.known (m.protocol.waiting ++ plan ∷ []) m.protocol.broken (h.members_are i m here))
-  change_fresh output new boots (fetches plans version counts has sent) =
+  change_fresh output new boots (fetches plans head has sent) =
       Fresh-member w i m new h here
-      (head-follows w.primary.durable i m plans (record { version = version; counts = counts }) (h.members_are i m here) has
-      (fetched-fresh w i m plans version counts h here has sent))
+      (head-follows w.primary.durable i m plans (fetched_by head) (h.members_are i m here) has
+      (fetched-fresh w i m plans head h here has sent))
   change_fresh output new boots (reports plans fetched is has) =
       Fresh-member w i m new h here (done-follows w i m fetched.version (serving plans fetched has).2)
   change_fresh output new boots (moves plans fetched has) =
@@ -130,6 +143,7 @@ move-fresh laws w event output new boots h (refuses number worker draft fault he
 move-fresh laws w event output new boots h (commits number worker draft ticket taken) =
     Fresh-committed w worker draft _ h (commit-numbered w.primary worker draft ticket taken)
 move-fresh laws w event output new boots h (flushes count runs) = Fresh-flushed w count h
+move-fresh laws w event output new boots h (bases pieces) = Fresh-based w h
 move-fresh laws w event output new boots h (stops bytes runs) = Fresh-stopped w bytes h
 move-fresh laws w event output new boots h (starts is) = Fresh-started w h
 move-fresh laws w event output new boots h (sends answer more is sent) = Fresh-sent w more h (sent-fresh laws w more h sent)

@@ -5,6 +5,7 @@ pub mod Durable
 pub mod Streams
 pub mod Worlds
 pub mod Datagrams
+pub mod Pieces
 pub mod Moves
 pub mod Arriving
 pub mod Replicas

@@ -10,7 +10,6 @@ use Rattle.rows.specs.Commits.{tables_after}
 use Rattle.journal.specs.Recovery.{IsBeginning}
 use Rattle.dispatcher.specs.Feeding.{IsFedFrom}
 use Rattle.dispatcher.specs.State.{Replica}
-use Rattle.script.specs.declared.setup.Setup.{Setup}
 use Rattle.world.specs.Cores.{Cores, Opening, replicas_from, cores_started}
 use Rattle.world.specs.Allowed.{Step, LeadsTo, IsAllowed}
 use Rattle.world.specs.Standing.{world_of, AreFed, TablesAgree}

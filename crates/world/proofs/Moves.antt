@@ -170,10 +170,12 @@ tells-stay : (workers : ℕ) (durable more : List Commit) (datagram : Result Dat
 tells-stay workers durable more (Err fault) h = tt
 tells-stay workers durable more (Ok (datagrams.Frame worker seq commit last entries)) h = frame-stays durable more worker seq _ h
 tells-stay workers durable more (Ok (datagrams.Ask replica boot request)) h = tt
-tells-stay workers durable more (Ok (datagrams.Head replica boot request version counts)) h =
+tells-stay workers durable more (Ok (datagrams.Head head)) h =
     let below = h.0 in
-    (omega (arith, length-append durable more), h.1, counts-stay durable more version counts h.0 h.2)
+    (omega (arith, length-append durable more), h.1, counts-stay durable more head.version head.counts h.0 h.2)
 tells-stay workers durable more (Ok (datagrams.Want replica worker from)) h = tt
+tells-stay workers durable more (Ok (datagrams.Piece base number last entries)) h = tt
+tells-stay workers durable more (Ok (datagrams.Pull replica base from)) h = tt
 
 -- what is durable grows, and other commits are pending behind it
 pub Sound-grown : (laws : FedLaws) (shape : Shape) (p : Cores) (more pending : List Commit)
@@ -201,10 +203,15 @@ Sound-grown laws shape p more pending legal sound =
       sent_is = λ i bytes here. tells-stay workers durable more (reading bytes) (sound.sent_is i bytes here);
     }
 
--- the primary fails, stops or starts, or its journal changes
-pub Sound-apart : (shape : Shape) (p : Cores) (failed stopped : Bool) (journal : List ℕ) (form : Form) → Sound shape p
-    → Sound shape (record p { primary = record p.primary { failed = failed }; stopped = stopped; journal = journal; form = form })
-Sound-apart shape p failed stopped journal form sound = record {
+-- the primary fails, stops or starts, or its base or its journal changes
+pub Sound-apart : (shape : Shape) (p : Cores) (failed : Bool) (base : ℕ) (stopped : Bool) (journal : List ℕ) (form : Form) → Sound shape p
+    → Sound shape (record p {
+      primary = record p.primary { failed = failed; base = base };
+      stopped = stopped;
+      journal = journal;
+      form = form;
+    })
+Sound-apart shape p failed base stopped journal form sound = record {
   setup_is = sound.setup_is;
   primary_is = record {
     shape_is = sound.primary_is.shape_is;

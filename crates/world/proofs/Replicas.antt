@@ -1,13 +1,15 @@
 -- What comes to a replica of sound parts does to it what it does to its member.
 use Rattle.std.proofs.Common.{◌≡◌, ℕ, zero, suc, ◌≤◌, Bool, true, false, cond, List, [], ◌∷◌, Option, Some, None, Result, Ok, Err}
-use Rattle.std.proofs.Common.{refl, sym, ap, subst, ◌∙◌, arith}
+use Rattle.std.proofs.Common.{◌&&◌, ◌==◌, length, nat_le, refl, sym, ap, subst, ◌∙◌}
+use Rattle.std.specs.Cmp.Lexicographic.{pointwise}
 use Rattle.std.specs.List.{slice_get, slice_set}
 use Rattle.std.specs.Option.{option_map, is_none}
-use Rattle.std.proofs.lemmas.Bool.{false≢true, cond-false}
+use Rattle.std.proofs.lemmas.Bool.{false≢true, cond-false, leb-true}
 use Rattle.rows.specs.Shape.{Shape}
 use Rattle.wire.specs.declared.datagram.Datagram.{Datagram}
 use Rattle.wire.specs.declared.datagram.Datagram.TheVariants as datagrams
 use Rattle.wire.specs.declared.faults.WireFault.{WireFault}
+use Rattle.wire.specs.declared.head.Head.{Head}
 use Rattle.update_log.specs.declared.frame.Frame.{Frame}
 use Rattle.wire.specs.Reading.{reading}
 use Rattle.wire.specs.Spelling.{datagram_of_frame}
@@ -20,7 +22,7 @@ use Rattle.dispatcher.specs.declared.outcome.Got.{Got}
 use Rattle.dispatcher.specs.declared.outcome.Got.TheVariants as got
 use Rattle.queries.specs.declared.plan.Plan.{Plan}
 use Rattle.dispatcher.specs.Feeding.{Tells}
-use Rattle.dispatcher.specs.State.{Replica, Batch, Fetched}
+use Rattle.dispatcher.specs.State.{Replica, Batch, Fetched, protocol_of}
 use Rattle.dispatcher.specs.Protocol.{is_own, takes_head}
 use Rattle.dispatcher.specs.TableText.{names_of}
 use Rattle.dispatcher.specs.Steps.{received, headed, own_head_comes, goes_on, got_of, datagram_comes}
@@ -37,7 +39,7 @@ use Rattle.world.proofs.FedLaws.{FedLaws}
 use Rattle.world.proofs.Arriving.{Means}
 use Rattle.world.proofs.Worlds.{member_at, member-changes, members-get}
 use Rattle.world.proofs.Moves.{Goes, Follows, Sound-replica, Follows-same}
-use Rattle.world.proofs.WorldMoves.{own-parts}
+use Rattle.world.proofs.WorldMoves.{own-is}
 
 -- ---- a frame
 
@@ -64,11 +66,11 @@ known-set (first ∷ arrivals) (suc worker) one = ap (λ l. first.known ∷ l) (
 -- the answer to a frame of this seq, where these are known of its worker
 abbrev takes : List Arrivals → List Arrivals → List ℕ → ℕ → Taken × List Arrivals
 takes all stored known seq =
-    cond (is_known known seq) (takens.Repeat, all) (cond (is_ahead known seq) (takens.Ahead, all) (takens.Stored, stored))
+    cond (is_known known seq) (takens.Repeat, all) (cond (is_ahead known 0 seq) (takens.Ahead, all) (takens.Stored, stored))
 
 takes-same : (all other stored kept : List Arrivals) (known : List ℕ) (seq : ℕ) → known_in all ≡ known_in other
     → known_in stored ≡ known_in kept → seen (takes all stored known seq) ≡ seen (takes other kept known seq)
-takes-same all other stored kept known seq same after = by (is_known known seq) (is_ahead known seq)
+takes-same all other stored kept known seq same after = by (is_known known seq) (is_ahead known 0 seq)
   where
     by : (b c : Bool)
         → seen (cond b (takens.Repeat, all) (cond c (takens.Ahead, all) (takens.Stored, stored)))
@@ -77,7 +79,8 @@ takes-same all other stored kept known seq same after = by (is_known known seq) 
     by false true = λ i. (takens.Ahead, same i)
     by false false = λ i. (takens.Stored, after i)
 
-taken-known : (arrivals : List Arrivals) (frame : Frame) → seen (taken (arrived (known_in arrivals)) frame) ≡ seen (taken arrivals frame)
+taken-known : (arrivals : List Arrivals) (frame : Frame)
+    → seen (taken (arrived (known_in arrivals)) [] frame) ≡ seen (taken arrivals [] frame)
 taken-known arrivals frame =
     let all = arrived (known_in arrivals) in
     let one = with_frame (arrivals_of all frame.worker) frame in
@@ -141,29 +144,43 @@ module _ (laws : FedLaws) (shape : Shape) (p : Cores) (i : ℕ) (r : Replica) (s
       ∙ laws.frame shape p.primary.durable r bytes frame fed.feeding whole reads holds))
 
   -- a Head of the replica's own request
-  head-comes : (version : ℕ) (counts : List ℕ) → (awaits r.batch ≡ true → goes_on r version counts ≡ true)
-      → Comes (head_happens m (takes_head m.protocol version counts r.batch)) (own_head_comes r version counts)
-  head-comes version counts passes = by r.batch passes
+  head-comes : (head : Head) → (awaits r.batch ≡ true → goes_on r head ≡ true)
+      → Comes (head_happens m (takes_head m.protocol head r.batch)) (own_head_comes r head)
+  head-comes head passes = by r.batch passes
     where
       comes : Option Batch → Got × Replica
-      comes batch = cond (goes_on r version counts) (headed r (takes_head m.protocol version counts batch)) (got.Ignored, r)
+      comes batch = cond (goes_on r head) (headed r (takes_head m.protocol head batch)) (got.Ignored, r)
 
       ignored : (goes : Bool) → Comes (outputs.Ignored, m) (cond goes (got.Ignored, r) (got.Ignored, r))
       ignored true = refl
       ignored false = refl
 
-      on : (plans : List Plan) (fetched : Option Fetched) → (is_none fetched ≡ true → goes_on r version counts ≡ true)
-          → Comes (head_happens m (takes_head m.protocol version counts (Some (record { plans = plans; fetched = fetched }))))
+      on : (plans : List Plan) (fetched : Option Fetched) → (is_none fetched ≡ true → goes_on r head ≡ true)
+          → Comes (head_happens m (takes_head m.protocol head (Some (record { plans = plans; fetched = fetched }))))
           (comes (Some (record { plans = plans; fetched = fetched })))
-      on plans (Some fetched) passes = ignored (goes_on r version counts)
+      on plans (Some fetched) passes = ignored (goes_on r head)
       on plans None passes =
-          let step = takes_head m.protocol version counts (Some (record { plans = plans; fetched = None })) in
+          let step = takes_head m.protocol head (Some (record { plans = plans; fetched = None })) in
           ap (λ (goes : Bool). told (cond goes (headed r step) (got.Ignored, r))) (sym (passes refl))
 
-      by : (batch : Option Batch) → (awaits batch ≡ true → goes_on r version counts ≡ true)
-          → Comes (head_happens m (takes_head m.protocol version counts batch)) (comes batch)
-      by None passes = ignored (goes_on r version counts)
+      by : (batch : Option Batch) → (awaits batch ≡ true → goes_on r head ≡ true)
+          → Comes (head_happens m (takes_head m.protocol head batch)) (comes batch)
+      by None passes = ignored (goes_on r head)
       by (Some batch) passes = on batch.plans batch.fetched passes
+
+  -- a Head whose base is above the replica's version is ignored
+  head-left : (head : Head) → nat_le head.base r.version ≡ false → own_head_comes r head ≡ (got.Ignored, r)
+  head-left head above =
+      by (length head.counts == r.workers) (nat_le r.version head.version) (nat_le head.base r.version)
+      (pointwise nat_le r.applied head.counts) above
+    where
+      by : (a b c d : Bool) → c ≡ false
+          → cond {A = Got × Replica} (a && b && c && d) (headed r (takes_head (protocol_of r) head r.batch)) (got.Ignored, r)
+          ≡ (got.Ignored, r)
+      by a b true d above = absurd (false≢true (sym above))
+      by false b false d above = refl
+      by true false false d above = refl
+      by true true false d above = refl
 
   -- no version that a batch waits for is older than its replica's
   awaited : (version : ℕ) → IsFreshMember p.primary.durable i m → IsFreshHead m r.request version → (batch : Option Batch)
@@ -173,10 +190,7 @@ module _ (laws : FedLaws) (shape : Shape) (p : Cores) (i : ℕ) (r : Replica) (s
     where
       by : (fetched : Option Fetched) → r.batch ≡ Some (record batch { fetched = fetched }) → is_none fetched ≡ true → r.version ≤ version
       by (Some fetched) has waits = absurd (false≢true waits)
-      by None has waits =
-          let above = head.above _ has refl in
-          let older = (is.batch_is _ has).waits refl in
-          omega arith
+      by None has waits = head.on _ has refl refl
 
   datagram-comes : (datagram : Result Datagram WireFault) → reading bytes ≡ datagram → Means p datagram
       → Comes (datagram_happens m datagram) (datagram_comes r datagram)
@@ -184,24 +198,26 @@ module _ (laws : FedLaws) (shape : Shape) (p : Cores) (i : ℕ) (r : Replica) (s
   datagram-comes (Ok (datagrams.Frame worker seq commit last entries)) reads means =
       frame-comes (record { worker = worker; seq = seq; commit = commit; last = last; entries = entries }) reads means.tells
   datagram-comes (Ok (datagrams.Ask replica boot request)) reads means = refl
-  datagram-comes (Ok (datagrams.Head replica boot request version counts)) reads means =
-      by (is_own m.protocol replica boot request) refl
+  datagram-comes (Ok (datagrams.Head head)) reads means = by (is_own m.protocol head) (nat_le head.base r.version) refl refl
     where
-      by : (own : Bool) → is_own m.protocol replica boot request ≡ own
-          → Comes (cond own (head_happens m (takes_head m.protocol version counts r.batch)) (outputs.Ignored, m))
-          (cond own (own_head_comes r version counts) (got.Ignored, r))
-      by false e = refl
-      by true e =
+      by : (own within : Bool) → is_own m.protocol head ≡ own → nat_le head.base r.version ≡ within
+          → Comes (cond (own && within) (head_happens m (takes_head m.protocol head r.batch)) (outputs.Ignored, m))
+          (cond own (own_head_comes r head) (got.Ignored, r))
+      by false within e base = refl
+      by true false e base = ap told (sym (head-left head base))
+      by true true e base =
           let tells = means.tells in
           let there = members-get p.replicas p.boots p.asked_at i ∙ ap (option_map (member_at p i)) here in
           let sent =
-          subst (λ (x : ℕ × ℕ × ℕ). IsFreshReading p.primary.durable (world_of p).members (Ok (datagrams.Head x.0 x.1 x.2 version counts)))
-          (own-parts m.protocol replica boot request e) means.fresh in
-          let head = (sent.1 m (ap (slice_get (world_of p).members) fed.number_is ∙ there)).holds refl in
-          head-comes version counts
-          (λ waits. laws.head shape p.primary.durable r version counts fed.feeding tells.0 (tells.1 ∙ sym fed.workers_are) tells.2
-          (awaited version (fresh.members_are i m there) head r.batch refl waits))
+          subst (λ (h : Head). IsFreshReading p.primary.durable (world_of p).members (Ok (datagrams.Head h)))
+          (own-is m.protocol head e) means.fresh in
+          let fresh_head = (sent.1 m (ap (slice_get (world_of p).members) fed.number_is ∙ there)).holds refl in
+          head-comes head
+          (λ waits. laws.head shape p.primary.durable r head fed.feeding tells.0 (tells.1 ∙ sym fed.workers_are) tells.2
+          (awaited head.version (fresh.members_are i m there) fresh_head r.batch refl waits) (leb-true head.base r.version base))
   datagram-comes (Ok (datagrams.Want replica worker from)) reads means = refl
+  datagram-comes (Ok (datagrams.Piece base number last entries)) reads means = refl
+  datagram-comes (Ok (datagrams.Pull replica base from)) reads means = refl
 
   -- the replica goes on with what it makes of the bytes
   goes : Means p (reading bytes) → Goes shape p.primary.durable r (datagram_comes r (reading bytes)).1

@@ -178,17 +178,21 @@ reading-restarts durable members i workers new old at never (Ok (datagrams.Ask r
     | inr stays ↦ h.1 m stays
   ],
 )
-reading-restarts durable members i workers new old at never (Ok (datagrams.Head replica boot request version counts)) h = (
+reading-restarts durable members i workers new old at never (Ok (datagrams.Head head)) h = (
   h.0,
-  λ m there. elim (get-set members i (restarted workers old new) replica m there) [
-    | inl same ↦ subst (λ (other : Member). IsOfBoot other.boots other.protocol.boot boot (IsFreshHead other request version)) (sym same.1)
-        (of-new-boot old.boots (old.boots ++ new ∷ []) old.protocol.boot new boot (IsFreshHead old request version)
-        (IsFreshHead (restarted workers old new) request version) (Contains-append_left old.boots (new ∷ []) boot) never
+  λ m there. elim (get-set members i (restarted workers old new) head.replica m there) [
+    | inl same ↦ subst
+        (λ (other : Member). IsOfBoot other.boots other.protocol.boot head.boot (IsFreshHead other head.request head.version))
+        (sym same.1)
+        (of-new-boot old.boots (old.boots ++ new ∷ []) old.protocol.boot new head.boot (IsFreshHead old head.request head.version)
+        (IsFreshHead (restarted workers old new) head.request head.version) (Contains-append_left old.boots (new ∷ []) head.boot) never
         (h.1 old (ap (slice_get members) same.0 ∙ at)))
     | inr stays ↦ h.1 m stays
   ],
 )
 reading-restarts durable members i workers new old at never (Ok (datagrams.Want replica worker from)) h = tt
+reading-restarts durable members i workers new old at never (Ok (datagrams.Piece base number last entries)) h = tt
+reading-restarts durable members i workers new old at never (Ok (datagrams.Pull replica base from)) h = tt
 
 member-restarts : (w : World) (i boot : ℕ) (old : Member) → Fresh w → slice_get w.members i ≡ Some old → (Contains old.boots boot → ⊥)
     → boot < 2 ^ 64 → Fresh (record w { members = slice_set w.members i (restarted w.primary.workers old boot) })

@@ -8,9 +8,8 @@ use Rattle.rows.specs.Shape.{Shape, shape_of}
 use Rattle.rows.specs.Tables.{Tables, Refusal}
 use Rattle.rows.specs.Commits.{tables_after, apply_commits}
 use Rattle.wire.specs.Reading.{reading}
-use Rattle.intake.specs.Known.{first_missing}
 use Rattle.intake.specs.State.{Arrivals}
-use Rattle.intake.specs.Steps.{dropped, lacking_from as arrivals_lacking_from}
+use Rattle.intake.specs.Steps.{dropped, missing_at, lacking_from as arrivals_lacking_from}
 use Rattle.dispatcher.specs.declared.outcome.Run.{Run}
 use Rattle.dispatcher.specs.declared.outcome.Run.TheVariants as runs
 use Rattle.queries.specs.declared.plan.Plan.{Plan}
@@ -44,17 +43,17 @@ known-dropped [] counts = refl
 known-dropped (first ∷ arrivals) [] = refl
 known-dropped (first ∷ arrivals) (count ∷ counts) = ap (λ l. first.known ∷ l) (known-dropped arrivals counts)
 
-lacking-from : (worker : ℕ) (arrivals : List Arrivals) (counts : List ℕ)
-    → arrivals_lacking_from worker (arrived (known_in arrivals)) counts ≡ arrivals_lacking_from worker arrivals counts
-lacking-from worker [] counts = refl
-lacking-from worker (first ∷ arrivals) [] = refl
-lacking-from worker (first ∷ arrivals) (count ∷ counts) =
-    ap (λ (rest : Option (ℕ × ℕ)). cond (nat_lt (first_missing first.known) count) (Some (worker, first_missing first.known)) rest)
-    (lacking-from (worker + 1) arrivals counts)
+lacking-from : (worker : ℕ) (arrivals : List Arrivals) (bases counts : List ℕ)
+    → arrivals_lacking_from worker (arrived (known_in arrivals)) bases counts ≡ arrivals_lacking_from worker arrivals bases counts
+lacking-from worker [] bases counts = refl
+lacking-from worker (first ∷ arrivals) bases [] = refl
+lacking-from worker (first ∷ arrivals) bases (count ∷ counts) =
+    ap (λ (rest : Option (ℕ × ℕ)). cond (nat_lt (missing_at bases worker first) count) (Some (worker, missing_at bases worker first)) rest)
+    (lacking-from (worker + 1) arrivals bases counts)
 
 -- what a run finds is told by the seqs that are known
 pub readiness-same : (had : List ℕ) (at : ℕ) (r : Replica) → readiness_at (member_of had at r) ≡ readiness_of r
-readiness-same had at r = λ i. readiness r.broken r.batch (λ counts. lacking-from 0 r.arrivals counts i)
+readiness-same had at r = λ i. readiness r.broken r.batch (λ counts. lacking-from 0 r.arrivals [] counts i)
 
 -- its member at the version that was fetched
 caught-member : (had : List ℕ) (at : ℕ) (r : Replica) (fetched : Fetched) (tables : Tables) (batch : Option Batch)

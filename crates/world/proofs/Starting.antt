@@ -1,7 +1,6 @@
 -- The parts at the beginning: what is still to be made.
 use Rattle.std.proofs.Common.{◌≡◌, ℕ, zero, suc, ◌+◌, ◌-◌, ◌<◌, List, [], ◌∷◌, length, replicate, refl, ap, arith, add-one}
 use Rattle.rows.specs.declared.kind.Kind.{Kind}
-use Rattle.script.specs.declared.setup.Setup.{Setup}
 use Rattle.dispatcher.specs.Steps.{started_replica}
 use Rattle.world.specs.Cores.{Opening, replicas_from, zeros, cores_started}
 

@@ -1,6 +1,6 @@
 -- What is sent of a list of commits: each frame of a stream by its worker and its seq, and the counts of a Head.
 use Rattle.std.proofs.Common.{◌≡◌, ℕ, zero, suc, ◌+◌, ◌^◌, ◌<◌, ◌≤◌, Bool, true, false, cond, ◌==◌, List, [], ◌∷◌, ◌++◌, length, take, drop}
-use Rattle.std.proofs.Common.{Some, get_or, refl, sym, ap, subst, ◌∙◌, ◌⊎◌, inl, inr, arith}
+use Rattle.std.proofs.Common.{Some, get_or, refl, sym, ap, ◌∙◌, ◌⊎◌, inl, inr, arith}
 use Rattle.std.specs.List.{slice_get, AllByRecursion}
 use Rattle.std.proofs.lemmas.Bool.{cases_lt, eqb-true}
 use Rattle.std.proofs.lemmas.List.{get_or_append_left, get_or_past, get_or-append-add, length-append, take_all}
@@ -14,7 +14,6 @@ use Rattle.update_log.specs.Parts.{parts_of}
 use Rattle.update_log.specs.Streams.{stream_from, stream_of, frame_count}
 use Rattle.ordering.specs.Cutting.{AreFrameCounts}
 use Rattle.primary.specs.Sending.{counts_of}
-use Rattle.wire.specs.Spelling.{AreCounts as AreSpelledCounts}
 use Rattle.world.proofs.Lists.{All-append}
 
 -- ---- frames
@@ -148,19 +147,11 @@ counts-are commits workers each worker = elim (cases_lt worker workers) [
       ∙ ap (λ (l : List Commit). length (stream_of l worker)) (sym (take_all (length commits) commits (omega arith)))
 ]
 
--- and can be spelled
-pub counts-spelled : (commits : List Commit) (workers : ℕ) → 0 < workers → workers ≤ 16
-    → ((worker : ℕ) → length (stream_of commits worker) < 2 ^ 64) → AreSpelledCounts (counts_of commits (length commits) workers)
-counts-spelled commits workers some few below =
-    let size = counts-length commits (length commits) workers in
-    record { some = omega arith; few = omega arith; below = all workers }
-  where
-    all : (workers : ℕ) → AllByRecursion (λ count. count < 2 ^ 64) (counts_of commits (length commits) workers)
-    all zero = tt
-    all (suc workers) =
-        All-append (λ count. count < 2 ^ 64) (counts_of commits (length commits) workers)
-        (frame_count commits workers (length commits) ∷ []) (all workers) (
-          subst (λ (l : List Commit). length (stream_of l workers) < 2 ^ 64) (sym (take_all (length commits) commits (omega arith)))
-              (below workers),
-          tt,
-        )
+-- and of 64 bits, as the streams are
+pub counts-below : (commits : List Commit) (version workers : ℕ)
+    → ((worker : ℕ) → frame_count commits worker version < 2 ^ 64)
+    → AllByRecursion (λ count. count < 2 ^ 64) (counts_of commits version workers)
+counts-below commits version zero below = tt
+counts-below commits version (suc workers) below =
+    All-append (λ count. count < 2 ^ 64) (counts_of commits version workers) (frame_count commits workers version ∷ [])
+    (counts-below commits version workers below) (below workers, tt)

@@ -14,7 +14,7 @@ use Rattle.rows.specs.declared.commit.Commit.{Commit}
 use Rattle.primary.specs.declared.faults.CommitFault.{CommitFault}
 use Rattle.primary.specs.declared.faults.CommitFault.TheVariants as faults
 use Rattle.mvcc.specs.Transaction.{Transaction}
-use Rattle.primary.specs.Steps.{commit_answer, committed, flushed, is_foreign, next_number, has_numbers}
+use Rattle.primary.specs.Steps.{commit_answer, committed, flushed, based, is_foreign, next_number, has_numbers}
 use Rattle.primary.specs.State.{Primary}
 use Rattle.journal.specs.Recovery.{IsBeginning}
 use Rattle.script.specs.declared.event.Event.{Event}
@@ -32,8 +32,8 @@ use Rattle.world.proofs.Durable.{tables-stay}
 use Rattle.world.proofs.Lists.{get-set, get-append, get-one}
 use Rattle.world.proofs.Defined.{IsDefined, insert-defined, set-defined, delete-defined, column-defined}
 use Rattle.world.proofs.Committing.{opened, none-open}
-use Rattle.world.proofs.WorldMoves.{IsChanged, Change, hears, Move, idle, fails, begins, changes, ends, refuses, commits, flushes, stops}
-use Rattle.world.proofs.WorldMoves.{sends, becomes, step-moves}
+use Rattle.world.proofs.WorldMoves.{IsChanged, Change, hears, Move, idle, fails, begins, changes, ends, refuses, commits, flushes, bases}
+use Rattle.world.proofs.WorldMoves.{stops, sends, becomes, step-moves}
 
 -- what a step is to be
 pub record IsFine (old : World) (answer : Output × World) : Type 0 where
@@ -166,6 +166,9 @@ flushed-begun p count draft begun =
           (tables-stay (shape_of p.schema) p.durable (take count p.pending) draft.snapshot begun.known) ∙ begun.defined;
     }
 
+based-begun : (p : Primary) (draft : Transaction) → IsBegunTransaction p draft → IsBegunTransaction (based p) draft
+based-begun p draft begun = record { known = begun.known; defined = begun.defined }
+
 -- ---- the moves
 
 change-faultless : (w : World) (event : Event) (i : ℕ) (m : Member) (output : Output) (new : Member) → Change w event i m output new
@@ -216,6 +219,11 @@ move-fine laws w event output new (flushes count runs) = record {
         begun = λ i draft here. flushed-begun w.primary count draft (undamaged.begun i draft here);
       };
 }
+move-fine laws w event output new (bases pieces) =
+    kept w new output refl (λ undamaged. tt) (λ undamaged. record {
+      whole = undamaged.whole;
+      begun = λ i draft here. based-begun w.primary draft (undamaged.begun i draft here);
+    })
 move-fine laws w event output new (stops bytes runs) = record {
   grows = (take (whole_in (length w.primary.durable) w.primary.pending bytes) w.primary.pending, refl);
   output = λ undamaged. tt;

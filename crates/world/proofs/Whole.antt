@@ -1,6 +1,6 @@
 -- Each step of sound parts is one of their world, and leaves the parts of one.
 use Rattle.std.proofs.Common.{◌≡◌, ℕ, zero, suc, ◌+◌, ◌^◌, ◌<◌, ◌≤◌, Bool, true, false, cond, List, [], ◌∷◌, length, Option}
-use Rattle.std.proofs.Common.{Some, None}
+use Rattle.std.proofs.Common.{Some, None, nat_lt}
 use Rattle.std.proofs.Common.{replicate, Result, Ok, Err, refl, sym, ap, subst, ◌∙◌, inl, inr, arith}
 use Rattle.std.specs.List.{slice_get, slice_index, AllByRecursion}
 use Rattle.std.specs.Option.{option_map}
@@ -19,6 +19,7 @@ use Rattle.wire.specs.declared.out.Out.{Out}
 use Rattle.journal.specs.declared.form.Form.{Form}
 use Rattle.journal.specs.Recovery.{IsBeginning, IsRecovered}
 use Rattle.journal.specs.Text.{journal_text}
+use Rattle.primary.specs.Sending.{low_of}
 use Rattle.primary.specs.State.{Primary}
 use Rattle.dispatcher.specs.declared.faults.AskFault.{AskFault}
 use Rattle.dispatcher.specs.declared.faults.DumpFault.{DumpFault}
@@ -69,7 +70,7 @@ use Rattle.world.proofs.Querying.{query-opens, version-asked}
 use Rattle.world.proofs.Moving.{TakesMemory, AsksByAnswer}
 use Rattle.world.proofs.Running.{replica-runs, readiness-same, ready-takes, cut-ends, Cuts}
 use Rattle.world.proofs.Committing.{transactions-begun, change-sound, look-sound, abort-sound, commit-sound, flush-sound, stop-sound}
-use Rattle.world.proofs.Committing.{start-sound}
+use Rattle.world.proofs.Committing.{start-sound, base-sound}
 use Rattle.world.proofs.Committing.{push-sound, deliver-sound, raw-sound}
 use Rattle.world.proofs.Arriving.{sent-means, raw-means}
 
@@ -243,7 +244,8 @@ happens-beside shape p event output new sound uncut may after =
     (cc (may.setup, may.replicas, may.boots, may.asked_at)) in
     let before = beside_of (world_of new) p in (
       may.happens,
-      subst (Sound shape) left (Sound-apart shape before before.primary.failed before.stopped new.journal new.form (by may.happens)),
+      subst (Sound shape) left
+          (Sound-apart shape before before.primary.failed before.primary.base before.stopped new.journal new.form (by may.happens)),
       may.kept,
     )
   where
@@ -381,13 +383,16 @@ module _ (laws : FedLaws) (shape : Shape) (p : Cores) (sound : Sound shape p) (f
   may-follow (events.Flush count) output new may =
       happens-served shape p _ _ output new sound (λ cut. cut) lists may refl
       (λ lists. flush-sound laws shape p count p.primary.failed _ _ lists sound)
+  may-follow events.Base output new may =
+      happens-served shape p _ _ output new sound (λ cut. cut) lists may refl (λ lists. base-sound shape p sound)
   may-follow (events.Stop bytes) output new may =
       happens-served shape p _ _ output new sound (λ cut. cut) lists may.0 refl (λ lists. stop-sound laws shape p bytes lists sound)
   may-follow events.Start output new may =
       happens-beside shape p _ output new sound (λ cut. cut) may.0 (start-sound shape p p.stopped sound)
   may-follow (events.Push worker seq) output new may =
       happens-served shape p _ _ output new sound (λ cut. cut) lists may refl
-      (λ lists. push-sound laws.steps.reads shape p worker seq (slice_get (stream_of p.primary.durable worker) seq) lists sound refl)
+      (λ lists. push-sound laws.steps.reads shape p worker seq (nat_lt seq (low_of p.primary worker))
+      (slice_get (stream_of p.primary.durable worker) seq) lists sound refl)
   may-follow (events.Deliver index nodes.Primary) output new may =
       happens-served shape p _ _ output new sound (λ cut. cut) lists may refl
       (λ lists. deliver-sound laws.steps.reads shape p index (slice_get p.sent index) lists sound fresh refl)

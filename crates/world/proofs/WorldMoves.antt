@@ -1,5 +1,5 @@
 -- The few moves that a step of the world can be: whatever the event, and whatever it answers, it is one of them.
-use Rattle.std.proofs.Common.{◌≡◌, ℕ, ◌+◌, Bool, true, false, cond, ◌&&◌, ◌==◌, ◌⊎◌, inl, inr, List, [], ◌∷◌, ◌++◌, length, nat_le}
+use Rattle.std.proofs.Common.{◌≡◌, ℕ, ◌+◌, Bool, true, false, cond, ◌&&◌, ◌==◌, ◌⊎◌, inl, inr, List, [], ◌∷◌, ◌++◌, length, nat_le, nat_lt}
 use Rattle.std.proofs.Common.{Option, None, Some, Result, Ok, Err, refl, sym, ap, subst, ◌∙◌}
 use Rattle.std.specs.List.{slice_get, slice_set}
 use Rattle.std.specs.Option.{option_map}
@@ -14,6 +14,7 @@ use Rattle.update_log.specs.Streams.{stream_of}
 use Rattle.wire.specs.declared.datagram.Datagram.{Datagram}
 use Rattle.wire.specs.declared.datagram.Datagram.TheVariants as datagrams
 use Rattle.wire.specs.declared.faults.WireFault.{WireFault}
+use Rattle.wire.specs.declared.head.Head.{Head}
 use Rattle.wire.specs.declared.out.Out.{Out}
 use Rattle.wire.specs.Spelling.{frame_spelling}
 use Rattle.wire.specs.Reading.{reading}
@@ -26,8 +27,8 @@ use Rattle.intake.specs.declared.taken.Taken.TheVariants as takens
 use Rattle.intake.specs.Steps.{taken, lacking}
 use Rattle.primary.specs.declared.faults.CommitFault.{CommitFault}
 use Rattle.primary.specs.declared.faults.CommitFault.TheVariants as faults
-use Rattle.primary.specs.Steps.{commit_answer, committed, flushed}
-use Rattle.primary.specs.Sending.{answers}
+use Rattle.primary.specs.Steps.{commit_answer, committed, flushed, based}
+use Rattle.primary.specs.Sending.{low_of, answers}
 use Rattle.queries.specs.declared.plan.Plan.{Plan}
 use Rattle.queries.specs.declared.faults.PlanFault.{PlanFault}
 use Rattle.queries.specs.Checking.{checked}
@@ -35,7 +36,7 @@ use Rattle.dispatcher.specs.declared.faults.AskFault.{AskFault}
 use Rattle.dispatcher.specs.declared.faults.AskFault.TheVariants as ask_faults
 use Rattle.dispatcher.specs.declared.faults.OpenFault.TheVariants as open_faults
 use Rattle.dispatcher.specs.State.{Batch, Fetched, Protocol}
-use Rattle.dispatcher.specs.Protocol.{opens_checked, ask_for, want_for, with_batch, asks_by, is_own, takes_head}
+use Rattle.dispatcher.specs.Protocol.{opens_checked, ask_for, want_for, with_batch, asks_by, is_own, fetched_by, takes_head}
 use Rattle.dispatcher.specs.Protocol.{Readiness, Broken, NoBatch, WaitsForHead, WaitsForFrame, Ready}
 use Rattle.dispatcher.specs.Protocol.{readiness, fetched_in}
 use Rattle.dispatcher.specs.Steps.{got_of}
@@ -66,13 +67,19 @@ ask_bytes m request = (ask_for m.protocol.number m.protocol.boot request).packet
 abbrev pub new_batch : World → Member → Member
 new_batch w m = record m { asked_at = length w.primary.durable; protocol = with_batch m.protocol }
 
+-- a Head with the request of a replica
+abbrev pub own_head : Protocol → Head → Head
+own_head q head = record head { replica = q.number; boot = q.boot; request = q.request }
+
 -- a Head that is for a replica is of its own request
-pub own-parts : (q : Protocol) (replica boot request : ℕ) → is_own q replica boot request ≡ true
-    → ◌≡◌ {A = ℕ × ℕ × ℕ} (replica, boot, request) (q.number, q.boot, q.request)
-own-parts q replica boot request e =
-    let parts = and_parts ((replica == q.number) && (boot == q.boot)) (request == q.request) e in
-    let front = and_parts (replica == q.number) (boot == q.boot) parts.0 in
-    cc (eqb-true replica q.number front.0, eqb-true boot q.boot front.1, eqb-true request q.request parts.1)
+pub own-is : (q : Protocol) (head : Head) → is_own q head ≡ true → head ≡ own_head q head
+own-is q head e =
+    let parts = and_parts ((head.replica == q.number) && (head.boot == q.boot)) (head.request == q.request) e in
+    let front = and_parts (head.replica == q.number) (head.boot == q.boot) parts.0 in
+    let number = eqb-true head.replica q.number front.0 in
+    let boot = eqb-true head.boot q.boot front.1 in
+    let request = eqb-true head.request q.request parts.1 in
+    λ i. record head { replica = number i; boot = boot i; request = request i }
 
 -- what is known of what a run finds
 abbrev pub Found : Protocol → Readiness → Type 0
@@ -83,7 +90,7 @@ pub found-is : (m : Member) → Found m.protocol (readiness_at m)
 found-is m = by m.protocol.broken m.protocol.batch refl
   where
     missing : List ℕ → Option (ℕ × ℕ)
-    missing = lacking (arrived m.known)
+    missing = lacking (arrived m.known) []
 
     at : (plans : List Plan) (fetched : Fetched) (first : Option (ℕ × ℕ))
         → m.protocol.batch ≡ Some (record { plans = plans; fetched = Some fetched })
@@ -148,13 +155,11 @@ pub data Change (w : World) (event : Event) (i : ℕ) (m : Member) : Output → 
   hears : (output : Output) (known : List (List ℕ)) → IsPlain output → Change w event i m output (record m { known = known })
   opens : (plan : Plan) → Change w event i m (outputs.Opened (length m.protocol.waiting + 1))
       (record m { protocol = record m.protocol { waiting = m.protocol.waiting ++ plan ∷ [] } })
-  fetches : (plans : List Plan) (version : ℕ) (counts : List ℕ)
+  fetches : (plans : List Plan) (head : Head)
       → m.protocol.batch ≡ Some (record { plans = plans; fetched = None })
-      → WasSent w (Ok (datagrams.Head m.protocol.number m.protocol.boot m.protocol.request version counts))
-      → Change w event i m (outputs.Head version) (record m {
-        protocol = record m.protocol {
-          batch = Some (record { plans = plans; fetched = Some (record { version = version; counts = counts }) });
-        };
+      → WasSent w (Ok (datagrams.Head (own_head m.protocol head)))
+      → Change w event i m (outputs.Head head.version) (record m {
+        protocol = record m.protocol { batch = Some (record { plans = plans; fetched = Some (fetched_by head) }) };
       })
   reports : (plans : List Plan) (fetched : Fetched) → event ≡ events.Run i
       → m.protocol.batch ≡ Some (record { plans = plans; fetched = Some fetched })
@@ -185,12 +190,13 @@ pub data Move (w : World) (event : Event) : Output → World → Type 0 where
   refuses : (number worker : ℕ) (draft : Transaction) (fault : CommitFault) → open_transaction w.transactions number ≡ Some draft
       → commit_answer w.primary worker draft ≡ Err fault
       → Move w event (of_commit fault) (record w { transactions = slice_set w.transactions number None })
-  -- what is pending, and what is durable
+  -- what is pending, what is durable, and the base
   commits : (number worker : ℕ) (draft : Transaction) (ticket : ℕ) → commit_answer w.primary worker draft ≡ Ok ticket
       → Move w event (outputs.Ticket ticket)
       (record w { primary = committed w.primary worker draft.entries; transactions = slice_set w.transactions number None })
   flushes : (count : ℕ) → w.stopped ≡ false
       → Move w event (outputs.Durable (length (flushed w.primary count).durable)) (record w { primary = flushed w.primary count })
+  bases : (pieces : ℕ) → Move w event (outputs.Based (length w.primary.durable) pieces) (record w { primary = based w.primary })
   stops : (bytes : ℕ) → w.stopped ≡ false
       → Move w event outputs.Stopped
       (record w { primary = stopped_at w.primary bytes; stopped = true; transactions = closed w.transactions })
@@ -245,34 +251,35 @@ module _ (w : World) (event : Event) (i : ℕ) (m : Member) where
   ignored : Changed (outputs.Ignored, m)
   ignored = hears outputs.Ignored m.known (tt, tt)
 
-  head_changes : (version : ℕ) (counts : List ℕ) (batch : Option Batch) → m.protocol.batch ≡ batch
-      → WasSent w (Ok (datagrams.Head m.protocol.number m.protocol.boot m.protocol.request version counts))
-      → Changed (head_happens m (takes_head m.protocol version counts batch))
-  head_changes version counts None has sent = ignored
-  head_changes version counts (Some batch) has sent = by batch.fetched has
+  head_changes : (head : Head) (batch : Option Batch) → m.protocol.batch ≡ batch
+      → WasSent w (Ok (datagrams.Head (own_head m.protocol head)))
+      → Changed (head_happens m (takes_head m.protocol head batch))
+  head_changes head None has sent = ignored
+  head_changes head (Some batch) has sent = by batch.fetched has
     where
       by : (fetched : Option Fetched) → m.protocol.batch ≡ Some (record batch { fetched = fetched })
-          → Changed (head_happens m (takes_head m.protocol version counts (Some (record batch { fetched = fetched }))))
+          → Changed (head_happens m (takes_head m.protocol head (Some (record batch { fetched = fetched }))))
       by (Some fetched) has = ignored
-      by None has = fetches batch.plans version counts has sent
+      by None has = fetches batch.plans head has sent
 
   datagram_changes : (read : Result Datagram WireFault) → WasSent w read → Changed (datagram_happens m read)
   datagram_changes (Err fault) sent = ignored
   datagram_changes (Ok (datagrams.Frame worker seq commit last entries)) sent =
       let came =
-      taken (arrived m.known) (record { worker = worker; seq = seq; commit = commit; last = last; entries = entries }) in
+      taken (arrived m.known) [] (record { worker = worker; seq = seq; commit = commit; last = last; entries = entries }) in
       hears (of_got (got_of came.0)) (known_in came.1) (taken-plain came.0)
   datagram_changes (Ok (datagrams.Ask replica boot request)) sent = ignored
-  datagram_changes (Ok (datagrams.Head replica boot request version counts)) sent = by (is_own m.protocol replica boot request) refl
+  datagram_changes (Ok (datagrams.Head head)) sent = by (is_own m.protocol head) (nat_le head.base m.protocol.version) refl
     where
-      by : (own : Bool) → is_own m.protocol replica boot request ≡ own
-          → Changed (cond own (head_happens m (takes_head m.protocol version counts m.protocol.batch)) (outputs.Ignored, m))
-      by false e = ignored
-      by true e =
-          head_changes version counts m.protocol.batch refl
-          (subst (λ (x : ℕ × ℕ × ℕ). WasSent w (Ok (datagrams.Head x.0 x.1 x.2 version counts)))
-          (own-parts m.protocol replica boot request e) sent)
+      by : (own based : Bool) → is_own m.protocol head ≡ own
+          → Changed (cond (own && based) (head_happens m (takes_head m.protocol head m.protocol.batch)) (outputs.Ignored, m))
+      by false based e = ignored
+      by true false e = ignored
+      by true true e =
+          head_changes head m.protocol.batch refl (subst (λ (h : Head). WasSent w (Ok (datagrams.Head h))) (own-is m.protocol head e) sent)
   datagram_changes (Ok (datagrams.Want replica worker from)) sent = ignored
+  datagram_changes (Ok (datagrams.Piece base number last entries)) sent = ignored
+  datagram_changes (Ok (datagrams.Pull replica base from)) sent = ignored
 
 -- ---- any event
 
@@ -330,9 +337,10 @@ module _ (w : World) (event : Event) where
   starting true is = starts is
   starting false is = idle outputs.Running (tt, tt)
 
-  pushing : (found : Option Frame) → Moved (push_happens w (option_map frame_spelling found))
-  pushing None = idle outputs.NoFrame (tt, tt)
-  pushing (Some one) = sends (send w (frame_spelling one)).0 (frame_spelling one ∷ []) (tt, tt) (framed one)
+  pushing : (below : Bool) (found : Option Frame) → Moved (push_happens w (cond below None (option_map frame_spelling found)))
+  pushing true found = idle outputs.NoFrame (tt, tt)
+  pushing false None = idle outputs.NoFrame (tt, tt)
+  pushing false (Some one) = sends (send w (frame_spelling one)).0 (frame_spelling one ∷ []) (tt, tt) (framed one)
 
   at_member : (i : ℕ) (found : Option Member) (next : Member → Output × World) → slice_get w.members i ≡ found
       → ((m : Member) → slice_get w.members i ≡ Some m → Moved (next m)) → Moved (on_member w found next)
@@ -453,9 +461,11 @@ happening w (events.Commit transaction worker) =
     served w _ _ (λ runs. committing w _ transaction worker (open_transaction w.transactions transaction) refl)
 happening w (events.Abort transaction) = served w _ _ (λ runs. aborting w _ transaction (open_transaction w.transactions transaction))
 happening w (events.Flush count) = served w _ _ (λ runs. flushing w _ count w.primary.failed runs refl)
+happening w events.Base = served w _ _ (λ runs. bases _)
 happening w (events.Stop bytes) = served w _ _ (λ runs. stops bytes runs)
 happening w events.Start = starting w _ w.stopped refl
-happening w (events.Push worker seq) = served w _ _ (λ runs. pushing w _ (slice_get (stream_of w.primary.durable worker) seq))
+happening w (events.Push worker seq) =
+    served w _ _ (λ runs. pushing w _ (nat_lt seq (low_of w.primary worker)) (slice_get (stream_of w.primary.durable worker) seq))
 happening w (events.Deliver index nodes.Primary) = served w _ _ (λ runs. delivering w _ index nodes.Primary (slice_get w.sent index) refl)
 happening w (events.Deliver index (nodes.Replica number)) = delivering w _ index (nodes.Replica number) (slice_get w.sent index) refl
 happening w (events.Show index) = showing w _ (slice_get w.sent index)

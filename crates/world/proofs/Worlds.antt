@@ -5,7 +5,6 @@ use Rattle.std.specs.Option.{option_map}
 use Rattle.dispatcher.specs.State.{Replica}
 use Rattle.intake.specs.Steps.{no_arrivals as none_came}
 use Rattle.rows.specs.declared.kind.Kind.{Kind}
-use Rattle.script.specs.declared.setup.Setup.{Setup}
 use Rattle.script.specs.declared.output.Output.{Output}
 use Rattle.world.specs.Cores.{Cores, Opening, replicas_from, zeros, cores_started}
 use Rattle.world.specs.Inner.CoreSteps.{with_replica}

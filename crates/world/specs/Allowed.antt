@@ -30,6 +30,7 @@ takes_memory (outputs.Tx number snapshot) = true
 takes_memory outputs.Accepted = true
 takes_memory (outputs.Ticket number) = true
 takes_memory (outputs.Durable commits) = true
+takes_memory (outputs.Based base pieces) = true
 takes_memory (outputs.Sent datagrams) = true
 takes_memory outputs.Stored = true
 takes_memory (outputs.Shown bytes) = true
@@ -41,10 +42,11 @@ takes_memory (outputs.Boot boot) = true
 takes_memory other = false
 
 -- whether an event asks for memory if it would give this answer: an abort asks for none, a flush for some if there is a commit to
--- flush, a stop if the primary runs, and any other event if its answer is made with memory
+-- flush, a base if it is not the one that there is, a stop if the primary runs, and any other event if its answer is made with memory
 abbrev pub asks_for_memory : World → Event → Output → Bool
 asks_for_memory w (events.Abort transaction) answer = false
 asks_for_memory w (events.Flush count) answer = takes_memory answer && nat_lt 0 (length (take count w.primary.pending))
+asks_for_memory w events.Base answer = takes_memory answer && nat_lt w.primary.base (length w.primary.durable)
 asks_for_memory w (events.Stop bytes) answer = not w.stopped
 asks_for_memory w other answer = takes_memory answer
 

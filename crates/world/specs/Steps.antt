@@ -1,7 +1,7 @@
 -- The world: one primary, its open transactions, every datagram that was ever sent, and of each replica what it knows.
 -- No replica's tables are held: what a batch answers is specified by the one list of durable commits.
 use Rattle.std.specs.Prelude.{ℕ, zero, suc, List, [], ◌∷◌, ◌++◌, length, Bool, true, false, Option, None, Some, Result, Ok, Err}
-use Rattle.std.specs.Prelude.{slice_get, slice_set, replicate, map, ◌==◌, ◌&&◌, not, if◌then◌else◌, is_ok}
+use Rattle.std.specs.Prelude.{slice_get, slice_set, replicate, map, ◌==◌, ◌&&◌, not, nat_le, if◌then◌else◌, is_ok}
 use Rattle.std.specs.List.{list_any}
 use Rattle.std.specs.Option.{option_and_then}
 use Rattle.std.specs.Str.{bytes_eq}
@@ -22,8 +22,8 @@ use Rattle.intake.specs.State.{Arrivals}
 use Rattle.intake.specs.Steps.{taken, lacking}
 use Rattle.primary.specs.declared.faults.CommitFault.{CommitFault}
 use Rattle.primary.specs.State.{Primary}
-use Rattle.primary.specs.Steps.{started_primary, commit_answer, committed, flushed}
-use Rattle.primary.specs.Sending.{pushed, answers}
+use Rattle.primary.specs.Steps.{started_primary, commit_answer, committed, flushed, based}
+use Rattle.primary.specs.Sending.{pushed, pieces_of_base, answers}
 use Rattle.queries.specs.Checking.{checked}
 use Rattle.dispatcher.specs.declared.faults.AskFault.{AskFault}
 use Rattle.dispatcher.specs.declared.faults.OpenFault.{OpenFault}
@@ -116,7 +116,7 @@ stop_happens w bytes = (
 abbrev pub start_happens : World → Output × World
 start_happens w = if w.stopped then (outputs.Durable (length w.primary.durable), record w { stopped = false }) else (outputs.Running, w)
 
--- ---- transactions, commits and flushes
+-- ---- transactions, commits, flushes and bases
 
 -- the open transaction of this number, if there is one
 abbrev pub open_transaction : List (Option Transaction) → ℕ → Option Transaction
@@ -154,13 +154,21 @@ flush_happens w count =
     if w.primary.failed then (outputs.Failed, w) else
     (outputs.Durable (length (flushed w.primary count).durable), record w { primary = flushed w.primary count })
 
+-- what is durable becomes the base: its frames are not kept any more, but the tables after it, in so many pieces
+abbrev pub base_happens : World → Output × World
+base_happens w = (
+  outputs.Based (length w.primary.durable)
+      (length (pieces_of_base (shape_of w.primary.schema) w.primary.durable (length w.primary.durable))),
+  record w { primary = based w.primary },
+)
+
 -- ---- datagrams
 
 -- one more datagram is sent
 abbrev pub send : World → List ℕ → Output × World
 send w bytes = (outputs.Sent (record { index = length w.sent; len = length bytes } ∷ []), record w { sent = w.sent ++ bytes ∷ [] })
 
--- a frame is pushed, if the stream has it
+-- a frame is pushed, if the stream has it and it is kept
 abbrev pub push_happens : World → Option (List ℕ) → Output × World
 push_happens w None = (outputs.NoFrame, w)
 push_happens w (Some bytes) = send w bytes
@@ -187,13 +195,13 @@ frame_happens m came = (of_got (got_of came.0), record m { known = known_in came
 abbrev pub head_happens : Member → Got × Protocol → Output × Member
 head_happens m came = (of_got came.0, record m { protocol = came.1 })
 
--- a datagram that comes to a replica
+-- a datagram that comes to a replica. A Head is ignored if its base is above the replica's version, and so are the pieces of a base
 abbrev pub datagram_happens : Member → Result Datagram WireFault → Output × Member
 datagram_happens m (Ok (datagrams.Frame worker seq commit last entries)) =
-    frame_happens m (taken (arrived m.known) (record { worker = worker; seq = seq; commit = commit; last = last; entries = entries }))
-datagram_happens m (Ok (datagrams.Head replica boot request version counts)) =
-    if is_own m.protocol replica boot request then head_happens m (takes_head m.protocol version counts m.protocol.batch) else
-    (outputs.Ignored, m)
+    frame_happens m (taken (arrived m.known) [] (record { worker = worker; seq = seq; commit = commit; last = last; entries = entries }))
+datagram_happens m (Ok (datagrams.Head head)) =
+    if is_own m.protocol head && nat_le head.base m.protocol.version
+    then head_happens m (takes_head m.protocol head m.protocol.batch) else (outputs.Ignored, m)
 datagram_happens m other = (outputs.Ignored, m)
 
 -- what happens at a replica that is there
@@ -256,7 +264,7 @@ wait_happens w worker seq bytes =
 
 -- what a run of a replica finds
 abbrev pub readiness_at : Member → Readiness
-readiness_at m = readiness m.protocol.broken m.protocol.batch (lacking (arrived m.known))
+readiness_at m = readiness m.protocol.broken m.protocol.batch (lacking (arrived m.known) [])
 
 -- a run, by what it finds. A batch of which no frame is missing is answered by its report: the plain answers on the rows after
 -- exactly the first commits of the durable list, up to the version that was fetched
@@ -312,6 +320,7 @@ happens w (events.Commit transaction worker) =
 happens w (events.Abort transaction) =
     unless_stopped w (on_transaction w (open_transaction w.transactions transaction) (λ draft. abort_happens w transaction))
 happens w (events.Flush count) = unless_stopped w (flush_happens w count)
+happens w events.Base = unless_stopped w (base_happens w)
 happens w (events.Stop bytes) = unless_stopped w (stop_happens w bytes)
 happens w events.Start = start_happens w
 happens w (events.Push worker seq) = unless_stopped w (push_happens w (pushed w.primary worker seq))

@@ -20,12 +20,13 @@ whole_in before (commit ∷ commits) bytes =
     else 0
 
 -- the primary after a stop that leaves so many bytes of the pending commits' records: those of which the whole record stands
--- are durable, and the others are gone
+-- are durable, and the others are gone. So is its base, which no journal has
 abbrev pub stopped_at : Primary → ℕ → Primary
 stopped_at p bytes = record p {
   durable = p.durable ++ take (whole_in (length p.durable) p.pending bytes) p.pending;
   pending = [];
   failed = false;
+  base = 0;
 }
 
 -- every transaction is over; their numbers go on

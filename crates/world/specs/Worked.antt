@@ -1,6 +1,6 @@
 -- Events with what they are to answer: three scripts, `examples/first-commit.script`, `examples/lost-frame.script` and
--- `examples/conflict.script`; write skew; each refusal of a transaction's calls; stops and starts; two queries of one batch; a column
--- that is added; and two workers. One table of two `int` columns; one worker and one replica but for the last.
+-- `examples/conflict.script`; write skew; each refusal of a transaction's calls; stops and starts; bases; two queries of one batch; a
+-- column that is added; and two workers. One table of two `int` columns; one worker and one replica but for the last.
 use Rattle.std.specs.Prelude.{ℕ, false, ◌∷◌, [], List, None, Some, pos, negsuc, codes, ◌++◌}
 use Rattle.rows.specs.declared.kind.Kind.TheVariants.{Int as IntKind}
 use Rattle.rows.specs.declared.row_id.RowId.{RowId}
@@ -11,7 +11,7 @@ use Rattle.queries.specs.declared.faults.PlanFault.TheVariants.{NoColumn}
 use Rattle.queries.specs.declared.plan.Plan.{Plan}
 use Rattle.script.specs.declared.event.Event.{Event}
 use Rattle.script.specs.declared.event.Event.TheVariants.{Begin, Insert, Set, Delete, Get, Commit, Abort, Flush, Stop, Start}
-use Rattle.script.specs.declared.event.Event.TheVariants.{AddColumn, Push, Deliver, Show, Open, Ask, Run, Dump}
+use Rattle.script.specs.declared.event.Event.TheVariants.{AddColumn, Base, Push, Deliver, Show, Open, Ask, Run, Dump}
 use Rattle.script.specs.declared.event.Node.TheVariants.{Primary, Replica}
 use Rattle.script.specs.declared.output.Output.{Output}
 use Rattle.script.specs.declared.output.Output.TheVariants as outputs
@@ -40,7 +40,7 @@ open_and_fetch = Open 0 count_rows ∷ Ask 0 ∷ Deliver 1 Primary ∷ Deliver 2
 
 abbrev pub open_and_fetch_outputs : List Output
 open_and_fetch_outputs =
-    outputs.Opened 1 ∷ outputs.Sent (record { index = 1; len = 23 } ∷ []) ∷ outputs.Sent (record { index = 2; len = 40 } ∷ [])
+    outputs.Opened 1 ∷ outputs.Sent (record { index = 1; len = 23 } ∷ []) ∷ outputs.Sent (record { index = 2; len = 64 } ∷ [])
     ∷ outputs.Head 1 ∷ []
 
 -- the text of the report: one row
@@ -50,7 +50,7 @@ report = codes "version 1 queries 1\nquery 0 rows 1\n1\n"
 -- the bytes of the frame
 abbrev pub frame_bytes : List ℕ
 frame_bytes =
-    0x42 ∷ 0x44 ∷ 2 ∷ 1 ∷ 0 ∷ 0x36 ∷ 0 ∷ 0 ∷ 0 ∷ 0 ∷ 0 ∷ 0 ∷ 0 ∷ 0 ∷ 0 ∷ 0 ∷ 0 ∷ 0 ∷ 0 ∷ 0 ∷ 0 ∷ 0 ∷ 1 ∷ 1 ∷ 0 ∷ 1 ∷ 1 ∷ 0
+    0x42 ∷ 0x44 ∷ 3 ∷ 1 ∷ 0 ∷ 0x36 ∷ 0 ∷ 0 ∷ 0 ∷ 0 ∷ 0 ∷ 0 ∷ 0 ∷ 0 ∷ 0 ∷ 0 ∷ 0 ∷ 0 ∷ 0 ∷ 0 ∷ 0 ∷ 0 ∷ 1 ∷ 1 ∷ 0 ∷ 1 ∷ 1 ∷ 0
     ∷ 0 ∷ 0 ∷ 0 ∷ 0 ∷ 0 ∷ 0 ∷ 0 ∷ 7 ∷ 0 ∷ 0x10 ∷ 0 ∷ 0 ∷ 0 ∷ 0 ∷ 0 ∷ 0 ∷ 0 ∷ 5 ∷ 0xff ∷ 0xff ∷ 0xff ∷ 0xff ∷ 0xff ∷ 0xff ∷ 0xff ∷ 0xff ∷ []
 
 -- the frame arrives, and the batch is answered
@@ -151,6 +151,29 @@ stops_outputs =
     ∷ outputs.NoTx ∷ outputs.Running ∷ outputs.Sent (record { index = 0; len = 54 } ∷ [])
     ∷ outputs.Tx 3 1 ∷ outputs.Accepted ∷ outputs.Ticket 2 ∷ outputs.Stopped ∷ outputs.Durable 1 ∷ []
 
+-- a base holds the tables after what is durable, here in one piece, and the frames of these commits are not kept; what is pending is
+-- not in it. A replica ignores a Head whose base is above its version. A stop ends the base: after a start all frames are there
+abbrev pub bases : List Event
+bases =
+    Base ∷ commit_and_push ++ Base ∷ Push 0 0 ∷ commit_of 1 other_account 0 ++ Base ∷ Flush 1 ∷ Push 0 1
+    ∷ Open 0 count_rows ∷ Ask 0 ∷ Deliver 2 Primary ∷ Deliver 3 (Replica 0) ∷ Run 0
+    ∷ Stop 0 ∷ Base ∷ Start ∷ Push 0 0 ∷ Deliver 2 Primary ∷ Deliver 5 (Replica 0) ∷ Deliver 1 (Replica 0) ∷ Deliver 4 (Replica 0) ∷ Run 0
+    ∷ Base ∷ Open 0 count_rows ∷ Ask 0 ∷ Deliver 6 Primary ∷ Deliver 7 (Replica 0) ∷ Run 0 ∷ []
+
+abbrev pub bases_outputs : List Output
+bases_outputs =
+    outputs.Based 0 0 ∷ commit_and_push_outputs ++ outputs.Based 1 1 ∷ outputs.NoFrame
+    ∷ outputs.Tx 1 1 ∷ outputs.Accepted ∷ outputs.Ticket 2
+    ∷ outputs.Based 1 1 ∷ outputs.Durable 2 ∷ outputs.Sent (record { index = 1; len = 54 } ∷ [])
+    ∷ outputs.Opened 1 ∷ outputs.Sent (record { index = 2; len = 23 } ∷ []) ∷ outputs.Sent (record { index = 3; len = 64 } ∷ [])
+    ∷ outputs.Ignored ∷ outputs.WaitingHead
+    ∷ outputs.Stopped ∷ outputs.Stopped ∷ outputs.Durable 2 ∷ outputs.Sent (record { index = 4; len = 54 } ∷ [])
+    ∷ outputs.Sent (record { index = 5; len = 64 } ∷ []) ∷ outputs.Head 2 ∷ outputs.Stored ∷ outputs.Stored
+    ∷ outputs.Report (codes "version 2 queries 1\nquery 0 rows 1\n2\n")
+    ∷ outputs.Based 2 1 ∷ outputs.Opened 1 ∷ outputs.Sent (record { index = 6; len = 23 } ∷ [])
+    ∷ outputs.Sent (record { index = 7; len = 64 } ∷ []) ∷ outputs.Head 2
+    ∷ outputs.Report (codes "version 2 queries 1\nquery 0 rows 1\n2\n") ∷ []
+
 -- of each row with the row that its first column names: how many there are, and the sum of their second columns, for each
 -- value of their first
 abbrev pub count_and_sum_named : Plan
@@ -178,7 +201,7 @@ two_queries_outputs =
     outputs.Tx 0 0 ∷ outputs.Accepted ∷ outputs.Ticket 1 ∷ outputs.Tx 1 0 ∷ outputs.Accepted ∷ outputs.Ticket 2 ∷ outputs.Durable 2
     ∷ outputs.Sent (record { index = 0; len = 54 } ∷ []) ∷ outputs.Sent (record { index = 1; len = 54 } ∷ [])
     ∷ outputs.Stored ∷ outputs.Stored ∷ outputs.Opened 1 ∷ outputs.BadPlan NoColumn ∷ outputs.Opened 2
-    ∷ outputs.Sent (record { index = 2; len = 23 } ∷ []) ∷ outputs.Sent (record { index = 3; len = 40 } ∷ []) ∷ outputs.Head 2
+    ∷ outputs.Sent (record { index = 2; len = 23 } ∷ []) ∷ outputs.Sent (record { index = 3; len = 64 } ∷ []) ∷ outputs.Head 2
     ∷ outputs.Report (codes "version 2 queries 2\nquery 0 rows 1\n2\nquery 1 rows 1\n5 2 -2\n") ∷ []
 
 -- a query that sums the third column
@@ -202,9 +225,9 @@ added_column_outputs =
     ∷ outputs.Tx 1 1 ∷ outputs.Tx 2 1 ∷ outputs.Accepted ∷ outputs.Accepted ∷ outputs.Ticket 2 ∷ outputs.Conflict 2 ∷ outputs.Durable 2
     ∷ outputs.Tx 3 2 ∷ outputs.Value (Int (pos 3)) ∷ outputs.Unfit ∷ outputs.Accepted
     ∷ outputs.Sent (record { index = 3; len = 37 } ∷ []) ∷ outputs.Stored ∷ outputs.BadPlan NoColumn ∷ outputs.Opened 1
-    ∷ outputs.Sent (record { index = 4; len = 23 } ∷ []) ∷ outputs.Sent (record { index = 5; len = 40 } ∷ []) ∷ outputs.Head 2
+    ∷ outputs.Sent (record { index = 4; len = 23 } ∷ []) ∷ outputs.Sent (record { index = 5; len = 64 } ∷ []) ∷ outputs.Head 2
     ∷ outputs.Report (codes "version 2 queries 1\nquery 0 rows 1\n1\n")
-    ∷ outputs.Opened 1 ∷ outputs.Sent (record { index = 6; len = 23 } ∷ []) ∷ outputs.Sent (record { index = 7; len = 40 } ∷ [])
+    ∷ outputs.Opened 1 ∷ outputs.Sent (record { index = 6; len = 23 } ∷ []) ∷ outputs.Sent (record { index = 7; len = 64 } ∷ [])
     ∷ outputs.Head 2 ∷ outputs.Report (codes "version 2 queries 1\nquery 0 rows 1\n3\n")
     ∷ outputs.Dump (codes "version 2 rows 1\nacct 7 5 -1 3\n") ∷ []
 
@@ -225,6 +248,6 @@ two_workers_outputs =
     outputs.Tx 0 0 ∷ outputs.Accepted ∷ outputs.Ticket 1 ∷ outputs.Tx 1 0 ∷ outputs.Accepted ∷ outputs.Ticket 2 ∷ outputs.Durable 2
     ∷ outputs.Sent (record { index = 0; len = 54 } ∷ []) ∷ outputs.Sent (record { index = 1; len = 54 } ∷ [])
     ∷ outputs.Stored ∷ outputs.Repeat ∷ outputs.Opened 1 ∷ outputs.Sent (record { index = 2; len = 23 } ∷ [])
-    ∷ outputs.Sent (record { index = 3; len = 48 } ∷ []) ∷ outputs.Ignored ∷ outputs.Head 2
+    ∷ outputs.Sent (record { index = 3; len = 80 } ∷ []) ∷ outputs.Ignored ∷ outputs.Head 2
     ∷ outputs.Waiting 0 0 (record { index = 4; len = 16 }) ∷ outputs.Sent (record { index = 5; len = 54 } ∷ [])
     ∷ outputs.Stored ∷ outputs.Repeat ∷ outputs.Report (codes "version 2 queries 1\nquery 0 rows 1\n2\n") ∷ []

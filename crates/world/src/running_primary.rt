@@ -10,8 +10,8 @@ ghost use Rattle.update_log.specs.Streams.{stream_of};
 ghost use Rattle.journal.specs.Recovery.{IsJournaled};
 ghost use Rattle.journal.specs.Text.{journal_text, records_from};
 ghost use Rattle.primary.specs.Journaling.{IsFormOf, IsFlushRefusal, CountsFlushFault, AreNumbered};
-ghost use Rattle.primary.specs.Sending.{pushed, answers};
-ghost use Rattle.primary.specs.Steps.{commit_answer, committed, flushed};
+ghost use Rattle.primary.specs.Sending.{pushed, pieces_of_base, answers};
+ghost use Rattle.primary.specs.Steps.{commit_answer, committed, flushed, based};
 ghost use Rattle.world.specs.Inner.Running.{IsAtHome, core_of, journal_in};
 
 use journal::MemJournal;
@@ -124,7 +124,19 @@ impl RunningPrimary {
         self.core.flush(count)
     }
 
-    /// The packet of that frame of the durable list, if the stream has it.
+    /// Makes what is durable the base, as the core does.
+    pub fn take_base(&mut self) -> Result<(u64, u64), AllocError>
+        ensures ok { IfOk result (λ taken. (self.new.primary ≡ based self.old.primary) × (taken.0 ≡ self.new.primary.base)
+            × (taken.1 ≡ length (pieces_of_base (shape_of self.new.primary.schema) self.new.primary.durable self.new.primary.base))) }
+        ensures err { OnErr result ((self.new.primary ≡ self.old.primary)
+            × (self.old.primary.base < length self.old.primary.durable)) }
+        ensures journal { self.new.journal ≡ self.old.journal }
+        ensures form { self.new.form ≡ self.old.form }
+    {
+        self.core.take_base()
+    }
+
+    /// The packet of that frame of the durable list, if the stream has it and it is kept.
     pub fn push(&self, worker: u8, seq: u64) -> Option<Packet>
         ensures { result ≡ pushed self.now.primary worker seq }
     {

@@ -13,7 +13,7 @@ use std::alloc::{AllocError, Global};
 use wire::{Out, Packet, read};
 
 impl Cores {
-    /// Sends a frame of the durable list, if the stream has it.
+    /// Sends a frame of the durable list, if the stream has it and it is kept.
     pub fn push(&mut self, worker: u8, seq: u64) -> Output
         requires { worker < self.old.primary.workers }
         ensures { HappensBeside self.old (Event.Push worker seq) result self.new }

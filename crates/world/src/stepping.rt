@@ -39,6 +39,7 @@ impl Cores {
             } => self.commit(*transaction, *worker),
             Event::Abort { transaction } => self.abort(*transaction),
             Event::Flush { count } => self.flush(*count),
+            Event::Base => self.take_base(),
             Event::Stop { bytes } => self.stop(*bytes),
             Event::Start => self.start_again(),
             Event::Push { worker, seq } => self.push(*worker, *seq),
@@ -65,6 +66,18 @@ impl Cores {
             Err(FlushFault::Failed) => Output::Failed,
             Err(FlushFault::Memory) => Output::Memory,
             Err(FlushFault::Journal | FlushFault::Busy | FlushFault::NotLent) => unreachable!(),
+        }
+    }
+
+    fn take_base(&mut self) -> Output
+        ensures { HappensBeside self.old Event.Base result self.new }
+    {
+        let PrimaryNode::Running(primary) = &mut self.primary else {
+            return Output::Stopped;
+        };
+        match primary.take_base() {
+            Ok((base, pieces)) => Output::Based { base, pieces },
+            Err(_) => Output::Memory,
         }
     }
 

@@ -16,11 +16,11 @@ arrivals_in known kept = record { known = known; kept = kept }
 abbrev pub AreKnown : List ℕ → List (ℕ × Frame) → Type 0
 AreKnown known kept = AllByRecursion (λ entry. is_known known entry.0 ≡ true) kept
 
--- a frame of a worker that comes: what is answered, and what has come of the worker then
-abbrev pub taken_by : Arrivals → Frame → Taken × Arrivals
-taken_by arrivals frame =
+-- a frame of a worker that comes, with the worker's base: what is answered, and what has come of the worker then
+abbrev pub taken_by : Arrivals → ℕ → Frame → Taken × Arrivals
+taken_by arrivals base frame =
     if is_known arrivals.known frame.seq then (Repeat, arrivals) else
-    if is_ahead arrivals.known frame.seq then (Ahead, arrivals) else
+    if is_ahead arrivals.known base frame.seq then (Ahead, arrivals) else
     (Stored, with_frame arrivals frame)
 
 -- whether the first frame is below that seq

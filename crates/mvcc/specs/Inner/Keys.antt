@@ -1,6 +1,8 @@
 -- The keys of maps of rows: a table, and a row's identifier; and which entries are of one row alone.
 use Rattle.std.specs.Prelude.{◌≡◌, ℕ, Bool, true, false, ◌&&◌, ◌==◌, List, Option, None, Some}
 use Rattle.std.specs.List.{AllByRecursion}
+use Rattle.std.specs.Ordering.{nat_cmp, ordering_then}
+use Rattle.std.specs.declared.cmp.Ordering.{Ordering}
 use Rattle.rows.specs.declared.entry.Entry.{Entry}
 use Rattle.rows.specs.declared.entry.Entry.TheVariants.{Insert, Patch, Delete, AddColumn}
 use Rattle.rows.specs.declared.row_id.RowId.{RowId}
@@ -8,6 +10,10 @@ use Rattle.rows.specs.declared.row_id.RowId.{RowId}
 -- whether a key is that of the row
 abbrev pub is_key_of : ℕ → ℕ → ℕ × ℕ → Bool
 is_key_of table row key = (key.0 == table) && (key.1 == row)
+
+-- how a map of rows compares its keys
+abbrev pub key_cmp : ℕ × ℕ → ℕ × ℕ → Ordering
+key_cmp x y = ordering_then (nat_cmp x.0 y.0) (nat_cmp x.1 y.1)
 
 -- whether an entry is of that row alone: one that adds a column is of none alone
 abbrev pub names : ℕ → ℕ → Entry → Bool

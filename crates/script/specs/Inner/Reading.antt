@@ -13,7 +13,7 @@ use Rattle.script.specs.Inner.WordReading.{number_of, below_of, value_of, values
 use Rattle.script.specs.Inner.PlanReading.{plan_of}
 use Rattle.script.specs.declared.event.Event.{Event}
 use Rattle.script.specs.declared.event.Event.TheVariants.{Begin, Insert, Set, Delete, Get, Commit, Abort, Flush, Push, Deliver, Show, Open}
-use Rattle.script.specs.declared.event.Event.TheVariants.{Ask, Run, Stop, Start, Version, Dump, Restart, Raw, AddColumn}
+use Rattle.script.specs.declared.event.Event.TheVariants.{Ask, Run, Stop, Start, Version, Dump, Restart, Raw, AddColumn, Base}
 use Rattle.script.specs.declared.event.Node.{Node}
 use Rattle.script.specs.declared.event.Node.TheVariants.{Primary, Replica}
 use Rattle.script.specs.declared.setup.Setup.{Setup}
@@ -79,6 +79,10 @@ abort_of words = given_as_wanted (one_of words) (λ it. made Abort (number_of it
 
 unfoldable pub flush_of : List (List ℕ) → Option Event
 flush_of words = given_as_wanted (one_of words) (λ it. made Flush (below_of (2 ^ 32) it))
+
+unfoldable pub base_of : List (List ℕ) → Option Event
+base_of [] = Some Base
+base_of (word ∷ words) = None
 
 unfoldable pub stop_of : List (List ℕ) → Option Event
 stop_of words = given_as_wanted (one_of words) (λ it. made Stop (number_of it))
@@ -174,6 +178,7 @@ primary_event setup first words =
     if bytes_eq first (codes "commit") then or_bad_words (commit_of setup.workers words) else
     if bytes_eq first (codes "abort") then or_bad_words (abort_of words) else
     if bytes_eq first (codes "flush") then or_bad_words (flush_of words) else
+    if bytes_eq first (codes "base") then or_bad_words (base_of words) else
     if bytes_eq first (codes "stop") then or_bad_words (stop_of words) else
     if bytes_eq first (codes "start") then or_bad_words (start_of words) else network_event setup first words
 

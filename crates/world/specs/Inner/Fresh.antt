@@ -14,11 +14,10 @@ use Rattle.script.specs.declared.event.Event.TheVariants as events
 use Rattle.world.specs.Steps.{World, Member}
 use Rattle.world.specs.Inner.Boots.{IsInBoot, IsOfBoot}
 
--- a batch that asked when so many commits were durable, against the version that its replica stands at: the replica is no newer than
--- that until another is fetched; what was fetched for it is no older than either, and durable
+-- a batch that asked when so many commits were durable, against the version that its replica stands at: what was fetched for it is
+-- no older than either, and durable
 pub record IsFreshBatch (durable : List Commit) (version asked_at : ℕ) (batch : Batch) : Type 0 where
   pub asked : asked_at ≤ length durable
-  pub waits : batch.fetched ≡ None → version ≤ asked_at
   pub fetched_is : (fetched : Fetched) → batch.fetched ≡ Some fetched
       → (version ≤ fetched.version) × (asked_at ≤ fetched.version) × (fetched.version ≤ length durable)
 
@@ -30,10 +29,13 @@ pub record IsFreshMember (durable : List Commit) (number : ℕ) (m : Member) : T
   pub batch_is : (batch : Batch) → m.protocol.batch ≡ Some batch → IsFreshBatch durable m.protocol.version m.asked_at batch
 
 -- a Head of this request and version, against the replica that it goes to in its own boot: the request was made, and where it
--- is the newest one the version is at least what was durable when the batch asked
+-- is the newest one the version is at least what was durable when the batch asked; it is no older than the replica, while nothing
+-- is fetched for the batch
 pub record IsFreshHead (m : Member) (request version : ℕ) : Type 0 where
   pub asked : request ≤ m.protocol.request
   pub above : (batch : Batch) → m.protocol.batch ≡ Some batch → request ≡ m.protocol.request → m.asked_at ≤ version
+  pub on : (batch : Batch) → m.protocol.batch ≡ Some batch → batch.fetched ≡ None → request ≡ m.protocol.request
+      → m.protocol.version ≤ version
 
 -- what is known of bytes that were sent, by what they read as
 abbrev pub IsFreshReading : List Commit → List Member → Result Datagram WireFault → Type 0
@@ -42,10 +44,13 @@ IsFreshReading durable members (Ok (datagrams.Frame worker seq commit last entri
 IsFreshReading durable members (Ok (datagrams.Ask replica boot request)) =
     IsAsk replica boot request
     × ((m : Member) → slice_get members replica ≡ Some m → IsOfBoot m.boots m.protocol.boot boot (request ≤ m.protocol.request))
-IsFreshReading durable members (Ok (datagrams.Head replica boot request version counts)) =
-    (version ≤ length durable)
-    × ((m : Member) → slice_get members replica ≡ Some m → IsOfBoot m.boots m.protocol.boot boot (IsFreshHead m request version))
+IsFreshReading durable members (Ok (datagrams.Head head)) =
+    (head.version ≤ length durable)
+    × ((m : Member) → slice_get members head.replica ≡ Some m
+    → IsOfBoot m.boots m.protocol.boot head.boot (IsFreshHead m head.request head.version))
 IsFreshReading durable members (Ok (datagrams.Want replica worker from)) = Unit {0}
+IsFreshReading durable members (Ok (datagrams.Piece base number last entries)) = Unit {0}
+IsFreshReading durable members (Ok (datagrams.Pull replica base from)) = Unit {0}
 
 pub record Fresh (w : World) : Type 0 where
   pub numbered : length w.primary.durable + length w.primary.pending < 2 ^ 64

@@ -14,7 +14,7 @@ use Rattle.world.specs.declared.primary_node.PrimaryNode.TheVariants as nodes
 -- a primary that is stopped, of which these commits are kept
 abbrev pub primary_kept : Setup → List Commit → Primary
 primary_kept setup kept =
-    record { schema = setup.schema; workers = setup.workers; durable = kept; pending = []; failed = false }
+    record { schema = setup.schema; workers = setup.workers; durable = kept; pending = []; failed = false; base = 0 }
 
 abbrev pub primary_in : Setup → PrimaryNode → Primary
 primary_in setup (nodes.Running core) = core.primary

@@ -23,7 +23,7 @@ returns-in_default-clause-row g c =
     let inv = c.loop.invariant in
     let p = c.args.core.now.primary in
     let none = ap (pushed p c.args.worker) (sym inv.seq) ∙ (sym c.push.ensures ∙ c.in_default.is) in
-    inv.row ∙ row_ends p c.args.worker c.args.from c.loop.counter c.args.most none (omega (arith, c.loop-test.true))
+    inv.row ∙ row_ends p c.args.worker c.args.from c.loop.counter c.args.most c.requires.kept none (omega (arith, c.loop-test.true))
 
 pub overflow_add-seq : goal.overflow_add-seq
 overflow_add-seq g c =

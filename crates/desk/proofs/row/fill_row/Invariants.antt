@@ -5,7 +5,7 @@ use Rattle.desk.proofs.row.fill_row.Given as goal
 
 abbrev pub invariant-loop : goal.invariant-loop
 invariant-loop g l = record {
-  row : l.row.items ≡ row_of l.core.primary l.fn.worker l.fn.from l.counter;
+  row : l.row.items ≡ row_of l.core.primary.durable l.fn.worker l.fn.from l.counter;
   len : vec_len l.row ≤ l.counter;
   room : l.fn.most ≤ vec_capacity l.row;
   seq : l.seq ≡ l.fn.from + l.counter;

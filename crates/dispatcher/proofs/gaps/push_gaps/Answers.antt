@@ -7,8 +7,9 @@ use Rattle.dispatcher.proofs.gaps.push_gaps.Goals as goal
 pub returns-clause-gaps : goal.returns-clause-gaps
 returns-clause-gaps c =
     let all = c.args.intake.now in
+    let bases = c.args.bases.now in
     let counts = c.args.counts.now in
     let worker = c.loop-worker.worker in
-    sym (take-none c.args.most c.loop-worker.gaps.items (gaps_from c.args.stride worker (drop worker all) (drop worker counts))
-    c.loop-worker.invariant.few (from-end c.args.stride worker all counts (omega (arith, c.loop-worker-test.false))))
+    sym (take-none c.args.most c.loop-worker.gaps.items (gaps_from c.args.stride worker (drop worker all) bases (drop worker counts))
+    c.loop-worker.invariant.few (from-end c.args.stride worker all bases counts (omega (arith, c.loop-worker-test.false))))
     ∙ c.loop-worker.invariant.rest

@@ -7,6 +7,6 @@ abbrev pub invariant-loop-worker : goal.invariant-loop-worker
 invariant-loop-worker l = record {
   few : length l.gaps.items ≤ l.most;
   capacity : vec_capacity l.gaps ≡ vec_capacity l.fn.gaps;
-  rest : take l.most (l.gaps.items ++ gaps_from l.stride l.worker (drop l.worker l.intake) (drop l.worker l.counts))
-      ≡ take l.most (l.fn.gaps.items ++ gaps_from l.stride 0 l.intake l.counts);
+  rest : take l.most (l.gaps.items ++ gaps_from l.stride l.worker (drop l.worker l.intake) l.bases (drop l.worker l.counts))
+      ≡ take l.most (l.fn.gaps.items ++ gaps_from l.stride 0 l.intake l.bases l.counts);
 }

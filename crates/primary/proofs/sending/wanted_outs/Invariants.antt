@@ -6,4 +6,4 @@ use Rattle.primary.proofs.sending.wanted_outs.Given as goal
 
 abbrev pub invariant-loop-seq : goal.invariant-loop-seq
 invariant-loop-seq l =
-    l.outs.items ≡ map (frame_to l.replica) (take (l.seq - l.from) (drop l.from (stream_of (take l.durable l.commits) l.worker)))
+    l.outs.items ≡ map (frame_to l.replica) (take (l.seq - l.start) (drop l.start (stream_of (take l.durable l.commits) l.worker)))

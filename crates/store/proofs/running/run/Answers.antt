@@ -16,4 +16,5 @@ loop-i-preserved g c =
       before = rw entries (apply_entries-push old _ _ (take c.loop-i.i c.args.entries.now) entry so_far.before c.in-Ok.ensures.ok);
       first = λ broken. let whole = so_far.whole ∙ broken in let was = c.in-Ok.ensures.only_whole in cc;
       whole = c.in-Ok.ensures.whole ∙ so_far.whole;
+      base = c.in-Ok.ensures.base ∙ so_far.base;
     }

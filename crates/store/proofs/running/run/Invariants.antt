@@ -9,4 +9,5 @@ invariant-loop-i g l = record {
       (g.S.Store.tables l.store);
   first : g.S.Store.is_whole l.initial.store ≡ false → l.i ≡ 0;
   whole : g.S.Store.is_whole l.store ≡ g.S.Store.is_whole l.initial.store;
+  base : g.S.Store.base_shape l.store ≡ g.S.Store.base_shape l.initial.store;
 }

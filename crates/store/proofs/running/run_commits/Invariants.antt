@@ -8,4 +8,5 @@ invariant-loop-commit g l = record {
   rest : apply_commits (g.S.Store.tables l.store) (drop l.commit-index l.commits)
       ≡ apply_commits (g.S.Store.tables l.initial.store) l.commits;
   whole : g.S.Store.is_whole l.store ≡ true;
+  base : g.S.Store.base_shape l.store ≡ g.S.Store.base_shape l.initial.store;
 }

@@ -13,16 +13,16 @@ use Rattle.update_log.proofs.cutting.cut_entries.Goals as goal
 pub overflow_add-seq : goal.overflow_add-seq
 overflow_add-seq c =
     let rest = c.loop-rest.rest.now in
-    let n = c.part_len.result in
-    let part = c.part_len.ensures in
+    let n = c.first_part_len.result in
+    let part = c.first_part_len.ensures in
     let cut : parts_of rest ≡ take n rest ∷ parts_of (drop n rest) = first-part rest n part.some part.within part.fits part.full in
     omega (arith, ap length cut, c.loop-rest.invariant.seqs)
 
 pub loop-rest-preserved : goal.loop-rest-preserved
 loop-rest-preserved c =
     let rest = c.loop-rest.rest.now in
-    let n = c.part_len.result in
-    let part = c.part_len.ensures in
+    let n = c.first_part_len.result in
+    let part = c.first_part_len.ensures in
     let behind = c.split_at.result.1.now in
     let cut : parts_of rest ≡ take n rest ∷ parts_of (drop n rest) = first-part rest n part.some part.within part.fits part.full in
     record {

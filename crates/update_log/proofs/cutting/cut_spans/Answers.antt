@@ -13,8 +13,8 @@ use Rattle.update_log.proofs.cutting.cut_spans.Goals as goal
 pub loop-rest-preserved : goal.loop-rest-preserved
 loop-rest-preserved c =
     let rest = c.loop-rest.rest.now in
-    let n = c.part_len-len.result in
-    let part = c.part_len-len.ensures in
+    let n = c.first_part_len-len.result in
+    let part = c.first_part_len-len.ensures in
     let behind = c.split_at.result.1.now in
     let so_far = c.loop-rest.invariant in
     let cut : parts_of rest ≡ take n rest ∷ parts_of (drop n rest) = first-part rest n part.some part.within part.fits part.full in

@@ -11,8 +11,8 @@ use Rattle.update_log.proofs.cutting.part_count.Goals as goal
 pub loop-count-preserved : goal.loop-count-preserved
 loop-count-preserved c =
     let rest = c.loop-count.rest.now in
-    let n = c.part_len.result in
-    let part = c.part_len.ensures in
+    let n = c.first_part_len.result in
+    let part = c.first_part_len.ensures in
     let cut : parts_of rest ≡ take n rest ∷ parts_of (drop n rest) = first-part rest n part.some part.within part.fits part.full in
     record {
       counted =

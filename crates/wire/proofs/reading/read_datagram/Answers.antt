@@ -6,7 +6,7 @@ use Rattle.byteorder.specs.Endian.{big_number}
 use Rattle.wire.specs.declared.datagram.Datagram.{Datagram}
 use Rattle.wire.specs.declared.faults.WireFault.TheVariants.{Body}
 use Rattle.wire.specs.Reading.{body_at}
-use Rattle.wire.proofs.Fronts.{first_number, third_number, reading-of}
+use Rattle.wire.proofs.FirstSix.{first_number, third_number, reading-of}
 use Rattle.wire.proofs.reading.read_datagram.Goals as goal
 
 pub returns : goal.returns
@@ -17,7 +17,7 @@ returns c =
     let front = c.split_at.ensures.front in
     let magic : big_number 2 bytes ≡ 0x4244 =
     sym (first_number bytes) ∙ ap (big_number 2) (sym front) ∙ sym c.read_u16.ensures ∙ c.if-read_u16-ne-DATAGRAM_MAGIC.false in
-    let version : get_or bytes 2 0 ≡ 2 =
+    let version : get_or bytes 2 0 ≡ 3 =
     sym (get_or-take 6 bytes 2 0 (omega arith)) ∙ ap (λ (l : List ℕ). get_or l 2 0) (sym front) ∙ c.if-head-ne-DATAGRAM_VERSION.false in
     let kind_is : get_or bytes 3 0 ≡ kind =
     sym (get_or-take 6 bytes 3 0 (omega arith)) ∙ ap (λ (l : List ℕ). get_or l 3 0) (sym front) in

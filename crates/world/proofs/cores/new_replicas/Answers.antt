@@ -1,5 +1,5 @@
 -- Each turn makes the next replica, until none is left.
-use Rattle.std.proofs.Common.{◌≡◌, [], ◌-◌, append_assoc, arith}
+use Rattle.std.proofs.Common.{◌≡◌, ◌-◌, append_assoc, arith}
 use Rattle.std.proofs.lemmas.List.{append-nil}
 use Rattle.world.proofs.Starting.{replicas_left, firsts_left, zeros_left}
 use Rattle.world.proofs.cores.new_replicas.Goals as goal

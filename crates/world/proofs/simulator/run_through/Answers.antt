@@ -6,7 +6,7 @@ use Rattle.std.proofs.lemmas.Option.{slice_get_read}
 use Rattle.rows.specs.Limits.{replicas_max}
 use Rattle.script.specs.Events.{IsPossible}
 use Rattle.script.specs.declared.event.Event.{Event}
-use Rattle.world.specs.Cores.{Cores, Opening, cores_started}
+use Rattle.world.specs.Cores.{Cores}
 use Rattle.world.proofs.Continuing.{RunsSoFar, none_yet, one_more, keeps_promises}
 use Rattle.world.proofs.Slots.{all_at}
 use Rattle.world.proofs.Starting.{as_many}

@@ -1,10 +1,9 @@
 -- Bytes that are recovered are not refused, and in one way.
-use Rattle.std.proofs.Common.{◌≡◌, List, length, refl, sym, ap, ◌∙◌}
+use Rattle.std.proofs.Common.{List, length, refl, ap, ◌∙◌}
 use Rattle.rows.specs.declared.commit.Commit.{Commit}
 use Rattle.rows.specs.Shape.{shape_of}
 use Rattle.journal.specs.declared.form.Form.{Form}
 use Rattle.journal.specs.Text.{started}
-use Rattle.primary.specs.State.{Primary}
 use Rattle.primary.specs.Steps.{started_primary}
 use Rattle.world.proofs.stopping.start_on.Goals as goal
 

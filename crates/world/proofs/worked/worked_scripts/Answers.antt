@@ -23,6 +23,10 @@ returns-clause-refusals c = refl
 pub returns-clause-stops : goal.returns-clause-stops
 returns-clause-stops c = refl
 
+pub returns-clause-bases : goal.returns-clause-bases
+unfolding digits
+returns-clause-bases c = refl
+
 pub returns-clause-two_queries : goal.returns-clause-two_queries
 unfolding digits
 returns-clause-two_queries c = refl

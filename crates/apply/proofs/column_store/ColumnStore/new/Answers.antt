@@ -1,7 +1,9 @@
 -- Partitions without rows.
-use Rattle.std.proofs.Common.{◌≡◌, [], length, sym, subst, arith}
+use Rattle.std.proofs.Common.{◌≡◌, [], length, sym, subst, arith, rules}
 use Rattle.rows.specs.Shape.{shape_of}
 use Rattle.rows.specs.Tables.{RowsAreOfKinds}
+use Rattle.store.specs.Changes.{BeganWith}
+use Rattle.apply.specs.Partitions.{tables_in}
 use Rattle.apply.specs.Inner.Views.{views}
 use Rattle.apply.proofs.Viewed.{opens, views-length}
 use Rattle.apply.proofs.column_store.ColumnStore.new.Goals as goal
@@ -17,6 +19,10 @@ invariant_of-result c =
       few = omega (arith, many, c.requires.few);
       partitions = λ whole. at.2;
       kinds = λ whole. subst RowsAreOfKinds (sym at.1) (c.rows_are_of_kinds.ensures.versions shape [] 0);
+      began = λ whole.
+          let same : c.in_ok-clone.field-0 ≡ c.args.schema.now = search rules in
+          subst (λ schema. BeganWith (shape_of schema) (tables_in (views partitions))) (sym same)
+          (subst (BeganWith shape) (sym at.1) (c.first_columns_stay.ensures.opening shape));
     }
 
 pub returns-clause-tables : goal.returns-clause-tables

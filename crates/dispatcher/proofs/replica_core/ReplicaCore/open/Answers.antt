@@ -1,6 +1,6 @@
 -- A query that is taken was checked for the columns that the tables have.
-use Rattle.std.proofs.Common.{◌≡◌, ℕ, List, [], ◌∷◌, ◌++◌, Bool, true, false, cond, Result, Ok, Err, IsOk, refl, ap, sym, subst, ◌∙◌}
-use Rattle.std.proofs.Common.{nat_le, length, rules}
+use Rattle.std.proofs.Common.{◌≡◌, ℕ, List, [], ◌∷◌, ◌++◌, Bool, true, false, cond, Result, Ok, Err, IsOk, refl, sym, subst}
+use Rattle.std.proofs.Common.{nat_le, length}
 use Rattle.std.specs.Result.{is_ok}
 use Rattle.rows.specs.Shape.{Shape}
 use Rattle.rows.specs.Tables.{Tables, shape_in}

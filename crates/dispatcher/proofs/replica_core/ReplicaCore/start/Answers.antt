@@ -17,10 +17,10 @@ invariant_of-result g c =
       few_workers = search rules;
       number_below = search rules;
       arrivals_by_worker = ap (λ (all : List Arrivals). length all) c.in_ok-new.ensures ∙ length-replicate c.args.workers nothing;
-      applied_by_worker = ap (λ (counts : List ℕ). length counts) c.no_counts.ensures ∙ length-replicate c.args.workers 0;
+      applied_by_worker = ap (λ (counts : List ℕ). length counts) c.zeros.ensures ∙ length-replicate c.args.workers 0;
       others_kept =
-          subst (λ (all : List Arrivals). AreKeptFrom all c.no_counts.result) (sym c.in_ok-new.ensures)
-          (none-lost c.args.workers c.no_counts.result);
+          subst (λ (all : List Arrivals). AreKeptFrom all c.zeros.result) (sym c.in_ok-new.ensures)
+          (none-lost c.args.workers c.zeros.result);
       store_whole = search rules;
       fetched = tt;
       many = λ whole.

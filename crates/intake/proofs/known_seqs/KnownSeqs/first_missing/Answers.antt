@@ -6,4 +6,5 @@ use Rattle.intake.proofs.known_seqs.KnownSeqs.first_missing.Goals as goal
 
 pub returns : goal.returns
 returns c =
-    sym (ap first_missing (sym c.self.view_is) ∙ first_missing-held c.self.inside.missing c.self.inside.above.keys c.self.invariant.from)
+    sym (ap first_missing (sym c.self.view_is)
+    ∙ first_missing-held c.self.inside.missing c.self.inside.above.keys c.self.invariant.held.from)

@@ -4,7 +4,7 @@ use Rattle.std.specs.Map.{set_value}
 use Rattle.std.specs.BTreeMap.{is_at}
 use Rattle.std.proofs.lemmas.Map.Steps.{set_value_same}
 use Rattle.std.proofs.lemmas.Result.{on_ok_weaker, on_err_weaker}
-use Rattle.mvcc.proofs.Keys.{key_cmp}
+use Rattle.mvcc.specs.Inner.Keys.{key_cmp}
 use Rattle.mvcc.specs.Inner.Chains.{linked, Turns}
 use Rattle.mvcc.proofs.Links.{links-set, links-new, links-unnamed}
 use Rattle.mvcc.proofs.chains.Chains.link.Goals as goal

@@ -10,4 +10,5 @@ returns c =
     let moved : c.min-moved.result ≡ min c.args.count (length (drop inside.durable inside.versions.commits)) =
     c.min-moved.ensures ∙ ap (min c.args.count) c.pending.ensures
     ∙ ap (λ (p : Primary). min c.args.count (length p.pending)) (sym c.self.view_is) in
-    rw (← c.self.view_is) (flushed_is inside.versions inside.durable c.args.count c.min-moved.result inside.workers inside.failed moved)
+    rw (← c.self.view_is) (flushed_is inside.versions inside.durable c.args.count c.min-moved.result inside.workers inside.failed
+    inside.tail.base moved)

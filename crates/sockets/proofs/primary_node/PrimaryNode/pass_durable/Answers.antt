@@ -2,7 +2,6 @@
 use Rattle.std.proofs.Common.{◌≡◌, ◌∙◌, ap, ℕ, List, length, arith}
 use Rattle.std.specs.Vec.{with_items}
 use Rattle.std.proofs.lemmas.List.{with_items_is}
-use Rattle.rows.specs.Shape.{shape_of}
 use Rattle.primary.specs.Sending.{counts_of, answers}
 use Rattle.desk.specs.Answers.{primary_of}
 use Rattle.sockets.specs.Primaries.{passed, counts_in}
@@ -15,10 +14,11 @@ returns-in-Ok-clause-ok g c =
     let workers = g.L.Line.workers in
     let list = c.on_bytes.new.seat.list in
     let asked = c.bytes.ensures.bytes ∙ c.of-ask.ensures.spelled in
+    let sent = c.in-Ok.ensures.ok in
     let told : counts_in c.deref.result.now ≡ counts_of list (length list) workers =
     ap counts_in c.deref.ensures.value
-    ∙ told-counts c.one_spelling.ensures.read schema workers (shape_of schema) list c.in-Ok.outs.items c.in-Ok.ensures.readable
-    (c.in-Ok.ensures.ok ∙ ap (answers (primary_of schema workers list)) asked) in
+    ∙ told-counts c.one_spelling.ensures.read schema workers list sent.0 c.in-Ok.outs.items c.in-Ok.ensures.readable sent.1
+    (sent.2 ∙ ap (answers (primary_of schema workers list sent.0)) asked) in
     let passes : c.pass_told.new.counters ≡ passed c.self.inside.counters.items (counts_of list (length list) workers) =
     c.pass_told.ensures
     ∙ (ap (λ (counters : List ℕ). passed counters (counts_in c.deref.result.now)) c.deref_mut.ensures.value

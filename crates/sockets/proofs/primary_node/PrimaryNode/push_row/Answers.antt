@@ -18,9 +18,9 @@ returns-clause-does g c =
     omega (arith, c.requires, ap (λ (n : PrimaryState _). length n.counters) c.self.view_is) in
     let pushed : c.len-pushed.result ≡ length c.push_row.new.row.items = omega (arith, c.len-pushed.ensures, c.push_row.new.row.ok) in
     rw (← c.self.view_is)
-    (does_row_as _ _ _ _ _ _ _ _ c.args.worker c.index-from.result.now c.args.most c.push_row.new.row.items c.push_row.result there
-    (c.index-from.ensures ∙ get_or_default _ _ _ _ there) (omega arith) c.push_row.ensures.later c.push_row.ensures.each
-    c.push_row.ensures.err c.push_row.ensures.few
+    (does_row_as _ _ _ _ _ _ _ _ c.args.worker c.index-from.result.now c.unwrap_or-start.result c.args.most c.push_row.new.row.items
+    c.push_row.result there (c.index-from.ensures ∙ get_or_default _ _ _ _ there) (omega arith) c.push_row.ensures.later
+    c.unwrap_or-start.ensures c.push_row.ensures.ok c.push_row.ensures.each c.push_row.ensures.err c.push_row.ensures.few
     c.send_row.ensures refl
-    (ap (λ (n : ℕ). slice_set c.self.inside.counters.items c.args.worker (c.index-from.result.now + n)) pushed)
+    (ap (λ (n : ℕ). slice_set c.self.inside.counters.items c.args.worker (c.unwrap_or-start.result + n)) pushed)
     c.push_row.ensures.seat)

@@ -1,7 +1,7 @@
 -- Gap by gap, of the replica as it was.
 use Rattle.std.proofs.Common.{sym, subst, ◌∙◌, get_or}
 use Rattle.std.specs.List.{Contains}
-use Rattle.primary.specs.Sending.{want_frames_max}
+use Rattle.update_log.specs.Limits.{want_frames_max}
 use Rattle.dispatcher.specs.Gaps.{gaps_of}
 use Rattle.dispatcher.specs.declared.gaps.Gap.{Gap}
 use Rattle.dispatcher.specs.State.{Replica}

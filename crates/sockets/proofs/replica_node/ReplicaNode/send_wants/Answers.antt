@@ -1,6 +1,6 @@
 -- Wants are sent of the gaps that the replica names.
 use Rattle.std.proofs.Common.{sym, subst, ◌∙◌, [], refl}
-use Rattle.primary.specs.Sending.{want_frames_max}
+use Rattle.update_log.specs.Limits.{want_frames_max}
 use Rattle.dispatcher.specs.Gaps.{gaps_of}
 use Rattle.sockets.specs.Replicas.{DoesReplica}
 use Rattle.sockets.specs.State.{ReplicaState}

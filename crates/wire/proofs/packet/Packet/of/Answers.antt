@@ -1,7 +1,7 @@
 -- Every spelling fits into the buffer, and what is spelled so is read.
 use Rattle.std.proofs.Common.{refl, ap, ◌∙◌, arith}
 use Rattle.wire.specs.Reading.{reading}
-use Rattle.wire.proofs.Lengths.{spelling_few, front_is}
+use Rattle.wire.proofs.Sizes.{spelling_few, front_is}
 use Rattle.wire.proofs.SpelledIsRead.{reading-again}
 use Rattle.wire.proofs.packet.Packet.of.Goals as goal
 

@@ -2,7 +2,7 @@
 use Rattle.std.proofs.Common.{drop, ap, ◌∙◌}
 use Rattle.wire.specs.Reading.{reading}
 use Rattle.wire.specs.Spelling.{datagram_of_frame, frame_spelling}
-use Rattle.wire.proofs.Lengths.{front_is}
+use Rattle.wire.proofs.Sizes.{front_is}
 use Rattle.wire.proofs.SpelledIsRead.{reading-again}
 use Rattle.wire.proofs.packet.Packet.of_frame.Goals as goal
 

@@ -1,5 +1,5 @@
 -- The core starts on what the journal keeps; without memory the journal keeps the same.
-use Rattle.std.proofs.Common.{[], refl, sym, ◌∙◌}
+use Rattle.std.proofs.Common.{[], refl}
 use Rattle.journal.specs.declared.form.Form.TheVariants.{New}
 use Rattle.world.specs.declared.primary_node.PrimaryNode.TheVariants.{Stopped}
 use Rattle.world.proofs.Nodes.{node_seen, start_done, start_lacks}

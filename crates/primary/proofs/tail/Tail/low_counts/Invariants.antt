@@ -1,0 +1,12 @@
+-- The counts of the workers so far.
+use Rattle.std.proofs.Common.{◌≡◌, List, length}
+use Rattle.rows.specs.declared.commit.Commit.{Commit}
+use Rattle.primary.specs.Inner.Tail.{IsTailOf}
+use Rattle.primary.specs.Sending.{counts_of}
+use Rattle.primary.proofs.tail.Tail.low_counts.Given as goal
+
+abbrev pub invariant-loop-worker : goal.invariant-loop-worker
+invariant-loop-worker l = record {
+  counted : (commits : List Commit) → IsTailOf l.self commits → l.lows ≡ counts_of commits l.self.base l.worker;
+  few : length l.lows ≡ l.worker;
+}

@@ -1,0 +1,239 @@
+//! Images: the entries that rebuild the tables of each version.
+
+use crate::accounts::{Cell, is_absorbed, is_held, value_of, versions_of};
+use mvcc::Versions;
+use rows::{Entry, EntryList, Kind};
+use scenarios_common::wanted::{SIX, Table, Wanted, all_made};
+use std::alloc::Global;
+use std::test::Fail;
+
+/// Accounts of a number and two bytes, and an audit of a number.
+static TABLES: [Table; 2] = [
+    ("accounts", &[Kind::Int, Kind::Octets(2)]),
+    ("audit", &[Kind::Int]),
+];
+
+/// What a commit does.
+enum Step {
+    /// It changes these rows.
+    Rows(&'static [Wanted<'static>]),
+    /// It adds a column to a table, with this in each row.
+    Column(u8, Cell),
+}
+
+/// Rows are inserted, in falling identifier; the accounts get a number, 7; account 7 is set to 6;
+/// account 8 is deleted, and the last that there can be is inserted; the audit gets three bytes; and
+/// all rows are deleted.
+static HISTORY: [Step; 6] = [
+    Step::Rows(&[
+        Wanted::Insert(1, 3, b"\0\0\0\0\0\0\0\x01"),
+        Wanted::Insert(0, 8, b"\0\0\0\0\0\0\0\x09ab"),
+        Wanted::Insert(0, 7, b"\0\0\0\0\0\0\0\x05cd"),
+    ]),
+    Step::Column(0, Cell::Number(7)),
+    Step::Rows(&[Wanted::Patch(0, 7, 0, &SIX)]),
+    Step::Rows(&[
+        Wanted::Delete(0, 8),
+        Wanted::Insert(
+            0,
+            u64::MAX,
+            b"\0\0\0\0\0\0\0\0ef\xff\xff\xff\xff\xff\xff\xff\xff",
+        ),
+    ]),
+    Step::Column(1, Cell::Octets(b"xyz")),
+    Step::Rows(&[
+        Wanted::Delete(0, 7),
+        Wanted::Delete(0, u64::MAX),
+        Wanted::Delete(1, 3),
+    ]),
+];
+
+/// An entry of an image.
+enum Shown {
+    /// A column is added to a table, with this in each row.
+    Column(u8, Cell),
+    /// A row of a table is inserted, of these bytes.
+    Row(u8, u64, &'static [u8]),
+}
+
+/// A version, and its image.
+type Picture = (u64, &'static [Shown]);
+
+/// The image of each version of the history; a version that is not there yet is the newest.
+static PICTURES: [Picture; 8] = [
+    (0, &[]),
+    (
+        1,
+        &[
+            Shown::Row(0, 7, b"\0\0\0\0\0\0\0\x05cd"),
+            Shown::Row(0, 8, b"\0\0\0\0\0\0\0\x09ab"),
+            Shown::Row(1, 3, b"\0\0\0\0\0\0\0\x01"),
+        ],
+    ),
+    (
+        2,
+        &[
+            Shown::Column(0, Cell::Number(0)),
+            Shown::Row(0, 7, b"\0\0\0\0\0\0\0\x05cd\0\0\0\0\0\0\0\x07"),
+            Shown::Row(0, 8, b"\0\0\0\0\0\0\0\x09ab\0\0\0\0\0\0\0\x07"),
+            Shown::Row(1, 3, b"\0\0\0\0\0\0\0\x01"),
+        ],
+    ),
+    (
+        3,
+        &[
+            Shown::Column(0, Cell::Number(0)),
+            Shown::Row(0, 7, b"\0\0\0\0\0\0\0\x06cd\0\0\0\0\0\0\0\x07"),
+            Shown::Row(0, 8, b"\0\0\0\0\0\0\0\x09ab\0\0\0\0\0\0\0\x07"),
+            Shown::Row(1, 3, b"\0\0\0\0\0\0\0\x01"),
+        ],
+    ),
+    (
+        4,
+        &[
+            Shown::Column(0, Cell::Number(0)),
+            Shown::Row(0, 7, b"\0\0\0\0\0\0\0\x06cd\0\0\0\0\0\0\0\x07"),
+            Shown::Row(
+                0,
+                u64::MAX,
+                b"\0\0\0\0\0\0\0\0ef\xff\xff\xff\xff\xff\xff\xff\xff",
+            ),
+            Shown::Row(1, 3, b"\0\0\0\0\0\0\0\x01"),
+        ],
+    ),
+    (
+        5,
+        &[
+            Shown::Column(0, Cell::Number(0)),
+            Shown::Row(0, 7, b"\0\0\0\0\0\0\0\x06cd\0\0\0\0\0\0\0\x07"),
+            Shown::Row(
+                0,
+                u64::MAX,
+                b"\0\0\0\0\0\0\0\0ef\xff\xff\xff\xff\xff\xff\xff\xff",
+            ),
+            Shown::Column(1, Cell::Octets(b"\0\0\0")),
+            Shown::Row(1, 3, b"\0\0\0\0\0\0\0\x01xyz"),
+        ],
+    ),
+    (6, &EMPTIED),
+    (u64::MAX, &EMPTIED),
+];
+
+/// What is left where all rows are deleted.
+const EMPTIED: [Shown; 2] = [
+    Shown::Column(0, Cell::Number(0)),
+    Shown::Column(1, Cell::Octets(b"\0\0\0")),
+];
+
+/// The entries of a commit.
+fn entries_of(alloc: Global, step: &Step) -> Result<EntryList, Fail> {
+    match step {
+        Step::Rows(wanted) => Ok(all_made(alloc, wanted)?),
+        Step::Column(table, cell) => {
+            let default = value_of(cell)?;
+            let mut entries = EntryList::new(alloc);
+            entries.push(Entry::AddColumn {
+                table: *table,
+                default,
+            })?;
+            Ok(entries)
+        }
+    }
+}
+
+/// Absorbs the commits of the history.
+fn absorb_history(alloc: Global, versions: &mut Versions) -> Result<(), Fail> {
+    for step in &HISTORY {
+        let entries = entries_of(alloc, step)?;
+        if !is_absorbed(versions, entries.as_slice())? {
+            return Err("out of memory".into());
+        }
+    }
+    Ok(())
+}
+
+/// Whether this is the entry that is shown.
+fn is_shown(entry: &Entry, shown: &Shown) -> bool {
+    match (entry, shown) {
+        (Entry::AddColumn { table, default }, Shown::Column(at, cell)) => {
+            *table == *at && is_held(&Some(*default), cell)
+        }
+        (Entry::Insert { table, row, bytes }, Shown::Row(at, id, content)) => {
+            *table == *at && row.0 == *id && bytes.as_slice() == *content
+        }
+        _ => false,
+    }
+}
+
+/// Whether these are the entries that are shown.
+fn are_shown(image: &[Entry], shown: &[Shown]) -> bool {
+    let mut same = image.len() == shown.len();
+    for (entry, shown) in image.iter().zip(shown) {
+        same = same && is_shown(entry, shown);
+    }
+    same
+}
+
+/// Whether an image, as one commit on tables as they are opened, has itself as the image.
+fn is_rebuilt(alloc: Global, image: &[Entry]) -> Result<bool, Fail> {
+    let mut versions = versions_of(alloc, &TABLES, &[])?;
+    if !is_absorbed(&mut versions, image)? {
+        return Err("out of memory".into());
+    }
+    let again = versions.image(1)?;
+    Ok(again.as_slice() == image)
+}
+
+/// Whether the image of a version is the one that is shown.
+fn is_pictured(
+    alloc: Global,
+    versions: &Versions,
+    version: u64,
+    shown: &[Shown],
+) -> Result<bool, Fail> {
+    let image = versions.image(version)?;
+    Ok(are_shown(image.as_slice(), shown) && is_rebuilt(alloc, image.as_slice())?)
+}
+
+/// The first version whose image is another than the one that is shown.
+fn other_picture(alloc: Global) -> Result<Option<u64>, Fail> {
+    let mut versions = versions_of(alloc, &TABLES, &[])?;
+    absorb_history(alloc, &mut versions)?;
+    for (version, shown) in &PICTURES {
+        if !is_pictured(alloc, &versions, *version, shown)? {
+            return Ok(Some(*version));
+        }
+    }
+    Ok(None)
+}
+
+#[test]
+fn images_are_those_of_their_versions(rt: HostRuntime) -> Result<(), Fail> {
+    assert_eq!(rt; other_picture(rt.alloc())?, None);
+    Ok(())
+}
+
+/// The image of a version, which is asked for once more where it was refused for memory.
+fn image_at_last(versions: &Versions, version: u64) -> Result<Vec<Entry>, Fail> {
+    match versions.image(version) {
+        Ok(image) => Ok(image),
+        Err(_) => Ok(versions.image(version)?),
+    }
+}
+
+/// Whether the image of a version with rows and added columns is the one that is shown, at last.
+fn is_made_at_last(alloc: Global) -> Result<bool, Fail> {
+    let mut versions = versions_of(alloc, &TABLES, &[])?;
+    absorb_history(alloc, &mut versions)?;
+    let (version, shown) = &PICTURES[5];
+    let image = image_at_last(&versions, *version)?;
+    Ok(are_shown(image.as_slice(), shown))
+}
+
+/// Whichever request for memory is refused: an image that was refused for memory is made when it is
+/// asked for again.
+#[test]
+fn an_image_without_memory_is_made_again(rt: HostRuntime) -> Result<(), Fail> {
+    assert!(rt; is_made_at_last(rt.alloc())?);
+    Ok(())
+}

@@ -1,0 +1,139 @@
+//! A primary's node that serves while bases are taken: frames that were dropped before they were pushed are
+//! skipped, and each other one is pushed once.
+
+ghost use Rattle.std.specs.Prelude.{◌≡◌, ◌<◌};
+
+use crate::cores::core_of;
+use journal::MemJournal;
+use primary::PrimaryCore;
+use rows::{RowId, Value};
+use shared::{Line, Origin, Seat, Start};
+use sockets::{MemPort, PrimaryNode};
+use std::alloc::Global;
+use std::marker::Brand;
+use std::sync::Wait;
+use std::test::Fail;
+
+/// What is done at the line, or by its node.
+#[derive(Clone, Copy)]
+enum Step {
+    /// Worker 0 puts in a row, by a commit of one frame that is made durable.
+    Commit,
+    /// What is durable becomes the base.
+    Base,
+    /// The node takes a turn.
+    Turn,
+}
+
+/// Frames 0 and 2 are dropped before the node takes a turn, frame 1 after it was pushed.
+const STEPS: [Step; 12] = [
+    Step::Turn,
+    Step::Commit,
+    Step::Base,
+    Step::Commit,
+    Step::Turn,
+    Step::Base,
+    Step::Turn,
+    Step::Commit,
+    Step::Base,
+    Step::Turn,
+    Step::Commit,
+    Step::Turn,
+];
+
+/// The seqs of the frames that are pushed.
+const PUSHED: [u8; 2] = [1, 3];
+
+/// Makes a row with 5 and -1 durable, by worker 0.
+fn inserts<L: Origin, R: Wait>(
+    rt: &R,
+    alloc: Global,
+    line: &Line<L, MemJournal, &R>,
+    seat: &mut Seat<L>,
+    row: u64,
+) -> Option<()>
+    requires { 0 < L.workers }
+{
+    let mut transaction = seat.begin(alloc).ok()?;
+    let values = [Value::Int(5), Value::Int(-1)];
+    seat.insert(&mut transaction, 0, RowId(row), &values).ok()?;
+    line.commit(rt, seat, transaction, 0).ok()?;
+    line.flush(rt, seat, usize::MAX).ok()?;
+    Some(())
+}
+
+/// Takes a step.
+fn takes<L: Origin, R: Wait>(
+    rt: &R,
+    alloc: Global,
+    line: &Line<L, MemJournal, &R>,
+    seat: &mut Seat<L>,
+    node: &mut PrimaryNode<L, MemPort>,
+    step: Step,
+    row: u64,
+) -> Option<()>
+    requires { 0 < L.workers }
+{
+    match step {
+        Step::Commit => inserts(rt, alloc, line, seat, row),
+        Step::Base => match line.take_base(rt, seat) {
+            Ok(_) => Some(()),
+            Err(_) => None,
+        },
+        Step::Turn => node.turn(rt, line).ok(),
+    }
+}
+
+/// Whether the node has sent frames of these seqs, and nothing else.
+fn has_pushed<L: Origin>(node: &PrimaryNode<L, MemPort>, seqs: &[u8]) -> bool {
+    let sent = node.port().sent();
+    if sent.len() != seqs.len() {
+        return false;
+    }
+    for k in 0..sent.len() {
+        // The kind of a frame, and the last byte of its seq.
+        let bytes = sent[k].packet.bytes();
+        if bytes.get(3) != Some(&1) || bytes.get(14) != Some(&seqs[k]) {
+            return false;
+        }
+    }
+    true
+}
+
+/// Whether a node pushes just these frames, on a line of this primary.
+fn pushes_so<L: Origin, R: Wait>(
+    rt: &R,
+    alloc: Global,
+    core: PrimaryCore<MemJournal>,
+    start: Start,
+) -> Option<bool>
+    requires book { start.opened.seen.book ≡ L.book }
+    requires schema { core.primary.schema ≡ L.schema }
+    requires workers { core.primary.workers ≡ L.workers }
+    requires first { core.primary ≡ L.first }
+    requires name { start.blank.name ≡ L.name }
+    requires parts { start.blank.parts ≡ L.parts }
+    requires seats { start.seats ≡ L.seats }
+{
+    core.keeps_legal();
+    let line = Line::<L, MemJournal, &R>::new(alloc, rt, core, start).ok()?;
+    let mut seat = line.seat(rt)?;
+    let mut node = PrimaryNode::new(alloc, line.seat(rt)?, MemPort::new(alloc), 2).ok()?;
+    let mut row: u64 = 0;
+    for step in STEPS {
+        takes(rt, alloc, &line, &mut seat, &mut node, step, row)?;
+        row = row.saturating_add(1);
+    }
+    Some(has_pushed(&node, &PUSHED))
+}
+
+#[test]
+fn frames_below_a_base_are_skipped(rt: HostRuntime) -> Result<(), Fail> {
+    let core = core_of(rt.alloc())?;
+    let start = Start::new(2).ok().ok_or("start")?;
+    assert_eq!(rt;
+        pushes_so::<Brand, _>(&rt, rt.alloc(), core, start),
+        Some(true)
+    );
+    Ok(())
+}

@@ -1,0 +1,6 @@
+use Rattle.std.proofs.Common.{◌≡◌}
+use Rattle.http_server.specs.Connection.{history}
+use Rattle.service.proofs.guest.Guest.write.Given as goal
+
+abbrev pub invariant-loop : goal.invariant-loop
+invariant-loop g l = (history l.self.connection).calls ≡ (history l.fn.self.connection).calls

@@ -1,0 +1,308 @@
+//! A connection whose answers wait for the end of the round.
+
+ghost use Rattle.std.specs.Prelude.{◌≡◌};
+ghost use Rattle.http_server.specs.Connection.{history};
+ghost use Rattle.http_server.specs.Exchange.{Calls};
+ghost use Rattle.service.specs.Denials.{WithDenials};
+ghost use Rattle.service.specs.Waits.{is_late, has_passed};
+
+use crate::held::Held;
+use crate::limits::Limits;
+use crate::socket::Socket;
+use http_server::{Config, Connection, Reason, Settle, State};
+use std::alloc::Global;
+use std::hash::RandomState;
+use std::io::{self, ErrorKind, Read, Write};
+
+/// How often a connection is read in a round, at most.
+const READS_MAX: u32 = 4;
+
+/// How often a connection is written to in a round, at most.
+const WRITES_MAX: u32 = 64;
+
+/// How many bytes are read of a client after the last answer, at most.
+const LEAVING_BYTES: usize = 65_536;
+
+/// What came of reading a connection.
+#[derive(Clone, Copy, PartialEq, Eq, Debug)]
+pub(crate) enum Heard {
+    /// All that had come was read.
+    All,
+    /// More may have come.
+    More,
+    /// The socket failed.
+    Failed,
+}
+
+/// What came of writing to a connection.
+#[derive(Clone, Copy, PartialEq, Eq, Debug)]
+pub(crate) enum Told {
+    /// All that waited was sent.
+    All,
+    /// The socket takes no more now.
+    Blocked,
+    /// It may take more.
+    More,
+    /// The socket failed.
+    Failed,
+}
+
+/// A connection that has been answered for the last time: its writing has ended, and what its
+/// client still sends is read and dropped, since a socket that is closed with unread bytes is reset
+/// and may lose the answer.
+#[derive(Clone, Copy, PartialEq, Eq, Debug)]
+pub(crate) struct Leaving {
+    /// When its last answer was sent.
+    pub(crate) since: u64,
+    /// How many bytes are still read, at most.
+    pub(crate) left: usize,
+}
+
+/// A connection, and how long it waits for what. Times are milliseconds since any one moment.
+#[derive(Drop)]
+pub struct Guest {
+    pub(crate) connection: Connection,
+    /// When its last whole request was answered, or when it came.
+    pub(crate) since: u64,
+    /// When the first byte of a request came that is not whole yet.
+    pub(crate) begun: Option<u64>,
+    /// When its socket last took bytes of an answer, or an answer began to wait.
+    pub(crate) told: u64,
+    /// How many bytes came since its last whole request, and how many these were at most.
+    pub(crate) unanswered: usize,
+    pub(crate) most: usize,
+    pub(crate) leaving: Option<Leaving>,
+    /// Whether its socket may have something to read, or take something.
+    pub(crate) is_ready: bool,
+    /// Whether it was heard in this round.
+    pub(crate) is_heard: bool,
+    /// Whether it is done, or its socket has failed.
+    pub(crate) is_gone: bool,
+}
+
+impl Guest {
+    /// A connection of which nothing was read. Takes no memory.
+    pub fn new(alloc: Global, keys: RandomState, config: Config, now: u64) -> Guest {
+        Guest {
+            connection: Connection::new(alloc, keys, config),
+            since: now,
+            begun: None,
+            told: now,
+            unanswered: 0,
+            most: 0,
+            leaving: None,
+            is_ready: true,
+            is_heard: false,
+            is_gone: false,
+        }
+    }
+
+    /// Has what came before answered, then reads what has come and has it answered, unless it may
+    /// not be read now. Nothing is sent.
+    pub(crate) fn hear<S: Settle + Drop, R: Read>(
+        &mut self,
+        reader: &mut R,
+        service: &mut Held<S>,
+        now: u64,
+        may_read: bool,
+    ) -> Heard
+        ensures unsent { (history self.new.connection).sent ≡ (history self.old.connection).sent }
+        ensures calls { Calls (WithDenials S.answers) service.old.inner service.new.inner
+            (history self.old.connection).calls (history self.new.connection).calls }
+    {
+        self.advance(service, now, 0);
+        if !may_read {
+            return Heard::More;
+        }
+        for _ in 0..READS_MAX {
+            if let Some(heard) = self.hear_once(reader, service, now) {
+                return heard;
+            }
+        }
+        Heard::More
+    }
+
+    /// Reads once, and has it answered; what came of it, unless more may have come.
+    pub(crate) fn hear_once<S: Settle + Drop, R: Read>(
+        &mut self,
+        reader: &mut R,
+        service: &mut Held<S>,
+        now: u64,
+    ) -> Option<Heard>
+        ensures unsent { (history self.new.connection).sent ≡ (history self.old.connection).sent }
+        ensures calls { Calls (WithDenials S.answers) service.old.inner service.new.inner
+            (history self.old.connection).calls (history self.new.connection).calls }
+    {
+        if !self.connection.wants_read() {
+            return Some(Heard::More);
+        }
+        let count = match self.connection.read_from(reader) {
+            Ok(count) => count,
+            Err(error) => return Some(heard_of(&error)),
+        };
+        self.advance(service, now, count);
+        None
+    }
+
+    /// Has the whole requests answered that have come, now that so many bytes more came.
+    pub(crate) fn advance<S: Settle + Drop>(&mut self, service: &mut Held<S>, now: u64, came: usize)
+        ensures unsent { (history self.new.connection).sent ≡ (history self.old.connection).sent }
+        ensures calls { Calls (WithDenials S.answers) service.old.inner service.new.inner
+            (history self.old.connection).calls (history self.new.connection).calls }
+    {
+        let calls = service.calls;
+        let told = if self.connection.wants_write() {
+            self.told
+        } else {
+            now
+        };
+        self.note_read(came, now);
+        self.connection.advance(service);
+        self.note_answered(service.calls.saturating_sub(calls), told, now);
+    }
+
+    /// Notes that so many bytes came.
+    fn note_read(&mut self, came: usize, now: u64)
+        ensures { (history self.new.connection) ≡ (history self.old.connection) }
+    {
+        if came > 0 {
+            self.begun = Some(self.begun.unwrap_or(now));
+            self.unanswered = self.unanswered.saturating_add(came);
+            self.most = self.most.max(self.unanswered);
+        }
+    }
+
+    /// Notes how many requests were answered, and when answers were last taken or began to wait.
+    fn note_answered(&mut self, answered: u64, told: u64, now: u64)
+        ensures { (history self.new.connection) ≡ (history self.old.connection) }
+    {
+        self.told = told;
+        if answered > 0 {
+            self.since = now;
+            self.begun = None;
+            self.unanswered = 0;
+        }
+    }
+
+    /// Sends what waits, as far as it is taken.
+    pub(crate) fn tell<W: Write>(&mut self, writer: &mut W, now: u64) -> Told
+        ensures calls { (history self.new.connection).calls ≡ (history self.old.connection).calls }
+    {
+        let could_read = self.connection.wants_read();
+        let told = self.write(writer, now);
+        // The time of a request does not run while its connection is not read.
+        if !could_read && self.begun.is_some() {
+            self.begun = Some(now);
+        }
+        told
+    }
+
+    fn write<W: Write>(&mut self, writer: &mut W, now: u64) -> Told
+        ensures calls { (history self.new.connection).calls ≡ (history self.old.connection).calls }
+    {
+        for _ in 0..WRITES_MAX {
+            if !self.connection.wants_write() {
+                return Told::All;
+            }
+            match self.connection.write_to(writer) {
+                Ok(0) => return Told::Failed,
+                Ok(_) => self.told = now,
+                Err(error) => return told_of(&error),
+            }
+        }
+        Told::More
+    }
+
+    /// Ends the writing, once all was sent, unless nothing more can come of this client.
+    pub(crate) fn leave<T: Socket>(&mut self, socket: &mut T, now: u64)
+        ensures { (history self.new.connection) ≡ (history self.old.connection) }
+    {
+        let is_answered = match self.connection.state() {
+            State::Closing(reason) => !matches!(reason, Reason::EndOfInput),
+            _ => false,
+        };
+        if !is_answered || socket.end_writing().is_err() {
+            self.is_gone = true;
+            return;
+        }
+        self.leaving = Some(Leaving {
+            since: now,
+            left: LEAVING_BYTES,
+        });
+        self.is_ready = true;
+    }
+
+    /// Reads and drops what a client still sends.
+    pub(crate) fn drain<R: Read>(&mut self, reader: &mut R)
+        ensures { (history self.new.connection) ≡ (history self.old.connection) }
+    {
+        let mut buffer = [0u8; 4096];
+        for _ in 0..READS_MAX {
+            let count = match reader.read(&mut buffer) {
+                Ok(count) => count,
+                Err(error) => {
+                    let heard = heard_of(&error);
+                    self.is_ready = matches!(heard, Heard::More);
+                    self.is_gone = matches!(heard, Heard::Failed);
+                    return;
+                }
+            };
+            if count == 0 || !self.may_drain(count) {
+                self.is_gone = true;
+                return;
+            }
+        }
+    }
+
+    /// Takes so many bytes from those that are still read. Whether some are left.
+    fn may_drain(&mut self, count: usize) -> bool
+        ensures { (history self.new.connection) ≡ (history self.old.connection) }
+    {
+        let Some(leaving) = &mut self.leaving else {
+            return false;
+        };
+        leaving.left = leaving.left.saturating_sub(count);
+        leaving.left > 0
+    }
+
+    /// Whether the connection has waited for longer than it may.
+    pub(crate) fn is_late(&self, limits: &Limits, now: u64) -> bool
+        ensures { result ≡ is_late limits.now now self.now }
+    {
+        if let Some(leaving) = &self.leaving {
+            return has_passed(limits.leaving_millis, leaving.since, now);
+        }
+        if self.connection.wants_write() {
+            return has_passed(limits.answer_millis, self.told, now);
+        }
+        match self.begun {
+            Some(begun) => has_passed(limits.request_millis, begun, now),
+            None => has_passed(limits.idle_millis, self.since, now),
+        }
+    }
+}
+
+/// Whether more than so much time has passed.
+fn has_passed(limit: u64, since: u64, now: u64) -> bool
+    ensures { result ≡ has_passed limit since now }
+{
+    now.saturating_sub(since) > limit
+}
+
+/// What an error of a read says.
+fn heard_of(error: &io::Error) -> Heard {
+    match error.kind() {
+        ErrorKind::WouldBlock => Heard::All,
+        ErrorKind::Interrupted => Heard::More,
+        _ => Heard::Failed,
+    }
+}
+
+/// What an error of a write says.
+fn told_of(error: &io::Error) -> Told {
+    match error.kind() {
+        ErrorKind::WouldBlock => Told::Blocked,
+        ErrorKind::Interrupted => Told::More,
+        _ => Told::Failed,
+    }
+}

@@ -1,0 +1,188 @@
+//! A listener and its connections, served by one thread in rounds.
+
+ghost use Rattle.std.specs.Prelude.{◌≡◌, MatchResult};
+ghost use Rattle.service.specs.Denials.{WithDenials};
+ghost use Rattle.service.specs.Places.{service_of};
+
+use crate::clock::millis_since;
+use crate::limits::Limits;
+use crate::refused::refuse;
+use crate::rounds::{Counts, Rounds};
+use http_server::Settle;
+use mio::net::{TcpListener, TcpStream};
+use mio::{Events, Interest, Poll, Token};
+use std::alloc::Global;
+use std::hash::RandomState;
+use std::io::{self, ErrorKind};
+use std::net::{Net, SocketAddr};
+use std::rt::Clock;
+use std::time::{Duration, Instant};
+
+/// The token of the listener; a connection's is its place and one more.
+const LISTENER: usize = 0;
+
+/// The longest wait of a turn, in milliseconds.
+const WAIT_MILLIS: u64 = 100;
+
+/// How many events a turn takes, at most.
+const EVENTS_MAX: usize = 256;
+
+/// How many connections are taken in a turn, at most.
+const ACCEPTS_MAX: u32 = 64;
+
+/// Why a house serves no longer.
+#[derive(Debug, thiserror::Error, Drop)]
+pub enum HouseFault {
+    #[error("the system refuses to wait for an event: {0}")]
+    Wait(io::Error),
+    /// Nothing of the round was sent.
+    #[error("the answers of a round do not stand")]
+    Unsettled,
+}
+
+/// A listener and its connections.
+#[derive(Drop)]
+pub struct House<S: Settle + Drop> {
+    listener: TcpListener,
+    poll: Poll,
+    events: Events,
+    opened: Instant,
+    /// Whether a connection may wait of which the listener does not tell again.
+    may_have_more: bool,
+    rounds: Rounds<S, TcpStream>,
+}
+
+impl<S: Settle + Drop> House<S> {
+    ghost use Rattle.service.specs.Houses.{served_by, HasTurned, HasFailed};
+
+    /// Listens at an address; with port 0 the system chooses one. The names of fields are kept in
+    /// maps with these keys. Fails if the system refuses a call, or out of memory.
+    pub fn open<N: Net + Clock>(
+        net: &N,
+        alloc: Global,
+        keys: RandomState,
+        address: SocketAddr,
+        limits: Limits,
+        service: S,
+    ) -> io::Result<House<S>> {
+        let mut listener = TcpListener::bind(net, address)?;
+        let poll = Poll::new(net)?;
+        let events = Events::with_capacity(alloc, EVENTS_MAX)?;
+        poll.registry()
+            .register(&mut listener, Token(LISTENER), Interest::READABLE)?;
+        Ok(House {
+            listener,
+            poll,
+            events,
+            opened: Instant::now(net)?,
+            may_have_more: false,
+            rounds: Rounds::new(alloc, keys, limits, service),
+        })
+    }
+
+    /// The address at which it listens.
+    pub fn local_addr(&self) -> io::Result<SocketAddr> {
+        self.listener.local_addr()
+    }
+
+    /// One round: waits for an event, 100 ms at most, reads what has come, has it answered, has that
+    /// settled, and sends; then ends the connections that are done or late.
+    ///
+    /// After a fault the house is good for nothing more.
+    pub fn turn<R: Clock>(&mut self, rt: &R) -> Result<(), HouseFault>
+        ensures { MatchResult result
+            (λ _. HasTurned (WithDenials S.answers) S.settles (served_by self.old) (served_by self.new))
+            (HasFailed (WithDenials S.answers) S.settles (served_by self.old) (served_by self.new)) }
+    {
+        let wait = if self.rounds.is_any_ready() {
+            0
+        } else {
+            WAIT_MILLIS
+        };
+        if let Err(error) = self
+            .poll
+            .poll(&mut self.events, Some(Duration::from_millis(wait)))
+        {
+            return Err(HouseFault::Wait(error));
+        }
+        let now = millis_since(rt, &self.opened);
+        if note_ready(&self.events, &mut self.rounds) || self.may_have_more {
+            self.accept(now);
+        }
+        if self.rounds.round(now).is_err() {
+            return Err(HouseFault::Unsettled);
+        }
+        self.rounds.clear(now);
+        Ok(())
+    }
+
+    /// The service, lent.
+    pub fn service(&self) -> &S
+        ensures { result.now ≡ served_by self.now }
+    {
+        self.rounds.service()
+    }
+
+    /// How many connections there are.
+    pub fn connections(&self) -> usize {
+        self.rounds.connections()
+    }
+
+    pub fn counts(&self) -> Counts {
+        self.rounds.counts()
+    }
+
+    /// Takes new connections in.
+    fn accept(&mut self, now: u64)
+        ensures { served_by self.new ≡ served_by self.old }
+    {
+        self.may_have_more = true;
+        for _ in 0..ACCEPTS_MAX {
+            match self.listener.accept() {
+                Ok((socket, _)) => self.seat(socket, now),
+                Err(error) => {
+                    // Only after this one the listener tells of the next connection.
+                    self.may_have_more = error.kind() != ErrorKind::WouldBlock;
+                    return;
+                }
+            }
+        }
+    }
+
+    /// Gives a connection a place, or says that there is none.
+    fn seat(&mut self, mut socket: TcpStream, now: u64)
+        ensures { served_by self.new ≡ served_by self.old }
+    {
+        let _ = socket.set_nodelay(true);
+        let Ok(Some(place)) = self.rounds.free_place() else {
+            refuse(&mut socket);
+            self.rounds.count_refused();
+            return;
+        };
+        let interest = Interest::READABLE | Interest::WRITABLE;
+        if self
+            .poll
+            .registry()
+            .register(&mut socket, Token(place.saturating_add(1)), interest)
+            .is_ok()
+        {
+            self.rounds.seat(place, socket, now);
+        }
+    }
+}
+
+/// Notes which connections may be read or written. Whether a new one has come.
+fn note_ready<S: Settle + Drop>(events: &Events, rounds: &mut Rounds<S, TcpStream>) -> bool
+    ensures { service_of rounds.new ≡ service_of rounds.old }
+{
+    let mut has_come = false;
+    for event in events.iter() {
+        let Token(token) = event.token();
+        if token == LISTENER {
+            has_come = true;
+        } else {
+            rounds.note_ready(token - 1);
+        }
+    }
+    has_come
+}

@@ -1,0 +1,181 @@
+//! One round of all connections.
+
+ghost use Rattle.std.specs.Prelude.{◌≡◌, map, MatchResult, IsFalse};
+ghost use Rattle.service.specs.Denials.{WithDenials};
+ghost use Rattle.service.specs.Rounds.{Leads, HasEnded, IsLost, IsUnsent, sent_at, calls_at};
+
+use crate::guest::{Guest, Heard, Told};
+use crate::held::Held;
+use crate::socket::Socket;
+use http_server::Settle;
+use std::io::{Read, Write};
+
+/// The answers of a round do not stand, and nothing of it was sent.
+#[derive(Clone, Copy, Debug, PartialEq, Eq)]
+pub struct Unsettled;
+
+/// Hears each connection that may have something, has the round settled, and sends. Whether any was
+/// heard. From so many bytes on that are held in all, only the connection whose request began first
+/// is read.
+pub(crate) fn round<S: Settle + Drop, T: Socket>(
+    guests: &mut [Option<Guest>],
+    sockets: &mut [Option<T>],
+    service: &mut Held<S>,
+    now: u64,
+    held_max: usize,
+) -> Result<bool, Unsettled>
+    ensures { MatchResult result
+        (HasEnded (WithDenials S.answers) S.settles service.old.inner service.new.inner guests.old guests.new)
+        (λ _. IsLost (WithDenials S.answers) S.settles service.old.inner service.new.inner guests.old guests.new) }
+{
+    if !hear_all(guests, sockets, service, now, held_max) {
+        return Ok(false);
+    }
+    if !service.inner.settle() {
+        return Err(Unsettled);
+    }
+    tell_all(guests, sockets, now);
+    Ok(true)
+}
+
+/// Hears each connection that may have something. Whether there was one.
+fn hear_all<S: Settle + Drop, T: Socket>(
+    guests: &mut [Option<Guest>],
+    sockets: &mut [Option<T>],
+    service: &mut Held<S>,
+    now: u64,
+    held_max: usize,
+) -> bool
+    ensures calls { Leads (WithDenials S.answers) service.old.inner service.new.inner }
+    ensures none { IsFalse result → service.new.inner ≡ service.old.inner }
+    ensures unsent { IsUnsent guests.old guests.new }
+{
+    let mut is_any = false;
+    let mut held = held_bytes(guests);
+    let first = first_reader(guests);
+    let count = guests.len().min(sockets.len());
+    for index in 0..count {
+        let may_read = held < held_max || first == index;
+        let before = most_at(&guests[index]);
+        if hear_at(
+            &mut guests[index],
+            &mut sockets[index],
+            service,
+            now,
+            may_read,
+        ) {
+            is_any = true;
+        }
+        held = held
+            .saturating_sub(before)
+            .saturating_add(most_at(&guests[index]));
+    }
+    is_any
+}
+
+/// Hears a connection, if it may have something. Whether it may.
+fn hear_at<S: Settle + Drop, T: Socket>(
+    place: &mut Option<Guest>,
+    socket: &mut Option<T>,
+    service: &mut Held<S>,
+    now: u64,
+    may_read: bool,
+) -> bool
+    ensures calls { Leads (WithDenials S.answers) service.old.inner service.new.inner }
+    ensures none { IsFalse result → service.new.inner ≡ service.old.inner }
+    ensures unsent { sent_at place.new ≡ sent_at place.old }
+{
+    let Some(guest) = place else {
+        return false;
+    };
+    let Some(socket) = socket else {
+        return false;
+    };
+    if !guest.is_ready || guest.is_gone {
+        return false;
+    }
+    if guest.leaving.is_some() {
+        guest.drain(socket);
+        return false;
+    }
+    guest.is_heard = true;
+    match guest.hear(socket, service, now, may_read) {
+        Heard::All => guest.is_ready = false,
+        Heard::More => {}
+        Heard::Failed => guest.is_gone = true,
+    }
+    true
+}
+
+/// Sends what waits at each connection that was heard.
+fn tell_all<T: Socket>(guests: &mut [Option<Guest>], sockets: &mut [Option<T>], now: u64)
+    ensures { map calls_at guests.new ≡ map calls_at guests.old }
+{
+    let count = guests.len().min(sockets.len());
+    for index in 0..count {
+        tell_at(&mut guests[index], &mut sockets[index], now);
+    }
+}
+
+/// Sends what waits at a connection, if it was heard.
+fn tell_at<T: Socket>(place: &mut Option<Guest>, socket: &mut Option<T>, now: u64)
+    ensures { calls_at place.new ≡ calls_at place.old }
+{
+    let Some(guest) = place else {
+        return;
+    };
+    let Some(socket) = socket else {
+        return;
+    };
+    if !guest.is_heard {
+        return;
+    }
+    guest.is_heard = false;
+    match guest.tell(socket, now) {
+        Told::Failed => guest.is_gone = true,
+        // The socket's next event says that it takes more.
+        Told::Blocked => guest.is_ready = false,
+        Told::More => guest.is_ready = true,
+        Told::All => {
+            if guest.connection.is_done() {
+                guest.leave(socket, now);
+            }
+        }
+    }
+}
+
+/// The most bytes of requests that each connection held at once, in all: it keeps its largest block.
+pub(crate) fn held_bytes(guests: &[Option<Guest>]) -> usize {
+    let mut held: usize = 0;
+    for place in guests {
+        held = held.saturating_add(most_at(place));
+    }
+    held
+}
+
+fn most_at(place: &Option<Guest>) -> usize {
+    match place {
+        Some(guest) => guest.most,
+        None => 0,
+    }
+}
+
+/// The index of the connection whose request began first; where none has begun, of one that may
+/// have something. The number of connections, if there is none.
+pub(crate) fn first_reader(guests: &[Option<Guest>]) -> usize {
+    let mut first = guests.len();
+    let mut earliest = u64::MAX;
+    for index in 0..guests.len() {
+        let Some(guest) = &guests[index] else {
+            continue;
+        };
+        let begun = guest.begun.unwrap_or(u64::MAX);
+        if begun < earliest
+            || (first == guests.len() && (guest.is_ready || guest.begun.is_some()))
+        {
+            first = index;
+            earliest = begun;
+        }
+    }
+    first
+}
