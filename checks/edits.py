@@ -1,8 +1,8 @@
 """The wrong bodies crates/NAME/must-fail/*.edit: what each changes, and in which functions of its crate.
 
 An edit is a line `file: PATH`, and then pairs of lines `old: TEXT` and `new: TEXT`; each old text is in the file exactly once. Functions
-are found by the layout of rt fmt, and named as the prover names them: by the module of their type, and of a trait's method by the type and
-the trait.
+are found by the layout of rt fmt, and named as the prover names them: by the module of their type, and of a trait's method by the type, the
+trait and the trait's arguments.
 """
 
 import collections
@@ -10,7 +10,7 @@ import os
 import re
 
 HEAD = re.compile(r"( *)(?:pub(?:\([^)]*\))? )?(?:const )?fn (\w+)")
-IMPL = re.compile(r"( *)(?:impl\b(?:<.*?>)? (?:(?P<trait>[\w:]+)(?:<.*>)? for )?|(?:pub )?trait )(?P<type>\w+)")
+IMPL = re.compile(r"( *)(?:impl\b(?:<.*?>)? (?:(?P<trait>[\w:]+)(?:<(?P<arguments>.*)>)? for )?|(?:pub )?trait )(?P<type>\w+)")
 TYPE = re.compile(r"^(?:pub(?:\([^)]*\))? )?(?:struct|enum|trait|union) (\w+)", re.M)
 # What ends an item, or begins another one.
 ENDS = re.compile(r"\}|(?:pub(?:\([^)]*\))? )?(?:struct|enum|const|static|type|use|impl|trait|mod|macro_rules!)\b")
@@ -66,7 +66,7 @@ class Sources:
         found = next((it for it in above if it and len(it[1]) < len(indent)), None)
         if not found:
             return None
-        of_trait = (found["trait"] or "").rpartition("::")[2]
+        of_trait = (found["trait"] or "").rpartition("::")[2] + argument_words(found["arguments"] or "", found["type"])
         return "::".join([*self.modules.get(found["type"], module_of(file)), found["type"] + of_trait, name])
 
     def functions(self):
@@ -75,6 +75,12 @@ class Sources:
                 function = self.function_at(file, head.end())
                 if function:
                     yield function
+
+
+def argument_words(arguments, of_type):
+    """What the prover puts behind a trait's name for its arguments: their words, but for the type itself."""
+    words = ["Unit" if it == "()" else it[0].upper() + it[1:] for it in re.findall(r"\w+|\(\)", arguments)]
+    return "".join(it for it in words if it != of_type)
 
 
 def module_of(file):

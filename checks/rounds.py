@@ -17,6 +17,8 @@ HOLE = "use {statement}.{{statement}}\n\npub {name}_spec : {{M : Type 1}} → st
 NO_BODY = "unreachable!()"
 # A hole that the prover has no use for.
 UNWANTED = re.compile(r"\./proofs/(\S+)/Proof\.antt: error(?:\[reserved-name\]|: rattle does not read this file)")
+# The path of a function that is asked for, and that the prover knows under another name.
+UNKNOWN = re.compile(r"rattle: error: `\w+` has no function `([^`]+)`")
 PLACE = re.compile(r"(?:note: )?(?:\./)?((?:src|specs|proofs)/\S+?):(\d+):\d+: (.*)")
 # What a proof file says because a text names what an edit took away, or because something else is not proved.
 NO_REASON = re.compile(r"has no field|is not in scope|has no `|was not admitted|depends on .* rejected")
@@ -131,13 +133,21 @@ class Crate:
             words += ["--allow-holes", *(it for path in sorted(functions) for it in ("--only", path))]
         checked = run(words, copy)
         shutil.rmtree(copy)
+        unknown = functions & {it for line in checked.lines for it in UNKNOWN.findall(line)}
+        if unknown:
+            return self.check_again(edits, functions - unknown, room, empties, checked, unknown)
         unwanted = {it.replace("/", "::") for line in checked.lines for it in UNWANTED.findall(line)} - self.keep
         is_read = not functions or checked.status < 0 or any(it.startswith("only=") for it in checked.lines)
         if not unwanted and (is_read or not empties):
             return checked
         # The prover says so at once, before it proves anything: there is no such hole, or the text is not read, with its bodies or without.
-        self.keep |= unwanted
-        again = self.check(edits, functions, room, empties and bool(unwanted))
+        return self.check_again(edits, functions, room, empties and bool(unwanted), checked, unwanted)
+
+    def check_again(self, edits, functions, room, empties, checked, keep):
+        """Checks once more, where a check judged nothing: with the proofs of these functions as they are. None is left if the prover knows
+        none of them."""
+        self.keep |= keep
+        again = self.check(edits, functions, room, empties) if functions else checked
         return again._replace(seconds=checked.seconds + again.seconds)
 
 
