@@ -54,10 +54,14 @@ fn inserts<L: Origin, R: Wait>(
 ) -> Option<()>
     requires { 0 < L.workers }
 {
-    let mut transaction = seat.begin(alloc).ok()?;
+    let Ok(mut transaction) = seat.begin(alloc) else {
+        return None;
+    };
     let values = [Value::Int(5), Value::Int(-1)];
     seat.insert(&mut transaction, 0, RowId(row), &values).ok()?;
-    line.commit(rt, seat, transaction, 0).ok()?;
+    let Ok(_) = line.commit(rt, seat, transaction, 0) else {
+        return None;
+    };
     line.flush(rt, seat, usize::MAX).ok()?;
     Some(())
 }
@@ -100,7 +104,41 @@ fn has_pushed<L: Origin>(node: &PrimaryNode<L, MemPort>, seqs: &[u8]) -> bool {
     true
 }
 
-/// Whether a node pushes just these frames, on a line of this primary.
+/// Whether a node that takes the steps pushes just these frames.
+fn pushes_these<L: Origin, R: Wait>(
+    rt: &R,
+    alloc: Global,
+    line: &Line<L, MemJournal, &R>,
+    seat: &mut Seat<L>,
+    node: &mut PrimaryNode<L, MemPort>,
+) -> Option<bool>
+    requires { 0 < L.workers }
+{
+    let mut row: u64 = 0;
+    for step in &STEPS {
+        takes(rt, alloc, line, seat, node, *step, row)?;
+        row = row.saturating_add(1);
+    }
+    Some(has_pushed(node, &PUSHED))
+}
+
+/// Whether a node of a line pushes so, beside a seat that commits.
+fn pushes_on<L: Origin, R: Wait>(
+    rt: &R,
+    alloc: Global,
+    line: &Line<L, MemJournal, &R>,
+) -> Option<bool>
+    requires { 0 < L.workers }
+{
+    let mut seat = line.seat(rt)?;
+    let of_node = line.seat(rt)?;
+    let Ok(mut node) = PrimaryNode::new(alloc, of_node, MemPort::new(alloc), 2) else {
+        return None;
+    };
+    pushes_these(rt, alloc, line, &mut seat, &mut node)
+}
+
+/// Whether a node pushes so, on a line of this primary.
 fn pushes_so<L: Origin, R: Wait>(
     rt: &R,
     alloc: Global,
@@ -116,15 +154,10 @@ fn pushes_so<L: Origin, R: Wait>(
     requires seats { start.seats ≡ L.seats }
 {
     core.keeps_legal();
-    let line = Line::<L, MemJournal, &R>::new(alloc, rt, core, start).ok()?;
-    let mut seat = line.seat(rt)?;
-    let mut node = PrimaryNode::new(alloc, line.seat(rt)?, MemPort::new(alloc), 2).ok()?;
-    let mut row: u64 = 0;
-    for step in STEPS {
-        takes(rt, alloc, &line, &mut seat, &mut node, step, row)?;
-        row = row.saturating_add(1);
-    }
-    Some(has_pushed(&node, &PUSHED))
+    let Ok(line) = Line::<L, MemJournal, &R>::new(alloc, rt, core, start) else {
+        return None;
+    };
+    pushes_on(rt, alloc, &line)
 }
 
 #[test]

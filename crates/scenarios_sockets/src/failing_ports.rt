@@ -158,10 +158,14 @@ fn insert_seven<L: Origin, R: Wait>(
 ) -> Option<()>
     requires { 1 < L.workers }
 {
-    let mut transaction = seat.begin(alloc).ok()?;
+    let Ok(mut transaction) = seat.begin(alloc) else {
+        return None;
+    };
     let values = [Value::Int(5), Value::Int(-1)];
     seat.insert(&mut transaction, 0, RowId(7), &values).ok()?;
-    line.commit(rt, seat, transaction, 0).ok()?;
+    let Ok(_) = line.commit(rt, seat, transaction, 0) else {
+        return None;
+    };
     line.flush(rt, seat, usize::MAX).ok()?;
     Some(())
 }
@@ -248,7 +252,9 @@ fn sends_as<L: Origin, R: Wait>(
     port.fail_after(calls);
     deliver(alloc, &mut port, &ASK)?;
     deliver(alloc, &mut port, &WANT)?;
-    let mut node = PrimaryNode::new(alloc, seat, port, 2).ok()?;
+    let Ok(mut node) = PrimaryNode::new(alloc, seat, port, 2) else {
+        return None;
+    };
     let failed = failures_of_primary(rt, line, &mut node)?;
     let faults = if calls < 6 { 1 } else { 0 };
     let is_told = tells_of_asked(&mut node);
@@ -257,6 +263,25 @@ fn sends_as<L: Origin, R: Wait>(
     let is_counted = node.traffic() == traffic_of(ending, 0) && port.faults() == faults;
     let is_so = are_named(port.sent(), sending.0) && failed == sending.1;
     Some((is_so && is_counted && is_told, node.into_seat()))
+}
+
+/// Whether a primary with one frame sends what it is to send, whichever call of its port fails.
+fn sends_each<L: Origin, R: Wait>(
+    rt: &R,
+    alloc: Global,
+    line: &Line<L, MemJournal, &R>,
+    mut seat: Seat<L>,
+) -> Option<bool> {
+    let mut calls: u64 = 0;
+    for sending in &SENDINGS {
+        let (is_so, same_seat) = sends_as(rt, alloc, line, seat, calls, *sending)?;
+        if !is_so {
+            return Some(false);
+        }
+        seat = same_seat;
+        calls = calls.saturating_add(1);
+    }
+    Some(true)
 }
 
 /// Whether a primary of one row sends what it is to send, whichever call of its port fails.
@@ -277,19 +302,12 @@ fn sends_all<L: Origin, R: Wait>(
     if core.workers() < 2 {
         return None;
     }
-    let line = Line::<L, MemJournal, &R>::new(alloc, rt, core, start).ok()?;
+    let Ok(line) = Line::<L, MemJournal, &R>::new(alloc, rt, core, start) else {
+        return None;
+    };
     let mut seat = line.seat(rt)?;
     insert_seven(rt, alloc, &line, &mut seat)?;
-    let mut calls: u64 = 0;
-    for sending in &SENDINGS {
-        let (is_so, same_seat) = sends_as(rt, alloc, &line, seat, calls, *sending)?;
-        if !is_so {
-            return Some(false);
-        }
-        seat = same_seat;
-        calls = calls.saturating_add(1);
-    }
-    Some(true)
+    sends_each(rt, alloc, &line, seat)
 }
 
 #[test]
