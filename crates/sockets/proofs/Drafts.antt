@@ -33,7 +33,8 @@ use Rattle.sockets.specs.declared.step.Step.{Step}
 use Rattle.sockets.specs.declared.step.Step.TheVariants as steps
 use Rattle.sockets.specs.Answers.{IsDraft, IsCommitted, IsStepRefused, IsRefused, IsJobAnswer, IsSeatAfter}
 use Rattle.sockets.specs.Changes.{change_answer, condition_answer, has_value, is_missing, refused_at, step_answer, steps_answer, and_then}
-use Rattle.sockets.specs.Inner.Jobs.{IsPending, IsStop, IsStopped, IsUncommitted}
+use Rattle.sockets.specs.Inner.Jobs.{IsStop, IsStopped, IsUncommitted}
+use Rattle.sockets.specs.JobSeats.{IsPending}
 use Rattle.sockets.proofs.Beginnings.{prefix_length, take-begun}
 
 -- a change answers the same on a longer list, since the rows at its snapshot are the same

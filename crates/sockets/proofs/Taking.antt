@@ -18,8 +18,9 @@ use Rattle.sockets.specs.declared.job.Job.{Job}
 use Rattle.sockets.specs.declared.job_answer.JobAnswer.{JobAnswer}
 use Rattle.sockets.specs.declared.job_answer.JobAnswer.TheVariants as variants
 use Rattle.sockets.specs.Answers.{IsJobAnswer}
-use Rattle.sockets.specs.Inner.Jobs.{IsPending, IsUncommitted}
-use Rattle.sockets.specs.Inner.JobSeats.{JobSeatState, HasTaken, HasEnded, GoesOn, Ends, AreSettled, ticket_answer, outcomes}
+use Rattle.sockets.specs.Inner.Jobs.{IsUncommitted}
+use Rattle.sockets.specs.Inner.JobSeats.{AreSettled}
+use Rattle.sockets.specs.JobSeats.{JobSeatState, IsPending, HasTaken, HasEnded, GoesOn, Ends, ticket_answer, outcomes}
 use Rattle.sockets.specs.Work.{jobs_of, ticket_count, last_ticket, IsRising, shared_jobs_max}
 use Rattle.sockets.proofs.Beginnings.{commit_at-begun, prefix_self, prefix_trans, prefix_length}
 use Rattle.sockets.proofs.Drafts.{pending-begun, pending-stands}
@@ -104,6 +105,54 @@ taken-later workers shape lost first jobs old new t legal later seat answers pen
     share : new.seat.share ≡ old.seat.share
     share = ap (λ (s : SeatState). s.share) seat
 
+-- the answers with that of a job whose commit is pending
+pub outcomes-pending : (old new : JobSeatState) (ticket : Ticket) → new.answers ≡ old.answers → new.pending ≡ old.pending ++ ticket ∷ []
+    → outcomes new ≡ outcomes old ++ ticket_answer ticket ∷ []
+outcomes-pending old new ticket answers pending =
+    ap (λ tickets. new.answers ++ map ticket_answer tickets) pending
+    ∙ (ap (λ rest. new.answers ++ rest) (map-append ticket_answer old.pending (ticket ∷ []))
+    ∙ (ap (λ told. told ++ (map ticket_answer old.pending ++ ticket_answer ticket ∷ [])) answers
+    ∙ sym (append_assoc old.answers (map ticket_answer old.pending) (ticket_answer ticket ∷ []))))
+
+-- and with one more, where nothing is pending
+pub outcomes-answered : (old new : JobSeatState) (answer : JobAnswer) → old.pending ≡ [] → new.answers ≡ old.answers ++ answer ∷ []
+    → new.pending ≡ [] → outcomes new ≡ outcomes old ++ answer ∷ []
+outcomes-answered old new answer idle told pending =
+    ap (λ tickets. new.answers ++ map ticket_answer tickets) pending
+    ∙ (append-nil new.answers
+    ∙ (told
+    ∙ ap (λ front. front ++ answer ∷ [])
+    (sym (ap (λ tickets. old.answers ++ map ticket_answer tickets) idle ∙ append-nil old.answers))))
+
+-- and of the same jobs
+pub outcomes-same : (old new : JobSeatState) → new.answers ≡ old.answers → new.pending ≡ old.pending → outcomes new ≡ outcomes old
+outcomes-same old new answers pending = rw (answers, pending) refl
+
+-- where so many tickets were settled, they are the first of those before
+outcomes-some : (count : ℕ) (list : List Commit) (old new : JobSeatState) → AreSettled count old.pending list old.answers new.answers
+    → new.pending ≡ [] → outcomes old ≡ outcomes new ++ map ticket_answer (drop count old.pending)
+outcomes-some count list old new settled pending =
+    ap (λ tickets. old.answers ++ map ticket_answer tickets) (sym (take-append-drop count old.pending))
+    ∙ (ap (λ more. old.answers ++ more) (map-append ticket_answer (take count old.pending) (drop count old.pending))
+    ∙ (sym (append_assoc old.answers (map ticket_answer (take count old.pending)) (map ticket_answer (drop count old.pending)))
+    ∙ ap (λ now. now ++ map ticket_answer (drop count old.pending))
+    (sym (ap (λ tickets. new.answers ++ map ticket_answer tickets) pending ∙ (append-nil new.answers ∙ settled.kept)))))
+
+-- what was pending was settled, or a fault ended it: no answer has changed
+pub outcomes-settled : {A : Type 0} (list : List Commit) (old new : JobSeatState) (result : Result A WorkersFault)
+    → new.pending ≡ []
+    → MatchResult result (λ _. AreSettled (length old.pending) old.pending list old.answers new.answers)
+    (λ fault. (count : ℕ) × AreSettled count old.pending list old.answers new.answers)
+    → MatchResult result (λ _. outcomes new ≡ outcomes old) (λ _. IsPrefix (outcomes new) (outcomes old))
+outcomes-settled list old new (Ok none) pending settled =
+    sym (outcomes-some (length old.pending) list old new settled pending
+    ∙ (ap (λ (tickets : List Ticket). outcomes new ++ map ticket_answer tickets) (drop_all (length old.pending) old.pending (omega arith))
+    ∙ append-nil (outcomes new)))
+outcomes-settled list old new (Err fault) pending settled = (
+  map ticket_answer (drop settled.0 old.pending),
+  sym (outcomes-some settled.0 list old new settled.1 pending),
+)
+
 -- one job more whose commit is pending
 pub taken-pending : (workers : ℕ) (shape : Shape) (first : SeatState) (jobs : List Job) (job : Job) (old new : JobSeatState)
     (ticket : Ticket) → HasTaken workers shape 0 first jobs old → length old.pending < shared_jobs_max
@@ -138,11 +187,7 @@ taken-pending workers shape first jobs job old new ticket t room legal later is 
 }
   where
     more : outcomes new ≡ outcomes old ++ variants.Ticket ticket.number ∷ []
-    more =
-        ap (λ tickets. new.answers ++ map ticket_answer tickets) pending
-        ∙ (ap (λ rest. new.answers ++ rest) (map-append ticket_answer old.pending (ticket ∷ []))
-        ∙ (ap (λ told. told ++ (map ticket_answer old.pending ++ ticket_answer ticket ∷ [])) answers
-        ∙ sym (append_assoc old.answers (map ticket_answer old.pending) (ticket_answer ticket ∷ []))))
+    more = outcomes-pending old new ticket answers pending
 
     last : new.seat.last ≡ ticket.number
     last = ap (λ (s : SeatState). s.last) seat
@@ -210,12 +255,7 @@ taken-answered workers shape first jobs job old new answer t idle legal later is
         ∙ ap length idle)
 
     more : outcomes new ≡ outcomes old ++ answer ∷ []
-    more =
-        ap (λ tickets. new.answers ++ map ticket_answer tickets) pending
-        ∙ (append-nil new.answers
-        ∙ (told
-        ∙ ap (λ front. front ++ answer ∷ [])
-        (sym (ap (λ tickets. old.answers ++ map ticket_answer tickets) idle ∙ append-nil old.answers))))
+    more = outcomes-answered old new answer idle told pending
 
     last : new.seat.last ≡ old.seat.last
     last = ap (λ (s : SeatState). s.last) seat

@@ -13,8 +13,9 @@ use Rattle.sockets.specs.declared.faults.WorkersFault.TheVariants.{NoSeat}
 use Rattle.sockets.specs.declared.job.Job.{Job}
 use Rattle.sockets.specs.declared.job_answer.JobAnswer.{JobAnswer}
 use Rattle.sockets.specs.Answers.{IsJobAnswer}
-use Rattle.sockets.specs.Inner.Jobs.{HasMet, IsPending}
-use Rattle.sockets.specs.Inner.JobSeats.{JobSeatState, HasTaken, HasEnded, GoesOn, Ends, outcomes, fault_of}
+use Rattle.sockets.specs.Inner.Jobs.{HasMet}
+use Rattle.sockets.specs.Inner.JobSeats.{fault_of}
+use Rattle.sockets.specs.JobSeats.{JobSeatState, IsPending, HasTaken, HasEnded, GoesOn, Ends, outcomes}
 use Rattle.sockets.specs.Work.{jobs_of, ticket_count, last_ticket, IsRising, unanswered_max, HasWorked}
 use Rattle.sockets.specs.Worker.{WorkerState}
 use Rattle.sockets.proofs.Beginnings.{prefix_self, prefix_trans}

@@ -10,6 +10,7 @@ pub mod Changes
 pub mod Answers
 pub mod Worker
 pub mod Work
+pub mod JobSeats
 pub mod Crews
 pub mod Feeding
 pub mod Inner

@@ -1,11 +1,12 @@
 //! A seat at which the jobs of one worker are done, several with one flush.
 
-ghost use Rattle.std.specs.Prelude.{◌≡◌, ◌+◌, ◌<◌, ◌≤◌, ℕ, [], ◌∷◌, length, true, if◌then◌else◌, IfErr, IfOk, MatchResult};
+ghost use Rattle.std.specs.Prelude.{◌≡◌, ◌+◌, ◌<◌, ◌≤◌, ℕ, [], ◌∷◌, ◌++◌, length, true, is_some, IfErr, IfOk, MatchResult};
 ghost use Rattle.std.specs.Prelude.{vec_capacity};
 ghost use mathlib.Core.List.{IsPrefix};
 ghost use Rattle.rows.specs.Shape.{shape_of};
 ghost use Rattle.journal.specs.Recovery.{IsJournaled};
-ghost use Rattle.sockets.specs.Inner.JobSeats.{AreSettled, GoesOn, Ends};
+ghost use Rattle.sockets.specs.Inner.JobSeats.{AreSettled, told_of, taken_of};
+ghost use Rattle.sockets.specs.JobSeats.{GoesOn, Ends, outcomes};
 ghost use Rattle.sockets.specs.Work.{jobs_of, shared_jobs_max};
 
 use crate::doing::{Attempt, commit_job, flushed, settled};
@@ -26,9 +27,9 @@ pub const SHARED_JOBS_MAX: usize = 1024;
 /// A seat with the answers of the first jobs that were done at it, and the tickets of the jobs after
 /// them, whose commits are pending.
 ///
-/// There is room for the answers of these.
+/// Contracts see the seat, these answers and these tickets. There is room for the answers of all.
 #[derive(Drop)]
-pub(crate) struct JobSeat<L: Origin> {
+pub struct JobSeat<L: Origin> {
     seat: Seat<L>,
     answers: Vec<JobAnswer>,
     pending: Vec<Ticket>,
@@ -36,7 +37,7 @@ pub(crate) struct JobSeat<L: Origin> {
 
 impl<L: Origin> Model for JobSeat<L> {
     ghost use Rattle.std.specs.Prelude.{◌+◌, ◌≤◌, vec_capacity, vec_len};
-    ghost use Rattle.sockets.specs.Inner.JobSeats.{JobSeatState};
+    ghost use Rattle.sockets.specs.JobSeats.{JobSeatState};
     ghost use Rattle.sockets.specs.Work.{shared_jobs_max};
 
     ghost Value = { JobSeatState };
@@ -58,7 +59,7 @@ impl<L: Origin> JobSeat<L> {
         }
     }
 
-    /// The answers so far, lent.
+    /// The answers so far, of the first jobs, lent.
     pub fn answers(&self) -> &[JobAnswer]
         ensures { result.now ≡ self.now.answers }
     {
@@ -85,7 +86,7 @@ impl<L: Origin> JobSeat<L> {
 
     /// Takes all jobs of the worker of that number, in their order, up to the first one that ends by a
     /// fault. It may wait.
-    pub fn takes_all<J: JournalStore + Drop, R: Wait + Drop, W: Wait, G: Gate>(
+    pub(crate) fn takes_all<J: JournalStore + Drop, R: Wait + Drop, W: Wait, G: Gate>(
         &mut self,
         rt: &W,
         alloc: Global,
@@ -102,7 +103,7 @@ impl<L: Origin> JobSeat<L> {
         for (index, job) in jobs.iter().enumerate() {
             if job.worker as usize == number {
                 match self.takes(rt, alloc, line, index, job, gate) {
-                    Ok(()) => {}
+                    Ok(_) => {}
                     Err(fault) => return Err(fault),
                 }
             }
@@ -110,14 +111,17 @@ impl<L: Origin> JobSeat<L> {
         Ok(())
     }
 
-    /// Takes a job of the worker: it is answered, or its commit is pending. It may wait.
+    /// Takes a job of its worker: it is answered, or its commit is pending. Returns what it is answered, a
+    /// ticket also where the commit is pending: then only if `settles` ends well it is durable. It may
+    /// wait.
     ///
-    /// Jobs of one worker may share a flush where nothing tells them apart from jobs that are done one
-    /// after the other. So what is pending is settled before a job that has a condition, and a job
-    /// that is refused or in conflict while something is pending is done again after that is settled;
-    /// only the second answer counts.
+    /// Jobs may share a flush where nothing tells them apart from jobs that are done one after the
+    /// other. So what is pending is settled before a job that has a condition, and a job that is refused
+    /// or in conflict while something is pending is done again after that is settled; only the second
+    /// answer counts.
     ///
-    /// Fails as `do_job` does. If it was to be settled, what is pending then stays unanswered.
+    /// The gate is notified before and after each commit; `index` is the job's number for the gate. Fails
+    /// as `do_job` does. If it was to be settled, what is pending then stays unanswered.
     pub fn takes<J: JournalStore + Drop, R: Wait + Drop, W: Wait, G: Gate>(
         &mut self,
         rt: &W,
@@ -126,10 +130,12 @@ impl<L: Origin> JobSeat<L> {
         index: usize,
         job: &Job,
         gate: &G,
-    ) -> Result<(), WorkersFault>
+    ) -> Result<JobAnswer, WorkersFault>
         requires { job.now.worker < L.workers }
         ensures taken { MatchResult result (λ _. GoesOn L.workers (shape_of L.schema) 0 (job.now ∷ []) self.old self.new)
             (λ fault. Ends L.workers (shape_of L.schema) 0 [] self.old self.new) }
+        ensures kept { MatchResult result (λ answer. outcomes self.new ≡ outcomes self.old ++ answer ∷ [])
+            (λ _. IsPrefix (outcomes self.new) (outcomes self.old)) }
         ensures fault { IfErr result (λ fault. ¬ (fault ≡ WorkersFault.NoSeat)) }
     {
         match self.makes_way(rt, line, job) {
@@ -137,8 +143,8 @@ impl<L: Origin> JobSeat<L> {
             Err(fault) => return Err(fault),
         }
         match self.tries(rt, alloc, line, index, job, gate) {
-            Ok(true) => Ok(()),
-            Ok(false) => self.tries_again(rt, alloc, line, index, job, gate),
+            Ok(Some(answer)) => Ok(answer),
+            Ok(None) => self.tries_again(rt, alloc, line, index, job, gate),
             Err(fault) => Err(fault),
         }
     }
@@ -152,6 +158,8 @@ impl<L: Origin> JobSeat<L> {
     ) -> Result<(), WorkersFault>
         ensures settled { MatchResult result (λ _. GoesOn L.workers (shape_of L.schema) 0 [] self.old self.new)
             (λ fault. Ends L.workers (shape_of L.schema) 0 [] self.old self.new) }
+        ensures kept { MatchResult result (λ _. outcomes self.new ≡ outcomes self.old)
+            (λ _. IsPrefix (outcomes self.new) (outcomes self.old)) }
         ensures room { IfOk result (λ _. length self.new.pending < shared_jobs_max) }
         ensures fault { IfErr result (λ fault. ¬ (fault ≡ WorkersFault.NoSeat)) }
     {
@@ -170,10 +178,12 @@ impl<L: Origin> JobSeat<L> {
         index: usize,
         job: &Job,
         gate: &G,
-    ) -> Result<(), WorkersFault>
+    ) -> Result<JobAnswer, WorkersFault>
         requires { job.now.worker < L.workers }
         ensures taken { MatchResult result (λ _. GoesOn L.workers (shape_of L.schema) 0 (job.now ∷ []) self.old self.new)
             (λ fault. Ends L.workers (shape_of L.schema) 0 [] self.old self.new) }
+        ensures kept { MatchResult result (λ answer. outcomes self.new ≡ outcomes self.old ++ answer ∷ [])
+            (λ _. IsPrefix (outcomes self.new) (outcomes self.old)) }
         ensures fault { IfErr result (λ fault. ¬ (fault ≡ WorkersFault.NoSeat)) }
     {
         match self.settles(rt, line) {
@@ -181,12 +191,14 @@ impl<L: Origin> JobSeat<L> {
             Err(fault) => return Err(fault),
         }
         match self.tries(rt, alloc, line, index, job, gate) {
-            Ok(_) => Ok(()),
+            Ok(Some(answer)) => Ok(answer),
+            // Nothing is pending any more.
+            Ok(None) => unreachable!(),
             Err(fault) => Err(fault),
         }
     }
 
-    /// Tries a job: its commit is then pending, or, if nothing is pending, it is answered. `false`: it was
+    /// Tries a job: its commit is then pending, or, if nothing is pending, it is answered. `None`: it was
     /// refused or in conflict while something is pending, and that answer does not count.
     ///
     /// Room for the answer and the ticket is taken first, so that no answer is lost.
@@ -198,13 +210,15 @@ impl<L: Origin> JobSeat<L> {
         index: usize,
         job: &Job,
         gate: &G,
-    ) -> Result<bool, WorkersFault>
+    ) -> Result<Option<JobAnswer>, WorkersFault>
         requires worker { job.now.worker < L.workers }
         requires room { length self.old.pending < shared_jobs_max }
         ensures tried { MatchResult result
-            (λ taken. GoesOn L.workers (shape_of L.schema) 0 (if taken then job.now ∷ [] else []) self.old self.new)
+            (λ told. GoesOn L.workers (shape_of L.schema) 0 (taken_of job.now told) self.old self.new)
             (λ fault. GoesOn L.workers (shape_of L.schema) 0 [] self.old self.new) }
-        ensures taken { self.old.pending ≡ [] → IfOk result (λ taken. taken ≡ true) }
+        ensures kept { MatchResult result (λ told. outcomes self.new ≡ outcomes self.old ++ told_of told)
+            (λ _. outcomes self.new ≡ outcomes self.old) }
+        ensures taken { self.old.pending ≡ [] → IfOk result (λ told. is_some told ≡ true) }
         ensures fault { IfErr result (λ fault. ¬ (fault ≡ WorkersFault.NoSeat)) }
     {
         let JobSeat {
@@ -220,17 +234,18 @@ impl<L: Origin> JobSeat<L> {
         }
         let answer = match commit_job(rt, alloc, line, seat, index, job, gate) {
             Ok(Attempt::Pending(ticket)) => {
+                let answer = JobAnswer::Ticket(ticket.number);
                 pending.push_reserved(ticket);
-                return Ok(true);
+                return Ok(Some(answer));
             }
             Ok(Attempt::Answered(answer)) => answer,
             Err(fault) => return Err(fault),
         };
         if !pending.is_empty() {
-            return Ok(false);
+            return Ok(None);
         }
         answers.push_reserved(answer);
-        Ok(true)
+        Ok(Some(answer))
     }
 
     /// Makes everything pending durable, and answers the jobs whose commits were pending, in their order.
@@ -246,6 +261,8 @@ impl<L: Origin> JobSeat<L> {
         ensures none { self.new.pending ≡ [] }
         ensures settled { (lost : ℕ) → MatchResult result (λ _. GoesOn L.workers (shape_of L.schema) lost [] self.old self.new)
             (λ fault. Ends L.workers (shape_of L.schema) lost [] self.old self.new) }
+        ensures kept { MatchResult result (λ _. outcomes self.new ≡ outcomes self.old)
+            (λ _. IsPrefix (outcomes self.new) (outcomes self.old)) }
         ensures fault { IfErr result (λ fault. ¬ (fault ≡ WorkersFault.NoSeat)) }
     {
         if self.pending.is_empty() {
@@ -266,7 +283,7 @@ impl<L: Origin> JobSeat<L> {
     }
 
     /// Lets the seat meet another one: both take the longer of their lists. Takes no memory.
-    pub fn meets(&mut self, other: &mut JobSeat<L>)
+    pub(crate) fn meets(&mut self, other: &mut JobSeat<L>)
         ensures one { self.new.seat.list ≡ other.new.seat.list }
         ensures legal { IsJournaled L.workers (shape_of L.schema) self.new.seat.list }
         ensures mine { IsPrefix self.old.seat.list self.new.seat.list }

@@ -9,8 +9,9 @@
 //! continues where the last one stopped, and count what goes through their port. `serve_primary`
 //! and `serve_replica` are loops over these turns, the latter with queries from a queue. A `Job` is
 //! a set of changes that are committed together, and the worker that does it: `do_job` does one at
-//! a seat of a line, `run_crew` lets many workers do their jobs, each in a thread of its own, and
-//! `run_workers` is its short form. A `Gate` is notified before and after each commit.
+//! a seat of a line, a `JobSeat` several that share flushes, `run_crew` lets many workers do their
+//! jobs, each in a thread of its own, and `run_workers` is its short form. A `Gate` is notified before
+//! and after each commit.
 //!
 //! Promised, for every port: what a node does is a list of acts, each one call of its core, which
 //! lead from the state before to the state after. If the port is honest, the acts took in exactly
@@ -25,12 +26,13 @@
 //! Promised, whatever the schedule of workers: an acknowledged ticket belongs to a commit that is
 //! durable and has the ticket's number in the list that the seat has seen, with the job's worker
 //! and the entries that its changes make; one list has all tickets of a run, and no two jobs share
-//! one. Not promised: that a datagram arrives or is sent, that a call that waits returns, that
+//! one; what a `JobSeat` answers a job before its commit is durable is what it is answered once all is
+//! settled. Not promised: that a datagram arrives or is sent, that a call that waits returns, that
 //! workers run at once, or anything about a socket.
 //!
 //! It uses `shared`, `dispatcher` and `queue`, `mio` for sockets, and `rtrb` for what a drain takes. The definitions to review for
 //! nodes are `specs/Ports.antt`, `State`, `Carrying`, `Traffic`, `Asking`, `Serving`, `Replicas`,
-//! `Primaries` and `Feeding`, and for workers `Changes`, `Answers`, `Work` and `Crews`. If a call
+//! `Primaries` and `Feeding`, and for workers `Changes`, `Answers`, `JobSeats`, `Work` and `Crews`. If a call
 //! fails for lack of memory, its value is unchanged unless the call says otherwise.
 #![tactic(auto)]
 
@@ -73,7 +75,7 @@ pub use faults::{PortFault, ServeFault, WorkersFault};
 pub use gate::{Gate, OpenGate};
 pub use job::{Job, are_of_workers};
 pub use job_answer::JobAnswer;
-pub use job_seat::SHARED_JOBS_MAX;
+pub use job_seat::{JobSeat, SHARED_JOBS_MAX};
 pub use mem_port::MemPort;
 pub use port::{Patience, Port};
 pub use primary_node::PrimaryNode;

@@ -5,7 +5,6 @@ use Rattle.rows.specs.declared.commit.Commit.{Commit}
 use Rattle.rows.specs.Shape.{Shape}
 use Rattle.journal.specs.Recovery.{IsJournaled}
 use Rattle.mvcc.specs.Transaction.{Transaction}
-use Rattle.primary.specs.declared.ticket.Ticket as primary
 use Rattle.desk.specs.State.{SeatState}
 use Rattle.sockets.specs.declared.doing.Attempt.{Attempt}
 use Rattle.sockets.specs.declared.doing.Attempt.TheVariants as attempts
@@ -17,7 +16,8 @@ use Rattle.sockets.specs.declared.job_answer.JobAnswer.TheVariants.{Ticket, Conf
 use Rattle.sockets.specs.declared.refusal.Refusal.{Refusal}
 use Rattle.sockets.specs.declared.refusal.Refusal.TheVariants as refusals
 use Rattle.sockets.specs.declared.step.Step.{Step}
-use Rattle.sockets.specs.Answers.{IsDraft, IsRefused, IsJobAnswer}
+use Rattle.sockets.specs.Answers.{IsRefused, IsJobAnswer}
+use Rattle.sockets.specs.JobSeats.{IsPending}
 use Rattle.sockets.specs.Work.{jobs_of}
 use Rattle.sockets.specs.Worker.{WorkerState}
 
@@ -30,15 +30,6 @@ IsStop answer stops.Memory = Unit {0}
 abbrev pub IsStopped : Shape → ℕ → List Commit → List Step → Stop → Type 0
 IsStopped shape from list steps (stops.Refused refusal) = IsRefused shape from list steps refusal
 IsStopped shape from list steps stops.Memory = Unit {0}
-
--- the ticket of a job whose commit is pending: it is of the job's worker, has the entries that the job's steps make, and is above their
--- snapshot
-pub record IsPending (shape : Shape) (from : ℕ) (list : List Commit) (job : Job) (ticket : primary.Ticket) : Type 0 where
-  pub draft : Transaction
-  pub drafted : IsDraft shape from list job.steps.items draft
-  pub above : draft.snapshot < ticket.number
-  pub worker : ticket.worker ≡ job.worker
-  pub entries : ticket.entries ≡ draft.entries
 
 -- an answer without a ticket
 abbrev pub IsUncommitted : JobAnswer → Type 0

@@ -6,7 +6,7 @@ use Rattle.rows.specs.Shape.{shape_of}
 use Rattle.journal.specs.Recovery.{IsJournaled}
 use Rattle.primary.specs.declared.ticket.Ticket.{Ticket}
 use Rattle.desk.specs.Answers.{Stands}
-use Rattle.sockets.specs.Inner.JobSeats.{ticket_answer}
+use Rattle.sockets.specs.JobSeats.{ticket_answer}
 use Rattle.sockets.proofs.job_seat.settle_each.Given as goal
 
 abbrev pub invariant-loop-ticket : goal.invariant-loop-ticket

@@ -4,13 +4,13 @@ use Rattle.rows.specs.Shape.{shape_of}
 use Rattle.sockets.proofs.Taking.{after-going, goes-is-ended, goes-trans}
 use Rattle.sockets.proofs.job_seat.JobSeat.takes.Goals as goal
 
-pub returns-in-Ok-false-clause-taken : goal.returns-in-Ok-false-clause-taken
-returns-in-Ok-false-clause-taken g c =
+pub returns-in-Ok-None-clause-taken : goal.returns-in-Ok-None-clause-taken
+returns-in-Ok-None-clause-taken g c =
     let workers = g.L.Line.workers in
     let shape = shape_of g.L.Line.schema in
     after-going workers shape (c.args.job.now ∷ []) c.args.self.now c.tries.new.self c.tries_again.new.self c.tries_again.result
     (goes-trans workers shape 0 [] [] c.args.self.now c.makes_way.new.self c.tries.new.self c.in-Ok.ensures.settled
-    (rw c.in-Ok-false.field-0-test at c.in-Ok-false.ensures.tried))
+    (rw c.in-Ok-None.field-0-is at c.in-Ok-None.ensures.tried))
     c.tries_again.ensures.taken
 
 pub returns-in-Err-tries-clause-taken : goal.returns-in-Err-tries-clause-taken

@@ -1,7 +1,7 @@
 -- The jobs of the worker so far were taken.
 use Rattle.std.proofs.Common.{take}
 use Rattle.rows.specs.Shape.{shape_of}
-use Rattle.sockets.specs.Inner.JobSeats.{GoesOn}
+use Rattle.sockets.specs.JobSeats.{GoesOn}
 use Rattle.sockets.specs.Work.{jobs_of}
 use Rattle.sockets.proofs.job_seat.JobSeat.takes_all.Given as goal
 

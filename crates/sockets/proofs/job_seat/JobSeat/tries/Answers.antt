@@ -7,7 +7,7 @@ use Rattle.rows.specs.Shape.{shape_of}
 use Rattle.primary.specs.declared.ticket.Ticket.{Ticket}
 use Rattle.sockets.specs.declared.job.Job.{Job}
 use Rattle.sockets.specs.declared.job_answer.JobAnswer.{JobAnswer}
-use Rattle.sockets.specs.Inner.JobSeats.{JobSeatState, HasTaken}
+use Rattle.sockets.specs.JobSeats.{JobSeatState, HasTaken}
 use Rattle.sockets.specs.Work.{shared_jobs_max}
 use Rattle.sockets.proofs.Taking.{taken-answered, taken-later, taken-pending}
 use Rattle.sockets.proofs.job_seat.JobSeat.tries.Goals as goal
