@@ -17,6 +17,8 @@ mod failing;
 #[cfg(test)]
 mod gates;
 #[cfg(test)]
+mod job_seats;
+#[cfg(test)]
 mod listed_jobs;
 #[cfg(test)]
 mod refused_memory;
