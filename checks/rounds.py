@@ -19,6 +19,7 @@ NO_BODY = "unreachable!()"
 UNWANTED = re.compile(r"\./proofs/(\S+)/Proof\.antt: error(?:\[reserved-name\]|: rattle does not read this file)")
 # The path of a function that is asked for, and that the prover knows under another name.
 UNKNOWN = re.compile(r"rattle: error: `\w+` has no function `([^`]+)`")
+MISREAD = re.compile(r"(src/\S+?):(\d+):\d+: error")
 PLACE = re.compile(r"(?:note: )?(?:\./)?((?:src|specs|proofs)/\S+?):(\d+):\d+: (.*)")
 # What a proof file says because a text names what an edit took away, or because something else is not proved.
 NO_REASON = re.compile(r"has no field|is not in scope|has no `|was not admitted|depends on .* rejected")
@@ -176,6 +177,15 @@ def own_reason(crate, edit, lines):
             if reason:
                 return f"{function.path}: {reason}"
     return None
+
+
+def unread_edits(edits, lines):
+    """The edits of a round in whose functions the prover read a text that it does not take; none if it judged the round."""
+    if any(it.startswith("only=") for it in lines):
+        return []
+    places = [(it[1], int(it[2])) for it in map(MISREAD.match, lines) if it]
+    functions = {edit: [it for it in edit.functions if it] for edit in edits}
+    return [edit for edit in edits if any(it.file == file and it.first <= line <= it.last for it in functions[edit] for file, line in places)]
 
 
 def reason_in(function, line):
