@@ -1,11 +1,11 @@
 -- How far the jobs at a seat came, after one call more.
 use Rattle.std.proofs.Common.{◌≡◌, refl, ap, sym, ◌∙◌, subst, arith, ℕ, zero, suc, ◌+◌, ◌<◌, ◌≤◌, Bool, true, false, ◌==◌}
-use Rattle.std.proofs.Common.{Result, Ok, Err, MatchResult}
+use Rattle.std.proofs.Common.{Result, Ok, Err, IfErr, MatchResult}
 use Rattle.std.proofs.Common.{List, [], ◌∷◌, ◌++◌, length, get_or, map, take, drop, append-nil, append_assoc, length-append}
 use Rattle.std.specs.List.{AllZip}
 use Rattle.std.proofs.lemmas.Bool.{eqb-true, eqb-false}
 use Rattle.std.proofs.lemmas.List.Elements.{filter-append}
-use Rattle.std.proofs.lemmas.List.{get_or_default, take-append-drop, map-append, take_all, drop_all, nil_from_length}
+use Rattle.std.proofs.lemmas.List.{get_or_default, take-append-drop, map-append, take_all, drop_all, nil_from_length, length-drop, length-map}
 use mathlib.Core.List.{IsPrefix}
 use Rattle.rows.specs.declared.commit.Commit.{Commit}
 use Rattle.rows.specs.Shape.{Shape}
@@ -387,6 +387,38 @@ after-settling workers shape old new (Err fault) legal later seat pending settle
     subst (λ js. HasEnded workers shape first js new) (sym (append-nil jobs))
     (taken-ended workers shape lost settled.0 first jobs old new t legal later seat settled.1 pending)
 
+-- a fault that takes no answer back has ended nothing
+pub whole-settled : (workers : ℕ) (shape : Shape) (count : ℕ) (old new : JobSeatState)
+    → IsJournaled workers shape new.seat.list → IsPrefix old.seat.list new.seat.list → new.seat ≡ record old.seat { list = new.seat.list }
+    → new.pending ≡ [] → AreSettled count old.pending new.seat.list old.answers new.answers
+    → length (outcomes new) ≡ length (outcomes old) → GoesOn workers shape 0 [] old new
+whole-settled workers shape count old new legal later seat pending settled same = λ first jobs t.
+    subst (λ js. HasTaken workers shape 0 first js new) (sym (append-nil jobs))
+    (taken-settled workers shape 0 first jobs old new t legal later seat
+    (subst (λ n. AreSettled n old.pending new.seat.list old.answers new.answers) all settled) pending)
+  where
+    rest : List Ticket
+    rest = drop count old.pending
+
+    none : length rest ≡ 0
+    none =
+        let whole = ap length (outcomes-some count new.seat.list old new settled pending) in
+        let parts = length-append (outcomes new) (map ticket_answer rest) in
+        let many = length-map rest ticket_answer in omega (arith, same, whole, parts, many)
+
+    all : count ≡ length old.pending
+    all = let left = length-drop count old.pending in omega (arith, settled.within, none, left)
+
+pub after-settling-whole : {A : Type 0} (workers : ℕ) (shape : Shape) (old new : JobSeatState) (result : Result A WorkersFault)
+    → IsJournaled workers shape new.seat.list → IsPrefix old.seat.list new.seat.list → new.seat ≡ record old.seat { list = new.seat.list }
+    → new.pending ≡ []
+    → MatchResult result (λ _. AreSettled (length old.pending) old.pending new.seat.list old.answers new.answers)
+    (λ fault. (count : ℕ) × AreSettled count old.pending new.seat.list old.answers new.answers)
+    → IfErr result (λ _. length (outcomes new) ≡ length (outcomes old) → GoesOn workers shape 0 [] old new)
+after-settling-whole workers shape old new (Ok none) legal later seat pending settled = tt
+after-settling-whole workers shape old new (Err fault) legal later seat pending settled =
+    whole-settled workers shape settled.0 old new legal later seat pending settled.1
+
 -- two calls, one after the other
 pub goes-trans : (workers : ℕ) (shape : Shape) (lost : ℕ) (more others : List Job) (old mid new : JobSeatState)
     → GoesOn workers shape lost more old mid → GoesOn workers shape lost others mid new → GoesOn workers shape lost (more ++ others) old new
@@ -417,6 +449,15 @@ pub after-going : {A : Type 0} (workers : ℕ) (shape : Shape) (more : List Job)
     → MatchResult result (λ _. GoesOn workers shape 0 more old new) (λ fault. Ends workers shape 0 [] old new)
 after-going workers shape more old mid new (Ok done) goes then = goes-trans workers shape 0 [] more old mid new goes then
 after-going workers shape more old mid new (Err fault) goes then = goes-ends workers shape 0 [] [] old mid new goes then
+
+-- the same of a fault that takes no answer back
+pub after-going-whole : {A : Type 0} (workers : ℕ) (shape : Shape) (old mid new : JobSeatState) (result : Result A WorkersFault)
+    → GoesOn workers shape 0 [] old mid → outcomes mid ≡ outcomes old
+    → IfErr result (λ _. length (outcomes new) ≡ length (outcomes mid) → GoesOn workers shape 0 [] mid new)
+    → IfErr result (λ _. length (outcomes new) ≡ length (outcomes old) → GoesOn workers shape 0 [] old new)
+after-going-whole workers shape old mid new (Ok done) goes is then = tt
+after-going-whole workers shape old mid new (Err fault) goes is then = λ same.
+    goes-trans workers shape 0 [] [] old mid new goes (then (same ∙ sym (ap length is)))
 
 -- a fault within the first jobs is one within all
 pub ends-first : (workers : ℕ) (shape : Shape) (lost : ℕ) (more all : List Job) (old new : JobSeatState) → IsPrefix more all

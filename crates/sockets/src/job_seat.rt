@@ -66,6 +66,14 @@ impl<L: Origin> JobSeat<L> {
         self.answers.as_slice()
     }
 
+    /// How many jobs were taken: those that are answered, and those whose commits are pending. Takes no
+    /// memory.
+    pub fn taken(&self) -> usize
+        ensures { result ≡ length (outcomes self.now) }
+    {
+        self.answers.len() + self.pending.len()
+    }
+
     /// The seat; the answers are dropped. Takes no memory.
     pub fn into_seat(self) -> Seat<L>
         ensures { result ≡ self.seat }
@@ -121,7 +129,8 @@ impl<L: Origin> JobSeat<L> {
     /// answer counts.
     ///
     /// The gate is notified before and after each commit; `index` is the job's number for the gate. Fails
-    /// as `do_job` does. If it was to be settled, what is pending then stays unanswered.
+    /// as `do_job` does. If what was pending was to be settled, some of it may then stay unanswered: fewer
+    /// jobs are taken than before. Otherwise nothing is lost.
     pub fn takes<J: JournalStore + Drop, R: Wait + Drop, W: Wait, G: Gate>(
         &mut self,
         rt: &W,
@@ -136,6 +145,8 @@ impl<L: Origin> JobSeat<L> {
             (λ fault. Ends L.workers (shape_of L.schema) 0 [] self.old self.new) }
         ensures kept { MatchResult result (λ answer. outcomes self.new ≡ outcomes self.old ++ answer ∷ [])
             (λ _. IsPrefix (outcomes self.new) (outcomes self.old)) }
+        ensures whole { IfErr result (λ _. length (outcomes self.new) ≡ length (outcomes self.old)
+            → GoesOn L.workers (shape_of L.schema) 0 [] self.old self.new) }
         ensures fault { IfErr result (λ fault. ¬ (fault ≡ WorkersFault.NoSeat)) }
     {
         match self.makes_way(rt, line, job) {
@@ -160,6 +171,8 @@ impl<L: Origin> JobSeat<L> {
             (λ fault. Ends L.workers (shape_of L.schema) 0 [] self.old self.new) }
         ensures kept { MatchResult result (λ _. outcomes self.new ≡ outcomes self.old)
             (λ _. IsPrefix (outcomes self.new) (outcomes self.old)) }
+        ensures whole { IfErr result (λ _. length (outcomes self.new) ≡ length (outcomes self.old)
+            → GoesOn L.workers (shape_of L.schema) 0 [] self.old self.new) }
         ensures room { IfOk result (λ _. length self.new.pending < shared_jobs_max) }
         ensures fault { IfErr result (λ fault. ¬ (fault ≡ WorkersFault.NoSeat)) }
     {
@@ -184,6 +197,8 @@ impl<L: Origin> JobSeat<L> {
             (λ fault. Ends L.workers (shape_of L.schema) 0 [] self.old self.new) }
         ensures kept { MatchResult result (λ answer. outcomes self.new ≡ outcomes self.old ++ answer ∷ [])
             (λ _. IsPrefix (outcomes self.new) (outcomes self.old)) }
+        ensures whole { IfErr result (λ _. length (outcomes self.new) ≡ length (outcomes self.old)
+            → GoesOn L.workers (shape_of L.schema) 0 [] self.old self.new) }
         ensures fault { IfErr result (λ fault. ¬ (fault ≡ WorkersFault.NoSeat)) }
     {
         match self.settles(rt, line) {
@@ -263,6 +278,8 @@ impl<L: Origin> JobSeat<L> {
             (λ fault. Ends L.workers (shape_of L.schema) lost [] self.old self.new) }
         ensures kept { MatchResult result (λ _. outcomes self.new ≡ outcomes self.old)
             (λ _. IsPrefix (outcomes self.new) (outcomes self.old)) }
+        ensures whole { IfErr result (λ _. length (outcomes self.new) ≡ length (outcomes self.old)
+            → GoesOn L.workers (shape_of L.schema) 0 [] self.old self.new) }
         ensures fault { IfErr result (λ fault. ¬ (fault ≡ WorkersFault.NoSeat)) }
     {
         if self.pending.is_empty() {

@@ -1,5 +1,5 @@
 -- The tickets were settled up to the first that was not.
-use Rattle.std.proofs.Common.{◌≡◌, ℕ, ap, ◌∙◌, subst, List, [], length, Err, MatchResult}
+use Rattle.std.proofs.Common.{◌≡◌, ℕ, ap, ◌∙◌, subst, List, [], length, Err, IfErr, MatchResult}
 use mathlib.Core.List.{IsPrefix}
 use Rattle.rows.specs.Shape.{shape_of}
 use Rattle.primary.specs.declared.ticket.Ticket.{Ticket}
@@ -7,7 +7,7 @@ use Rattle.desk.specs.State.{SeatState}
 use Rattle.sockets.specs.Inner.JobSeats.{AreSettled}
 use Rattle.sockets.specs.JobSeats.{JobSeatState, GoesOn, Ends, outcomes}
 use Rattle.sockets.proofs.Beginnings.{prefix_trans}
-use Rattle.sockets.proofs.Taking.{after-settling, outcomes-settled, settled-none}
+use Rattle.sockets.proofs.Taking.{after-settling, after-settling-whole, outcomes-settled, settled-none, whole-settled}
 use Rattle.sockets.proofs.job_seat.JobSeat.settles.Goals as goal
 
 pub returns-in-Err-clause-settled : goal.returns-in-Err-clause-settled
@@ -62,6 +62,38 @@ returns-clause-kept g c =
     subst (λ (s : JobSeatState). MatchResult result (λ _. outcomes new ≡ outcomes s) (λ _. IsPrefix (outcomes new) (outcomes s)))
     c.self.view_is
     (outcomes-settled seat.list old new result c.clear-2.ensures.items
+    (subst (λ (tickets : List Ticket).
+    MatchResult result (λ _. AreSettled (length tickets) tickets seat.list inside.answers.items answers)
+    (λ fault. (count : ℕ) × AreSettled count tickets seat.list inside.answers.items answers)) c.as_slice.ensures.value
+    c.settle_each-settled.ensures.settled))
+
+pub returns-in-Err-clause-whole : goal.returns-in-Err-clause-whole
+returns-in-Err-clause-whole g c =
+    let workers = g.L.Line.workers in
+    let shape = shape_of g.L.Line.schema in
+    let inside = c.self.inside in
+    let old : JobSeatState = record { seat = inside.seat; answers = inside.answers.items; pending = inside.pending.items } in
+    let new : JobSeatState = record { seat = c.flushed.new.seat; answers = inside.answers.items; pending = c.clear.new.self.items } in
+    subst (λ (s : JobSeatState). length (outcomes new) ≡ length (outcomes s) → GoesOn workers shape 0 [] s new) c.self.view_is
+    (whole-settled workers shape 0 old new c.flushed.ensures.legal c.flushed.ensures.later c.flushed.ensures.same c.clear.ensures.items
+    (settled-none inside.pending.items c.flushed.new.seat.list inside.answers.items))
+
+pub returns-clause-whole : goal.returns-clause-whole
+returns-clause-whole g c =
+    let workers = g.L.Line.workers in
+    let shape = shape_of g.L.Line.schema in
+    let inside = c.self.inside in
+    let result = c.settle_each-settled.result in
+    let seat = c.settle_each-settled.new.seat in
+    let answers = c.settle_each-settled.new.answers.items in
+    let old : JobSeatState = record { seat = inside.seat; answers = inside.answers.items; pending = inside.pending.items } in
+    let new : JobSeatState = record { seat = seat; answers = answers; pending = c.clear-2.new.self.items } in
+    subst (λ (s : JobSeatState). IfErr result (λ _. length (outcomes new) ≡ length (outcomes s) → GoesOn workers shape 0 [] s new))
+    c.self.view_is
+    (after-settling-whole workers shape old new result c.settle_each-settled.ensures.legal
+    (prefix_trans inside.seat.list c.flushed.new.seat.list seat.list c.flushed.ensures.later c.settle_each-settled.ensures.later)
+    (c.settle_each-settled.ensures.same ∙ ap (λ (s : SeatState). record s { list = seat.list }) c.flushed.ensures.same)
+    c.clear-2.ensures.items
     (subst (λ (tickets : List Ticket).
     MatchResult result (λ _. AreSettled (length tickets) tickets seat.list inside.answers.items answers)
     (λ fault. (count : ℕ) × AreSettled count tickets seat.list inside.answers.items answers)) c.as_slice.ensures.value

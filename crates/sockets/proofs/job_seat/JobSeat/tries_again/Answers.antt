@@ -14,3 +14,8 @@ returns-in-Err-tries-clause-taken g c =
     goes-is-ended workers shape 0 [] c.args.self.now c.tries.new.self
     (goes-trans workers shape 0 [] [] c.args.self.now c.settles.new.self c.tries.new.self (c.in-Ok.ensures.settled 0)
     c.in-Err-tries.ensures.tried)
+
+pub returns-in-Err-tries-clause-whole : goal.returns-in-Err-tries-clause-whole
+returns-in-Err-tries-clause-whole g c = λ same.
+    goes-trans g.L.Line.workers (shape_of g.L.Line.schema) 0 [] [] c.args.self.now c.settles.new.self c.tries.new.self
+    (c.in-Ok.ensures.settled 0) c.in-Err-tries.ensures.tried
