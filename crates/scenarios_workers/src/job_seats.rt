@@ -80,8 +80,10 @@ fn takes_each<L: Origin, R: Wait>(
 ) -> Option<bool>
     requires { 0 < L.workers }
 {
+    let mut count: usize = 0;
     for taking in &TAKINGS {
-        if !takes_so(rt, alloc, line, job_seat, taking)? {
+        count = count.saturating_add(1);
+        if !takes_so(rt, alloc, line, job_seat, taking)? || job_seat.taken() != count {
             return Some(false);
         }
     }
