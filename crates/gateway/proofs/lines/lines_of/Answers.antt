@@ -1,0 +1,11 @@
+-- One line more.
+use Rattle.std.proofs.Common.{ap, sym, ◌∙◌, ◌++◌}
+use Rattle.sockets.specs.declared.job_answer.JobAnswer.TheVariants.{Ticket}
+use Rattle.gateway.specs.Lines.{answer_line}
+use Rattle.gateway.proofs.Telling.{numbered-next}
+use Rattle.gateway.proofs.lines.lines_of.Goals as goal
+
+pub loop-number-preserved : goal.loop-number-preserved
+loop-number-preserved c =
+    c.in_ok-push_line.ensures
+    ∙ rw c.loop-number.invariant (sym (numbered-next c.args.answers.now c.loop-number.number (Ticket 0) c.loop-number-test.true))

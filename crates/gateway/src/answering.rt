@@ -1,0 +1,83 @@
+//! Answers with a text.
+
+ghost use Rattle.std.specs.Prelude.{◌≡◌, codes, OnOk};
+ghost use Rattle.http_server.specs.Response.{IsBlank};
+ghost use Rattle.gateway.specs.Inner.Answering.{IsAnswered};
+
+use bytes::BufMut;
+use http::header::{ALLOW, CACHE_CONTROL, CONTENT_TYPE, RETRY_AFTER};
+use http::{HeaderName, HeaderValue, StatusCode};
+use http_server::Response;
+use std::alloc::AllocError;
+
+/// The kind of a text.
+const PLAIN: &str = "text/plain; charset=us-ascii";
+
+/// Answers with this status and this text; or 503 without one, out of memory.
+pub(crate) fn answer(response: &mut Response, status: StatusCode, text: &[u8])
+    requires { IsBlank response.old }
+    ensures { IsAnswered status text.now response.new }
+{
+    if fill(response, status, text).is_ok() {
+        return;
+    }
+    response.clear();
+    response.status = StatusCode::SERVICE_UNAVAILABLE;
+}
+
+/// Answers as `answer` does, with one field more.
+pub(crate) fn answer_with(
+    response: &mut Response,
+    status: StatusCode,
+    text: &[u8],
+    name: HeaderName,
+    value: HeaderValue,
+)
+    requires { IsBlank response.old }
+    ensures { IsAnswered status text.now response.new }
+{
+    if fill(response, status, text).is_ok() && response.add_header(name, value).is_ok() {
+        return;
+    }
+    response.clear();
+    response.status = StatusCode::SERVICE_UNAVAILABLE;
+}
+
+/// Answers that this path takes POST alone.
+pub(crate) fn answer_use_post(response: &mut Response)
+    requires { IsBlank response.old }
+    ensures { IsAnswered 405 (codes "use POST\n") response.new }
+{
+    answer_with(
+        response,
+        StatusCode::METHOD_NOT_ALLOWED,
+        b"use POST\n",
+        ALLOW,
+        HeaderValue::from_static("POST"),
+    );
+}
+
+/// Answers that the node cannot, for now.
+pub(crate) fn answer_later(response: &mut Response, text: &[u8])
+    requires { IsBlank response.old }
+    ensures { IsAnswered 503 text.now response.new }
+{
+    answer_with(
+        response,
+        StatusCode::SERVICE_UNAVAILABLE,
+        text,
+        RETRY_AFTER,
+        HeaderValue::from_static("1"),
+    );
+}
+
+/// Gives an answer a status, a text, and the fields that each has.
+fn fill(response: &mut Response, status: StatusCode, text: &[u8]) -> Result<(), AllocError>
+    requires { IsBlank response.old }
+    ensures { OnOk result ((response.new.status ≡ status) × (response.new.body.items ≡ text.now)) }
+{
+    response.status = status;
+    response.body.put_slice(text)?;
+    response.add_header(CACHE_CONTROL, HeaderValue::from_static("no-store"))?;
+    response.add_header(CONTENT_TYPE, HeaderValue::from_static(PLAIN))
+}

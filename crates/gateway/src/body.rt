@@ -1,0 +1,70 @@
+//! Jobs of a request's body.
+
+use requests::{Dialect, JobReader, LineFault, Request, RequestFault, Requested};
+use script::Setup;
+use sockets::Job;
+use std::alloc::Global;
+
+/// Why a body has no jobs that can be done.
+#[derive(Drop)]
+pub(crate) enum BodyFault {
+    /// It does not read. This text says where and why.
+    Unread(String),
+    Memory,
+}
+
+/// All jobs of a body, in their order: one at least. None is done if one does not read.
+pub(crate) fn jobs_of(alloc: Global, setup: &Setup, body: &[u8]) -> Result<Vec<Job>, BodyFault> {
+    let mut rest = body;
+    let mut reader = JobReader::new(alloc, Dialect::Live);
+    let mut jobs = Vec::new(alloc);
+    for _ in 0..u64::MAX {
+        match reader.next(setup, &mut rest) {
+            Ok(
+                Requested::Request(
+                    Request::Job {
+                        job,
+                        step_lines: _lines,
+                        ..
+                    },
+                ),
+            ) => {
+                if jobs.push(job).is_err() {
+                    return Err(BodyFault::Memory);
+                }
+            }
+            Ok(Requested::Request(Request::Get { line, .. })) => {
+                return Err(unread(alloc, line, LineFault::NoJobLine));
+            }
+            Ok(Requested::NotYet) => {}
+            Ok(Requested::End) => break,
+            Err(RequestFault::Memory) => return Err(BodyFault::Memory),
+            Err(fault) => {
+                return Err(match format!(in alloc; "{fault}\n") {
+                    Ok(text) => BodyFault::Unread(text),
+                    Err(_) => BodyFault::Memory,
+                });
+            }
+        }
+    }
+    if jobs.is_empty() {
+        return Err(none(alloc));
+    }
+    Ok(jobs)
+}
+
+/// The fault of a line that stands in no body.
+fn unread(alloc: Global, line: u64, why: LineFault) -> BodyFault {
+    match format!(in alloc; "line {line}: {why}\n") {
+        Ok(text) => BodyFault::Unread(text),
+        Err(_) => BodyFault::Memory,
+    }
+}
+
+/// The fault of a body without a job.
+fn none(alloc: Global) -> BodyFault {
+    match format!(in alloc; "line 1: no job\n") {
+        Ok(text) => BodyFault::Unread(text),
+        Err(_) => BodyFault::Memory,
+    }
+}

@@ -1,0 +1,233 @@
+//! Jobs of requests, taken at a seat and made durable at the end of a round.
+
+ghost use Rattle.std.specs.Prelude.{◌≡◌, List, [], false, true, All};
+ghost use Rattle.http_server.specs.Response.{IsBlank};
+ghost use Rattle.rows.specs.Shape.{shape_of};
+ghost use Rattle.sockets.specs.declared.job_answer.JobAnswer.{JobAnswer as Answer};
+ghost use Rattle.gateway.specs.Jobs.{AnswersJobs, IsTicket, SettlesJobs, TakesJobs, Tells};
+
+use crate::answering::{answer, answer_later, answer_use_post};
+use crate::body::{BodyFault, jobs_of};
+use crate::lines::lines_of;
+use crate::taking::{Taken, take_each};
+use crate::worker_count::WorkerCount;
+use bytes::Bytes;
+use http::{Request, StatusCode};
+use http_server::{Response, Settle};
+use journal::{FileJournal, JournalStore};
+use script::Setup;
+use shared::{Line, Origin, Seat};
+use sockets::{JobAnswer, JobSeat, WorkersFault, are_of_workers};
+use std::alloc::{AllocError, Global};
+use std::marker::Model;
+use std::sync::Wait;
+
+/// What answers the requests of a primary's clients.
+///
+/// Contracts see the seat at which jobs are taken, and whether a fault took back what was told.
+#[derive(Drop)]
+pub struct JobDesk<'a, L: Origin, J: JournalStore + Drop, H: Wait + Drop, T: Wait> {
+    rt: &'a T,
+    alloc: Global,
+    line: &'a Line<L, J, H>,
+    setup: &'a Setup,
+    workers: WorkerCount<L>,
+    job_seat: JobSeat<L>,
+    /// Whether a fault took back what requests of this round were told. Nothing of it is sent then.
+    has_lost: bool,
+}
+
+impl<'a, L: Origin, J: JournalStore + Drop, H: Wait + Drop, T: Wait> Model
+    for JobDesk<'a, L, J, H, T> {
+    ghost use Rattle.gateway.specs.Jobs.{DeskState};
+
+    ghost Value = { DeskState };
+
+    ghost view = { λ d. record { job_seat = d.job_seat; has_lost = d.has_lost } };
+}
+
+impl<'a, L: Origin, J: JournalStore + Drop, H: Wait + Drop, T: Wait> JobDesk<'a, L, J, H, T> {
+    /// At a seat of this line, which has these workers, and opened tables of this setup. Takes no memory.
+    pub fn new(
+        rt: &'a T,
+        alloc: Global,
+        line: &'a Line<L, J, H>,
+        setup: &'a Setup,
+        workers: WorkerCount<L>,
+        seat: Seat<L>,
+    ) -> JobDesk<'a, L, J, H, T>
+        ensures { result ≡ record { job_seat = record { seat = seat; answers = []; pending = [] }; has_lost = false } }
+    {
+        JobDesk {
+            rt,
+            alloc,
+            line,
+            setup,
+            workers,
+            job_seat: JobSeat::new(alloc, seat),
+            has_lost: false,
+        }
+    }
+
+    /// Answers a request. What it tells of jobs stands only once the round has settled. It may wait.
+    ///
+    /// `POST /jobs` takes the jobs of the body, in their order: 200 with a line for each if all have
+    /// tickets, 409 with these lines if one has none; 400 and nothing is done if the body does not read
+    /// or has no job; 503 if memory was refused, and 500 if the journal failed: jobs may then be done.
+    pub fn take(&mut self, request: &Request<Bytes>, response: &mut Response)
+        requires { IsBlank response.old }
+        ensures { AnswersJobs L.workers (shape_of L.schema) self.old request.now response.new self.new }
+    {
+        if request.uri().path() != "/jobs" {
+            tell_no_path(response);
+            return;
+        }
+        if request.method().as_str() != "POST" {
+            tell_no_post(response);
+            return;
+        }
+        self.take_jobs(request.body().as_slice(), response);
+    }
+
+    /// Takes the jobs of a body.
+    fn take_jobs(&mut self, body: &[u8], response: &mut Response)
+        requires { IsBlank response.old }
+        ensures { self.new.has_lost ≡ false → (self.old.has_lost ≡ false)
+            × ((told : List Answer) × TakesJobs L.workers (shape_of L.schema) self.old.job_seat self.new.job_seat told
+            × Tells told response.new) }
+    {
+        let jobs = match jobs_of(self.alloc, self.setup, body) {
+            Ok(jobs) => jobs,
+            Err(fault) => {
+                tell_unread(fault, response);
+                return;
+            }
+        };
+        if !are_of_workers(&jobs, self.workers.count() as usize) {
+            // A job's worker is one of the setup's, and these are the line's.
+            tell_fault(WorkersFault::NoSeat, response);
+            return;
+        }
+        let mut told = Vec::new(self.alloc);
+        let taken = take_each(
+            self.rt,
+            self.alloc,
+            self.line,
+            &mut self.job_seat,
+            &jobs,
+            &mut told,
+        );
+        match taken {
+            Taken::All => tell(self.alloc, &told, response),
+            Taken::Failed(fault) => tell_fault(fault, response),
+            Taken::Lost(fault) => {
+                self.has_lost = true;
+                tell_fault(fault, response);
+            }
+        }
+    }
+
+    /// Makes durable what was taken in a round. Whether what was told of it stands. It may wait.
+    pub fn settle_round(&mut self) -> bool
+        ensures { SettlesJobs L.workers (shape_of L.schema) self.old result self.new }
+    {
+        if self.has_lost {
+            return false;
+        }
+        match self.job_seat.settles(self.rt, self.line) {
+            Ok(()) => {
+                self.job_seat.clear();
+                true
+            }
+            Err(_) => false,
+        }
+    }
+}
+
+/// Tells what jobs are answered.
+fn tell(alloc: Global, told: &[JobAnswer], response: &mut Response)
+    requires { IsBlank response.old }
+    ensures { Tells told.now response.new }
+{
+    let Ok(text) = lines_of(alloc, told) else {
+        answer_later(response, b"memory\n");
+        return;
+    };
+    let status = if are_tickets(told) {
+        StatusCode::OK
+    } else {
+        StatusCode::CONFLICT
+    };
+    answer(response, status, &text);
+}
+
+/// Whether each job has a ticket.
+fn are_tickets(told: &[JobAnswer]) -> bool
+    ensures { result ≡ true → All IsTicket told.now }
+{
+    told.iter().all(is_ticket)
+}
+
+/// Whether a job has a ticket.
+fn is_ticket(answer: &JobAnswer) -> bool
+    ensures { result ≡ true → IsTicket answer.now }
+{
+    matches!(answer, JobAnswer::Ticket(_))
+}
+
+/// Tells that there is nothing at a path.
+fn tell_no_path(response: &mut Response)
+    requires { IsBlank response.old }
+    ensures { (told : List Answer) → Tells told response.new }
+{
+    answer(response, StatusCode::NOT_FOUND, b"no such path\n");
+}
+
+/// Tells that a path takes POST alone.
+fn tell_no_post(response: &mut Response)
+    requires { IsBlank response.old }
+    ensures { (told : List Answer) → Tells told response.new }
+{
+    answer_use_post(response);
+}
+
+/// Tells that a body has no jobs that can be done.
+fn tell_unread(fault: BodyFault, response: &mut Response)
+    requires { IsBlank response.old }
+    ensures { (told : List Answer) → Tells told response.new }
+{
+    match fault {
+        BodyFault::Unread(text) => answer(response, StatusCode::BAD_REQUEST, text.as_bytes()),
+        BodyFault::Memory => answer_later(response, b"memory\n"),
+    }
+}
+
+/// Tells of a fault that ended jobs.
+fn tell_fault(fault: WorkersFault, response: &mut Response)
+    requires { IsBlank response.old }
+    ensures { (told : List Answer) → Tells told response.new }
+{
+    match fault {
+        WorkersFault::Journal => answer(response, StatusCode::INTERNAL_SERVER_ERROR, b"journal\n"),
+        _ => answer_later(response, b"memory\n"),
+    }
+}
+
+impl<'a, L: Origin, H: Wait + Drop, T: Wait> Settle for JobDesk<'a, L, FileJournal, H, T> {
+    ghost answers = { AnswersJobs L.workers (shape_of L.schema) };
+
+    ghost settles = { SettlesJobs L.workers (shape_of L.schema) };
+
+    fn call(
+        &mut self,
+        request: &Request<Bytes>,
+        response: &mut Response,
+    ) -> Result<(), AllocError> {
+        self.take(request, response);
+        Ok(())
+    }
+
+    fn settle(&mut self) -> bool {
+        self.settle_round()
+    }
+}

@@ -1,0 +1,9 @@
+//! Scenarios of `gateway`, by its public calls: what a primary answers to requests, round by round.
+#![tactic(auto)]
+
+#[cfg(test)]
+mod desks;
+#[cfg(test)]
+mod failing;
+#[cfg(test)]
+mod jobs;
